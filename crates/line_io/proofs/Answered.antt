@@ -1,5 +1,5 @@
 -- When each answer of a reader of lines comes.
-use Rattle.std.proofs.Common.{◌≡◌, ℕ, ◌+◌, ◌-◌, ◌*◌, ◌<◌, ◌≤◌, List, [], ◌∷◌, ◌++◌, length, drop, Bool, true, false, cond, Ok, Err, ap, sym, ◌∙◌, refl, arith, length-drop, inl, inr, subst, Bor}
+use Rattle.std.proofs.Common.{◌≡◌, ℕ, ◌+◌, ◌*◌, ◌<◌, ◌≤◌, List, [], ◌∷◌, ◌++◌, length, drop, Bool, true, false, cond, Ok, Err, ap, ◌∙◌, refl, arith, length-drop, inl, inr, Bor}
 use Rattle.std.proofs.lemmas.List.{append-nil}
 use Rattle.std.proofs.lemmas.Bool.{cases_lt}
 use Rattle.line_io.specs.Lines.{Piece, Held, NotYet, Gave, Fills, Advances, Trims, NoneWhole, IsReady, IsWaiting, rest, weight, flag, feed_at}

@@ -1,7 +1,7 @@
 -- Calls on one source, from a reader that holds nothing.
-use Rattle.std.proofs.Common.{◌≡◌, ℕ, suc, ◌+◌, ◌*◌, ◌≤◌, List, [], ◌∷◌, ◌++◌, length, true, cond, Result, Ok, Err, IsErr, ap, sym, ◌∙◌, refl, arith, length-append, append_assoc, inr}
+use Rattle.std.proofs.Common.{◌≡◌, ℕ, ◌+◌, ◌*◌, ◌≤◌, List, [], ◌∷◌, ◌++◌, length, true, cond, Result, Ok, Err, ap, sym, ◌∙◌, refl, arith, length-append, append_assoc, inr}
 use Rattle.std.proofs.lemmas.List.{append-nil, same_from_push}
-use Rattle.line_io.specs.Lines.{Piece, Held, Given, Gave, AtEnd, NotYet, IsNext, IsWaiting, rest, items, items_after, unread, weight, flag}
+use Rattle.line_io.specs.Lines.{Piece, Held, Given, Gave, AtEnd, NotYet, IsNext, IsWaiting, rest, items, items_after, weight, flag}
 use Rattle.line_io.specs.Lending.{outcome, GoesOn}
 use Rattle.line_io.specs.declared.lines.Item.{Item}
 use Rattle.line_io.specs.declared.lines.Item.TheVariants as answers
