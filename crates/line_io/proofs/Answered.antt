@@ -1,8 +1,8 @@
 -- When each answer of a reader of lines comes.
-use Rattle.std.proofs.Common.{◌≡◌, ℕ, ◌+◌, ◌*◌, ◌<◌, ◌≤◌, List, [], ◌∷◌, ◌++◌, length, drop, Bool, true, false, cond, Ok, Err, ap, ◌∙◌, refl, arith, length-drop, inl, inr, Bor}
+use Rattle.std.proofs.Common.{◌≡◌, sym, cond, ℕ, ◌+◌, ◌*◌, ◌<◌, ◌≤◌, List, [], ◌∷◌, ◌++◌, length, drop, Bool, true, false, Ok, Err, ap, ◌∙◌, refl, arith, length-drop, inl, inr, Bor}
 use Rattle.std.proofs.lemmas.List.{append-nil}
 use Rattle.std.proofs.lemmas.Bool.{cases_lt}
-use Rattle.line_io.specs.Lines.{Piece, Held, NotYet, Gave, Fills, Advances, Trims, NoneWhole, IsReady, IsWaiting, rest, weight, flag, feed_at}
+use Rattle.line_io.specs.Lines.{AtEnd, SawEnd, items_after, Piece, Held, NotYet, Gave, Fills, Advances, Trims, NoneWhole, IsReady, IsWaiting, rest, weight, flag, feed_at}
 use Rattle.line_io.specs.Peek.{Shows, IsClosed, without}
 use Rattle.line_io.specs.Lending.{AnswersWhen}
 use Rattle.line_io.specs.declared.lines.Peek.{Peek}
@@ -48,6 +48,11 @@ less_by_one old mid new got len f t some =
     let fell : length (drop (len + 1) mid.bytes) + 1 ≤ weight mid = dropped_one mid len some in
     omega (arith, t.less, f.more)
 
+-- only a read of no byte tells the end
+no_byte : (old new : Held) (got : List ℕ) → (0 < length got → new.ended ≡ false) → SawEnd old new → got ≡ []
+no_byte old new [] live saw = refl
+no_byte old new (x ∷ xs) live saw = let still = live (omega arith) in let seen = saw.1 in cc
+
 pub answers_line : (old mid new : Held) (got : List ℕ) (len : ℕ) (piece : Piece) (s : Bor (List ℕ)) → Fills old mid got → Shows mid (peeks.Line len) → Trims (without mid len) new
     → Advances old new got (Gave piece) → AnswersWhen old new got (Ok (items.Line s))
 answers_line old mid new got len piece s f shows t a = record {
@@ -55,6 +60,7 @@ answers_line old mid new got len piece s f shows t a = record {
   end = (λ e. cc, λ p. absurd (not_end old new got piece a p.1));
   fault = tt;
   goes_on = less_by_one old mid new got len f t (omega (arith, shows.4));
+  seen = no_byte old new got (λ l. t.ended ∙ f.open_still l);
 }
 
 long_weight : (cut : Bool) (bytes : List ℕ) → (cut ≡ false → 0 < length bytes) → 0 < length bytes + cond cut 1 0
@@ -68,6 +74,7 @@ answers_long old mid new got len piece f shows t a = record {
   end = (λ e. cc, λ p. absurd (not_end old new got piece a p.1));
   fault = tt;
   goes_on = less_by_one old mid new got len f t (long_weight mid.cut mid.bytes (λ e. (shows.2 e).1));
+  seen = no_byte old new got (λ l. t.ended ∙ f.open_still l);
 }
 
 pub answers_more : (old mid : Held) (got : List ℕ) → Fills old mid got → IsWaiting mid → AnswersWhen old mid got (Ok items.More)
@@ -78,7 +85,33 @@ answers_more old mid got f waits =
       end = (λ e. cc, λ p. let live = waits.1 in let seen = p.0 in cc);
       fault = tt;
       goes_on = let seen = flag_le old.ended mid.ended f.ended in omega (arith, f.more);
+      seen = no_byte old mid got f.open_still;
     }
+
+nothing_held : (limit : ℕ) (bytes left : List ℕ) (cut ended : Bool) → bytes ≡ [] → cut ≡ false → ended ≡ true → items_after limit cut (cond ended bytes (bytes ++ left)) ≡ []
+nothing_held limit bytes left cut ended b c e = rw (c, e, b) refl
+
+pub answers_end : (old mid : Held) (got : List ℕ) → Fills old mid got → Shows mid peeks.End → AnswersWhen old mid got (Ok items.End)
+answers_end old mid got f shows = record {
+  more = (λ e. cc, λ p. let live = f.open_still p.0 in let seen = shows.2 in cc);
+  end = (
+    λ _. (shows.2, sym (ap (rest old) (append-nil got)) ∙ sym (f.same [] (λ _. refl)) ∙ nothing_held mid.limit mid.bytes [] mid.cut mid.ended shows.0 shows.1 shows.2),
+    λ _. refl,
+  );
+  fault = tt;
+  goes_on = tt;
+  seen = no_byte old mid got f.open_still;
+}
+
+pub end_given : (old mid : Held) (got : List ℕ) → Fills old mid got → Shows mid peeks.End → Advances old mid got AtEnd
+end_given old mid got f shows = record {
+  limit = f.limit;
+  next = λ left live.
+      let none = nothing_held mid.limit mid.bytes left mid.cut mid.ended shows.0 shows.1 shows.2 in
+      (sym (f.same left live) ∙ none, none);
+  ended = f.ended;
+  idle = f.idle;
+}
 
 pub answers_fault : (old new : Held) (fault : ReadFault) → new ≡ old → IsWaiting old → AnswersWhen old new [] (Err fault)
 answers_fault old new fault same waits = record {
@@ -86,6 +119,7 @@ answers_fault old new fault same waits = record {
   end = (λ e. cc, λ p. let live = ap (λ (h : Held). h.ended) same ∙ waits.1 in let seen = p.0 in cc);
   fault = (same, waits, refl);
   goes_on = tt;
+  seen = λ _. refl;
 }
 
 pub fault_given : (old new : Held) → new ≡ old → IsWaiting old → Advances old new [] NotYet

@@ -6,7 +6,7 @@ use Rattle.line_io.specs.Lending.{outcome, GoesOn}
 use Rattle.line_io.specs.declared.lines.Item.{Item}
 use Rattle.line_io.specs.declared.lines.Item.TheVariants as answers
 use Rattle.line_io.specs.declared.faults.ReadFault.{ReadFault}
-use Rattle.line_io.specs.Runs.{Runs, begins, goes, Call, goes_on, pieces_of, whole, LinesSoFar, LinesAtEnd, LinesAtFault, LinesInAnyCut, FewCalls}
+use Rattle.line_io.specs.Runs.{Runs, begins, goes, Call, goes_on, pieces_of, whole, LinesSoFar, LinesAtEnd, LinesAtFault, LinesInAnyCut, EndStays, FewCalls}
 use Rattle.line_io.proofs.Whole.{last_closed, whole_last}
 
 -- what a call gives comes first of the lines to come
@@ -68,3 +68,14 @@ in_any_cut limit calls calls' held held' new new' got got' more more' given give
     at_end limit calls held new got more given result run call end
     ∙ ap (items limit) same
     ∙ sym (at_end limit calls' held' new' got' more' given' result' run' call' end')
+
+pub end_stays : EndStays
+end_stays held new next got more (Ok answers.End) result' call end call' =
+    let e = call.answers.end.0 refl in
+    let none = call'.advances.idle (inr e.0) in
+    let left = call.advances.next [] (λ _. refl) in
+    (call'.answers.end.1 (call'.advances.ended e.0, ap (rest new) none ∙ left.1), none)
+end_stays held new next got more (Ok (answers.Line s)) result' call end call' = cc
+end_stays held new next got more (Ok answers.Long) result' call end call' = cc
+end_stays held new next got more (Ok answers.More) result' call end call' = cc
+end_stays held new next got more (Err e) result' call end call' = cc

@@ -1,5 +1,5 @@
 // Laws of lines and marks over whole inputs.
-ghost use Rattle.line_io.specs.Runs.{LinesSoFar, LinesAtEnd, LinesAtFault, LinesInAnyCut, FewCalls};
+ghost use Rattle.line_io.specs.Runs.{LinesSoFar, LinesAtEnd, LinesAtFault, LinesInAnyCut, EndStays, FewCalls};
 ghost use Rattle.line_io.specs.Scripts.{ReadsSpelling, HasLines, HasShortLines, ReadsBack, ReadsOneWay};
 
 /// Over all calls on one source the lines given are those of the whole input, however reads cut
@@ -9,6 +9,7 @@ pub fn lines_of_all_calls()
     ensures at_end { LinesAtEnd }
     ensures at_fault { LinesAtFault }
     ensures in_any_cut { LinesInAnyCut }
+    ensures end_stays { EndStays }
     ensures few_calls { FewCalls }
 {}
 
