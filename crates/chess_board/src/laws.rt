@@ -1,7 +1,7 @@
 //! Laws about the definitions that contracts cite, each a clause of a function that does nothing.
 ghost use Rattle.std.specs.Prelude.{◌≡◌, ◌↔◌, ◌≤◌, IsTrue, length};
 ghost use Rattle.chess_board.specs.Laws.{AttacksLaw, LegalLaw};
-ghost use Rattle.chess_board.specs.Text.{text_of};
+ghost use Rattle.chess_board.specs.Text.{text_of, ReadsBack, SpellsOneMove};
 
 use crate::board::Move;
 
@@ -26,4 +26,10 @@ pub fn legality_is_lawful()
 pub fn move_texts_are_short(m: Move)
     ensures least { 4 ≤ length (text_of m) }
     ensures most { length (text_of m) ≤ 5 }
+{}
+
+/// A text spells at most one move, and the text of a move spells it.
+pub fn move_texts_are_exact()
+    ensures one { SpellsOneMove }
+    ensures back { ReadsBack }
 {}
