@@ -1,7 +1,7 @@
 //! Move counts that are known of the rules, and each public function once.
 use crate::{
-    BuildFault, Kind, Move, Position, Rights, Side, Square, State, equal_moves, read_move,
-    write_move,
+    BuildFault, Kind, Move, Position, Rights, Side, Square, State, equal_moves, equal_positions,
+    read_move, write_move,
 };
 use std::process::Abort;
 use std::test::Fail;
@@ -129,6 +129,7 @@ fn plays_moves(rt: HostRuntime) -> Result<(), Fail> {
     assert!(rt; start.rights().wk && start.rights().bq);
     assert!(rt; start.attacked(f3, Side::White) && !start.attacked(f3, Side::Black));
     assert!(rt; !start.in_check());
+    assert!(rt; equal_positions(&start, &Position::start()));
     start.facts();
 
     let knights = after(&rt, start, "g1f3 g8f6 f3g1 f6g8");
