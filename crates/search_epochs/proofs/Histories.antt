@@ -43,7 +43,7 @@ none_sent m false true = refl
 none_sent m false false = quit_sent m.epoch m.engine
 
 -- the last orders leave everything as it is
-closing_after : (m : Talk) (closed gone : Bool) → after m (last_orders closed gone) ≡ m
+pub closing_after : (m : Talk) (closed gone : Bool) → after m (last_orders closed gone) ≡ m
 closing_after m closed gone = ap (λ (e : Engine). let t : Talk = record { engine = e; epoch = m.epoch; last = m.last } in t) (none_sent m closed gone)
 
 -- what goes on in an exchange, where the code stands for the dialogue before

@@ -70,12 +70,12 @@ Lawful (x ∷ xs) = Lawful xs × MayCome (is_closed xs) x × AreLawful (talk xs)
 -- how the desk's call and hint go on
 
 -- the answer to a current search for a Move
-abbrev pub answers_at : ℕ → Engine → What → Bool
-answers_at epoch (Search kinds.Move ticket s) (Says said.Best) = ticket == epoch
-answers_at epoch e w = false
+abbrev pub answers_at : What → ℕ → Engine → Bool
+answers_at (Says said.Best) epoch (Search kinds.Move ticket s) = ticket == epoch
+answers_at w epoch e = false
 
 abbrev pub answers : Talk → What → Bool
-answers t w = answers_at t.epoch t.engine w
+answers t w = answers_at w t.epoch t.engine
 
 abbrev pub is_end : What → Bool
 is_end (Says said.Ended) = true

@@ -17,14 +17,19 @@ MidIsKept =
     (t : Talk) (u : Turn) → TicketWithin t.epoch t.engine → LastWithin t.epoch t.last
     → mid_view (kept t u.hint) u.what u.rises ≡ kept_mid t u
 
--- The orders that are chosen are settled, and what is kept goes on with the tickets. The hint afterwards is the one before, unless an
--- epoch begins, and is named by a call to ponder that is owed.
+-- the orders that are chosen are settled
 abbrev pub TurnIsSettled : Type 0
 TurnIsSettled =
+    (t : Talk) (u : Turn) → AllSetup u.waiting
+    → Settled (turned t u).engine (turned t u).epoch (owed (turned t u) u.call) u.waiting (is_due t u) (is_hit t u) (is_hurry u.what) (words u.waiting (settled_by t u))
+
+-- and what is kept goes on with the tickets, where the hint afterwards is the one before, unless an epoch begins, and is named by a
+-- call to ponder that is owed
+abbrev pub TurnIsKept : Type 0
+TurnIsKept =
     (t : Talk) (u : Turn) (hint : Option Move) → TicketWithin t.epoch t.engine → AllSetup u.waiting
     → (u.rises ≡ false → hint ≡ u.hint) → ((h : Move) → owed (turned t u) u.call ≡ calls.Ponder h → hint ≡ Some h)
-    → Settled (turned t u).engine (turned t u).epoch (owed (turned t u) u.call) u.waiting (is_due t u) (is_hit t u) (is_hurry u.what) (words u.waiting (settled_by t u))
-    × (after_settled (kept_mid t u) (settled_by t u) ≡ kept (after (turned t u) (words u.waiting (settled_by t u))) hint)
+    → after_settled (kept_mid t u) (settled_by t u) ≡ kept (after (turned t u) (words u.waiting (settled_by t u))) hint
 
 -- what is settled is one list of orders
 abbrev pub SettledIsUnique : Type 0

@@ -18,7 +18,7 @@ ghost use Rattle.search_epochs.specs.Laws.{
   SettledIsUnique,
   StoppedIsForMove,
   StopsOnce,
-  TicketsAreWithin,
+  TicketsAreWithin, TurnIsKept,
   TurnIsSettled,
   ViewIsKept,
 };
@@ -27,6 +27,7 @@ ghost use Rattle.search_epochs.specs.Laws.{
 pub fn whole_turn()
     ensures mid { MidIsKept }
     ensures settled { TurnIsSettled }
+    ensures kept { TurnIsKept }
     ensures unique { SettledIsUnique }
 {}
 

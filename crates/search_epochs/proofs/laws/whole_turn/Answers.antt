@@ -1,9 +1,12 @@
 use Rattle.search_epochs.proofs.Same.{same}
-use Rattle.search_epochs.proofs.Whole.{whole_mid}
+use Rattle.search_epochs.proofs.Whole.{settled_mid, keeps_mid}
 use Rattle.search_epochs.proofs.laws.whole_turn.Goals as goal
 
 pub returns-clause-settled : goal.returns-clause-settled
-returns-clause-settled c = whole_mid
+returns-clause-settled c = settled_mid
+
+pub returns-clause-kept : goal.returns-clause-kept
+returns-clause-kept c = keeps_mid
 
 pub returns-clause-unique : goal.returns-clause-unique
 returns-clause-unique c = same
