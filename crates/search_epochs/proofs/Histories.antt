@@ -37,7 +37,7 @@ quit_sent epoch Idle = refl
 quit_sent epoch (Search k t s) = refl
 quit_sent epoch Gone = refl
 
-none_sent : (m : Talk) (closed gone : Bool) → sent_all m.epoch m.engine (last_orders closed gone) ≡ m.engine
+pub none_sent : (m : Talk) (closed gone : Bool) → sent_all m.epoch m.engine (last_orders closed gone) ≡ m.engine
 none_sent m true gone = refl
 none_sent m false true = refl
 none_sent m false false = quit_sent m.epoch m.engine
