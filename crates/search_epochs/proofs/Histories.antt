@@ -109,7 +109,7 @@ module _ (t : Talk) (x : Exchange) (w : TicketWithin t.epoch t.engine) (l : Last
     pub are_lawful : (closed : Bool) → MayCome closed x → x.orders ≡ orders_of (kept t x.turn.hint) closed x → AreLawful t closed x
     are_lawful closed m o = record {
       settled = λ e. subst (λ (ws : List Word). Settled (turned t x.turn).engine (turned t x.turn).epoch (owed (turned t x.turn) x.turn.call) x.turn.waiting (is_due t x.turn) (is_hit t x.turn) (is_hurry x.turn.what) ws)
-      (sym (o ∙ orders_open closed e)) (settled_open m.waiting e);
+          (sym (o ∙ orders_open closed e)) (settled_open m.waiting e);
       closing = λ e. o ∙ orders_closed closed e;
     }
 

@@ -52,12 +52,14 @@ pub after_served : (m : Talk) (waiting : List Word) (begun call : Call) (unsent 
 after_served m waiting begun call unsent matches hurry a h =
     subst (λ (x : EngineState). IfCurrent x (served (choose (forget m.epoch m.engine) (owed m call) unsent matches hurry))) (ordered m.epoch m.engine (owed m call) waiting unsent matches hurry a)
     (settled_current served (forget m.epoch m.engine) (owed m call) unsent matches hurry h h begins hits) where
-  served : Orders → GoKind → Type 0
-  served o k = Serves k call × (cond (begins_search (words waiting o)) call begun ≡ call)
-  begins : is_nothing (owed m call) ≡ false → served (orders.Begin (owed m call)) (kind_of (owed m call))
-  begins e = (subst (Serves (kind_of (owed m call))) (owed_is_called (spent m) call e) (e, refl), refl)
-  hits : is_move (owed m call) ≡ true → served orders.Hit kinds.Move
-  hits e = (subst (Serves kinds.Move) (owed_is_called (spent m) call (move_is_something (owed m call) e)) (move_serves (owed m call) e), refl)
+      served : Orders → GoKind → Type 0
+      served o k = Serves k call × (cond (begins_search (words waiting o)) call begun ≡ call)
+
+      begins : is_nothing (owed m call) ≡ false → served (orders.Begin (owed m call)) (kind_of (owed m call))
+      begins e = (subst (Serves (kind_of (owed m call))) (owed_is_called (spent m) call e) (e, refl), refl)
+
+      hits : is_move (owed m call) ≡ true → served orders.Hit kinds.Move
+      hits e = (subst (Serves kinds.Move) (owed_is_called (spent m) call (move_is_something (owed m call) e)) (move_serves (owed m call) e), refl)
 
 -- a call that is spent
 
@@ -136,11 +138,14 @@ pub exchange_serving : (t : Talk) (closed : Bool) (begun call : Call) (hint : Op
 exchange_serving t closed begun call hint x w l steady m a h = record { served = served; unspent = unspent } where
   open_before : x.closed ≡ false → closed ≡ false
   open_before e = still_open closed x.closed m.stays_closed e
+
   unspent : spent (turned t x.turn) ≡ true → is_move x.turn.call ≡ false
   unspent n =
       turned_unspent t x.turn x.closed call w l steady.call_stays m.deaf (λ e. first_of_served (forget t.epoch t.engine) begun call (h.served (open_before e))) h.unspent n
+
   stays : x.closed ≡ false → x.turn.rises ≡ false → x.turn.call ≡ cond (answers t x.turn.what || is_end x.turn.what) calls.Nothing call
   stays e r = steady.call_stays r ∙ ap (λ b. cond (b || (answers t x.turn.what || is_end x.turn.what)) calls.Nothing call) e
+
   served : x.closed ≡ false → IsServed (forget (turned t x.turn).epoch (sent_all (turned t x.turn).epoch (turned t x.turn).engine x.orders)) (cond (begins_search x.orders) x.turn.call begun) x.turn.call
   served e =
       subst (λ (ws : List Word). IsServed (forget (turned t x.turn).epoch (sent_all (turned t x.turn).epoch (turned t x.turn).engine ws)) (cond (begins_search ws) x.turn.call begun) x.turn.call) (sym (open_orders t closed x m a e))

@@ -47,9 +47,11 @@ pub turned_sound : (t : Talk) (u : Turn) → TicketWithin t.epoch t.engine → I
 turned_sound t u w h = record { stops = stops u.rises; unspent = unspent u.rises } where
   risen_state : forget (t.epoch + 1) (heard t.engine (said_of u.what)) ≡ stale_state (forget t.epoch (heard t.engine (said_of u.what)))
   risen_state = risen t.epoch (heard t.engine (said_of u.what)) (heard_within t.epoch t.engine (said_of u.what) w)
+
   stops : (r : Bool) → StopsForMove (forget (cond r (t.epoch + 1) t.epoch) (heard t.engine (said_of u.what)))
   stops true = subst StopsForMove (sym risen_state) (stale_stops (forget t.epoch (heard t.engine (said_of u.what))))
   stops false = heard_goes (λ e last. StopsForMove (forget t.epoch e)) (λ last. tt) (λ last. tt) t.engine u.what t.last h.stops
+
   unspent : (r : Bool) → IsUnspent (cond r (t.epoch + 1) t.epoch) (heard t.engine (said_of u.what)) (closed_ticket t.engine (said_of u.what) t.last)
   unspent true = subst (λ (x : EngineState). IfCurrent x (λ k. is_some_equal (closed_ticket t.engine (said_of u.what) t.last) (t.epoch + 1) ≡ false)) (sym risen_state) (none_if_stale _ (forget t.epoch (heard t.engine (said_of u.what))))
   unspent false = heard_goes (IsUnspent t.epoch) (λ last. tt) (λ last. tt) t.engine u.what t.last h.unspent
@@ -101,8 +103,8 @@ after_sound t u a h =
     record {
       stops = subst StopsForMove goes (settled_stops (forget m.epoch m.engine) (owed m u.call) _ _ (is_hurry u.what) h.stops);
       unspent = subst (λ (x : EngineState). IfCurrent x (λ k. spent m ≡ false)) goes
-      (settled_current (λ o k. spent m ≡ false) (forget m.epoch m.engine) (owed m u.call) _ _ (is_hurry u.what) h.unspent h.unspent
-      (λ e. unspent_if_owed (spent m) u.call e) (λ e. unspent_if_owed (spent m) u.call (move_is_something (owed m u.call) e)));
+          (settled_current (λ o k. spent m ≡ false) (forget m.epoch m.engine) (owed m u.call) _ _ (is_hurry u.what) h.unspent h.unspent
+          (λ e. unspent_if_owed (spent m) u.call e) (λ e. unspent_if_owed (spent m) u.call (move_is_something (owed m u.call) e)));
     }
 
 -- the orders of a lawful exchange in an open session are those that are chosen

@@ -19,9 +19,9 @@ pub heard_stands : (v : View) (t : Talk) (s : Said) → StandsFor v t → Stands
 heard_stands v t s h = record {
   same_state = ap (λ (e : EngineState). heard_state e s) h.same_state ∙ heard_both t.epoch t.engine s;
   same_spent =
-    ap (λ (e : EngineState). heard_spent e s v.spent) h.same_state
-    ∙ ap (heard_spent (forget t.epoch t.engine) s) h.same_spent
-    ∙ spent_both t.epoch t.engine s t.last;
+      ap (λ (e : EngineState). heard_spent e s v.spent) h.same_state
+      ∙ ap (heard_spent (forget t.epoch t.engine) s) h.same_spent
+      ∙ spent_both t.epoch t.engine s t.last;
 }
 
 pub risen_stands : (v : View) (t : Talk) → TicketWithin t.epoch t.engine → LastWithin t.epoch t.last → StandsFor v t → StandsFor (after_epoch v) (rise t)
@@ -48,8 +48,8 @@ module _ (v : View) (t : Talk) (call : Call) (unsent : Bool) (played : Option Mo
   pub settled_stands : (v' : View) → v'.state ≡ settled_state v.state o → v'.spent ≡ v.spent → StandsFor v' (after t (words waiting o))
   settled_stands v' state spent = record {
     same_state =
-      state ∙ ap (λ (e : EngineState). settled_state e o) h.same_state
-      ∙ subst (λ (x : Orders). settled_state (forget t.epoch t.engine) x ≡ forget t.epoch (sent_all t.epoch t.engine (words waiting x))) (sym chosen_by)
+        state ∙ ap (λ (e : EngineState). settled_state e o) h.same_state
+        ∙ subst (λ (x : Orders). settled_state (forget t.epoch t.engine) x ≡ forget t.epoch (sent_all t.epoch t.engine (words waiting x))) (sym chosen_by)
         (ordered t.epoch t.engine (owed t call) waiting unsent (is_pondered v.pondered played) hurry a);
     same_spent = spent ∙ h.same_spent;
   }

@@ -1,27 +1,9 @@
 // Laws of the dialogue: functions that do nothing, whose contracts hold of every turn and of every list of exchanges.
-ghost use Rattle.search_epochs.specs.Laws.{
-  ChosenIsLawful,
-  CurrentIsUnspent,
-  CurrentServes,
-  DialogueIsUnique,
-  GoFollowsPosition,
-  GoneGetsNothing,
-  IdleGetsThem,
-  LawfulIsChosen,
-  LiveIsCurrent,
-  MidIsKept,
-  MoveIsOwed,
-  NothingIsLeft,
-  PonderGetsHit,
-  QuitIsLast,
-  SearchGetsStop,
-  SettledIsUnique,
-  StoppedIsForMove,
-  StopsOnce,
-  TicketsAreWithin, TurnIsKept,
-  TurnIsSettled,
-  ViewIsKept,
-};
+ghost use Rattle.search_epochs.specs.Laws.{ChosenIsLawful, CurrentIsUnspent, CurrentServes, DialogueIsUnique};
+ghost use Rattle.search_epochs.specs.Laws.{GoFollowsPosition, GoneGetsNothing, IdleGetsThem, LawfulIsChosen};
+ghost use Rattle.search_epochs.specs.Laws.{LiveIsCurrent, MidIsKept, MoveIsOwed, NothingIsLeft, PonderGetsHit};
+ghost use Rattle.search_epochs.specs.Laws.{QuitIsLast, SearchGetsStop, SettledIsUnique, StoppedIsForMove};
+ghost use Rattle.search_epochs.specs.Laws.{StopsOnce, TicketsAreWithin, TurnIsKept, TurnIsSettled, ViewIsKept};
 
 /// One turn: what is kept after the event, and what is chosen then.
 pub fn whole_turn()

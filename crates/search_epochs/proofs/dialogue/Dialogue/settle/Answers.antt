@@ -9,5 +9,5 @@ returns-clause-settled c = λ t waiting h a w. settled_by_view _ t _ _ _ _ waiti
 pub returns-clause-tickets : goal.returns-clause-tickets
 returns-clause-tickets c = λ t waiting h a.
     settled_stands _ t _ _ _ _ waiting _ c.choose-orders.ensures h a _
-    (c.state_after-self-inside.ensures ∙ ap (λ (v : View). settled_state v.state c.choose-orders.result) c.self.view_is)
+    (c.after-self-inside.ensures ∙ ap (λ (v : View). settled_state v.state c.choose-orders.result) c.self.view_is)
     (ap (λ (v : View). v.spent) c.self.view_is)
