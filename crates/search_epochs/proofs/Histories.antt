@@ -1,15 +1,13 @@
 -- A dialogue whose orders the code chose is lawful, and a lawful one is chosen by the code.
-use Rattle.std.proofs.Common.{◌≡◌, ℕ, List, [], ◌∷◌, ◌++◌, map, Bool, true, false, not, cond, ◌&&◌, ◌||◌, ◌==◌, Option, Some, None, refl, sym, ap, subst, ◌∙◌}
+use Rattle.std.proofs.Common.{◌≡◌, ℕ, List, [], ◌∷◌, map, Bool, true, false, not, cond, ◌||◌, Option, Some, None, refl, sym, ap, subst, ◌∙◌}
 use Rattle.chess_board.specs.declared.board.Move.{Move}
 use Rattle.search_epochs.specs.declared.words.Call.{Call}
 use Rattle.search_epochs.specs.declared.words.Call.TheVariants as calls
-use Rattle.search_epochs.specs.declared.words.EngineState.{EngineState}
-use Rattle.search_epochs.specs.declared.words.EngineState.TheVariants as states
 use Rattle.search_epochs.specs.declared.words.Said.TheVariants as said
 use Rattle.search_epochs.specs.declared.words.Orders.{Orders}
 use Rattle.search_epochs.specs.declared.words.Orders.TheVariants as orders
-use Rattle.search_epochs.specs.Talk.{Engine, Boot, Getting, Idle, Search, Gone, What, Says, Plays, Hurries, Quiet, Talk, Turn, Word, Quit, TicketWithin, LastWithin, AllSetup, Settled, sent, sent_all, spent, owed, turned, after, ponders, is_due, is_hit, is_hurry, is_empty, is_gone, leaves_boot}
-use Rattle.search_epochs.specs.View.{View, forget, kept, kept_mid, mid_view, words, settle, settled_by, after_settled, is_unsent, played_of, boots}
+use Rattle.search_epochs.specs.Talk.{Engine, Boot, Getting, Idle, Search, Gone, What, Says, Talk, Word, Quit, TicketWithin, LastWithin, AllSetup, Settled, sent, sent_all, spent, owed, turned, after, ponders, is_due, is_hit, is_hurry, is_empty, is_gone, leaves_boot}
+use Rattle.search_epochs.specs.View.{View, forget, kept, kept_mid, words, settle, settled_by, after_settled, played_of, boots}
 use Rattle.search_epochs.specs.History.{Exchange, MayCome, AreLawful, IsSteady, Steady, Chosen, Lawful, talk, view, last_hint, last_call, is_closed, heard_in, choice, orders_of, last_orders, is_gone_state, asked}
 use Rattle.search_epochs.specs.Laws.{ChosenIsLawful, LawfulIsChosen, ViewIsKept, DialogueIsUnique}
 use Rattle.search_epochs.proofs.Whole.{triple, mid_kept, whole_mid, ponders_before}

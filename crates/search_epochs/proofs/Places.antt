@@ -1,9 +1,9 @@
 -- Where orders stand, and which engine they reach.
-use Rattle.std.proofs.Common.{◌≡◌, ℕ, ◌+◌, List, [], ◌∷◌, ◌++◌, Bool, true, false, Option, refl, sym, ap, subst, ◌∙◌}
+use Rattle.std.proofs.Common.{◌≡◌, ℕ, List, [], ◌∷◌, ◌++◌, Bool, true, false, refl, sym, ap, subst, ◌∙◌}
 use Rattle.peer_words.specs.declared.kinds.GoKind.{GoKind}
 use Rattle.peer_words.specs.declared.kinds.GoKind.TheVariants as kinds
-use Rattle.search_epochs.specs.Talk.{Engine, Boot, Getting, Idle, Search, Gone, Word, Uci, Setup, IsReady, Position, Go, Stop, PonderHit, Quit, MaySend, MaySendAll, Paired, Talk, turned, sent, sent_all, is_gone, has_quit}
-use Rattle.search_epochs.specs.History.{Exchange, MayCome, AreLawful, Lawful, talk, is_closed, last_orders}
+use Rattle.search_epochs.specs.Talk.{Engine, Boot, Getting, Idle, Search, Gone, Word, Uci, Setup, IsReady, Position, Go, Stop, PonderHit, Quit, MaySend, MaySendAll, Paired, turned, sent, sent_all, is_gone, has_quit}
+use Rattle.search_epochs.specs.History.{Exchange, Lawful, talk, is_closed, last_orders}
 use Rattle.search_epochs.specs.Laws.{needs_idle, IdleGetsThem, SearchGetsStop, PonderGetsHit, GoneGetsNothing, GoFollowsPosition, QuitIsLast}
 use Rattle.search_epochs.proofs.Stops.{may_all}
 

@@ -1,5 +1,5 @@
 -- An open current search serves the call, and a call for a Move is never spent.
-use Rattle.std.proofs.Common.{◌≡◌, ℕ, ◌+◌, ◌≤◌, List, [], ◌∷◌, ◌++◌, Bool, true, false, not, cond, ◌||◌, ◌&&◌, ◌==◌, Option, Some, None, refl, sym, ap, subst, ◌∙◌}
+use Rattle.std.proofs.Common.{◌≡◌, ℕ, ◌+◌, List, [], ◌∷◌, Bool, true, false, not, cond, ◌||◌, ◌==◌, Option, refl, sym, ap, subst, ◌∙◌}
 use Rattle.chess_board.specs.declared.board.Move.{Move}
 use Rattle.peer_words.specs.declared.kinds.GoKind.{GoKind}
 use Rattle.peer_words.specs.declared.kinds.GoKind.TheVariants as kinds
@@ -7,19 +7,18 @@ use Rattle.search_epochs.specs.declared.words.EngineState.{EngineState}
 use Rattle.search_epochs.specs.declared.words.EngineState.TheVariants as states
 use Rattle.search_epochs.specs.declared.words.Call.{Call}
 use Rattle.search_epochs.specs.declared.words.Call.TheVariants as calls
-use Rattle.search_epochs.specs.declared.words.Said.{Said}
 use Rattle.search_epochs.specs.declared.words.Said.TheVariants as said
 use Rattle.search_epochs.specs.declared.words.Orders.{Orders}
 use Rattle.search_epochs.specs.declared.words.Orders.TheVariants as orders
-use Rattle.search_epochs.specs.Talk.{Engine, Boot, Getting, Idle, Search, Gone, What, Says, Plays, Hurries, Quiet, Talk, Turn, Word, TicketWithin, LastWithin, AllSetup, Serves, heard, said_of, closed_ticket, is_some_equal, sent_all, spent, owed, turned, after, is_move, is_nothing, is_hurry, kind_of, has_go, has_hit}
-use Rattle.search_epochs.specs.View.{View, forget, settled_state, words, choose, settled_by}
-use Rattle.search_epochs.specs.History.{Exchange, MayCome, AreLawful, IsSteady, Steady, Lawful, IsDeaf, talk, is_closed, last_call, last_hint, began, answers, answers_at, is_end, ends_call}
+use Rattle.search_epochs.specs.Talk.{Engine, Boot, Getting, Idle, Search, Gone, What, Says, Plays, Hurries, Quiet, Talk, Turn, Word, TicketWithin, LastWithin, AllSetup, Serves, said_of, closed_ticket, is_some_equal, sent_all, spent, owed, turned, after, is_move, is_nothing, is_hurry, kind_of, has_go, has_hit}
+use Rattle.search_epochs.specs.View.{forget, words, choose}
+use Rattle.search_epochs.specs.History.{Exchange, MayCome, AreLawful, IsSteady, Steady, Lawful, IsDeaf, talk, is_closed, last_call, last_hint, began, answers, answers_at, is_end}
 use Rattle.search_epochs.specs.Laws.{CurrentServes, MoveIsOwed}
 use Rattle.search_epochs.proofs.Turns.{risen_spent, ordered}
 use Rattle.search_epochs.proofs.Whole.{last_within}
 use Rattle.search_epochs.proofs.Within.{within}
 use Rattle.search_epochs.proofs.Current.{IfCurrent, turned_current, settled_current}
-use Rattle.search_epochs.proofs.Sound.{unspent_if_owed, move_is_something, open_orders, at_current}
+use Rattle.search_epochs.proofs.Sound.{move_is_something, open_orders, at_current}
 
 -- a Move that is owed is called for
 owed_is_called : (b : Bool) (c : Call) → is_nothing (cond b calls.Nothing c) ≡ false → cond b calls.Nothing c ≡ c
@@ -41,10 +40,10 @@ abbrev pub IsServed : EngineState → Call → Call → Type 0
 IsServed e begun call = IfCurrent e (λ k. Serves k call × (begun ≡ call))
 
 -- in an open session
-pub turned_served : (t : Talk) (u : Turn) (begun call : Call) → TicketWithin t.epoch t.engine
+pub turned_served : (t : Talk) (u : Turn) (begun call : Call) → TicketWithin t.epoch t.engine → LastWithin t.epoch t.last
     → (u.rises ≡ false → u.call ≡ cond (answers t u.what || is_end u.what) calls.Nothing call)
     → IsServed (forget t.epoch t.engine) begun call → IsServed (forget (turned t u).epoch (turned t u).engine) begun u.call
-turned_served t u begun call w stays h = turned_current (λ k c. Serves k c × (begun ≡ c)) t u call w stays h
+turned_served t u begun call w l stays h = turned_current (λ k c. Serves k c × (begun ≡ c)) t u call w l stays h
 
 pub after_served : (m : Talk) (waiting : List Word) (begun call : Call) (unsent matches hurry : Bool) → AllSetup waiting → IsServed (forget m.epoch m.engine) begun call
     → (let o = choose (forget m.epoch m.engine) (owed m call) unsent matches hurry in
@@ -149,7 +148,7 @@ exchange_serving t closed begun call hint x w l steady m a h = record { served =
   served : x.closed ≡ false → IsServed (forget (turned t x.turn).epoch (sent_all (turned t x.turn).epoch (turned t x.turn).engine x.orders)) (cond (begins_search x.orders) x.turn.call begun) x.turn.call
   served e =
       subst (λ (ws : List Word). IsServed (forget (turned t x.turn).epoch (sent_all (turned t x.turn).epoch (turned t x.turn).engine ws)) (cond (begins_search ws) x.turn.call begun) x.turn.call) (sym (open_orders t closed x m a e))
-      (after_served (turned t x.turn) x.turn.waiting begun x.turn.call _ _ (is_hurry x.turn.what) m.waiting (turned_served t x.turn begun call w (stays e) (h.served (open_before e))))
+      (after_served (turned t x.turn) x.turn.waiting begun x.turn.call _ _ (is_hurry x.turn.what) m.waiting (turned_served t x.turn begun call w l (stays e) (h.served (open_before e))))
 
 pub serving : (xs : List Exchange) → Steady xs → Lawful xs → IsServing (is_closed xs) (talk xs) (began xs) (last_call xs)
 serving [] s l = record { served = λ e. tt; unspent = λ e. cc }

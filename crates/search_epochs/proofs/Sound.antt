@@ -1,5 +1,5 @@
 -- What holds of the open search after each lawful dialogue.
-use Rattle.std.proofs.Common.{◌≡◌, ℕ, ◌+◌, ◌≤◌, List, [], ◌∷◌, ◌++◌, Bool, true, false, not, cond, ◌||◌, ◌&&◌, ◌==◌, Option, Some, None, refl, sym, ap, subst, ◌∙◌, arith}
+use Rattle.std.proofs.Common.{◌≡◌, ℕ, ◌+◌, List, [], ◌∷◌, Bool, true, false, not, cond, ◌==◌, Option, refl, sym, ap, subst, ◌∙◌, arith}
 use Rattle.std.proofs.lemmas.Bool.Decides.{nat_tests}
 use Rattle.peer_words.specs.declared.kinds.GoKind.{GoKind}
 use Rattle.peer_words.specs.declared.kinds.GoKind.TheVariants as kinds
@@ -7,13 +7,9 @@ use Rattle.search_epochs.specs.declared.words.EngineState.{EngineState}
 use Rattle.search_epochs.specs.declared.words.EngineState.TheVariants as states
 use Rattle.search_epochs.specs.declared.words.Call.{Call}
 use Rattle.search_epochs.specs.declared.words.Call.TheVariants as calls
-use Rattle.search_epochs.specs.declared.words.Said.{Said}
-use Rattle.search_epochs.specs.declared.words.Said.TheVariants as said
-use Rattle.search_epochs.specs.declared.words.Orders.{Orders}
-use Rattle.search_epochs.specs.declared.words.Orders.TheVariants as orders
-use Rattle.search_epochs.specs.Talk.{Engine, Boot, Getting, Idle, Search, Gone, What, Says, Plays, Hurries, Quiet, Talk, Turn, Word, TicketWithin, LastWithin, AllSetup, Settled, IsLiveOnlyAt, heard, said_of, closed_ticket, is_some_equal, sent_all, spent, owed, turned, after, is_move, is_nothing, is_gone, is_due, is_hit, is_hurry}
-use Rattle.search_epochs.specs.View.{View, forget, stale_state, heard_state, settled_state, words, choose, choose_search, kept_mid, settled_by}
-use Rattle.search_epochs.specs.History.{Exchange, MayCome, AreLawful, Lawful, talk, is_closed, last_orders}
+use Rattle.search_epochs.specs.Talk.{Engine, Search, Talk, Turn, Word, TicketWithin, AllSetup, IsLiveOnlyAt, heard, said_of, closed_ticket, is_some_equal, spent, owed, turned, after, is_move, is_nothing, is_gone, is_hurry}
+use Rattle.search_epochs.specs.View.{forget, stale_state, settled_state, words, choose, choose_search, settled_by}
+use Rattle.search_epochs.specs.History.{Exchange, MayCome, AreLawful, Lawful, talk, is_closed}
 use Rattle.search_epochs.specs.Laws.{LiveIsCurrent, StoppedIsForMove, CurrentIsUnspent}
 use Rattle.search_epochs.proofs.Turns.{heard_goes, risen, ordered}
 use Rattle.search_epochs.proofs.Whole.{heard_within, settled_mid}

@@ -1,17 +1,16 @@
 -- What is kept stands for what was heard and written, call by call.
-use Rattle.std.proofs.Common.{◌≡◌, ◌↔◌, ℕ, ◌+◌, ◌≤◌, List, Bool, true, false, cond, ◌&&◌, Option, Some, None, refl, sym, ap, subst, ◌∙◌}
+use Rattle.std.proofs.Common.{◌≡◌, ◌↔◌, List, Bool, true, false, cond, ◌&&◌, Option, refl, sym, ap, subst, ◌∙◌}
 use Rattle.chess_board.specs.declared.board.Move.{Move}
 use Rattle.search_epochs.specs.declared.words.EngineState.{EngineState}
 use Rattle.search_epochs.specs.declared.words.EngineState.TheVariants as states
 use Rattle.search_epochs.specs.declared.words.Said.{Said}
 use Rattle.search_epochs.specs.declared.words.Said.TheVariants as said
-use Rattle.search_epochs.specs.declared.words.Heard.{Heard}
 use Rattle.search_epochs.specs.declared.words.Heard.TheVariants as hears
 use Rattle.search_epochs.specs.declared.words.Call.{Call}
 use Rattle.search_epochs.specs.declared.words.Call.TheVariants as calls
 use Rattle.search_epochs.specs.declared.words.Orders.{Orders}
 use Rattle.search_epochs.specs.Talk.{Talk, Word, TicketWithin, LastWithin, AllSetup, Settled, sent_all, hear, rise, spent, owed, after, is_empty, is_idle, is_move}
-use Rattle.search_epochs.specs.View.{View, StandsFor, forget, meaning, heard_state, heard_spent, stale_state, settled_state, after_said, after_epoch, settle, after_settled, choose, hits, is_pondered, words}
+use Rattle.search_epochs.specs.View.{View, StandsFor, forget, meaning, heard_state, heard_spent, stale_state, settled_state, after_said, after_epoch, settle, choose, hits, is_pondered, words}
 use Rattle.search_epochs.proofs.Settles.{chosen}
 use Rattle.search_epochs.proofs.Turns.{heard_both, spent_both, risen, risen_spent, ordered}
 

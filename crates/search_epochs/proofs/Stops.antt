@@ -1,11 +1,10 @@
 -- At most one `stop` in a search.
-use Rattle.std.proofs.Common.{◌≡◌, ℕ, ◌+◌, ◌≤◌, List, [], ◌∷◌, Bool, true, false, cond, Option, refl, sym, ap, subst, ◌∙◌, arith}
+use Rattle.std.proofs.Common.{◌≡◌, ℕ, ◌+◌, ◌≤◌, List, [], ◌∷◌, Bool, true, false, refl, sym, ap, subst, arith}
 use Rattle.peer_words.specs.declared.kinds.GoKind.TheVariants as kinds
-use Rattle.search_epochs.specs.Talk.{Engine, Boot, Getting, Idle, Search, Gone, Word, Uci, Setup, IsReady, Position, Go, Stop, PonderHit, Quit, MaySend, MaySendAll, Talk, turned, sent, sent_all, heard, said_of, is_gone}
+use Rattle.search_epochs.specs.Talk.{Engine, Boot, Getting, Idle, Search, Gone, Word, Uci, Setup, IsReady, Position, Go, Stop, PonderHit, Quit, MaySendAll, Talk, turned, sent, sent_all, is_gone}
 use Rattle.search_epochs.specs.History.{Exchange, AreLawful, Lawful, talk, is_closed, last_orders, stops_after, stops_since_go}
 use Rattle.search_epochs.specs.Laws.{StopsOnce}
 use Rattle.search_epochs.proofs.Turns.{heard_goes}
-use Rattle.search_epochs.proofs.Histories.{none_sent}
 
 -- so many `stop`s were written since the last `go`: none in a search that is not stopped
 abbrev pub AreStops : ℕ → Engine → Type 0

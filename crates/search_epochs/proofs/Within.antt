@@ -1,8 +1,8 @@
 -- No ticket is ever above the epoch.
-use Rattle.std.proofs.Common.{◌≡◌, ℕ, ◌+◌, ◌≤◌, List, [], ◌∷◌, Bool, true, false, cond, Option, Some, None, IfSome, arith}
+use Rattle.std.proofs.Common.{ℕ, ◌+◌, List, [], ◌∷◌, Bool, true, false, cond, Option, Some, None, arith}
 use Rattle.peer_words.specs.declared.kinds.GoKind.TheVariants as kinds
-use Rattle.search_epochs.specs.Talk.{Engine, Boot, Getting, Idle, Search, Gone, Word, Uci, Setup, IsReady, Position, Go, Stop, PonderHit, Quit, Talk, TicketWithin, LastWithin, Turn, heard, said_of, closed_ticket, sent, sent_all, turned, after}
-use Rattle.search_epochs.specs.History.{Exchange, talk}
+use Rattle.search_epochs.specs.Talk.{Engine, Boot, Getting, Idle, Search, Gone, Word, Uci, IsReady, Go, PonderHit, Talk, TicketWithin, LastWithin, Turn, heard, said_of, closed_ticket, sent, sent_all, turned}
+use Rattle.search_epochs.specs.History.{talk}
 use Rattle.search_epochs.specs.Laws.{TicketsAreWithin}
 use Rattle.search_epochs.proofs.Whole.{heard_within, last_within}
 

@@ -1,11 +1,11 @@
 -- The laws of the dialogue: of one turn, and of every list of exchanges.
-use Rattle.std.specs.Prelude.{◌≡◌, ◌≢◌, ℕ, ◌≤◌, List, [], ◌∷◌, ◌++◌, map, Bool, true, false, ◌||◌, Option, Some, None}
+use Rattle.std.specs.Prelude.{◌≡◌, ◌≢◌, ℕ, ◌≤◌, List, [], ◌∷◌, ◌++◌, map, Bool, true, false, Option, Some}
 use Rattle.chess_board.specs.declared.board.Move.{Move}
 use Rattle.peer_words.specs.declared.kinds.GoKind.{GoKind}
 use Rattle.peer_words.specs.declared.kinds.GoKind.TheVariants as kinds
 use Rattle.search_epochs.specs.declared.words.Call.{Call}
 use Rattle.search_epochs.specs.declared.words.Call.TheVariants as calls
-use Rattle.search_epochs.specs.Talk.{Engine, Idle, Search, Gone, Word, Setup, IsReady, Position, Go, Stop, PonderHit, Quit, Talk, Turn, TicketWithin, LastWithin, AllSetup, Settled, IsLiveOnlyAt, Serves, Paired, turned, after, owed, spent, is_due, is_hit, is_hurry, is_move, is_idle, is_empty, is_nothing, has_quit}
+use Rattle.search_epochs.specs.Talk.{Engine, Idle, Search, Gone, Word, Setup, IsReady, Position, Go, Stop, PonderHit, Quit, Talk, Turn, TicketWithin, LastWithin, AllSetup, Settled, IsLiveOnlyAt, Serves, Paired, turned, after, owed, spent, is_due, is_hit, is_hurry, is_move, is_idle, is_empty, is_nothing, has_quit, only}
 use Rattle.search_epochs.specs.View.{kept, kept_mid, mid_view, settled_by, after_settled, words}
 use Rattle.search_epochs.specs.History.{Exchange, Steady, Chosen, Lawful, talk, view, last_hint, last_call, is_closed, began, stops_since_go, engine_at, asked}
 
@@ -36,6 +36,12 @@ abbrev pub SettledIsUnique : Type 0
 SettledIsUnique =
     (engine : Engine) (epoch : ℕ) (owing : Call) (waiting : List Word) (due hits hurries : Bool) (ws ws' : List Word)
     → Settled engine epoch owing waiting due hits hurries ws → Settled engine epoch owing waiting due hits hurries ws' → ws ≡ ws'
+
+-- and which list it is
+abbrev pub SettledIsOnly : Type 0
+SettledIsOnly =
+    (engine : Engine) (epoch : ℕ) (owing : Call) (waiting : List Word) (due hits hurries : Bool) (ws : List Word)
+    → Settled engine epoch owing waiting due hits hurries ws → ws ≡ only engine epoch owing waiting due hits hurries
 
 -- whole dialogues
 

@@ -2,7 +2,7 @@
 ghost use Rattle.search_epochs.specs.Laws.{ChosenIsLawful, CurrentIsUnspent, CurrentServes, DialogueIsUnique};
 ghost use Rattle.search_epochs.specs.Laws.{GoFollowsPosition, GoneGetsNothing, IdleGetsThem, LawfulIsChosen};
 ghost use Rattle.search_epochs.specs.Laws.{LiveIsCurrent, MidIsKept, MoveIsOwed, NothingIsLeft, PonderGetsHit};
-ghost use Rattle.search_epochs.specs.Laws.{QuitIsLast, SearchGetsStop, SettledIsUnique, StoppedIsForMove};
+ghost use Rattle.search_epochs.specs.Laws.{QuitIsLast, SearchGetsStop, SettledIsOnly, SettledIsUnique, StoppedIsForMove};
 ghost use Rattle.search_epochs.specs.Laws.{StopsOnce, TicketsAreWithin, TurnIsKept, TurnIsSettled, ViewIsKept};
 
 /// One turn: what is kept after the event, and what is chosen then.
@@ -11,6 +11,7 @@ pub fn whole_turn()
     ensures settled { TurnIsSettled }
     ensures kept { TurnIsKept }
     ensures unique { SettledIsUnique }
+    ensures only { SettledIsOnly }
 {}
 
 /// Whole dialogues: the choices are lawful, the only lawful ones, and kept without tickets.

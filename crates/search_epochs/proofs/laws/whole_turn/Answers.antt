@@ -1,4 +1,4 @@
-use Rattle.search_epochs.proofs.Same.{same}
+use Rattle.search_epochs.proofs.Same.{only_orders, same}
 use Rattle.search_epochs.proofs.Whole.{settled_mid, keeps_mid}
 use Rattle.search_epochs.proofs.laws.whole_turn.Goals as goal
 
@@ -10,3 +10,6 @@ returns-clause-kept c = keeps_mid
 
 pub returns-clause-unique : goal.returns-clause-unique
 returns-clause-unique c = same
+
+pub returns-clause-only : goal.returns-clause-only
+returns-clause-only c = only_orders
