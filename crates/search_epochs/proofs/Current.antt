@@ -1,0 +1,141 @@
+-- What holds of an open current search, by what is kept.
+use Rattle.std.proofs.Common.{◌≡◌, ℕ, Bool, true, false, not, cond, ◌||◌, ◌==◌, refl, sym, ap, subst, ◌∙◌}
+use Rattle.peer_words.specs.declared.kinds.GoKind.{GoKind}
+use Rattle.peer_words.specs.declared.kinds.GoKind.TheVariants as kinds
+use Rattle.search_epochs.specs.declared.words.EngineState.{EngineState}
+use Rattle.search_epochs.specs.declared.words.EngineState.TheVariants as states
+use Rattle.search_epochs.specs.declared.words.Call.{Call}
+use Rattle.search_epochs.specs.declared.words.Call.TheVariants as calls
+use Rattle.search_epochs.specs.declared.words.Said.TheVariants as said
+use Rattle.search_epochs.specs.declared.words.Orders.{Orders}
+use Rattle.search_epochs.specs.declared.words.Orders.TheVariants as orders
+use Rattle.search_epochs.specs.Talk.{Engine, Boot, Getting, Idle, Search, Gone, What, Says, Plays, Hurries, Quiet, Talk, Turn, TicketWithin, LastWithin, turned, is_move, is_nothing, kind_of}
+use Rattle.search_epochs.specs.View.{View, forget, stale_state, settled_state, choose, choose_search, after_what, mid_view, kept}
+use Rattle.search_epochs.specs.History.{answers, answers_at, is_end}
+use Rattle.search_epochs.proofs.Turns.{twice}
+use Rattle.search_epochs.proofs.Whole.{mid_kept}
+
+-- of an open current search, its kind
+abbrev pub IfCurrent : EngineState → (GoKind → Type 0) → Type 0
+IfCurrent (states.Search k false s) P = P k
+IfCurrent e P = Unit {0}
+
+pub none_if_stale : (P : GoKind → Type 0) (e : EngineState) → IfCurrent (stale_state e) P
+none_if_stale P states.Boot = tt
+none_if_stale P states.Getting = tt
+none_if_stale P states.Idle = tt
+none_if_stale P states.Gone = tt
+none_if_stale P (states.Search k stale s) = tt
+
+moved : (P : GoKind → Call → Type 0) (k : GoKind) (stale s : Bool) (call call' : Call) → call' ≡ call → IfCurrent (states.Search k stale s) (λ g. P g call) → IfCurrent (states.Search k stale s) (λ g. P g call')
+moved P k stale s call call' e h = subst (λ (c : Call). IfCurrent (states.Search k stale s) (λ g. P g c)) (sym e) h
+
+-- the answer to a current search for a Move, by what is kept
+abbrev pub answers_kept : What → EngineState → Bool
+answers_kept (Says said.Best) (states.Search kinds.Move stale s) = not stale
+answers_kept w e = false
+
+-- in a step without a new epoch the call of an open current search stays
+heard_current : (P : GoKind → Call → Type 0) (v : View) (w : What) (call call' : Call) → call' ≡ cond (answers_kept w v.state || is_end w) calls.Nothing call
+    → IfCurrent v.state (λ k. P k call) → IfCurrent (after_what v w).state (λ k. P k call')
+heard_current P v w call call' e h = by_state v.state w e h where
+  by_state : (x : EngineState) (w : What) → call' ≡ cond (answers_kept w x || is_end w) calls.Nothing call → IfCurrent x (λ k. P k call)
+      → IfCurrent (after_what (record { state = x; spent = v.spent; pondered = v.pondered }) w).state (λ k. P k call')
+  by_state states.Boot (Says said.UciOk) e h = tt
+  by_state states.Boot (Says said.ReadyOk) e h = tt
+  by_state states.Boot (Says said.Best) e h = tt
+  by_state states.Boot (Says said.Ended) e h = tt
+  by_state states.Boot (Plays m) e h = tt
+  by_state states.Boot Hurries e h = tt
+  by_state states.Boot Quiet e h = tt
+  by_state states.Getting (Says said.UciOk) e h = tt
+  by_state states.Getting (Says said.ReadyOk) e h = tt
+  by_state states.Getting (Says said.Best) e h = tt
+  by_state states.Getting (Says said.Ended) e h = tt
+  by_state states.Getting (Plays m) e h = tt
+  by_state states.Getting Hurries e h = tt
+  by_state states.Getting Quiet e h = tt
+  by_state states.Idle (Says said.UciOk) e h = tt
+  by_state states.Idle (Says said.ReadyOk) e h = tt
+  by_state states.Idle (Says said.Best) e h = tt
+  by_state states.Idle (Says said.Ended) e h = tt
+  by_state states.Idle (Plays m) e h = tt
+  by_state states.Idle Hurries e h = tt
+  by_state states.Idle Quiet e h = tt
+  by_state states.Gone (Says said.UciOk) e h = tt
+  by_state states.Gone (Says said.ReadyOk) e h = tt
+  by_state states.Gone (Says said.Best) e h = tt
+  by_state states.Gone (Says said.Ended) e h = tt
+  by_state states.Gone (Plays m) e h = tt
+  by_state states.Gone Hurries e h = tt
+  by_state states.Gone Quiet e h = tt
+  by_state (states.Search k stale s) (Says said.UciOk) e h = moved P k stale s call call' e h
+  by_state (states.Search k stale s) (Says said.ReadyOk) e h = moved P k stale s call call' e h
+  by_state (states.Search k stale s) (Says said.Best) e h = tt
+  by_state (states.Search k stale s) (Says said.Ended) e h = tt
+  by_state (states.Search k stale s) (Plays m) e h = moved P k stale s call call' e h
+  by_state (states.Search k stale s) Hurries e h = moved P k stale s call call' e h
+  by_state (states.Search k stale s) Quiet e h = moved P k stale s call call' e h
+
+-- what holds of the kind and the call of an open current search goes on to the middle of a step
+pub mid_current : (P : GoKind → Call → Type 0) (v : View) (w : What) (rises : Bool) (call call' : Call)
+    → (rises ≡ false → call' ≡ cond (answers_kept w v.state || is_end w) calls.Nothing call)
+    → IfCurrent v.state (λ k. P k call) → IfCurrent (mid_view v w rises).state (λ k. P k call')
+mid_current P v w true call call' stays h = none_if_stale (λ k. P k call') (after_what v w).state
+mid_current P v w false call call' stays h = heard_current P v w call call' (stays refl) h
+
+answers_forgotten : (epoch : ℕ) (e : Engine) (w : What) → answers_kept w (forget epoch e) ≡ answers_at w epoch e
+answers_forgotten epoch (Search kinds.Move t s) (Says said.Best) = twice (t == epoch)
+answers_forgotten epoch (Search kinds.Ponder t s) (Says said.Best) = refl
+answers_forgotten epoch (Search kinds.Analyse t s) (Says said.Best) = refl
+answers_forgotten epoch Boot (Says said.Best) = refl
+answers_forgotten epoch Getting (Says said.Best) = refl
+answers_forgotten epoch Idle (Says said.Best) = refl
+answers_forgotten epoch Gone (Says said.Best) = refl
+answers_forgotten epoch e (Says said.UciOk) = refl
+answers_forgotten epoch e (Says said.ReadyOk) = refl
+answers_forgotten epoch e (Says said.Ended) = refl
+answers_forgotten epoch e (Plays m) = refl
+answers_forgotten epoch e Hurries = refl
+answers_forgotten epoch e Quiet = refl
+
+-- the same of a dialogue
+pub turned_current : (P : GoKind → Call → Type 0) (t : Talk) (u : Turn) (call : Call) → TicketWithin t.epoch t.engine → LastWithin t.epoch t.last
+    → (u.rises ≡ false → u.call ≡ cond (answers t u.what || is_end u.what) calls.Nothing call)
+    → IfCurrent (forget t.epoch t.engine) (λ k. P k call) → IfCurrent (forget (turned t u).epoch (turned t u).engine) (λ k. P k u.call)
+turned_current P t u call w l stays h =
+    subst (λ (v : View). IfCurrent v.state (λ k. P k u.call)) (mid_kept t u.hint u w l)
+    (mid_current P (kept t u.hint) u.what u.rises call u.call
+    (λ r. stays r ∙ ap (λ b. cond (b || is_end u.what) calls.Nothing call) (sym (answers_forgotten t.epoch t.engine u.what))) h)
+
+module _ (P : Orders → GoKind → Type 0) where
+  search_current : (k : GoKind) (stale wants matches hurry : Bool) → IfCurrent (states.Search k stale false) (P orders.None) → IfCurrent (states.Search k stale false) (P orders.Stop) → (wants ≡ true → P orders.Hit kinds.Move)
+      → IfCurrent (settled_state (states.Search k stale false) (choose_search k stale wants matches hurry)) (P (choose_search k stale wants matches hurry))
+  search_current kinds.Move true wants matches hurry n s h = tt
+  search_current kinds.Move false wants matches true n s h = s
+  search_current kinds.Move false wants matches false n s h = n
+  search_current kinds.Analyse true wants matches hurry n s h = tt
+  search_current kinds.Analyse false wants matches true n s h = n
+  search_current kinds.Analyse false wants matches false n s h = n
+  search_current kinds.Ponder stale true true hurry n s h = h refl
+  search_current kinds.Ponder true false true hurry n s h = tt
+  search_current kinds.Ponder true wants false hurry n s h = tt
+  search_current kinds.Ponder false false true true n s h = n
+  search_current kinds.Ponder false false true false n s h = n
+  search_current kinds.Ponder false wants false true n s h = n
+  search_current kinds.Ponder false wants false false n s h = n
+
+  -- and on through the orders: a search is begun for what is owed, hit where a Move is owed, or goes on
+  pub settled_current : (e : EngineState) (o : Call) (unsent matches hurry : Bool) → IfCurrent e (P orders.None) → IfCurrent e (P orders.Stop)
+      → (is_nothing o ≡ false → P (orders.Begin o) (kind_of o)) → (is_move o ≡ true → P orders.Hit kinds.Move)
+      → IfCurrent (settled_state e (choose e o unsent matches hurry)) (P (choose e o unsent matches hurry))
+  settled_current states.Boot o unsent matches hurry n s b h = tt
+  settled_current states.Getting o unsent matches hurry n s b h = tt
+  settled_current states.Gone o unsent matches hurry n s b h = tt
+  settled_current states.Idle o true matches hurry n s b h = tt
+  settled_current states.Idle calls.Nothing false matches hurry n s b h = tt
+  settled_current states.Idle calls.Move false matches hurry n s b h = b refl
+  settled_current states.Idle (calls.Ponder g) false matches hurry n s b h = b refl
+  settled_current states.Idle calls.Analyse false matches hurry n s b h = b refl
+  settled_current (states.Search k stale true) o unsent matches hurry n s b h = n
+  settled_current (states.Search k stale false) o unsent matches hurry n s b h = search_current k stale (is_move o) matches hurry n s h

@@ -1,0 +1,87 @@
+-- Where orders stand, and which engine they reach.
+use Rattle.std.proofs.Common.{◌≡◌, ℕ, List, [], ◌∷◌, ◌++◌, Bool, true, false, refl, sym, ap, subst, ◌∙◌}
+use Rattle.peer_words.specs.declared.kinds.GoKind.{GoKind}
+use Rattle.peer_words.specs.declared.kinds.GoKind.TheVariants as kinds
+use Rattle.search_epochs.specs.Talk.{Engine, Boot, Getting, Idle, Search, Gone, Word, Uci, Setup, IsReady, Position, Go, Stop, PonderHit, Quit, MaySend, MaySendAll, Paired, turned, sent, sent_all, is_gone, has_quit}
+use Rattle.search_epochs.specs.History.{Exchange, Lawful, talk, is_closed, last_orders}
+use Rattle.search_epochs.specs.Laws.{needs_idle, IdleGetsThem, SearchGetsStop, PonderGetsHit, GoneGetsNothing, GoFollowsPosition, QuitIsLast}
+use Rattle.search_epochs.proofs.Stops.{may_all}
+
+-- an order that stands behind others may be written in the state that these lead to
+pub at_place : (epoch : ℕ) (e : Engine) (before behind : List Word) (w : Word) → MaySendAll epoch e (before ++ w ∷ behind) → MaySend (sent_all epoch e before) w
+at_place epoch e [] behind w m = m.0
+at_place epoch e (v ∷ before) behind w m = at_place epoch (sent epoch e v) before behind w m.1
+
+placed : (x : Exchange) (xs : List Exchange) (before behind : List Word) (w : Word) → Lawful (x ∷ xs) → x.orders ≡ before ++ w ∷ behind
+    → MaySend (sent_all (turned (talk xs) x.turn).epoch (turned (talk xs) x.turn).engine before) w
+placed x xs before behind w l e =
+    let m = turned (talk xs) x.turn in
+    at_place m.epoch m.engine before behind w (subst (MaySendAll m.epoch m.engine) e (may_all (talk xs) (is_closed xs) x l.2))
+
+idle_needed : (e : Engine) (w : Word) → needs_idle w ≡ true → MaySend e w → e ≡ Idle
+idle_needed e Uci n m = absurd m
+idle_needed e Setup n m = m
+idle_needed e IsReady n m = m
+idle_needed e Position n m = m
+idle_needed e (Go k) n m = m
+idle_needed e Stop n m = cc
+idle_needed e PonderHit n m = cc
+idle_needed e Quit n m = cc
+
+stop_needs : (e : Engine) → MaySend e Stop → (k : GoKind) × (ticket : ℕ) × (e ≡ Search k ticket false)
+stop_needs Boot m = absurd m
+stop_needs Getting m = absurd m
+stop_needs Idle m = absurd m
+stop_needs Gone m = absurd m
+stop_needs (Search k t s) m = (k, t, ap (Search k t) m)
+
+hit_needs : (e : Engine) → MaySend e PonderHit → (ticket : ℕ) × (e ≡ Search kinds.Ponder ticket false)
+hit_needs Boot m = absurd m
+hit_needs Getting m = absurd m
+hit_needs Idle m = absurd m
+hit_needs Gone m = absurd m
+hit_needs (Search k t s) m = (t, ap (λ g. Search g t s) m.0 ∙ ap (Search kinds.Ponder t) m.1)
+
+gone_refuses : (w : Word) → MaySend Gone w → ⊥
+gone_refuses Uci m = m
+gone_refuses Setup m = cc
+gone_refuses IsReady m = cc
+gone_refuses Position m = cc
+gone_refuses (Go k) m = cc
+gone_refuses Stop m = m
+gone_refuses PonderHit m = m
+gone_refuses Quit m = m refl
+
+pub idle_gets_them : IdleGetsThem
+idle_gets_them x xs before behind w l e n = idle_needed _ w n (placed x xs before behind w l e)
+
+pub search_gets_stop : SearchGetsStop
+search_gets_stop x xs before behind l e = stop_needs _ (placed x xs before behind Stop l e)
+
+pub ponder_gets_hit : PonderGetsHit
+ponder_gets_hit x xs before behind l e = hit_needs _ (placed x xs before behind PonderHit l e)
+
+pub gone_gets_nothing : GoneGetsNothing
+gone_gets_nothing x xs before behind w l e g = gone_refuses w (subst (λ (y : Engine). MaySend y w) g (placed x xs before behind w l e))
+
+closing_paired : (closed gone : Bool) → Paired (last_orders closed gone)
+closing_paired true gone = tt
+closing_paired false true = tt
+closing_paired false false = tt
+
+pub go_follows : GoFollowsPosition
+go_follows x xs l = by_closed x.closed refl where
+  by_closed : (c : Bool) → x.closed ≡ c → Paired x.orders
+  by_closed false e = (l.2.settled e).paired
+  by_closed true e = subst Paired (sym (l.2.closing e)) (closing_paired (is_closed xs) (is_gone (turned (talk xs) x.turn).engine))
+
+quit_alone : (closed gone : Bool) → has_quit (last_orders closed gone) ≡ true → last_orders closed gone ≡ Quit ∷ []
+quit_alone true gone q = cc
+quit_alone false true q = cc
+quit_alone false false q = refl
+
+pub quit_is_last : QuitIsLast
+quit_is_last x xs l = (λ e. (l.2.settled e).no_quit, by_closed x.closed refl, λ e. l.2.closing (l.1.stays_closed e) ∙ ap (λ b. last_orders b (is_gone (turned (talk xs) x.turn).engine)) e) where
+  by_closed : (c : Bool) → x.closed ≡ c → has_quit x.orders ≡ true → x.orders ≡ Quit ∷ []
+  by_closed false e q = let n = (l.2.settled e).no_quit in cc
+  by_closed true e q = l.2.closing e ∙ quit_alone (is_closed xs) (is_gone (turned (talk xs) x.turn).engine) (ap has_quit (sym (l.2.closing e)) ∙ q)

@@ -1,0 +1,153 @@
+-- What holds of the open search after each lawful dialogue.
+use Rattle.std.proofs.Common.{◌≡◌, ℕ, ◌+◌, List, [], ◌∷◌, Bool, true, false, not, cond, ◌==◌, Option, refl, sym, ap, subst, ◌∙◌, arith}
+use Rattle.std.proofs.lemmas.Bool.Decides.{nat_tests}
+use Rattle.peer_words.specs.declared.kinds.GoKind.{GoKind}
+use Rattle.peer_words.specs.declared.kinds.GoKind.TheVariants as kinds
+use Rattle.search_epochs.specs.declared.words.EngineState.{EngineState}
+use Rattle.search_epochs.specs.declared.words.EngineState.TheVariants as states
+use Rattle.search_epochs.specs.declared.words.Call.{Call}
+use Rattle.search_epochs.specs.declared.words.Call.TheVariants as calls
+use Rattle.search_epochs.specs.Talk.{Engine, Search, Talk, Turn, Word, TicketWithin, AllSetup, IsLiveOnlyAt, heard, said_of, closed_ticket, is_some_equal, spent, owed, turned, after, is_move, is_nothing, is_gone, is_hurry}
+use Rattle.search_epochs.specs.View.{forget, stale_state, settled_state, words, choose, choose_search, settled_by}
+use Rattle.search_epochs.specs.History.{Exchange, MayCome, AreLawful, Lawful, talk, is_closed}
+use Rattle.search_epochs.specs.Laws.{LiveIsCurrent, StoppedIsForMove, CurrentIsUnspent}
+use Rattle.search_epochs.proofs.Turns.{heard_goes, risen, ordered}
+use Rattle.search_epochs.proofs.Whole.{heard_within, settled_mid}
+use Rattle.search_epochs.proofs.Same.{same}
+use Rattle.search_epochs.proofs.Within.{within}
+use Rattle.search_epochs.proofs.Current.{IfCurrent, none_if_stale, settled_current}
+use Rattle.search_epochs.proofs.Histories.{closing_after}
+
+-- a search that was stopped in its own epoch is for a Move
+abbrev pub StopsForMove : EngineState → Type 0
+StopsForMove (states.Search k false true) = k ≡ kinds.Move
+StopsForMove e = Unit {0}
+
+stale_stops : (e : EngineState) → StopsForMove (stale_state e)
+stale_stops states.Boot = tt
+stale_stops states.Getting = tt
+stale_stops states.Idle = tt
+stale_stops states.Gone = tt
+stale_stops (states.Search k stale s) = tt
+
+-- no open current search stands beside spent
+abbrev pub IsUnspent : ℕ → Engine → Option ℕ → Type 0
+IsUnspent epoch e last = IfCurrent (forget epoch e) (λ k. is_some_equal last epoch ≡ false)
+
+-- both, of a dialogue
+pub record IsSound (t : Talk) : Type 0 where
+  pub stops : StopsForMove (forget t.epoch t.engine)
+  pub unspent : IsUnspent t.epoch t.engine t.last
+
+pub turned_sound : (t : Talk) (u : Turn) → TicketWithin t.epoch t.engine → IsSound t → IsSound (turned t u)
+turned_sound t u w h = record { stops = stops u.rises; unspent = unspent u.rises } where
+  risen_state : forget (t.epoch + 1) (heard t.engine (said_of u.what)) ≡ stale_state (forget t.epoch (heard t.engine (said_of u.what)))
+  risen_state = risen t.epoch (heard t.engine (said_of u.what)) (heard_within t.epoch t.engine (said_of u.what) w)
+
+  stops : (r : Bool) → StopsForMove (forget (cond r (t.epoch + 1) t.epoch) (heard t.engine (said_of u.what)))
+  stops true = subst StopsForMove (sym risen_state) (stale_stops (forget t.epoch (heard t.engine (said_of u.what))))
+  stops false = heard_goes (λ e last. StopsForMove (forget t.epoch e)) (λ last. tt) (λ last. tt) t.engine u.what t.last h.stops
+
+  unspent : (r : Bool) → IsUnspent (cond r (t.epoch + 1) t.epoch) (heard t.engine (said_of u.what)) (closed_ticket t.engine (said_of u.what) t.last)
+  unspent true = subst (λ (x : EngineState). IfCurrent x (λ k. is_some_equal (closed_ticket t.engine (said_of u.what) t.last) (t.epoch + 1) ≡ false)) (sym risen_state) (none_if_stale _ (forget t.epoch (heard t.engine (said_of u.what))))
+  unspent false = heard_goes (IsUnspent t.epoch) (λ last. tt) (λ last. tt) t.engine u.what t.last h.unspent
+
+-- the orders
+
+search_stops : (k : GoKind) (stale wants matches hurry : Bool) → StopsForMove (settled_state (states.Search k stale false) (choose_search k stale wants matches hurry))
+search_stops kinds.Move true wants matches hurry = tt
+search_stops kinds.Move false wants matches true = refl
+search_stops kinds.Move false wants matches false = tt
+search_stops kinds.Analyse true wants matches hurry = tt
+search_stops kinds.Analyse false wants matches true = tt
+search_stops kinds.Analyse false wants matches false = tt
+search_stops kinds.Ponder stale true true hurry = tt
+search_stops kinds.Ponder true false true hurry = tt
+search_stops kinds.Ponder true wants false hurry = tt
+search_stops kinds.Ponder false false true true = tt
+search_stops kinds.Ponder false false true false = tt
+search_stops kinds.Ponder false wants false true = tt
+search_stops kinds.Ponder false wants false false = tt
+
+settled_stops : (e : EngineState) (o : Call) (unsent matches hurry : Bool) → StopsForMove e → StopsForMove (settled_state e (choose e o unsent matches hurry))
+settled_stops states.Boot o unsent matches hurry h = tt
+settled_stops states.Getting o unsent matches hurry h = tt
+settled_stops states.Gone o unsent matches hurry h = tt
+settled_stops states.Idle o true matches hurry h = tt
+settled_stops states.Idle calls.Nothing false matches hurry h = tt
+settled_stops states.Idle calls.Move false matches hurry h = tt
+settled_stops states.Idle (calls.Ponder g) false matches hurry h = tt
+settled_stops states.Idle calls.Analyse false matches hurry h = tt
+settled_stops (states.Search k stale true) o unsent matches hurry h = h
+settled_stops (states.Search k stale false) o unsent matches hurry h = search_stops k stale (is_move o) matches hurry
+
+-- where something is owed, nothing is spent
+pub unspent_if_owed : (b : Bool) (c : Call) → is_nothing (cond b calls.Nothing c) ≡ false → b ≡ false
+unspent_if_owed true c e = cc
+unspent_if_owed false c e = refl
+
+pub move_is_something : (c : Call) → is_move c ≡ true → is_nothing c ≡ false
+move_is_something calls.Nothing e = cc
+move_is_something calls.Move e = refl
+move_is_something (calls.Ponder h) e = cc
+move_is_something calls.Analyse e = cc
+
+after_sound : (t : Talk) (u : Turn) → AllSetup u.waiting → IsSound (turned t u) → IsSound (after (turned t u) (words u.waiting (settled_by t u)))
+after_sound t u a h =
+    let m = turned t u in
+    let goes = ordered m.epoch m.engine (owed m u.call) u.waiting _ _ (is_hurry u.what) a in
+    record {
+      stops = subst StopsForMove goes (settled_stops (forget m.epoch m.engine) (owed m u.call) _ _ (is_hurry u.what) h.stops);
+      unspent = subst (λ (x : EngineState). IfCurrent x (λ k. spent m ≡ false)) goes
+          (settled_current (λ o k. spent m ≡ false) (forget m.epoch m.engine) (owed m u.call) _ _ (is_hurry u.what) h.unspent h.unspent
+          (λ e. unspent_if_owed (spent m) u.call e) (λ e. unspent_if_owed (spent m) u.call (move_is_something (owed m u.call) e)));
+    }
+
+-- the orders of a lawful exchange in an open session are those that are chosen
+pub open_orders : (t : Talk) (closed : Bool) (x : Exchange) → MayCome closed x → AreLawful t closed x → x.closed ≡ false → x.orders ≡ words x.turn.waiting (settled_by t x.turn)
+open_orders t closed x m a e = same _ _ _ _ _ _ _ _ _ (a.settled e) (settled_mid t x.turn m.waiting)
+
+-- what holds in the middle of a lawful exchange, and is kept by chosen orders, holds after it
+pub exchanged : (P : Talk → Type 0) (t : Talk) (closed : Bool) (x : Exchange) → MayCome closed x → AreLawful t closed x → P (turned t x.turn)
+    → (x.closed ≡ false → P (turned t x.turn) → P (after (turned t x.turn) (words x.turn.waiting (settled_by t x.turn)))) → P (after (turned t x.turn) x.orders)
+exchanged P t closed x m a mid goes = by_closed x.closed refl where
+  by_closed : (c : Bool) → x.closed ≡ c → P (after (turned t x.turn) x.orders)
+  by_closed true e = subst P (sym (ap (after (turned t x.turn)) (a.closing e) ∙ closing_after (turned t x.turn) closed (is_gone (turned t x.turn).engine))) mid
+  by_closed false e = subst (λ (ws : List Word). P (after (turned t x.turn) ws)) (sym (open_orders t closed x m a e)) (goes e mid)
+
+pub sound : (xs : List Exchange) → Lawful xs → IsSound (talk xs)
+sound [] l = record { stops = tt; unspent = tt }
+sound (x ∷ xs) l =
+    exchanged IsSound (talk xs) (is_closed xs) x l.1 l.2 (turned_sound (talk xs) x.turn (within xs).0 (sound xs l.0)) (λ e h. after_sound (talk xs) x.turn l.1.waiting h)
+
+-- from a current search to what is kept of it
+
+fresh : (epoch : ℕ) → not (epoch == epoch) ≡ false
+fresh epoch = grind (arith, nat_tests)
+
+pub at_current : (P : GoKind → Type 0) (epoch : ℕ) (e : Engine) (k : GoKind) (s : Bool) → e ≡ Search k epoch s → IfCurrent (forget epoch e) P → P k
+at_current P epoch e k s is h =
+    subst (λ (b : Bool). IfCurrent (states.Search k b s) P) (fresh epoch) (subst (λ (x : Engine). IfCurrent (forget epoch x) P) is h)
+
+pub stopped_for_move : StoppedIsForMove
+stopped_for_move xs k l is =
+    subst (λ (b : Bool). StopsForMove (states.Search k b true)) (fresh (talk xs).epoch)
+    (subst (λ (x : Engine). StopsForMove (forget (talk xs).epoch x)) is (sound xs l).stops)
+
+pub current_unspent : CurrentIsUnspent
+current_unspent xs k s l is = at_current (λ g. spent (talk xs) ≡ false) (talk xs).epoch (talk xs).engine k s is (sound xs l).unspent
+
+-- an open search that is not stopped is current, also where the session is closed, since no epoch begins then
+live_closed : (t : Talk) (closed : Bool) (x : Exchange) → MayCome closed x → AreLawful t closed x → x.closed ≡ true → IsLiveOnlyAt t.epoch t.engine → IsLiveOnlyAt (turned t x.turn).epoch (after (turned t x.turn) x.orders).engine
+live_closed t closed x m a e h =
+    let m' = turned t x.turn in
+    let heard_live : IsLiveOnlyAt t.epoch m'.engine = heard_goes (λ e last. IsLiveOnlyAt t.epoch e) (λ last. tt) (λ last. tt) t.engine x.turn.what t.last h in
+    let mid : IsLiveOnlyAt m'.epoch m'.engine = subst (λ b. IsLiveOnlyAt (cond b (t.epoch + 1) t.epoch) m'.engine) (sym (m.no_epoch e)) heard_live in
+    subst (λ (n : Talk). IsLiveOnlyAt n.epoch n.engine) (sym (ap (after m') (a.closing e) ∙ closing_after m' closed (is_gone m'.engine))) mid
+
+pub live : LiveIsCurrent
+live [] l = tt
+live (x ∷ xs) l = by_closed x.closed refl (live xs l.0) where
+  by_closed : (c : Bool) → x.closed ≡ c → IsLiveOnlyAt (talk xs).epoch (talk xs).engine → IsLiveOnlyAt (turned (talk xs) x.turn).epoch (after (turned (talk xs) x.turn) x.orders).engine
+  by_closed false e h = (l.2.settled e).current
+  by_closed true e h = live_closed (talk xs) (is_closed xs) x l.1 l.2 e h

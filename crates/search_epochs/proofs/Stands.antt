@@ -1,0 +1,77 @@
+-- What is kept stands for what was heard and written, call by call.
+use Rattle.std.proofs.Common.{◌≡◌, ◌↔◌, List, Bool, true, false, cond, ◌&&◌, Option, refl, sym, ap, subst, ◌∙◌}
+use Rattle.chess_board.specs.declared.board.Move.{Move}
+use Rattle.search_epochs.specs.declared.words.EngineState.{EngineState}
+use Rattle.search_epochs.specs.declared.words.EngineState.TheVariants as states
+use Rattle.search_epochs.specs.declared.words.Said.{Said}
+use Rattle.search_epochs.specs.declared.words.Said.TheVariants as said
+use Rattle.search_epochs.specs.declared.words.Heard.TheVariants as hears
+use Rattle.search_epochs.specs.declared.words.Call.{Call}
+use Rattle.search_epochs.specs.declared.words.Call.TheVariants as calls
+use Rattle.search_epochs.specs.declared.words.Orders.{Orders}
+use Rattle.search_epochs.specs.Talk.{Talk, Word, TicketWithin, LastWithin, AllSetup, Settled, sent_all, hear, rise, spent, owed, after, is_empty, is_idle, is_move}
+use Rattle.search_epochs.specs.View.{View, StandsFor, forget, meaning, heard_state, heard_spent, stale_state, settled_state, after_said, after_epoch, settle, choose, hits, is_pondered, words}
+use Rattle.search_epochs.proofs.Settles.{chosen}
+use Rattle.search_epochs.proofs.Turns.{heard_both, spent_both, risen, risen_spent, ordered}
+
+pub heard_stands : (v : View) (t : Talk) (s : Said) → StandsFor v t → StandsFor (after_said v s) (hear t s)
+heard_stands v t s h = record {
+  same_state = ap (λ (e : EngineState). heard_state e s) h.same_state ∙ heard_both t.epoch t.engine s;
+  same_spent =
+      ap (λ (e : EngineState). heard_spent e s v.spent) h.same_state
+      ∙ ap (heard_spent (forget t.epoch t.engine) s) h.same_spent
+      ∙ spent_both t.epoch t.engine s t.last;
+}
+
+pub risen_stands : (v : View) (t : Talk) → TicketWithin t.epoch t.engine → LastWithin t.epoch t.last → StandsFor v t → StandsFor (after_epoch v) (rise t)
+risen_stands v t w l h = record {
+  same_state = ap stale_state h.same_state ∙ sym (risen t.epoch t.engine w);
+  same_spent = sym (risen_spent t.epoch t.last l);
+}
+
+-- The orders o are what is chosen by what is kept.
+module _ (v : View) (t : Talk) (call : Call) (unsent : Bool) (played : Option Move) (hurry : Bool) (waiting : List Word) (o : Orders) (is : o ≡ settle v call unsent played hurry) (h : StandsFor v t) (a : AllSetup waiting) where
+  -- the same is chosen by the dialogue
+  chosen_by : o ≡ choose (forget t.epoch t.engine) (owed t call) unsent (is_pondered v.pondered played) hurry
+  chosen_by =
+      is
+      ∙ ap (λ (e : EngineState). choose e (cond v.spent calls.Nothing call) unsent (is_pondered v.pondered played) hurry) h.same_state
+      ∙ ap (λ b. choose (forget t.epoch t.engine) (cond b calls.Nothing call) unsent (is_pondered v.pondered played) hurry) h.same_spent
+
+  pub settled_by_view : (unsent ≡ false → is_empty waiting ≡ true)
+      → Settled t.engine t.epoch (owed t call) waiting (is_idle t.engine && unsent) (hits t.engine (is_pondered v.pondered played) (is_move (owed t call))) hurry (words waiting o)
+  settled_by_view w =
+      subst (λ (x : Orders). Settled t.engine t.epoch (owed t call) waiting (is_idle t.engine && unsent) (hits t.engine (is_pondered v.pondered played) (is_move (owed t call))) hurry (words waiting x)) (sym chosen_by)
+      (chosen t.engine t.epoch (owed t call) waiting unsent (is_pondered v.pondered played) hurry a w)
+
+  pub settled_stands : (v' : View) → v'.state ≡ settled_state v.state o → v'.spent ≡ v.spent → StandsFor v' (after t (words waiting o))
+  settled_stands v' state spent = record {
+    same_state =
+        state ∙ ap (λ (e : EngineState). settled_state e o) h.same_state
+        ∙ subst (λ (x : Orders). settled_state (forget t.epoch t.engine) x ≡ forget t.epoch (sent_all t.epoch t.engine (words waiting x))) (sym chosen_by)
+        (ordered t.epoch t.engine (owed t call) waiting unsent (is_pondered v.pondered played) hurry a);
+    same_spent = spent ∙ h.same_spent;
+  }
+
+-- nothing is heard exactly where the state stays
+pub nothing_heard : (e : EngineState) (s : Said) → (meaning e s ≡ hears.Nothing) ↔ (heard_state e s ≡ e)
+nothing_heard states.Boot said.UciOk = (λ h. cc, λ h. cc)
+nothing_heard states.Boot said.ReadyOk = (λ h. refl, λ h. refl)
+nothing_heard states.Boot said.Best = (λ h. refl, λ h. refl)
+nothing_heard states.Boot said.Ended = (λ h. cc, λ h. cc)
+nothing_heard states.Getting said.UciOk = (λ h. refl, λ h. refl)
+nothing_heard states.Getting said.ReadyOk = (λ h. cc, λ h. cc)
+nothing_heard states.Getting said.Best = (λ h. refl, λ h. refl)
+nothing_heard states.Getting said.Ended = (λ h. cc, λ h. cc)
+nothing_heard states.Idle said.UciOk = (λ h. refl, λ h. refl)
+nothing_heard states.Idle said.ReadyOk = (λ h. refl, λ h. refl)
+nothing_heard states.Idle said.Best = (λ h. refl, λ h. refl)
+nothing_heard states.Idle said.Ended = (λ h. cc, λ h. cc)
+nothing_heard (states.Search k stale s) said.UciOk = (λ h. refl, λ h. refl)
+nothing_heard (states.Search k stale s) said.ReadyOk = (λ h. refl, λ h. refl)
+nothing_heard (states.Search k stale s) said.Best = (λ h. cc, λ h. cc)
+nothing_heard (states.Search k stale s) said.Ended = (λ h. cc, λ h. cc)
+nothing_heard states.Gone said.UciOk = (λ h. refl, λ h. refl)
+nothing_heard states.Gone said.ReadyOk = (λ h. refl, λ h. refl)
+nothing_heard states.Gone said.Best = (λ h. refl, λ h. refl)
+nothing_heard states.Gone said.Ended = (λ h. refl, λ h. refl)

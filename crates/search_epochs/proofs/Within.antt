@@ -1,0 +1,57 @@
+-- No ticket is ever above the epoch.
+use Rattle.std.proofs.Common.{ℕ, ◌+◌, List, [], ◌∷◌, Bool, true, false, cond, Option, Some, None, arith}
+use Rattle.peer_words.specs.declared.kinds.GoKind.TheVariants as kinds
+use Rattle.search_epochs.specs.Talk.{Engine, Boot, Getting, Idle, Search, Gone, Word, Uci, IsReady, Go, PonderHit, Talk, TicketWithin, LastWithin, Turn, heard, said_of, closed_ticket, sent, sent_all, turned}
+use Rattle.search_epochs.specs.History.{talk}
+use Rattle.search_epochs.specs.Laws.{TicketsAreWithin}
+use Rattle.search_epochs.proofs.Whole.{heard_within, last_within}
+
+sent_within : (epoch : ℕ) (e : Engine) (w : Word) → TicketWithin epoch e → TicketWithin epoch (sent epoch e w)
+sent_within epoch Gone w t = tt
+sent_within epoch Boot (Go k) t = omega arith
+sent_within epoch Boot Uci t = tt
+sent_within epoch Boot IsReady t = tt
+sent_within epoch Boot w t = tt
+sent_within epoch Getting (Go k) t = omega arith
+sent_within epoch Getting w t = tt
+sent_within epoch Idle (Go k) t = omega arith
+sent_within epoch Idle w t = tt
+sent_within epoch (Search k n s) Uci t = tt
+sent_within epoch (Search k n s) IsReady t = tt
+sent_within epoch (Search k n s) (Go g) t = omega arith
+sent_within epoch (Search kinds.Ponder n s) PonderHit t = omega arith
+sent_within epoch (Search kinds.Move n s) PonderHit t = t
+sent_within epoch (Search kinds.Analyse n s) PonderHit t = t
+sent_within epoch (Search k n s) w t = t
+
+pub all_within : (epoch : ℕ) (e : Engine) (ws : List Word) → TicketWithin epoch e → TicketWithin epoch (sent_all epoch e ws)
+all_within epoch e [] t = t
+all_within epoch e (w ∷ ws) t = all_within epoch (sent epoch e w) ws (sent_within epoch e w t)
+
+risen_within : (epoch : ℕ) (e : Engine) (r : Bool) → TicketWithin epoch e → TicketWithin (cond r (epoch + 1) epoch) e
+risen_within epoch Boot r t = tt
+risen_within epoch Getting r t = tt
+risen_within epoch Idle r t = tt
+risen_within epoch Gone r t = tt
+risen_within epoch (Search k n s) true t = omega arith
+risen_within epoch (Search k n s) false t = t
+
+risen_last : (epoch : ℕ) (last : Option ℕ) (r : Bool) → LastWithin epoch last → LastWithin (cond r (epoch + 1) epoch) last
+risen_last epoch None r l = tt
+risen_last epoch (Some n) true l = omega arith
+risen_last epoch (Some n) false l = l
+
+-- after the event and the rise of the epoch
+pub turned_within : (t : Talk) (u : Turn) → TicketWithin t.epoch t.engine → TicketWithin (turned t u).epoch (turned t u).engine
+turned_within t u w = risen_within t.epoch (heard t.engine (said_of u.what)) u.rises (heard_within t.epoch t.engine (said_of u.what) w)
+
+pub turned_last : (t : Talk) (u : Turn) → TicketWithin t.epoch t.engine → LastWithin t.epoch t.last → LastWithin (turned t u).epoch (turned t u).last
+turned_last t u w l = risen_last t.epoch (closed_ticket t.engine (said_of u.what) t.last) u.rises (last_within t.epoch t.engine (said_of u.what) t.last w l)
+
+-- after all exchanges
+pub within : TicketsAreWithin
+within [] = (tt, tt)
+within (x ∷ xs) =
+    let before = within xs in
+    let m = turned (talk xs) x.turn in
+    (all_within m.epoch m.engine x.orders (turned_within (talk xs) x.turn before.0), turned_last (talk xs) x.turn before.0 before.1)

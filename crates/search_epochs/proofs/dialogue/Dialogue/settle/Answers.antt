@@ -1,0 +1,13 @@
+use Rattle.std.proofs.Common.{ap, ◌∙◌}
+use Rattle.search_epochs.specs.View.{View, settled_state}
+use Rattle.search_epochs.proofs.Stands.{settled_by_view, settled_stands}
+use Rattle.search_epochs.proofs.dialogue.Dialogue.settle.Goals as goal
+
+pub returns-clause-settled : goal.returns-clause-settled
+returns-clause-settled c = λ t waiting h a w. settled_by_view _ t _ _ _ _ waiting _ c.choose-orders.ensures h a w
+
+pub returns-clause-tickets : goal.returns-clause-tickets
+returns-clause-tickets c = λ t waiting h a.
+    settled_stands _ t _ _ _ _ waiting _ c.choose-orders.ensures h a _
+    (c.after-self-inside.ensures ∙ ap (λ (v : View). settled_state v.state c.choose-orders.result) c.self.view_is)
+    (ap (λ (v : View). v.spent) c.self.view_is)

@@ -1,0 +1,145 @@
+-- The laws of the dialogue: of one turn, and of every list of exchanges.
+use Rattle.std.specs.Prelude.{◌≡◌, ◌≢◌, ℕ, ◌≤◌, List, [], ◌∷◌, ◌++◌, map, Bool, true, false, Option, Some}
+use Rattle.chess_board.specs.declared.board.Move.{Move}
+use Rattle.peer_words.specs.declared.kinds.GoKind.{GoKind}
+use Rattle.peer_words.specs.declared.kinds.GoKind.TheVariants as kinds
+use Rattle.search_epochs.specs.declared.words.Call.{Call}
+use Rattle.search_epochs.specs.declared.words.Call.TheVariants as calls
+use Rattle.search_epochs.specs.Talk.{Engine, Idle, Search, Gone, Word, Setup, IsReady, Position, Go, Stop, PonderHit, Quit, Talk, Turn, TicketWithin, LastWithin, AllSetup, Settled, IsLiveOnlyAt, Serves, Paired, turned, after, owed, spent, is_due, is_hit, is_hurry, is_move, is_idle, is_empty, is_nothing, has_quit, only}
+use Rattle.search_epochs.specs.View.{kept, kept_mid, mid_view, settled_by, after_settled, words}
+use Rattle.search_epochs.specs.History.{Exchange, Steady, Chosen, Lawful, talk, view, last_hint, last_call, is_closed, began, stops_since_go, engine_at, asked}
+
+-- one turn
+
+-- the code keeps the right thing after the event: without the epoch's number it knows what is stale and what is spent
+abbrev pub MidIsKept : Type 0
+MidIsKept =
+    (t : Talk) (u : Turn) → TicketWithin t.epoch t.engine → LastWithin t.epoch t.last
+    → mid_view (kept t u.hint) u.what u.rises ≡ kept_mid t u
+
+-- the orders that are chosen are settled
+abbrev pub TurnIsSettled : Type 0
+TurnIsSettled =
+    (t : Talk) (u : Turn) → AllSetup u.waiting
+    → Settled (turned t u).engine (turned t u).epoch (owed (turned t u) u.call) u.waiting (is_due t u) (is_hit t u) (is_hurry u.what) (words u.waiting (settled_by t u))
+
+-- and what is kept goes on with the tickets, where the hint afterwards is the one before, unless an epoch begins, and is named by a
+-- call to ponder that is owed
+abbrev pub TurnIsKept : Type 0
+TurnIsKept =
+    (t : Talk) (u : Turn) (hint : Option Move) → TicketWithin t.epoch t.engine → AllSetup u.waiting
+    → (u.rises ≡ false → hint ≡ u.hint) → ((h : Move) → owed (turned t u) u.call ≡ calls.Ponder h → hint ≡ Some h)
+    → after_settled (kept_mid t u) (settled_by t u) ≡ kept (after (turned t u) (words u.waiting (settled_by t u))) hint
+
+-- what is settled is one list of orders
+abbrev pub SettledIsUnique : Type 0
+SettledIsUnique =
+    (engine : Engine) (epoch : ℕ) (owing : Call) (waiting : List Word) (due hits hurries : Bool) (ws ws' : List Word)
+    → Settled engine epoch owing waiting due hits hurries ws → Settled engine epoch owing waiting due hits hurries ws' → ws ≡ ws'
+
+-- and which list it is
+abbrev pub SettledIsOnly : Type 0
+SettledIsOnly =
+    (engine : Engine) (epoch : ℕ) (owing : Call) (waiting : List Word) (due hits hurries : Bool) (ws : List Word)
+    → Settled engine epoch owing waiting due hits hurries ws → ws ≡ only engine epoch owing waiting due hits hurries
+
+-- whole dialogues
+
+-- a dialogue whose orders the code chose is lawful
+abbrev pub ChosenIsLawful : Type 0
+ChosenIsLawful = (xs : List Exchange) → Steady xs → Chosen xs → Lawful xs
+
+-- a lawful dialogue is one whose orders the code chose
+abbrev pub LawfulIsChosen : Type 0
+LawfulIsChosen = (xs : List Exchange) → Steady xs → Lawful xs → Chosen xs
+
+-- in each, what the code keeps goes with the tickets
+abbrev pub ViewIsKept : Type 0
+ViewIsKept = (xs : List Exchange) → Steady xs → Lawful xs → view xs ≡ kept (talk xs) (last_hint xs)
+
+-- two lawful dialogues in which the same is asked are the same
+abbrev pub DialogueIsUnique : Type 0
+DialogueIsUnique = (xs ys : List Exchange) → Lawful xs → Lawful ys → map asked xs ≡ map asked ys → xs ≡ ys
+
+-- no ticket is ever above the epoch
+abbrev pub TicketsAreWithin : Type 0
+TicketsAreWithin = (xs : List Exchange) → TicketWithin (talk xs).epoch (talk xs).engine × LastWithin (talk xs).epoch (talk xs).last
+
+-- searches
+
+-- an open search that is not stopped is current
+abbrev pub LiveIsCurrent : Type 0
+LiveIsCurrent = (xs : List Exchange) → Lawful xs → IsLiveOnlyAt (talk xs).epoch (talk xs).engine
+
+-- a current search that is stopped is for a Move
+abbrev pub StoppedIsForMove : Type 0
+StoppedIsForMove = (xs : List Exchange) (k : GoKind) → Lawful xs → (talk xs).engine ≡ Search k (talk xs).epoch true → k ≡ kinds.Move
+
+-- no open current search stands beside spent
+abbrev pub CurrentIsUnspent : Type 0
+CurrentIsUnspent = (xs : List Exchange) (k : GoKind) (stopped : Bool) → Lawful xs → (talk xs).engine ≡ Search k (talk xs).epoch stopped → spent (talk xs) ≡ false
+
+-- at most one `stop` is written from a `go` to the next, so in a search, which ends with its answer and goes on after a `ponderhit`
+abbrev pub StopsOnce : Type 0
+StopsOnce = (xs : List Exchange) → Lawful xs → stops_since_go xs ≤ 1
+
+-- an idle engine is left idle only where nothing is owed and nothing waits
+abbrev pub NothingIsLeft : Type 0
+NothingIsLeft =
+    (x : Exchange) (xs : List Exchange) → Lawful (x ∷ xs) → x.closed ≡ false → is_idle (talk (x ∷ xs)).engine ≡ true
+    → (is_empty x.turn.waiting ≡ true) × (is_nothing (owed (talk (x ∷ xs)) x.turn.call) ≡ true)
+
+-- calls
+
+-- an open current search is of the kind that is called for, and was begun or renewed for just this call, hint and all
+abbrev pub CurrentServes : Type 0
+CurrentServes =
+    (xs : List Exchange) (k : GoKind) (stopped : Bool) → Steady xs → Lawful xs → is_closed xs ≡ false
+    → (talk xs).engine ≡ Search k (talk xs).epoch stopped → Serves k (last_call xs) × (began xs ≡ last_call xs)
+
+-- a call for a Move is never spent: a Move is owed exactly where it is called for
+abbrev pub MoveIsOwed : Type 0
+MoveIsOwed = (xs : List Exchange) → Steady xs → Lawful xs → is_move (owed (talk xs) (last_call xs)) ≡ is_move (last_call xs)
+
+-- where orders stand
+
+-- settings, `isready`, `position` and `go` reach only an idle engine
+abbrev pub needs_idle : Word → Bool
+needs_idle Setup = true
+needs_idle IsReady = true
+needs_idle Position = true
+needs_idle (Go k) = true
+needs_idle w = false
+
+abbrev pub IdleGetsThem : Type 0
+IdleGetsThem =
+    (x : Exchange) (xs : List Exchange) (before behind : List Word) (w : Word) → Lawful (x ∷ xs) → x.orders ≡ before ++ w ∷ behind
+    → needs_idle w ≡ true → engine_at xs x before ≡ Idle
+
+-- `stop` reaches only an open search that is not stopped
+abbrev pub SearchGetsStop : Type 0
+SearchGetsStop =
+    (x : Exchange) (xs : List Exchange) (before behind : List Word) → Lawful (x ∷ xs) → x.orders ≡ before ++ Stop ∷ behind
+    → (k : GoKind) × (ticket : ℕ) × (engine_at xs x before ≡ Search k ticket false)
+
+-- `ponderhit` reaches only an open Ponder search that is not stopped
+abbrev pub PonderGetsHit : Type 0
+PonderGetsHit =
+    (x : Exchange) (xs : List Exchange) (before behind : List Word) → Lawful (x ∷ xs) → x.orders ≡ before ++ PonderHit ∷ behind
+    → (ticket : ℕ) × (engine_at xs x before ≡ Search kinds.Ponder ticket false)
+
+-- nothing reaches a gone engine
+abbrev pub GoneGetsNothing : Type 0
+GoneGetsNothing =
+    (x : Exchange) (xs : List Exchange) (before behind : List Word) (w : Word) → Lawful (x ∷ xs) → x.orders ≡ before ++ w ∷ behind
+    → engine_at xs x before ≢ Gone
+
+-- each `go` stands directly after a `position`, and each `position` directly before a `go`
+abbrev pub GoFollowsPosition : Type 0
+GoFollowsPosition = (x : Exchange) (xs : List Exchange) → Lawful (x ∷ xs) → Paired x.orders
+
+-- `quit` is written only by the step that closes the session, alone; after it nothing is written
+abbrev pub QuitIsLast : Type 0
+QuitIsLast =
+    (x : Exchange) (xs : List Exchange) → Lawful (x ∷ xs)
+    → (x.closed ≡ false → has_quit x.orders ≡ false) × (has_quit x.orders ≡ true → x.orders ≡ Quit ∷ []) × (is_closed xs ≡ true → x.orders ≡ [])

@@ -1,0 +1,49 @@
+// Laws of the dialogue: functions that do nothing, whose contracts hold of every turn and of every list of exchanges.
+ghost use Rattle.search_epochs.specs.Laws.{ChosenIsLawful, CurrentIsUnspent, CurrentServes, DialogueIsUnique};
+ghost use Rattle.search_epochs.specs.Laws.{GoFollowsPosition, GoneGetsNothing, IdleGetsThem, LawfulIsChosen};
+ghost use Rattle.search_epochs.specs.Laws.{LiveIsCurrent, MidIsKept, MoveIsOwed, NothingIsLeft, PonderGetsHit};
+ghost use Rattle.search_epochs.specs.Laws.{QuitIsLast, SearchGetsStop, SettledIsOnly, SettledIsUnique, StoppedIsForMove};
+ghost use Rattle.search_epochs.specs.Laws.{StopsOnce, TicketsAreWithin, TurnIsKept, TurnIsSettled, ViewIsKept};
+
+/// One turn: what is kept after the event, and what is chosen then.
+pub fn whole_turn()
+    ensures mid { MidIsKept }
+    ensures settled { TurnIsSettled }
+    ensures kept { TurnIsKept }
+    ensures unique { SettledIsUnique }
+    ensures only { SettledIsOnly }
+{}
+
+/// Whole dialogues: the choices are lawful, the only lawful ones, and kept without tickets.
+pub fn whole_dialogue()
+    ensures lawful { ChosenIsLawful }
+    ensures chosen { LawfulIsChosen }
+    ensures kept { ViewIsKept }
+    ensures unique { DialogueIsUnique }
+    ensures within { TicketsAreWithin }
+{}
+
+/// The open search of a dialogue.
+pub fn open_search()
+    ensures live { LiveIsCurrent }
+    ensures stopped { StoppedIsForMove }
+    ensures unspent { CurrentIsUnspent }
+    ensures once { StopsOnce }
+{}
+
+/// What is called for and what is owed.
+pub fn served_call()
+    ensures left { NothingIsLeft }
+    ensures serves { CurrentServes }
+    ensures owed { MoveIsOwed }
+{}
+
+/// Which engine each order reaches.
+pub fn order_places()
+    ensures idle { IdleGetsThem }
+    ensures stop { SearchGetsStop }
+    ensures hit { PonderGetsHit }
+    ensures gone { GoneGetsNothing }
+    ensures paired { GoFollowsPosition }
+    ensures quit { QuitIsLast }
+{}
