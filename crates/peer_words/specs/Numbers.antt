@@ -1,5 +1,5 @@
 -- Numbers as texts. Leading zeros are accepted.
-use Rattle.std.specs.Prelude.{ℕ, ◌+◌, ◌-◌, ◌*◌, ◌^◌, List, length, take, drop, position, Bool, ◌&&◌, if◌then◌else◌, ◌==◌, nat_le, nat_lt, Option, Some, None, ℤ, pos, neg_ℤ}
+use Rattle.std.specs.Prelude.{◌/◌, ◌%◌, ◌++◌, decimal, [], ◌∷◌, ℕ, ◌+◌, ◌-◌, ◌*◌, ◌^◌, List, length, take, drop, position, Bool, ◌&&◌, if◌then◌else◌, ◌==◌, nat_le, nat_lt, Option, Some, None, ℤ, pos, neg_ℤ}
 use Rattle.std.specs.List.{list_all}
 use Rattle.std.specs.Option.{option_map}
 use Rattle.std.specs.Char.{is_ascii_digit}
@@ -57,3 +57,11 @@ seconds_at (Some at) text = milliseconds (digits 6 (take at text)) (thousandths 
 -- 1 to 6 digits, and perhaps a point and 1 to 3 digits more: seconds, as a number of milliseconds
 abbrev pub seconds : List ℕ → Option ℕ
 seconds text = seconds_at (position is_point text) text
+
+-- a number below 1000 with three digits
+abbrev pub three_digits : ℕ → List ℕ
+three_digits n = (48 + n / 100) ∷ (48 + n / 10 % 10) ∷ (48 + n % 10) ∷ []
+
+-- milliseconds written as seconds: whole ones, and three decimals where they are needed
+abbrev pub seconds_text : ℕ → List ℕ
+seconds_text ms = if ms % 1000 == 0 then decimal (ms / 1000) else decimal (ms / 1000) ++ (46 ∷ three_digits (ms % 1000))
