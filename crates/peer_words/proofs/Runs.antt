@@ -57,3 +57,7 @@ token_alone_rest t h =
     let whole : prefix_len (λ b. not (is_white b)) t ≡ length t = prefix_whole (λ b. not (is_white b)) t (black t h) in
     let left : trim_left t ≡ t = sym (ap trim_left (append-nil t)) ∙ starts_black t [] h ∙ append-nil t in
     ap (λ line. trimmed (drop (token_end line) line)) left ∙ ap (λ n. trimmed (drop n t)) whole ∙ ap trimmed (drop-length t)
+
+-- the tokens among the parts between white space
+kept : List (List ℕ) → List (List ℕ)
+kept parts = filter (λ part. ltb 0 (length part)) parts

@@ -1,5 +1,7 @@
 -- What is written of a number is read again.
-use Rattle.std.proofs.Common.{◌≡◌, ℕ, suc, ◌+◌, ◌-◌, ◌*◌, ◌^◌, ◌<◌, ◌≤◌, List, [], ◌∷◌, ◌++◌, Bool, true, false, not, ◌&&◌, eqb, ltb, leb, length, take, drop, get_or, Option, Some, None, refl, ◌∙◌, sym, ap, arith, lit<}
+use Rattle.std.proofs.Common.{◌≡◌, ℕ, suc, ◌+◌, ◌-◌, ◌*◌, ◌/◌, ◌%◌, ◌^◌, ◌<◌, ◌≤◌, List, [], ◌∷◌, ◌++◌, Bool, true, false, not, ◌&&◌, eqb, cond, ltb, leb, length, take, drop, get_or, Option, Some, None, refl, ◌∙◌, sym, ap, arith, lit<}
+use Rattle.std.proofs.Math.Seq.{take-append_seam, drop-append-add}
+use Rattle.std.proofs.lemmas.List.{length-append}
 use Rattle.std.proofs.Math.Nat.{pow-le-pow_right}
 use Rattle.std.proofs.lemmas.Fmt.{decimal_is_IsNumeral, length-decimal-le, decimal_nonempty}
 use Rattle.std.proofs.lemmas.Bool.Decides.{nat_tests}
@@ -9,7 +11,7 @@ use lib.IntN.{ℤ, pos, negsuc}
 use Rattle.std.specs.Fmt.{decimal, signed_decimal}
 use Rattle.std.specs.Char.{is_ascii_digit, digit_value}
 use Rattle.std.specs.Str.Parse.{digits_value, AllDigits, starts_with_minus}
-use Rattle.peer_words.specs.Numbers.{digits, number, count, signed, centis, is_point, seconds}
+use Rattle.peer_words.specs.Numbers.{digits, number, count, signed, centis, is_point, thousandths, seconds, three_digits, seconds_text}
 use Rattle.peer_words.proofs.Trims.{and_true}
 use Rattle.peer_words.proofs.Runs.{all_of, prefix_whole, prefix_stops}
 
@@ -74,3 +76,40 @@ whole_seconds ds n h e =
     let k = no_point ds h in
     let t : ltb (length ds) (length ds) ≡ false = grind (arith, nat_tests) in
     rw (k, t, e) (ap Some (omega arith))
+
+-- a digit and its value
+one_digit : (d : ℕ) → d < 10 → (is_ascii_digit (48 + d) ≡ true) × (digit_value (48 + d) ≡ d)
+one_digit d h =
+    let a : ltb (48 + d) 48 ≡ false = grind (arith, nat_tests) in
+    let b : ltb (48 + d) 58 ≡ true = grind (arith, nat_tests) in
+    (grind (arith, nat_tests), (rw (a, b) (omega arith)))
+
+three_read : (a b c : ℕ) → a < 10 → b < 10 → c < 10 → thousandths ((48 + a) ∷ (48 + b) ∷ (48 + c) ∷ []) ≡ Some (a * 100 + b * 10 + c)
+three_read a b c ha hb hc =
+    let x = one_digit a ha in
+    let y = one_digit b hb in
+    let z = one_digit c hc in
+    rw (x.0, y.0, z.0, x.1, y.1, z.1) (ap Some (omega arith))
+
+pub three_digits_read : (n : ℕ) → n < 1000 → thousandths (three_digits n) ≡ Some n
+three_digits_read n h = three_read (n / 100) (n / 10 % 10) (n % 10) (omega arith) (omega arith) (omega arith) ∙ ap Some (omega arith)
+
+parts_of_seconds : (ds more : List ℕ) (n m : ℕ) → list_all is_ascii_digit ds ≡ true → digits 6 ds ≡ Some n → thousandths more ≡ Some m → seconds (ds ++ (46 ∷ more)) ≡ Some (n * 1000 + m)
+parts_of_seconds ds more n m h e f =
+    let k : prefix_len (λ b. not (is_point b)) (ds ++ (46 ∷ more)) ≡ length ds = prefix_stops (λ b. not (is_point b)) ds 46 more (all_of is_ascii_digit (λ b. not (is_point b)) not_point ds h) refl in
+    let within : length ds < length (ds ++ (46 ∷ more)) = omega (arith, length-append ds (46 ∷ more)) in
+    let t : ltb (length ds) (length (ds ++ (46 ∷ more))) ≡ true = grind (arith, nat_tests) in
+    let after : drop (length ds + 1) (ds ++ (46 ∷ more)) ≡ more = drop-append-add ds (46 ∷ more) 1 in
+    rw (k, t) (rw (take-append_seam ds (46 ∷ more), after, e, f) refl)
+
+seconds_step : (ms : ℕ) (b : Bool) → eqb (ms % 1000) 0 ≡ b → ms < 10 ^ 9 → seconds (cond b (decimal (ms / 1000)) (decimal (ms / 1000) ++ (46 ∷ three_digits (ms % 1000)))) ≡ Some ms
+seconds_step ms true e h =
+    let z : ms % 1000 ≡ 0 = grind (arith, nat_tests) in
+    let low : ms / 1000 < 10 ^ 6 = omega arith in
+    whole_seconds (decimal (ms / 1000)) (ms / 1000) (decimal_digits (ms / 1000) (omega arith)) (digits_decimal 6 (ms / 1000) (omega arith) (omega arith) low) ∙ ap Some (omega arith)
+seconds_step ms false e h =
+    let low : ms / 1000 < 10 ^ 6 = omega arith in
+    parts_of_seconds (decimal (ms / 1000)) (three_digits (ms % 1000)) (ms / 1000) (ms % 1000) (decimal_digits (ms / 1000) (omega arith)) (digits_decimal 6 (ms / 1000) (omega arith) (omega arith) low) (three_digits_read (ms % 1000) (omega arith)) ∙ ap Some (omega arith)
+
+pub seconds_read : (ms : ℕ) → ms < 10 ^ 9 → seconds (seconds_text ms) ≡ Some ms
+seconds_read ms h = seconds_step ms (eqb (ms % 1000) 0) refl h
