@@ -1,6 +1,5 @@
 -- Runs of bytes: where a token ends, and what the list of tokens is.
 use Rattle.std.proofs.Common.{◌≡◌, ℕ, zero, suc, ◌+◌, ◌<◌, ◌≤◌, List, [], ◌∷◌, ◌++◌, Bool, true, false, not, ◌&&◌, cond, ltb, length, take, drop, Option, Some, None, filter, refl, ◌∙◌, sym, ap, arith}
-use Rattle.std.proofs.lemmas.Bool.Decides.{nat_tests}
 use Rattle.std.proofs.Math.Seq.{take-append_seam, drop-append_seam, take-length, drop-length}
 use Rattle.std.proofs.lemmas.List.{append-nil}
 use Rattle.std.specs.List.{list_all, prefix_len, position, position_or_len, before_first, slice_split, onto_first, join_with_byte}
@@ -20,10 +19,10 @@ prefix_stops q [] c ys h e = rw e refl
 prefix_stops q (x ∷ xs) c ys h e = let both = and_true (q x) (list_all q xs) h in rw (both.0, prefix_stops q xs c ys both.1 e) (omega arith)
 
 -- the bytes of a token
-black : (t : List ℕ) → is_token t ≡ true → list_all (λ b. not (is_white b)) t ≡ true
+pub black : (t : List ℕ) → is_token t ≡ true → list_all (λ b. not (is_white b)) t ≡ true
 black t h = (and_true (ltb 0 (length t)) (list_all (λ b. not (is_white b)) t) h).1
 
-not_false : (b : Bool) → not b ≡ true → b ≡ false
+pub not_false : (b : Bool) → not b ≡ true → b ≡ false
 not_false true h = absurd (cc)
 not_false false h = refl
 
@@ -57,7 +56,3 @@ token_alone_rest t h =
     let whole : prefix_len (λ b. not (is_white b)) t ≡ length t = prefix_whole (λ b. not (is_white b)) t (black t h) in
     let left : trim_left t ≡ t = sym (ap trim_left (append-nil t)) ∙ starts_black t [] h ∙ append-nil t in
     ap (λ line. trimmed (drop (token_end line) line)) left ∙ ap (λ n. trimmed (drop n t)) whole ∙ ap trimmed (drop-length t)
-
--- the tokens among the parts between white space
-kept : List (List ℕ) → List (List ℕ)
-kept parts = filter (λ part. ltb 0 (length part)) parts
