@@ -1,10 +1,10 @@
 -- Runs of bytes: where a token ends, and what the list of tokens is.
-use Rattle.std.proofs.Common.{◌≡◌, ℕ, zero, suc, ◌+◌, ◌<◌, ◌≤◌, List, [], ◌∷◌, ◌++◌, Bool, true, false, not, ◌&&◌, cond, ltb, length, take, drop, Option, Some, None, filter, refl, ◌∙◌, sym, ap, arith}
+use Rattle.std.proofs.Common.{◌≡◌, ℕ, List, [], ◌∷◌, ◌++◌, Bool, true, false, not, ltb, length, take, drop, refl, ◌∙◌, sym, ap, arith}
 use Rattle.std.proofs.Math.Seq.{take-append_seam, drop-append_seam, take-length, drop-length}
 use Rattle.std.proofs.lemmas.List.{append-nil}
-use Rattle.std.specs.List.{list_all, prefix_len, position, position_or_len, before_first, slice_split, onto_first, join_with_byte}
-use Rattle.peer_words.specs.Tokens.{is_white, is_blank, is_token, trim_left, trim_right, trimmed, token_end, first_token, rest, tokens}
-use Rattle.peer_words.proofs.Trims.{and_true, trim_left_again}
+use Rattle.std.specs.List.{list_all, prefix_len, before_first}
+use Rattle.peer_words.specs.Tokens.{is_white, is_token, trim_left, trimmed, token_end, first_token, rest}
+use Rattle.peer_words.proofs.Trims.{and_true}
 
 pub all_of : (p q : ℕ → Bool) → ((c : ℕ) → p c ≡ true → q c ≡ true) → (xs : List ℕ) → list_all p xs ≡ true → list_all q xs ≡ true
 all_of p q f [] h = refl

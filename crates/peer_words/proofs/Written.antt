@@ -1,9 +1,9 @@
 -- What is written of a number is read again.
-use Rattle.std.proofs.Common.{◌≡◌, ℕ, suc, ◌+◌, ◌-◌, ◌*◌, ◌/◌, ◌%◌, ◌^◌, ◌<◌, ◌≤◌, List, [], ◌∷◌, ◌++◌, Bool, true, false, not, ◌&&◌, eqb, cond, ltb, leb, length, take, drop, get_or, Option, Some, None, refl, ◌∙◌, sym, ap, arith, lit<}
+use Rattle.std.proofs.Common.{◌≡◌, ℕ, suc, ◌+◌, ◌*◌, ◌/◌, ◌%◌, ◌^◌, ◌<◌, ◌≤◌, List, [], ◌∷◌, ◌++◌, Bool, true, false, not, ◌&&◌, eqb, cond, ltb, leb, length, drop, Some, refl, ◌∙◌, ap, arith, lit<}
 use Rattle.std.proofs.Math.Seq.{take-append_seam, drop-append-add}
 use Rattle.std.proofs.lemmas.List.{length-append}
 use Rattle.std.proofs.Math.Nat.{pow-le-pow_right}
-use Rattle.std.proofs.lemmas.Fmt.{decimal_is_IsNumeral, length-decimal-le, decimal_nonempty}
+use Rattle.std.proofs.lemmas.Fmt.{decimal_is_IsNumeral, length-decimal-le}
 use Rattle.std.proofs.lemmas.Bool.Decides.{nat_tests}
 use Rattle.std.specs.List.{list_all, prefix_len}
 use Rattle.std.specs.Int.RustNames.{unsigned_abs}
@@ -12,6 +12,7 @@ use Rattle.std.specs.Fmt.{decimal, signed_decimal}
 use Rattle.std.specs.Char.{is_ascii_digit, digit_value}
 use Rattle.std.specs.Str.Parse.{digits_value, AllDigits, starts_with_minus}
 use Rattle.peer_words.specs.Numbers.{digits, number, count, signed, centis, is_point, thousandths, seconds, three_digits, seconds_text}
+use Rattle.peer_words.specs.Tokens.{is_white, is_token}
 use Rattle.peer_words.proofs.Trims.{and_true}
 use Rattle.peer_words.proofs.Runs.{all_of, prefix_whole, prefix_stops}
 
@@ -113,3 +114,24 @@ seconds_step ms false e h =
 
 pub seconds_read : (ms : ℕ) → ms < 10 ^ 9 → seconds (seconds_text ms) ≡ Some ms
 seconds_read ms h = seconds_step ms (eqb (ms % 1000) 0) refl h
+
+not_white : (c : ℕ) → is_ascii_digit c ≡ true → not (is_white c) ≡ true
+not_white c h = grind (arith, nat_tests)
+
+-- digits are a token, also behind a minus
+pub digits_token : (ds : List ℕ) → 0 < length ds → list_all is_ascii_digit ds ≡ true → is_token ds ≡ true
+digits_token ds l h =
+    let t : ltb 0 (length ds) ≡ true = grind (arith, nat_tests) in
+    rw (t, all_of is_ascii_digit (λ b. not (is_white b)) not_white ds h) refl
+
+pub decimal_token : (n : ℕ) → n < 2 ^ 64 → is_token (decimal n) ≡ true
+decimal_token n h = digits_token (decimal n) (decimal_is_IsNumeral n h).0.0 (decimal_digits n h)
+
+pub minus_token : (ds : List ℕ) → list_all is_ascii_digit ds ≡ true → is_token (45 ∷ ds) ≡ true
+minus_token ds h =
+    let t : ltb 0 (suc (length ds)) ≡ true = grind (arith, nat_tests) in
+    rw (t, all_of is_ascii_digit (λ b. not (is_white b)) not_white ds h) refl
+
+pub signed_token : (z : ℤ) → unsigned_abs z < 2 ^ 63 → is_token (signed_decimal z) ≡ true
+signed_token (pos n) h = decimal_token n (omega arith)
+signed_token (negsuc n) h = minus_token (decimal (suc n)) (decimal_digits (suc n) (omega arith))
