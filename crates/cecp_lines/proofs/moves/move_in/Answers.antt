@@ -1,0 +1,5 @@
+use Rattle.cecp_lines.proofs.Spelled.{found_move}
+use Rattle.cecp_lines.proofs.moves.move_in.Goals as goal
+
+pub returns : goal.returns
+returns c = found_move c.args.text.now c.read_move.result c.read_move.ensures.some c.read_move.ensures.none

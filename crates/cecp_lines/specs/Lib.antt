@@ -1,0 +1,4 @@
+pub mod Moves
+pub mod Messages
+pub mod Words
+pub mod Reading
