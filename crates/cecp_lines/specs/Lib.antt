@@ -2,3 +2,5 @@ pub mod Moves
 pub mod Messages
 pub mod Words
 pub mod Reading
+pub mod Replies
+pub mod Texts

@@ -1,9 +1,9 @@
 -- The message that a line of the interface spells: as a function, and as a relation.
-use Rattle.std.specs.Prelude.{◌≡◌, ℕ, ◌+◌, ◌*◌, List, [], ◌∷◌, length, take, drop, position, Bool, if◌then◌else◌, ◌==◌, nat_le, Option, Some, None, Result, Ok, Err}
+use Rattle.std.specs.Prelude.{◌≡◌, ℕ, ◌+◌, ◌*◌, ◌<◌, ◌≤◌, ◌⊎◌, codes, Contains, List, [], ◌∷◌, length, take, drop, position, Bool, if◌then◌else◌, ◌==◌, nat_le, Option, Some, None, Result, Ok, Err}
 use Rattle.std.specs.Option.{option_map, option_and_then, ok_or}
 use Rattle.std.specs.Str.{bytes_eq}
 use Rattle.chess_board.specs.declared.board.Move.{Move}
-use Rattle.peer_words.specs.Tokens.{first_token, rest, trimmed}
+use Rattle.peer_words.specs.Tokens.{first_token, rest, trimmed, tokens}
 use Rattle.peer_words.specs.Numbers.{digits, number, centis, seconds}
 use Rattle.cecp_lines.specs.declared.iface.IfaceFault.{IfaceFault}
 use Rattle.cecp_lines.specs.declared.iface.IfaceFault.TheVariants.{UnknownCommand, BadArgument}
@@ -14,7 +14,7 @@ use Rattle.cecp_lines.specs.declared.words.Verb.TheVariants as verbs
 use Rattle.cecp_lines.specs.Messages as says
 use Rattle.cecp_lines.specs.Messages.{Message, message_of}
 use Rattle.cecp_lines.specs.Moves.{move_of}
-use Rattle.cecp_lines.specs.Words.{command_of}
+use Rattle.cecp_lines.specs.Words.{ignored_words, command_of}
 
 abbrev pub is_empty : List ℕ → Bool
 is_empty text = bytes_eq text []
@@ -113,3 +113,70 @@ command_line None line = other_line (first_token line) (rest line)
 -- the message that a line spells, or why it spells none
 abbrev pub reading : List ℕ → Result Message IfaceFault
 reading line = command_line (command_of (first_token line)) line
+
+-- THE RELATION, ROW BY ROW
+
+-- the line's first token is the word
+abbrev pub Begins : List ℕ → List ℕ → Type 0
+Begins line word = first_token line ≡ word
+
+-- the line is the word and one argument of this value
+abbrev pub HasArgument : {A : Type 0} → List ℕ → List ℕ → (List ℕ → Option A) → A → Type 0
+HasArgument line word read value = (t : List ℕ) × (tokens line ≡ word ∷ t ∷ []) × (read t ≡ Some value)
+
+-- `level` with moves a session, base time and increment
+abbrev pub HasLevel : List ℕ → ℕ → ℕ → ℕ → Type 0
+HasLevel line mps base_ms inc_ms =
+    (a b c : List ℕ) × (tokens line ≡ codes "level" ∷ a ∷ b ∷ c ∷ []) × (digits 4 a ≡ Some mps) × (base_time b ≡ Some base_ms) × (seconds c ≡ Some inc_ms)
+
+-- a move text after `usermove`, or alone
+abbrev pub HasMove : List ℕ → Move → Type 0
+HasMove line m = HasArgument line (codes "usermove") move_of m ⊎ ((t : List ℕ) × (tokens line ≡ t ∷ []) × (move_of t ≡ Some m))
+
+-- a name that is not empty, and perhaps a value, split at the first `=`
+abbrev pub HasSetting : List ℕ → List ℕ → Option (List ℕ) → Type 0
+HasSetting text name value = (0 < length name) × (name ≡ name_at (position is_equals text) text) × (value ≡ value_at (position is_equals text) text)
+
+-- one of the words of lines that ask for nothing
+abbrev pub IsIgnored : List ℕ → Type 0
+IsIgnored word = Contains ignored_words word
+
+-- A line spells a message.
+abbrev pub Spells : List ℕ → Message → Type 0
+Spells line says.Blank = tokens line ≡ []
+Spells line (says.Ignored text) = IsIgnored (first_token line) × (text ≡ trimmed line)
+Spells line says.New = Begins line (codes "new")
+Spells line says.Quit = Begins line (codes "quit")
+Spells line says.Force = Begins line (codes "force")
+Spells line says.Go = Begins line (codes "go")
+Spells line says.PlayOther = Begins line (codes "playother")
+Spells line says.MoveNow = Begins line (codes "?")
+Spells line says.Draw = Begins line (codes "draw")
+Spells line says.Hint = Begins line (codes "hint")
+Spells line says.Undo = Begins line (codes "undo")
+Spells line says.Remove = Begins line (codes "remove")
+Spells line says.Hard = Begins line (codes "hard")
+Spells line says.Easy = Begins line (codes "easy")
+Spells line says.Post = Begins line (codes "post")
+Spells line says.NoPost = Begins line (codes "nopost")
+Spells line says.Analyze = Begins line (codes "analyze")
+Spells line says.Exit = Begins line (codes "exit")
+Spells line says.Dot = Begins line (codes ".")
+Spells line says.Result = Begins line (codes "result")
+Spells line (says.Protover n) = HasArgument line (codes "protover") number n × (2 ≤ n)
+Spells line (says.Ping n) = HasArgument line (codes "ping") number n
+Spells line (says.UserMove m) = HasMove line m
+Spells line (says.SetBoard text) = Begins line (codes "setboard") × (text ≡ rest line)
+Spells line (says.Level mps base_ms inc_ms) = HasLevel line mps base_ms inc_ms
+Spells line (says.St ms) = HasArgument line (codes "st") seconds ms
+Spells line (says.Sd n) = HasArgument line (codes "sd") number n
+Spells line (says.Time n) = HasArgument line (codes "time") centis n
+Spells line (says.Otim n) = HasArgument line (codes "otim") centis n
+Spells line (says.SetOption name value) = Begins line (codes "option") × HasSetting (rest line) name value
+Spells line (says.Memory n) = HasArgument line (codes "memory") number n
+Spells line (says.Cores n) = HasArgument line (codes "cores") number n
+Spells line (says.EgtPath kind path) = Begins line (codes "egtpath") × (kind ≡ first_token (rest line)) × (path ≡ rest (rest line)) × (0 < length path)
+
+-- the message is one that some line spells
+abbrev pub CanBeRead : Message → Type 0
+CanBeRead msg = (line : List ℕ) × Spells line msg

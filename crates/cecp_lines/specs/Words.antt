@@ -7,7 +7,11 @@ use Rattle.cecp_lines.specs.declared.words.Command.{Command}
 use Rattle.cecp_lines.specs.declared.words.Command.TheVariants.{Ignored, Bare, With}
 use Rattle.cecp_lines.specs.declared.words.Verb.TheVariants as verbs
 
--- the words of lines that ask for nothing, those that say all, and those with arguments
+-- the words of lines that ask for nothing
+abbrev pub ignored_words : List (List ℕ)
+ignored_words = codes "xboard" ∷ codes "accepted" ∷ codes "rejected" ∷ codes "random" ∷ codes "computer" ∷ codes "name" ∷ codes "rating" ∷ codes "ics" ∷ codes "bk" ∷ []
+
+-- the same words, those that say all, and those with arguments
 abbrev pub commands : List (List ℕ × Command)
 commands =
     (codes "xboard", Ignored) ∷ (codes "accepted", Ignored) ∷ (codes "rejected", Ignored)

@@ -5,7 +5,13 @@
 mod iface;
 mod moves;
 mod read;
+mod reply;
+mod tell;
 mod words;
+mod write;
 
 pub use iface::{IfaceFault, IfaceMsg};
 pub use read::read_iface;
+pub use reply::{Outcome, Reason, Reply, Tell};
+pub use tell::write_reply;
+pub use write::write_iface;
