@@ -1,2 +1,4 @@
 pub mod Spelled
 pub mod Officers
+pub mod LineTokens
+pub mod Tables

@@ -8,7 +8,6 @@ use Rattle.cecp_lines.specs.declared.iface.IfaceMsg.{IfaceMsg}
 use Rattle.cecp_lines.specs.declared.iface.IfaceMsg.TheVariants as says
 use Rattle.cecp_lines.specs.Messages.{message_of}
 use Rattle.cecp_lines.specs.Reading.{HasMove, CanBeRead}
-use Rattle.cecp_lines.proofs.Spelled.{move_spells}
 
 chosen : (a b c d : Bool) → IsOfficer (cond a (Some Queen) (cond b (Some Rook) (cond c (Some Bishop) (cond d (Some Knight) None))))
 chosen true b c d = tt
@@ -30,8 +29,8 @@ spelled_officer (f ∷ r ∷ g ∷ s ∷ letter ∷ []) m h = subst IsOfficer (s
 spelled_officer (f ∷ r ∷ g ∷ s ∷ letter ∷ more ∷ others) m h = absurd h
 
 pub move_writable : (line : List ℕ) (m : Move) → HasMove line m → IsOfficer m.promo
-move_writable line m (inl h) = spelled_officer h.0 m (move_spells h.0 m h.2)
-move_writable line m (inr h) = spelled_officer h.0 m (move_spells h.0 m h.2)
+move_writable line m (inl h) = spelled_officer h.0 m h.2
+move_writable line m (inr h) = spelled_officer h.0 m h.2
 
 pub read_writable : (msg : IfaceMsg) (m : Move) → msg ≡ says.UserMove m → CanBeRead (message_of msg) → IsOfficer m.promo
 read_writable msg m e h = let k : CanBeRead (message_of (says.UserMove m)) = subst (λ (x : IfaceMsg). CanBeRead (message_of x)) e h in move_writable k.0 m k.1

@@ -1,8 +1,9 @@
 -- The message that a line of the interface spells: as a function, and as a relation.
-use Rattle.std.specs.Prelude.{◌≡◌, ℕ, ◌+◌, ◌*◌, ◌<◌, ◌≤◌, ◌⊎◌, codes, Contains, List, [], ◌∷◌, length, take, drop, position, Bool, if◌then◌else◌, ◌==◌, nat_le, Option, Some, None, Result, Ok, Err}
+use Rattle.std.specs.Prelude.{◌≡◌, ℕ, ◌+◌, ◌*◌, ◌<◌, ◌≤◌, ◌⊎◌, ◌≢◌, codes, true, List, [], ◌∷◌, length, take, drop, position, Bool, if◌then◌else◌, ◌==◌, nat_le, Option, Some, None, Result, Ok, Err}
 use Rattle.std.specs.Option.{option_map, option_and_then, ok_or}
 use Rattle.std.specs.Str.{bytes_eq}
 use Rattle.chess_board.specs.declared.board.Move.{Move}
+use Rattle.chess_board.specs.Text.{Spells as MoveSpells}
 use Rattle.peer_words.specs.Tokens.{first_token, rest, trimmed, tokens}
 use Rattle.peer_words.specs.Numbers.{digits, number, centis, seconds}
 use Rattle.cecp_lines.specs.declared.iface.IfaceFault.{IfaceFault}
@@ -14,7 +15,7 @@ use Rattle.cecp_lines.specs.declared.words.Verb.TheVariants as verbs
 use Rattle.cecp_lines.specs.Messages as says
 use Rattle.cecp_lines.specs.Messages.{Message, message_of}
 use Rattle.cecp_lines.specs.Moves.{move_of}
-use Rattle.cecp_lines.specs.Words.{ignored_words, command_of}
+use Rattle.cecp_lines.specs.Words.{is_ignored, command_of}
 
 abbrev pub is_empty : List ℕ → Bool
 is_empty text = bytes_eq text []
@@ -129,22 +130,22 @@ abbrev pub HasLevel : List ℕ → ℕ → ℕ → ℕ → Type 0
 HasLevel line mps base_ms inc_ms =
     (a b c : List ℕ) × (tokens line ≡ codes "level" ∷ a ∷ b ∷ c ∷ []) × (digits 4 a ≡ Some mps) × (base_time b ≡ Some base_ms) × (seconds c ≡ Some inc_ms)
 
+-- the line is a move text alone
+abbrev pub IsMoveAlone : List ℕ → Move → Type 0
+IsMoveAlone line m = (t : List ℕ) × (tokens line ≡ t ∷ []) × MoveSpells t m
+
 -- a move text after `usermove`, or alone
 abbrev pub HasMove : List ℕ → Move → Type 0
-HasMove line m = HasArgument line (codes "usermove") move_of m ⊎ ((t : List ℕ) × (tokens line ≡ t ∷ []) × (move_of t ≡ Some m))
+HasMove line m = ((t : List ℕ) × (tokens line ≡ codes "usermove" ∷ t ∷ []) × MoveSpells t m) ⊎ IsMoveAlone line m
 
 -- a name that is not empty, and perhaps a value, split at the first `=`
 abbrev pub HasSetting : List ℕ → List ℕ → Option (List ℕ) → Type 0
 HasSetting text name value = (0 < length name) × (name ≡ name_at (position is_equals text) text) × (value ≡ value_at (position is_equals text) text)
 
--- one of the words of lines that ask for nothing
-abbrev pub IsIgnored : List ℕ → Type 0
-IsIgnored word = Contains ignored_words word
-
 -- A line spells a message.
 abbrev pub Spells : List ℕ → Message → Type 0
 Spells line says.Blank = tokens line ≡ []
-Spells line (says.Ignored text) = IsIgnored (first_token line) × (text ≡ trimmed line)
+Spells line (says.Ignored text) = (is_ignored (first_token line) ≡ true) × (text ≡ trimmed line)
 Spells line says.New = Begins line (codes "new")
 Spells line says.Quit = Begins line (codes "quit")
 Spells line says.Force = Begins line (codes "force")
@@ -180,3 +181,15 @@ Spells line (says.EgtPath kind path) = Begins line (codes "egtpath") × (kind �
 -- the message is one that some line spells
 abbrev pub CanBeRead : Message → Type 0
 CanBeRead msg = (line : List ℕ) × Spells line msg
+
+-- The first token is no command word, and the line is not one move text.
+abbrev pub IsUnknown : List ℕ → Type 0
+IsUnknown line = (first_token line ≢ []) × (command_of (first_token line) ≡ None) × ((m : Move) → IsMoveAlone line m → ⊥)
+
+-- every other line that spells nothing
+abbrev pub IsBad : List ℕ → Type 0
+IsBad line = ((m : Message) → Spells line m → ⊥) × (IsUnknown line → ⊥)
+
+-- A line spells at most one message.
+abbrev pub SpellsOneMessage : Type 0
+SpellsOneMessage = (line : List ℕ) (a b : Message) → Spells line a → Spells line b → a ≡ b

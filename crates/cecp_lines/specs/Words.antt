@@ -1,5 +1,6 @@
 -- The command words and what they stand for.
-use Rattle.std.specs.Prelude.{ℕ, List, [], ◌∷◌, codes, Option}
+use Rattle.std.specs.Prelude.{ℕ, List, [], ◌∷◌, codes, Bool, Option}
+use Rattle.std.specs.List.{list_any}
 use Rattle.std.specs.Str.{bytes_eq}
 use Rattle.std.specs.Map.{lookup}
 use Rattle.cecp_lines.specs.declared.iface.IfaceMsg.TheVariants as says
@@ -10,6 +11,9 @@ use Rattle.cecp_lines.specs.declared.words.Verb.TheVariants as verbs
 -- the words of lines that ask for nothing
 abbrev pub ignored_words : List (List ℕ)
 ignored_words = codes "xboard" ∷ codes "accepted" ∷ codes "rejected" ∷ codes "random" ∷ codes "computer" ∷ codes "name" ∷ codes "rating" ∷ codes "ics" ∷ codes "bk" ∷ []
+
+abbrev pub is_ignored : List ℕ → Bool
+is_ignored word = list_any (bytes_eq word) ignored_words
 
 -- the same words, those that say all, and those with arguments
 abbrev pub commands : List (List ℕ × Command)
