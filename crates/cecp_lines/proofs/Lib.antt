@@ -2,3 +2,4 @@ pub mod Spelled
 pub mod Officers
 pub mod LineTokens
 pub mod Tables
+pub mod Spellings

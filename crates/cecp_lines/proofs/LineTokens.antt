@@ -43,7 +43,7 @@ two line w t h =
     let a = alone (rest line) t k.after in
     (k.first, (rw a.1 (ap Some a.0)))
 
-empty_is : (xs : List ℕ) → is_empty xs ≡ true → xs ≡ []
+pub empty_is : (xs : List ℕ) → is_empty xs ≡ true → xs ≡ []
 empty_is [] h = refl
 empty_is (x ∷ xs) h = absurd (cc)
 
