@@ -3,3 +3,4 @@ pub mod Officers
 pub mod LineTokens
 pub mod Tables
 pub mod Spellings
+pub mod Complete
