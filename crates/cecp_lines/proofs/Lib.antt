@@ -4,3 +4,4 @@ pub mod LineTokens
 pub mod Tables
 pub mod Spellings
 pub mod Complete
+pub mod Answered

@@ -3,6 +3,7 @@
 #![tactic(auto)]
 
 mod iface;
+mod laws;
 mod moves;
 mod read;
 mod reply;
@@ -11,6 +12,7 @@ mod words;
 mod write;
 
 pub use iface::{IfaceFault, IfaceMsg};
+pub use laws::lines_are_unambiguous;
 pub use read::read_iface;
 pub use reply::{Outcome, Reason, Reply, Tell};
 pub use tell::write_reply;

@@ -1,8 +1,9 @@
 // The message that a line spells.
-ghost use Rattle.std.specs.Prelude.{◌≡◌, ◌+◌, ◌*◌, ◌^◌, ◌<◌, ◌≤◌, length, position, IfSome};
+ghost use Rattle.std.specs.Prelude.{◌≡◌, ◌↔◌, Ok, Err, ◌+◌, ◌*◌, ◌^◌, ◌<◌, ◌≤◌, length, position, IfSome};
 ghost use Rattle.std.specs.Option.{option_map, option_and_then};
-ghost use Rattle.cecp_lines.specs.Messages.{message_of, read_as};
-ghost use Rattle.cecp_lines.specs.Reading.{reading, only_token, argument, protover, base_time, level, setting, egt_path, other_line, is_colon, is_equals};
+ghost use Rattle.cecp_lines.specs.Messages.{Message, message_of, read_as};
+ghost use Rattle.cecp_lines.specs.declared.iface.IfaceFault.TheVariants.{UnknownCommand, BadArgument};
+ghost use Rattle.cecp_lines.specs.Reading.{reading, Spells, IsUnknown, IsBad, only_token, argument, protover, base_time, level, setting, egt_path, other_line, is_colon, is_equals};
 
 use crate::iface::{IfaceFault, IfaceMsg};
 use crate::moves::move_in;
@@ -153,9 +154,8 @@ fn read_other<'a>(word: &[u8], rest: &[u8]) -> Result<IfaceMsg<'a>, IfaceFault>
     }
 }
 
-/// The message that a line of the interface spells (Chess Engine Communication Protocol, version 2,
-/// section "Commands from xboard to the engine"). The line has no line feed.
-pub fn read_iface(line: &[u8]) -> Result<IfaceMsg<'_>, IfaceFault>
+/// The message that a line spells, by what its first token stands for.
+fn read_message(line: &[u8]) -> Result<IfaceMsg<'_>, IfaceFault>
     ensures { read_as result ≡ reading line.now }
 {
     let (word, rest) = split_token(line);
@@ -165,4 +165,17 @@ pub fn read_iface(line: &[u8]) -> Result<IfaceMsg<'_>, IfaceFault>
         Some(Command::With(verb)) => read_argument(verb, rest).ok_or(IfaceFault::BadArgument),
         None => read_other(word, rest),
     }
+}
+
+/// The message that a line of the interface spells (Chess Engine Communication Protocol, version 2,
+/// section "Commands from xboard to the engine"). The line has no line feed.
+pub fn read_iface(line: &[u8]) -> Result<IfaceMsg<'_>, IfaceFault>
+    ensures value { read_as result ≡ reading line.now }
+    // A message is read exactly where the line spells it.
+    ensures spelled { (m : Message) → (read_as result ≡ Ok m) ↔ Spells line.now m }
+    // Which fault it is.
+    ensures unknown { (result ≡ Err UnknownCommand) ↔ IsUnknown line.now }
+    ensures bad { (result ≡ Err BadArgument) ↔ IsBad line.now }
+{
+    read_message(line)
 }
