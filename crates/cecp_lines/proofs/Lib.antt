@@ -5,3 +5,4 @@ pub mod Tables
 pub mod Spellings
 pub mod Complete
 pub mod Answered
+pub mod Fronts

@@ -2,7 +2,9 @@
 use Rattle.std.proofs.Common.{◌≡◌, inl, inr, ℕ, Bool, true, false, cond, List, [], ◌∷◌, Option, Some, None, sym, subst, refl}
 use Rattle.chess_board.specs.declared.board.Kind.{Kind}
 use Rattle.chess_board.specs.declared.board.Kind.TheVariants.{Knight, Bishop, Rook, Queen}
+use Rattle.std.specs.Prelude.{IfSome}
 use Rattle.chess_board.specs.declared.board.Move.{Move}
+use Rattle.cecp_lines.specs.Replies.{IsWritable}
 use Rattle.chess_board.specs.Text.{Spells as MoveSpells, IsOfficer, promotion_of}
 use Rattle.cecp_lines.specs.declared.iface.IfaceMsg.{IfaceMsg}
 use Rattle.cecp_lines.specs.declared.iface.IfaceMsg.TheVariants as says
@@ -27,6 +29,10 @@ spelled_officer (f ∷ r ∷ g ∷ []) m h = absurd h
 spelled_officer (f ∷ r ∷ g ∷ s ∷ []) m h = subst IsOfficer (sym h.2) tt
 spelled_officer (f ∷ r ∷ g ∷ s ∷ letter ∷ []) m h = subst IsOfficer (sym h.2) (officer letter)
 spelled_officer (f ∷ r ∷ g ∷ s ∷ letter ∷ more ∷ others) m h = absurd h
+
+pub found_writable : (text : List ℕ) (o : Option Move) → IfSome o (MoveSpells text) → IfSome o IsWritable
+found_writable text None h = tt
+found_writable text (Some m) h = spelled_officer text m h
 
 pub move_writable : (line : List ℕ) (m : Move) → HasMove line m → IsOfficer m.promo
 move_writable line m (inl h) = spelled_officer h.0 m h.2

@@ -4,3 +4,4 @@ pub mod Words
 pub mod Reading
 pub mod Replies
 pub mod Texts
+pub mod Hearing

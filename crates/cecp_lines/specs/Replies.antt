@@ -103,8 +103,11 @@ told_text (Stat01 time nodes depth left all current) =
     codes "stat01: " ++ field (decimal time) ++ field (decimal nodes) ++ field (decimal depth) ++ field (decimal left) ++ decimal all ++ current_text current
 
 -- neither empty, nor with white space or `=` in it
+abbrev pub is_name_byte : ℕ → Bool
+is_name_byte b = not (is_white b || b == 61)
+
 abbrev pub is_feature_name : List ℕ → Bool
-is_feature_name name = nat_lt 0 (length name) && list_all (λ b. not (is_white b || b == 61)) name
+is_feature_name name = nat_lt 0 (length name) && list_all is_name_byte name
 
 abbrev pub IsWritable : AnyMove → Type 0
 IsWritable m = IsOfficer m.promo

@@ -2,6 +2,7 @@
 //! Communication Protocol, version 2.
 #![tactic(auto)]
 
+mod hear;
 mod iface;
 mod laws;
 mod moves;
@@ -11,6 +12,7 @@ mod tell;
 mod words;
 mod write;
 
+pub use hear::read_reply;
 pub use iface::{IfaceFault, IfaceMsg};
 pub use laws::lines_are_unambiguous;
 pub use read::read_iface;

@@ -79,7 +79,7 @@ const COMMANDS: [(&[u8], Command); 40] = [
 ];
 
 /// What the table has beside the word.
-fn named<T: Copy>(rows: &[(&'static [u8], T)], word: &[u8]) -> Option<T>
+pub(crate) fn named<T: Copy>(rows: &[(&'static [u8], T)], word: &[u8]) -> Option<T>
     ensures { result ≡ lookup (bytes_eq word.now) (map (λ row. (row.0.now, row.1)) rows.now) }
 {
     let mut rest = rows;
