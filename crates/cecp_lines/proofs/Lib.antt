@@ -1,0 +1,8 @@
+pub mod Spelled
+pub mod Officers
+pub mod LineTokens
+pub mod Tables
+pub mod Spellings
+pub mod Complete
+pub mod Answered
+pub mod Fronts
