@@ -1,10 +1,10 @@
 -- Squares one after the other, and the men of ranks.
-use Rattle.std.proofs.Common.{◌≡◌, ℕ, suc, zero, ◌+◌, ◌-◌, ◌<◌, ◌≤◌, List, [], ◌∷◌, ◌++◌, true, false, cond, eqb, length, drop, get_or, Option, Some, None, refl, sym, ap, ◌∙◌, arith, append_assoc, length-append, append-nil}
+use Rattle.std.proofs.Common.{◌≡◌, ℕ, suc, zero, ◌+◌, ◌-◌, ◌<◌, List, [], ◌∷◌, ◌++◌, false, eqb, length, drop, get_or, Option, Some, None, refl, ap, ◌∙◌, arith, append_assoc, length-append, append-nil}
 use Rattle.std.proofs.Math.Seq.{drop-cons}
 use Rattle.std.proofs.lemmas.Bool.Decides.{nat_tests}
 use Rattle.std.proofs.lemmas.Option.{get_or_from_slice_get}
 use Rattle.std.specs.List.{slice_get}
-use Rattle.chess_board.specs.Board.{Man, Men}
+use Rattle.chess_board.specs.Board.{Men}
 use Rattle.fen_text.specs.Squares.{joined, exactly, HasMoreThan, squares_of, squares_in, rank_of, men_of}
 
 pub joined-assoc : (a b c : Option Men) → joined (joined a b) c ≡ joined a (joined b c)

@@ -1,1 +1,6 @@
 pub mod Joined
+pub mod Rows
+pub mod Cut
+pub mod Boards
+pub mod Others
+pub mod Back

@@ -1,5 +1,5 @@
 -- Which texts spell which positions, and the fault of those that spell none.
-use Rattle.std.specs.Prelude.{ℕ, Bool, not, is_none, if◌then◌else◌, nat_lt, List, [], ◌∷◌, length, filter, Option, Some, None, Result, Ok, Err}
+use Rattle.std.specs.Prelude.{ℕ, Bool, is_none, if◌then◌else◌, nat_lt, List, length, filter, Option, Some, None, Result, Ok, Err}
 use Rattle.std.specs.Option.{option_and_then}
 use Rattle.std.specs.List.{slice_split, slice_get}
 use Rattle.chess_board.specs.declared.board.Side.{Side}

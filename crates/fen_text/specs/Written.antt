@@ -1,12 +1,12 @@
 -- The text of a position: six fields with one blank between.
-use Rattle.std.specs.Prelude.{ℕ, ◌≡◌, zero, suc, ◌+◌, ◌*◌, if◌then◌else◌, List, [], ◌∷◌, ◌++◌, take, drop, Option, Some, None, Result, Ok, decimal}
+use Rattle.std.specs.Prelude.{ℕ, ◌≡◌, zero, suc, ◌+◌, ◌*◌, Bool, ◌||◌, nat_lt, if◌then◌else◌, List, [], ◌∷◌, ◌++◌, take, drop, Option, Some, None, Ok, decimal}
 use Rattle.std.specs.List.{join_with_byte}
 use Rattle.chess_board.specs.declared.board.Side.{Side}
 use Rattle.chess_board.specs.declared.board.Side.TheVariants.{White, Black}
 use Rattle.chess_board.specs.declared.board.Kind.{Kind}
 use Rattle.chess_board.specs.declared.board.Kind.TheVariants.{Pawn, Knight, Bishop, Rook, Queen, King}
 use Rattle.chess_board.specs.declared.board.Rights.{Rights}
-use Rattle.chess_board.specs.Board.{Man, Men, file_of, rank_of}
+use Rattle.chess_board.specs.Board.{Men, file_of, rank_of}
 use Rattle.chess_board.specs.Placement.{Placement}
 use Rattle.chess_board.specs.Play.{IsPosition}
 use Rattle.fen_text.specs.Fen.{position_of}
@@ -23,10 +23,9 @@ abbrev pub letter_of : Side → Kind → ℕ
 letter_of White kind = kind_letter kind
 letter_of Black kind = kind_letter kind + 32
 
--- the digit of a run of empty squares
+-- the digit of a run of empty squares, if there are some
 abbrev pub run : ℕ → List ℕ
-run zero = []
-run (suc n) = (48 + suc n) ∷ []
+run empty = if nat_lt 0 empty then (48 + empty) ∷ [] else []
 
 -- the squares of a rank, behind a run of empty ones: each run is one digit
 abbrev pub rank_text : ℕ → Men → List ℕ
@@ -54,17 +53,15 @@ abbrev pub side_text : Side → List ℕ
 side_text White = 119 ∷ []
 side_text Black = 98 ∷ []
 
-abbrev pub or_dash : List ℕ → List ℕ
-or_dash [] = 45 ∷ []
-or_dash (byte ∷ bytes) = byte ∷ bytes
+abbrev pub letter_if : Bool → ℕ → List ℕ
+letter_if right letter = if right then letter ∷ [] else []
 
 -- in the order KQkq, or a dash
 abbrev pub rights_text : Rights → List ℕ
-rights_text rights = or_dash (
-    (if rights.wk then 75 ∷ [] else [])
-    ++ (if rights.wq then 81 ∷ [] else [])
-    ++ (if rights.bk then 107 ∷ [] else [])
-    ++ (if rights.bq then 113 ∷ [] else []))
+rights_text rights =
+    if (rights.wk || rights.wq) || (rights.bk || rights.bq)
+    then letter_if rights.wk 75 ++ (letter_if rights.wq 81 ++ (letter_if rights.bk 107 ++ letter_if rights.bq 113))
+    else 45 ∷ []
 
 abbrev pub passant_text : Option ℕ → List ℕ
 passant_text None = 45 ∷ []

@@ -5,6 +5,8 @@ mod fault;
 mod fields;
 mod read;
 mod squares;
+mod write;
 
 pub use fault::FenFault;
 pub use read::read_fen;
+pub use write::{write_fen, written_reads_back};

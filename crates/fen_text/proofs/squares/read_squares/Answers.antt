@@ -1,9 +1,8 @@
 -- The ranks from the first up are the last ones of the text.
-use Rattle.std.proofs.Common.{◌≡◌, ℕ, ◌+◌, ◌-◌, ◌<◌, ◌≤◌, ◌++◌, List, length, drop, Option, Some, None, refl, sym, ap, ◌∙◌, arith, length-append}
+use Rattle.std.proofs.Common.{◌≡◌, ℕ, ◌+◌, ◌-◌, ◌<◌, ◌≤◌, ◌++◌, List, length, drop, Some, None, refl, sym, ap, ◌∙◌, arith, length-append}
 use Rattle.std.specs.List.{slice_get}
 use Rattle.std.proofs.lemmas.Grind.{common_steps}
 use Rattle.fen_text.specs.Seen.{bytes_of}
-use Rattle.chess_board.specs.Board.{Men}
 use Rattle.fen_text.specs.Squares.{joined, men_of, rank_of, ranks_in, placed}
 use Rattle.fen_text.proofs.Joined.{joined-none, men_lost, lower_more}
 use Rattle.fen_text.proofs.squares.read_squares.Goals as goal
