@@ -4,3 +4,4 @@ pub mod Cut
 pub mod Boards
 pub mod Others
 pub mod Back
+pub mod Lengths

@@ -1,6 +1,5 @@
 -- The texts of the other fields are read as what they were written of.
-use Rattle.std.proofs.Common.{◌≡◌, ℕ, ◌+◌, ◌-◌, ◌%◌, ◌^◌, ◌<◌, ◌≤◌, ◌⊎◌, inl, inr, List, [], ◌∷◌, ◌++◌, Bool, true, false, ◌&&◌, ltb, leb, eqb, length, decimal, Option, Some, None, refl, ◌∙◌, arith, lit<}
-use Rattle.std.proofs.lemmas.Bool.{eqb-true}
+use Rattle.std.proofs.Common.{◌≡◌, ℕ, ◌+◌, ◌-◌, ◌%◌, ◌^◌, ◌<◌, ◌≤◌, ◌⊎◌, inl, inr, List, [], ◌∷◌, ◌++◌, Bool, true, false, ltb, leb, length, decimal, Option, Some, None, refl, ◌∙◌, arith, lit<}
 use Rattle.std.proofs.lemmas.Bool.Decides.{nat_tests}
 use Rattle.std.proofs.lemmas.Fmt.{decimal_is_IsNumeral, decimal_by_steps, decimal_nonempty, length-decimal-le}
 use Rattle.std.proofs.lemmas.List.Folds.{list_all-append}
@@ -10,13 +9,9 @@ use Rattle.std.specs.Str.Parse.{digits_value}
 use Rattle.chess_board.specs.declared.board.Side.{Side}
 use Rattle.chess_board.specs.declared.board.Side.TheVariants.{White, Black}
 use Rattle.chess_board.specs.declared.board.Rights.{Rights}
-use Rattle.chess_board.specs.Attack.{is_ahead, is_pawn_strike}
-use Rattle.chess_board.specs.Board.{man_at, other, is_empty, is_pawn, file_of, rank_of, files_apart, square_at, squares}
-use Rattle.chess_board.specs.Placement.{Placement}
-use Rattle.chess_board.specs.Play.{can_take, Takeable}
-use Rattle.chess_board.specs.Rules.{fifth_rank, beside, is_at, is_en_passant, is_legal}
-use Rattle.chess_board.proofs.Below.{some_below-found}
-use Rattle.chess_board.proofs.Tests.{both}
+use Rattle.chess_board.specs.Board.{file_of, rank_of, square_at}
+use Rattle.chess_board.specs.Rules.{sixth_rank}
+use Rattle.std.specs.Prelude.{IfSome}
 use Rattle.fen_text.specs.Fields.{side_of, rights_of, passant_of, count_of, is_passed}
 use Rattle.fen_text.specs.Written.{side_text, letter_if, rights_text, passant_text}
 use Rattle.fen_text.proofs.Cut.{Above, above-append, IsWord}
@@ -81,36 +76,21 @@ pub word-passant : (passant : Option ℕ) → IsWord (passant_text passant)
 word-passant None = (omega arith, (omega arith, tt))
 word-passant (Some at) = (omega arith, (omega arith, (omega arith, tt)))
 
--- from the fifth rank one forward
-sixth : (side : Side) (from to : ℕ) → eqb from (fifth_rank side) ≡ true → is_ahead side from to 1 ≡ true → (to ≡ 5) ⊎ (to ≡ 2)
-sixth White from to a b = let f = eqb-true _ _ a in let t = eqb-true _ _ b in inl (omega arith)
-sixth Black from to a b = let f = eqb-true _ _ a in let t = eqb-true _ _ b in inr (omega arith)
-
 -- a pawn passed only a square of these ranks
-passed_rank : (p : Placement) (at : ℕ) → can_take p at ≡ true → (rank_of at ≡ 5) ⊎ (rank_of at ≡ 2)
-unfolding can_take is_en_passant
-passed_rank p at e =
-    let found = some_below-found squares _ e in
-    let from = found.0 in
-    let man = both (is_pawn p.side (man_at p.men from)) (is_en_passant p from at && is_legal p from at None) found.2 in
-    let takes = both (is_en_passant p from at) (is_legal p from at None) man.1 in
-    let parts = both (is_at p.passant at && eqb (rank_of from) (fifth_rank p.side)) ((is_pawn_strike p.side from at && is_empty (man_at p.men at)) && is_pawn (other p.side) (man_at p.men (beside from at))) takes.0 in
-    let here = both (is_at p.passant at) (eqb (rank_of from) (fifth_rank p.side)) parts.0 in
-    let goes = both (is_pawn_strike p.side from at && is_empty (man_at p.men at)) _ parts.1 in
-    let strike = both (is_pawn_strike p.side from at) _ goes.0 in
-    let ahead = both (eqb (files_apart from at) 1) (is_ahead p.side (rank_of from) (rank_of at) 1) strike.0 in
-    sixth p.side (rank_of from) (rank_of at) here.1 ahead.1
+sixth : (side : Side) (rank : ℕ) → rank ≡ sixth_rank side → (rank ≡ 5) ⊎ (rank ≡ 2)
+sixth White rank e = inl e
+sixth Black rank e = inr e
 
-passed_text : (at : ℕ) → at < 64 → (rank_of at ≡ 5) ⊎ (rank_of at ≡ 2) → is_passed (97 + file_of at) (49 + rank_of at) ≡ true
-passed_text at low (inl e) = grind (arith, nat_tests)
-passed_text at low (inr e) = grind (arith, nat_tests)
+passed_text : (at : ℕ) → (rank_of at ≡ 5) ⊎ (rank_of at ≡ 2) → is_passed (97 + file_of at) (49 + rank_of at) ≡ true
+passed_text at (inl e) = grind (arith, nat_tests)
+passed_text at (inr e) = grind (arith, nat_tests)
 
 square_back : (at : ℕ) → square_at ((97 + file_of at) - 97) ((49 + rank_of at) - 49) ≡ at
 square_back at = omega arith
 
-pub passant_of-text : (p : Placement) (passant : Option ℕ) → Takeable p passant → passant_of (passant_text passant) ≡ Some passant
-passant_of-text p None t = refl
-passant_of-text p (Some at) t = rw (passed_text at t.0 (passed_rank p at t.1), square_back at) refl
+pub passant_of-text : (side : Side) (passant : Option ℕ) → IfSome passant (λ at. rank_of at ≡ sixth_rank side) → passant_of (passant_text passant) ≡ Some passant
+passant_of-text side None e = refl
+passant_of-text side (Some at) e = rw (passed_text at (sixth side (rank_of at) e), square_back at) refl
 
 digit : (n : ℕ) → n < 10 → is_ascii_digit (48 + n) ≡ true
 digit n h = grind (arith, nat_tests)

@@ -1,5 +1,5 @@
 -- The text of a position: six fields with one blank between.
-use Rattle.std.specs.Prelude.{ℕ, ◌≡◌, zero, suc, ◌+◌, ◌*◌, Bool, ◌||◌, nat_lt, if◌then◌else◌, List, [], ◌∷◌, ◌++◌, take, drop, Option, Some, None, Ok, decimal}
+use Rattle.std.specs.Prelude.{ℕ, ◌≡◌, ◌≤◌, zero, suc, ◌+◌, ◌*◌, Bool, ◌||◌, nat_lt, if◌then◌else◌, List, [], ◌∷◌, ◌++◌, length, take, drop, Option, Some, None, Ok, decimal}
 use Rattle.std.specs.List.{join_with_byte}
 use Rattle.chess_board.specs.declared.board.Side.{Side}
 use Rattle.chess_board.specs.declared.board.Side.TheVariants.{White, Black}
@@ -74,6 +74,10 @@ fields_text p =
 -- the text of a position
 unfoldable pub written : Placement → List ℕ
 written p = join_with_byte 32 (fields_text p)
+
+-- the text of a position is short
+abbrev pub IsShort : Type 0
+IsShort = (p : Placement) → IsPosition p → length (written p) ≤ 93
 
 -- What is written of a position spells it.
 abbrev pub ReadsBack : Type 0

@@ -4,7 +4,7 @@ ghost use Rattle.std.specs.Option.{option_map};
 ghost use Rattle.chess_board.specs.Board.{Men};
 ghost use Rattle.chess_board.specs.Play.{IsPosition};
 ghost use Rattle.fen_text.specs.Fen.{position_of};
-ghost use Rattle.fen_text.specs.Written.{letter_of, run, rank_text, row, board_text, side_text, letter_if, rights_text, passant_text, written, ReadsBack};
+ghost use Rattle.fen_text.specs.Written.{letter_of, run, rank_text, row, board_text, side_text, letter_if, rights_text, passant_text, written, IsShort, ReadsBack};
 
 use crate::squares::Man;
 use arrayvec::ArrayVec;
@@ -149,19 +149,12 @@ fn write_count(count: u32, text: &mut Text)
     let _ = text.try_extend_from_slice(buffer.format(count).as_bytes());
 }
 
-/// What every position keeps.
-fn check_position(p: &Position) -> bool
-    ensures { IsPosition p.now }
-{
-    p.in_check()
-}
-
 /// The text of a position: six fields with one blank between (PGN standard, section 16.1).
 pub fn write_fen(p: &Position) -> ArrayVec<u8, 96>
     ensures text { result.items ≡ written p.now }
     ensures read_back { position_of result.items ≡ Ok p.now }
 {
-    let _ = check_position(p);
+    p.facts();
     let mut text = ArrayVec::new();
     write_board(p, &mut text);
     text.push(b' ');
@@ -176,6 +169,11 @@ pub fn write_fen(p: &Position) -> ArrayVec<u8, 96>
     write_count(p.full(), &mut text);
     text
 }
+
+/// No text of a position has more than 93 bytes.
+pub fn written_is_short()
+    ensures { IsShort }
+{}
 
 /// What is written of a position spells it.
 pub fn written_reads_back()

@@ -22,4 +22,4 @@ returns-clause-text c =
     (c.write_count-2.ensures.text ∙ ap (λ n. c.push-6.new.self.items ++ decimal n) c.full.ensures)
 
 pub returns-clause-read_back : goal.returns-clause-read_back
-returns-clause-read_back c = ap position_of (returns-clause-text c) ∙ reads_back c.args.p.now c.check_position.ensures
+returns-clause-read_back c = ap position_of (returns-clause-text c) ∙ reads_back c.args.p.now c.facts.ensures.position
