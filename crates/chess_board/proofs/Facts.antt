@@ -11,7 +11,7 @@ use Rattle.chess_board.specs.Placement.{Placement}
 use Rattle.chess_board.specs.Rules.{is_en_passant, is_legal, is_at, fifth_rank, sixth_rank, beside}
 use Rattle.chess_board.specs.Play.{AreMen, AreRights, IsPosition, Takeable, can_take, fits_board, fits_kings, at_home, rights_at_home, built, settled, settled_at, is_supported, top_count}
 use Rattle.chess_board.proofs.Below.{some_below-found}
-use Rattle.chess_board.proofs.Tests.{both}
+use Rattle.chess_board.proofs.Bools.{both}
 
 pub board_fits : (men : Men) → AreMen men → fits_board men ≡ true
 unfolding fits_board

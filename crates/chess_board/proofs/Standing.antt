@@ -15,7 +15,7 @@ use Rattle.chess_board.specs.Laws.{CanTake}
 use Rattle.chess_board.specs.Play.{IsPosition, Takeable, fits_board, fits_kings, at_home, rights_at_home, built, settled, is_supported, is_end_rank, is_any_pawn, top_count}
 use Rattle.chess_board.specs.Lawful.{AreHome, NoEndPawn, FitsBoard, FitsKings, IsLawful, Settles, Builds}
 use Rattle.chess_board.proofs.Below.{each_below-at, each_below-all, squares-is}
-use Rattle.chess_board.proofs.Tests.{same_side-refl}
+use Rattle.chess_board.proofs.Bools.{same_side-refl}
 use Rattle.chess_board.proofs.Keeps.{rook-is, supports}
 use Rattle.chess_board.proofs.Legal.{KingAt, checked-law}
 use Rattle.chess_board.proofs.Settled.{take-law, settled-only, settled-passant}

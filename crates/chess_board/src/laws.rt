@@ -3,7 +3,7 @@ ghost use Rattle.std.specs.Prelude.{◌≡◌, ◌↔◌, ◌≤◌, IsTrue, len
 ghost use Rattle.chess_board.specs.Laws.{AttacksLaw, LegalLaw};
 ghost use Rattle.chess_board.specs.Lawful.{BuildLaw};
 ghost use Rattle.chess_board.specs.Played.{PlayLaw};
-ghost use Rattle.chess_board.specs.Text.{text_of, ReadsBack, SpellsOneMove};
+ghost use Rattle.chess_board.specs.Text.{text_of, LegalIsWritten, ReadsBack, SpellsOneMove};
 
 use crate::board::Move;
 
@@ -40,8 +40,9 @@ pub fn move_texts_are_short(m: Move)
     ensures most { length (text_of m) ≤ 5 }
 {}
 
-/// A text spells at most one move, and the text of a move spells it.
+/// A text spells at most one move, the text of a move spells it, and every legal move has a text.
 pub fn move_texts_are_exact()
     ensures one { SpellsOneMove }
     ensures back { ReadsBack }
+    ensures written { LegalIsWritten }
 {}
