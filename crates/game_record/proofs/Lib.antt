@@ -1,0 +1,4 @@
+pub mod Courses
+pub mod Sames
+pub mod States
+pub mod Lines

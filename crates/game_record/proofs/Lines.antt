@@ -1,0 +1,161 @@
+-- The standard start, and how long a line may be.
+use Rattle.std.proofs.Common.{◌≡◌, ℕ, zero, suc, ◌+◌, ◌*◌, ◌<◌, ◌≤◌, ltb, get_or, subst, append_assoc, append-nil, List, [], ◌∷◌, ◌++◌, true, false, ◌&&◌, cond, eqb, length, Option, Some, None, refl, sym, ap, ◌∙◌, arith, length-append}
+use Rattle.std.specs.Bool.{Decides}
+use Rattle.std.specs.Option.{option_to_list}
+use Rattle.std.specs.Prelude.{codes}
+use Rattle.std.proofs.lemmas.Bool.Decides.{Decides-and, Decides-eqb, nat_tests}
+use Rattle.chess_board.specs.declared.board.Side.{Side}
+use Rattle.chess_board.specs.declared.board.Kind.{Kind}
+use Rattle.chess_board.specs.declared.board.Kind.TheVariants.{Pawn, Knight, Bishop, Rook, Queen, King}
+use Rattle.chess_board.specs.declared.board.Rights.{Rights}
+use Rattle.chess_board.specs.Board.{Men}
+use Rattle.chess_board.specs.Placement.{Placement}
+use Rattle.chess_board.specs.Play.{start_position, IsPosition}
+use Rattle.chess_board.specs.Text.{letter_of, promotion_text}
+use Rattle.fen_text.specs.Written.{written}
+use Rattle.fen_text.proofs.Lengths.{length-written}
+use Rattle.line_io.specs.Out.{Text, with}
+use Rattle.std.specs.List.{AllByRecursion}
+use Rattle.chess_board.specs.declared.board.Move.{Move}
+use Rattle.chess_board.specs.Text.{text_of, IsOfficer}
+use Rattle.chess_board.proofs.Texts.{legal-written}
+use Rattle.game_record.specs.Course.{Ply, Course, ply_of, plies_of, played, AreLegal}
+use Rattle.game_record.specs.Ending.{is_same}
+use Rattle.game_record.specs.Line.{ply_text, spaced, told, moves_text, is_standard, start_text, position_text, StandardLaw, IsShort}
+use Rattle.game_record.proofs.Sames.{same-law}
+
+abbrev six : Men → Side → Rights → Option ℕ → ℕ → ℕ → Placement
+six men side rights passant half full = record { men = men; side = side; rights = rights; passant = passant; half = half; full = full }
+
+same_parts : (p q : Placement) → p.men ≡ q.men → p.side ≡ q.side → p.rights ≡ q.rights → p.passant ≡ q.passant → p.half ≡ q.half → p.full ≡ q.full → p ≡ q
+same_parts p q m s r e h f =
+    let whole : six p.men p.side p.rights p.passant p.half p.full ≡ six q.men q.side q.rights q.passant q.half q.full =
+    ap (λ (x : Men). six x p.side p.rights p.passant p.half p.full) m ∙ ap (λ (x : Side). six q.men x p.rights p.passant p.half p.full) s
+    ∙ ap (λ (x : Rights). six q.men q.side x p.passant p.half p.full) r ∙ ap (λ (x : Option ℕ). six q.men q.side q.rights x p.half p.full) e
+    ∙ ap (λ (x : ℕ). six q.men q.side q.rights q.passant x p.full) h ∙ ap (λ (x : ℕ). six q.men q.side q.rights q.passant q.half x) f in
+    whole
+
+equal_by : (p q : Placement) → Decides (is_same p q && (eqb p.half q.half && eqb p.full q.full)) (p ≡ q)
+equal_by p q =
+    let both = Decides-and (is_same p q) (eqb p.half q.half && eqb p.full q.full) (same-law p q) (Decides-and (eqb p.half q.half) (eqb p.full q.full) (Decides-eqb p.half q.half) (Decides-eqb p.full q.full)) in (
+      λ e. let parts = both.0 e in same_parts p q parts.0.men parts.0.side parts.0.rights parts.0.passant parts.1.0 parts.1.1,
+      λ e. both.1 (
+        record { men = ap (λ (x : Placement). x.men) e; side = ap (λ (x : Placement). x.side) e; rights = ap (λ (x : Placement). x.rights) e; passant = ap (λ (x : Placement). x.passant) e },
+        (ap (λ (x : Placement). x.half) e, ap (λ (x : Placement). x.full) e),
+      ),
+    )
+
+pub standard-law : StandardLaw
+unfolding is_standard
+standard-law p = equal_by p start_position
+
+length-letter : (kind : Kind) → length (letter_of kind) ≤ 1
+length-letter Pawn = omega arith
+length-letter Knight = omega arith
+length-letter Bishop = omega arith
+length-letter Rook = omega arith
+length-letter Queen = omega arith
+length-letter King = omega arith
+
+length-promotion : (promo : Option Kind) → length (promotion_text promo) ≤ 1
+length-promotion None = omega arith
+length-promotion (Some kind) = length-letter kind
+
+length-spaced : (moves : List Ply) → length (spaced moves) ≤ 6 * length moves
+length-spaced [] = omega arith
+length-spaced (m ∷ moves) =
+    let text : length (ply_text m) ≤ 5 = let promo = length-promotion m.promo in omega arith in
+    let rest = length-spaced moves in
+    let both = length-append (ply_text m) (spaced moves) in
+    omega arith
+
+length-moves : (moves : List Ply) → length (moves_text moves) ≤ 6 + 6 * length moves
+length-moves moves =
+    let rest = length-spaced moves in
+    let both = length-append (codes " moves") (spaced moves) in
+    elim (ltb 0 (length moves)) as (λ v. length (cond v (codes " moves" ++ spaced moves) []) ≤ 6 + 6 * length moves) [ true ↦ omega arith | false ↦ omega arith ]
+
+length-start : (p : Placement) → IsPosition p → length (start_text p) ≤ 97
+length-start p q =
+    let text = length-written p q in
+    let both = length-append (codes "fen ") (written p) in
+    elim (is_standard p) as (λ v. length (cond v (codes "startpos") (codes "fen " ++ written p)) ≤ 97) [ true ↦ omega arith | false ↦ omega arith ]
+
+pub short-law : IsShort
+unfolding position_text
+short-law g hint q =
+    let start = length-start g.start q in
+    let moves = length-moves (told g.moves hint) in
+    let tail = length-append (start_text g.start) (moves_text (told g.moves hint)) in
+    let all = length-append (codes "position ") (start_text g.start ++ moves_text (told g.moves hint)) in
+    omega arith
+
+-- a buffer after one piece, and after another
+pub after_put : (old new : Text) (piece : List ℕ) → new ≡ with old piece → (length new.text ≡ length old.text + length piece) × (new.room ≡ old.room)
+after_put old new piece e = (ap (λ (t : Text). length t.text) e ∙ length-append old.text piece, ap (λ (t : Text). t.room) e)
+
+abbrev text_with : List ℕ → ℕ → Text
+text_with text room = record { text = text; room = room }
+
+pub put_again : (old : Text) (a b : List ℕ) → with (with old a) b ≡ with old (a ++ b)
+put_again old a b = let same : text_with ((old.text ++ a) ++ b) old.room ≡ text_with (old.text ++ (a ++ b)) old.room = ap (λ (t : List ℕ). text_with t old.room) (append_assoc old.text a b) in same
+
+pub spaced-append : (a b : List Ply) → spaced (a ++ b) ≡ spaced a ++ spaced b
+spaced-append [] b = refl
+spaced-append (m ∷ a) b = ap (λ (t : List ℕ). 32 ∷ (ply_text m ++ t)) (spaced-append a b) ∙ ap (λ (t : List ℕ). 32 ∷ t) (sym (append_assoc (ply_text m) (spaced a) (spaced b)))
+
+-- the text of moves of which there are some
+pub moves_text-some : (moves : List Ply) (hint : Option Ply) → 0 < length (told moves hint) → moves_text (told moves hint) ≡ codes " moves" ++ (spaced moves ++ spaced (option_to_list hint))
+moves_text-some moves hint h =
+    let some : ltb 0 (length (told moves hint)) ≡ true = grind (arith, nat_tests) in
+    rw some (ap (λ (t : List ℕ). codes " moves" ++ t) (spaced-append moves (option_to_list hint)))
+
+pub moves_text-none : (moves : List Ply) → (0 < length moves → ⊥) → moves_text moves ≡ []
+moves_text-none [] h = refl
+moves_text-none (m ∷ moves) h = absurd (h (omega arith))
+
+pub told_some : (moves : List Ply) (m : Move) → 0 < length (told moves (Some (ply_of m))) → moves_text (told moves (Some (ply_of m))) ≡ codes " moves" ++ (spaced moves ++ (32 ∷ text_of m))
+told_some moves m h =
+    moves_text-some moves (Some (ply_of m)) h ∙ ap (λ (t : List ℕ). codes " moves" ++ (spaced moves ++ (32 ∷ t))) (append-nil (text_of m))
+
+pub told_none : (moves : List Ply) → 0 < length (told moves None) → moves_text (told moves None) ≡ codes " moves" ++ spaced moves
+told_none moves h = moves_text-some moves None h ∙ ap (λ (t : List ℕ). codes " moves" ++ t) (append-nil (spaced moves))
+
+-- the room for the parts
+pub parts_fit : (moves : List Ply) (hint : Option Ply) (before room : ℕ) → 0 < length (told moves hint) → before + length (moves_text (told moves hint)) ≤ room → before + 6 + length (spaced moves) + length (spaced (option_to_list hint)) ≤ room
+parts_fit moves hint before room h fits =
+    let all = ap length (moves_text-some moves hint h) in
+    let front = length-append (codes " moves") (spaced moves ++ spaced (option_to_list hint)) in
+    let both = length-append (spaced moves) (spaced (option_to_list hint)) in
+    omega arith
+
+-- the room for the next of the moves
+pub next_fits : (out before : List ℕ) (moves rest : List Move) (m : Move) (room : ℕ) → out ++ spaced (plies_of (m ∷ rest)) ≡ before ++ spaced (plies_of moves) → length before + length (spaced (plies_of moves)) ≤ room → length out + length (32 ∷ text_of m) ≤ room
+next_fits out before moves rest m room e fits =
+    let all = ap length e in
+    let left = length-append out (spaced (plies_of (m ∷ rest))) in
+    let right = length-append before (spaced (plies_of moves)) in
+    let next = length-append (text_of m) (spaced (plies_of rest)) in
+    omega arith
+
+pub officer_at : (moves : List Move) (i : ℕ) (m : Move) → i < length moves → m ≡ get_or moves i m → AllByRecursion (λ (m : Ply). IsOfficer m.promo) (plies_of moves) → IsOfficer m.promo
+officer_at [] i m h e a = absurd (omega arith)
+officer_at (x ∷ moves) zero m h e a = subst (λ (n : Move). IsOfficer n.promo) (sym e) a.0
+officer_at (x ∷ moves) (suc i) m h e a = officer_at moves i m (omega arith) e a.1
+
+-- legal moves have texts
+pub officers : (p : Placement) (moves : List Move) → AreLegal p (plies_of moves) → AllByRecursion (λ (m : Ply). IsOfficer m.promo) (plies_of moves)
+officers p [] h = tt
+officers p (m ∷ moves) h = (legal-written p m h.0, officers (played p (ply_of m)) moves h.1)
+
+pub line_fits : (g : Course) (hint : Option Ply) (before room : ℕ) → before + length (position_text g hint) ≤ room → before + 9 + length (start_text g.start) + length (moves_text (told g.moves hint)) ≤ room
+unfolding position_text
+line_fits g hint before room fits =
+    let tail = length-append (start_text g.start) (moves_text (told g.moves hint)) in
+    let all = length-append (codes "position ") (start_text g.start ++ moves_text (told g.moves hint)) in
+    omega arith
+
+-- a buffer after three pieces
+pub put_three : (o p q r : Text) (a b c : List ℕ) → p ≡ with o a → q ≡ with p b → r ≡ with q c → r ≡ with o (a ++ (b ++ c))
+put_three o p q r a b c e f h =
+    h ∙ ap (λ (t : Text). with t c) (f ∙ ap (λ (t : Text). with t b) e ∙ put_again o a b) ∙ put_again o (a ++ b) c ∙ ap (with o) (append_assoc a b c)

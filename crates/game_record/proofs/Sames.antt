@@ -1,0 +1,111 @@
+-- The test for the same position decides the relation.
+use Rattle.std.proofs.Common.{◌≡◌, ℕ, zero, suc, [], ◌∷◌, Bool, true, false, ◌&&◌, eqb, Option, Some, None, refl, sym, ap, ◌∙◌}
+use Rattle.std.specs.Bool.{Decides}
+use Rattle.std.specs.Option.{unwrap_or}
+use Rattle.std.proofs.lemmas.Bool.Decides.{Decides-and, Decides-eqb}
+use Rattle.chess_board.specs.declared.board.Side.{Side}
+use Rattle.chess_board.specs.declared.board.Side.TheVariants.{White, Black}
+use Rattle.chess_board.specs.declared.board.Kind.{Kind}
+use Rattle.chess_board.specs.declared.board.Kind.TheVariants.{Pawn, Knight, Bishop, Rook, Queen, King}
+use Rattle.chess_board.specs.declared.board.Rights.{Rights}
+use Rattle.chess_board.specs.Board.{Man, Men, same_side}
+use Rattle.chess_board.specs.Placement.{Placement}
+use Rattle.game_record.specs.Ending.{kind_number, same_man, same_men, same_right, same_rights, same_square, is_same, SameLaw}
+
+kind_at : ℕ → Kind
+kind_at zero = Pawn
+kind_at (suc zero) = Knight
+kind_at (suc (suc zero)) = Bishop
+kind_at (suc (suc (suc zero))) = Rook
+kind_at (suc (suc (suc (suc zero)))) = Queen
+kind_at (suc (suc (suc (suc (suc n))))) = King
+
+kind_at-number : (kind : Kind) → kind_at (kind_number kind) ≡ kind
+unfolding kind_at
+kind_at-number Pawn = refl
+kind_at-number Knight = refl
+kind_at-number Bishop = refl
+kind_at-number Rook = refl
+kind_at-number Queen = refl
+kind_at-number King = refl
+
+kind-law : (a b : Kind) → Decides (eqb (kind_number a) (kind_number b)) (a ≡ b)
+kind-law a b =
+    let numbers = Decides-eqb (kind_number a) (kind_number b) in
+    (λ e. sym (kind_at-number a) ∙ ap kind_at (numbers.0 e) ∙ kind_at-number b, λ e. numbers.1 (ap kind_number e))
+
+side-law : (a b : Side) → Decides (same_side a b) (a ≡ b)
+side-law White White = (λ _. refl, λ _. refl)
+side-law White Black = (λ e. cc, λ e. cc)
+side-law Black White = (λ e. cc, λ e. cc)
+side-law Black Black = (λ _. refl, λ _. refl)
+
+man-law : (a b : Man) → Decides (same_man a b) (a ≡ b)
+man-law None None = (λ _. refl, λ _. refl)
+man-law None (Some b) = (λ e. cc, λ e. cc)
+man-law (Some a) None = (λ e. cc, λ e. cc)
+man-law (Some (side, kind)) (Some (other, piece)) =
+    let both = Decides-and (same_side side other) (eqb (kind_number kind) (kind_number piece)) (side-law side other) (kind-law kind piece) in (
+      λ e. let parts = both.0 e in ap (λ (s : Side). Some (s, kind)) parts.0 ∙ ap (λ (k : Kind). Some (other, k)) parts.1,
+      λ e. let pair = ap (λ (man : Man). unwrap_or man (side, kind)) e in both.1 (ap (λ (man : Side × Kind). man.0) pair, ap (λ (man : Side × Kind). man.1) pair),
+    )
+
+men-law : (a b : Men) → Decides (same_men a b) (a ≡ b)
+men-law [] [] = (λ _. refl, λ _. refl)
+men-law [] (b ∷ others) = (λ e. cc, λ e. cc)
+men-law (a ∷ men) [] = (λ e. cc, λ e. cc)
+men-law (a ∷ men) (b ∷ others) =
+    let both = Decides-and (same_man a b) (same_men men others) (man-law a b) (men-law men others) in (
+      λ e. let parts = both.0 e in ap (λ (x : Man). x ∷ men) parts.0 ∙ ap (λ (xs : Men). b ∷ xs) parts.1,
+      λ e. let first : a ≡ b = cc in let rest : men ≡ others = cc in both.1 (first, rest),
+    )
+
+right-law : (a b : Bool) → Decides (same_right a b) (a ≡ b)
+right-law true true = (λ _. refl, λ _. refl)
+right-law true false = (λ e. sym e, λ e. sym e)
+right-law false true = (λ e. e, λ e. e)
+right-law false false = (λ _. refl, λ _. refl)
+
+abbrev four : Bool → Bool → Bool → Bool → Rights
+four wk wq bk bq = record { wk = wk; wq = wq; bk = bk; bq = bq }
+
+rights-law : (a b : Rights) → Decides (same_rights a b) (a ≡ b)
+rights-law a b =
+    let both = Decides-and (same_right a.wk b.wk && same_right a.wq b.wq) (same_right a.bk b.bk && same_right a.bq b.bq)
+    (Decides-and (same_right a.wk b.wk) (same_right a.wq b.wq) (right-law a.wk b.wk) (right-law a.wq b.wq))
+    (Decides-and (same_right a.bk b.bk) (same_right a.bq b.bq) (right-law a.bk b.bk) (right-law a.bq b.bq)) in (
+      λ e. let parts = both.0 e in
+          let whole : four a.wk a.wq a.bk a.bq ≡ four b.wk b.wq b.bk b.bq =
+          ap (λ (r : Bool). four r a.wq a.bk a.bq) parts.0.0 ∙ ap (λ (r : Bool). four b.wk r a.bk a.bq) parts.0.1
+          ∙ ap (λ (r : Bool). four b.wk b.wq r a.bq) parts.1.0 ∙ ap (λ (r : Bool). four b.wk b.wq b.bk r) parts.1.1 in
+          whole,
+      λ e. both.1 ((ap (λ (r : Rights). r.wk) e, ap (λ (r : Rights). r.wq) e), (ap (λ (r : Rights). r.bk) e, ap (λ (r : Rights). r.bq) e)),
+    )
+
+square-law : (a b : Option ℕ) → Decides (same_square a b) (a ≡ b)
+square-law None None = (λ _. refl, λ _. refl)
+square-law None (Some b) = (λ e. cc, λ e. cc)
+square-law (Some a) None = (λ e. cc, λ e. cc)
+square-law (Some a) (Some b) =
+    let numbers = Decides-eqb a b in
+    (λ e. ap Some (numbers.0 e), λ e. numbers.1 (ap (λ (s : Option ℕ). unwrap_or s a) e))
+
+pub same-law : SameLaw
+unfolding is_same
+same-law p q =
+    let both = Decides-and (same_men p.men q.men && same_side p.side q.side) (same_rights p.rights q.rights && same_square p.passant q.passant)
+    (Decides-and (same_men p.men q.men) (same_side p.side q.side) (men-law p.men q.men) (side-law p.side q.side))
+    (Decides-and (same_rights p.rights q.rights) (same_square p.passant q.passant) (rights-law p.rights q.rights) (square-law p.passant q.passant)) in (
+      λ e. let parts = both.0 e in record { men = parts.0.0; side = parts.0.1; rights = parts.1.0; passant = parts.1.1 },
+      λ s. both.1 ((s.men, s.side), (s.rights, s.passant)),
+    )
+
+pub is_same-refl : (p : Placement) → is_same p p ≡ true
+is_same-refl p = (same-law p p).1 (record { men = refl; side = refl; rights = refl; passant = refl })
+
+-- two tests for one fact agree
+pub agree : (a b : Bool) (P : Type 0) → Decides a P → Decides b P → a ≡ b
+agree true true P h k = refl
+agree true false P h k = sym (k.1 (h.0 refl))
+agree false true P h k = h.1 (k.0 refl)
+agree false false P h k = refl

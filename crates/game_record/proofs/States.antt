@@ -1,0 +1,155 @@
+-- How a position stands, and how a game has ended, by tests and by the Laws.
+use Rattle.std.proofs.Common.{◌≡◌, ℕ, ◌+◌, ◌<◌, ◌≤◌, List, [], ◌∷◌, ◌++◌, Bool, true, false, ◌&&◌, ◌||◌, cond, leb, eqb, Option, Some, None, inl, inr, refl, sym, ap, subst, ◌∙◌, arith}
+use Rattle.std.specs.Prelude.{count_by}
+use Rattle.std.specs.Bool.{Decides}
+use Rattle.std.proofs.lemmas.Bool.Decides.{Decides-and, Decides-or, Decides-eqb, nat_tests}
+use Rattle.std.proofs.lemmas.List.Sums.{sum_by-append}
+use Rattle.chess_board.specs.declared.board.Kind.{Kind}
+use Rattle.chess_board.specs.declared.board.Kind.TheVariants.{Pawn, Knight, Bishop, Rook, Queen, King}
+use Rattle.chess_board.specs.declared.board.Move.{Move}
+use Rattle.chess_board.specs.declared.board.Square.{Square}
+use Rattle.chess_board.specs.declared.board.State.{State}
+use Rattle.chess_board.specs.declared.board.State.TheVariants as states
+use Rattle.chess_board.specs.Attack.{is_checked}
+use Rattle.chess_board.specs.Board.{Men, squares, some_square}
+use Rattle.chess_board.specs.Laws.{IsChecked}
+use Rattle.chess_board.specs.Placement.{Placement}
+use Rattle.chess_board.specs.Play.{is_man, is_minor, HasLegal, IsDead, StateFits}
+use Rattle.chess_board.specs.Rules.{is_legal}
+use Rattle.chess_board.specs.Text.{IsOfficer}
+use Rattle.chess_board.proofs.Below.{some_below-found, some_square-hit, squares-is}
+use Rattle.chess_board.proofs.Legal.{legal-law, checked-law}
+use Rattle.chess_board.proofs.Bools.{either}
+use Rattle.chess_board.proofs.Texts.{legal-written}
+use Rattle.game_record.specs.declared.ending.End.TheVariants as ends
+use Rattle.game_record.specs.Course.{Ply, Course, now_of, positions_of, with_ply, later}
+use Rattle.game_record.specs.Ending.{is_same, is_way, has_legal, is_dead, state_by, state_of, ended_by, ended_of, repeats_of, Ends, StateLaw, EndingLaw}
+use Rattle.game_record.proofs.Courses.{later-append, now_after-append}
+use Rattle.game_record.proofs.Sames.{is_same-refl}
+
+or_left : (a b : Bool) → a ≡ true → (a || b) ≡ true
+or_left a b e = rw e refl
+
+or_right : (a b : Bool) → b ≡ true → (a || b) ≡ true
+or_right true b e = refl
+or_right false b e = e
+
+abbrev square : (s : ℕ) → s < 64 → Square
+square s low = record { index = s; on_board = low }
+
+abbrev move_of : Square → Square → Option Kind → Move
+move_of from to promo = record { from = from; to = to; promo = promo }
+
+some_move : (p : Placement) (from to : ℕ) (promo : Option Kind) → from < 64 → to < 64 → is_legal p from to promo ≡ true → HasLegal p
+some_move p from to promo f t e = record { move = move_of (square from f) (square to t) promo; legal = (legal-law p from to promo).0 e }
+
+way_legal : (p : Placement) (from to : ℕ) → from < 64 → to < 64 → is_way p from to ≡ true → HasLegal p
+way_legal p from to f t e =
+    elim (either (is_legal p from to None) ((is_legal p from to (Some Queen) || is_legal p from to (Some Rook)) || (is_legal p from to (Some Bishop) || is_legal p from to (Some Knight))) e) as (λ _. HasLegal p) [
+      | inl h ↦ some_move p from to None f t h
+      | inr h ↦ elim (either (is_legal p from to (Some Queen) || is_legal p from to (Some Rook)) (is_legal p from to (Some Bishop) || is_legal p from to (Some Knight)) h) as (λ _. HasLegal p) [
+        | inl k ↦ elim (either (is_legal p from to (Some Queen)) (is_legal p from to (Some Rook)) k) as (λ _. HasLegal p) [
+          | inl q ↦ some_move p from to (Some Queen) f t q
+          | inr q ↦ some_move p from to (Some Rook) f t q
+        ]
+        | inr k ↦ elim (either (is_legal p from to (Some Bishop)) (is_legal p from to (Some Knight)) k) as (λ _. HasLegal p) [
+          | inl q ↦ some_move p from to (Some Bishop) f t q
+          | inr q ↦ some_move p from to (Some Knight) f t q
+        ]
+      ]
+    ]
+
+legal_way : (p : Placement) (from to : ℕ) (promo : Option Kind) → IsOfficer promo → is_legal p from to promo ≡ true → is_way p from to ≡ true
+legal_way p from to None o e = or_left (is_legal p from to None) _ e
+legal_way p from to (Some Queen) o e = or_right (is_legal p from to None) _ (or_left (is_legal p from to (Some Queen) || is_legal p from to (Some Rook)) _ (or_left (is_legal p from to (Some Queen)) _ e))
+legal_way p from to (Some Rook) o e = or_right (is_legal p from to None) _ (or_left (is_legal p from to (Some Queen) || is_legal p from to (Some Rook)) _ (or_right (is_legal p from to (Some Queen)) _ e))
+legal_way p from to (Some Bishop) o e = or_right (is_legal p from to None) _ (or_right (is_legal p from to (Some Queen) || is_legal p from to (Some Rook)) _ (or_left (is_legal p from to (Some Bishop)) _ e))
+legal_way p from to (Some Knight) o e = or_right (is_legal p from to None) _ (or_right (is_legal p from to (Some Queen) || is_legal p from to (Some Rook)) _ (or_right (is_legal p from to (Some Bishop)) _ e))
+legal_way p from to (Some Pawn) o e = absurd o
+legal_way p from to (Some King) o e = absurd o
+
+has_legal-law : (p : Placement) → Decides (has_legal p) (HasLegal p)
+unfolding has_legal
+has_legal-law p = (
+  λ e.
+      let one = some_below-found squares (λ from. some_square (λ to. is_way p from to)) e in
+      let two = some_below-found squares (λ to. is_way p one.0 to) one.2 in
+      way_legal p one.0 two.0 (subst (λ (n : ℕ). one.0 < n) squares-is one.1) (subst (λ (n : ℕ). two.0 < n) squares-is two.1) two.2,
+  λ h.
+      let m = h.move in
+      let test = (legal-law p m.from.index m.to.index m.promo).1 h.legal in
+      let way = legal_way p m.from.index m.to.index m.promo (legal-written p m h.legal) test in
+      some_square-hit (λ from. some_square (λ to. is_way p from to)) m.from.index m.from.on_board (some_square-hit (λ to. is_way p m.from.index to) m.to.index m.to.on_board way),
+)
+
+dead-law : (men : Men) → Decides (is_dead men) (IsDead men)
+dead-law men =
+    Decides-or (eqb (count_by is_man men) 2) (eqb (count_by is_man men) 3 && eqb (count_by is_minor men) 1) (Decides-eqb (count_by is_man men) 2)
+    (Decides-and (eqb (count_by is_man men) 3) (eqb (count_by is_minor men) 1) (Decides-eqb (count_by is_man men) 3) (Decides-eqb (count_by is_minor men) 1))
+
+fits_by : (p : Placement) (moves checked dead : Bool) → Decides moves (HasLegal p) → Decides checked (IsChecked p.men p.side) → Decides dead (IsDead p.men) → StateFits p (state_by moves checked dead)
+fits_by p false true dead m c d = (c.0 refl, λ h. let e = m.1 h in cc)
+fits_by p false false dead m c d = (λ h. let e = c.1 h in cc, λ h. let e = m.1 h in cc)
+fits_by p true checked true m c d = (m.0 refl, d.0 refl)
+fits_by p true checked false m c d = (m.0 refl, λ h. let e = d.1 h in cc)
+
+pub state-law : StateLaw
+unfolding state_of
+state-law p = fits_by p (has_legal p) (is_checked p.men p.side) (is_dead p.men) (has_legal-law p) (checked-law p.men p.side) (dead-law p.men)
+
+-- a position stands in one way
+pub one_state : (p : Placement) (a b : State) → StateFits p a → StateFits p b → a ≡ b
+one_state p states.Mate states.Mate h k = refl
+one_state p states.Mate states.Stale h k = absurd (k.0 h.0)
+one_state p states.Mate states.Dead h k = absurd (h.1 k.0)
+one_state p states.Mate states.Open h k = absurd (h.1 k.0)
+one_state p states.Stale states.Mate h k = absurd (h.0 k.0)
+one_state p states.Stale states.Stale h k = refl
+one_state p states.Stale states.Dead h k = absurd (h.1 k.0)
+one_state p states.Stale states.Open h k = absurd (h.1 k.0)
+one_state p states.Dead states.Mate h k = absurd (k.1 h.0)
+one_state p states.Dead states.Stale h k = absurd (k.1 h.0)
+one_state p states.Dead states.Dead h k = refl
+one_state p states.Dead states.Open h k = absurd (k.1 h.1)
+one_state p states.Open states.Mate h k = absurd (k.1 h.0)
+one_state p states.Open states.Stale h k = absurd (k.1 h.0)
+one_state p states.Open states.Dead h k = absurd (h.1 k.1)
+one_state p states.Open states.Open h k = refl
+
+at_least : (a b : ℕ) → leb a b ≡ true → a ≤ b
+at_least a b e = grind (arith, nat_tests)
+
+below : (a b : ℕ) → leb a b ≡ false → b < a
+below a b e = grind (arith, nat_tests)
+
+open_ends : (g : Course) → StateFits (now_of g) states.Open → Ends g (ended_by states.Open (repeats_of g) (now_of g).half)
+open_ends g f =
+    elim (leb 3 (repeats_of g)) as (λ v. leb 3 (repeats_of g) ≡ v → Ends g (cond v (Some ends.Repetition) (cond (leb 100 (now_of g).half) (Some ends.Fifty) None))) [
+      | true ↦ λ e. (f, at_least 3 (repeats_of g) e)
+      | false ↦ λ e. elim (leb 100 (now_of g).half) as (λ v. leb 100 (now_of g).half ≡ v → Ends g (cond v (Some ends.Fifty) None)) [
+        | true ↦ λ k. (f, below 3 (repeats_of g) e, at_least 100 (now_of g).half k)
+        | false ↦ λ k. (f, below 3 (repeats_of g) e, below 100 (now_of g).half k)
+      ] refl
+    ] refl
+
+ends_by : (g : Course) (state : State) → StateFits (now_of g) state → Ends g (ended_by state (repeats_of g) (now_of g).half)
+ends_by g states.Mate f = f
+ends_by g states.Stale f = f
+ends_by g states.Dead f = f
+ends_by g states.Open f = open_ends g f
+
+pub ending-law : EndingLaw
+unfolding ended_of
+ending-law g = ends_by g (state_of (now_of g)) (state-law (now_of g))
+
+pub ended_same : (a b : State) (r q h k : ℕ) → a ≡ b → r ≡ q → h ≡ k → ended_by a r h ≡ ended_by b q k
+ended_same a b r q h k s t u = ap (λ (x : State). ended_by x r h) s ∙ ap (λ (x : ℕ). ended_by b x h) t ∙ ap (λ (x : ℕ). ended_by b q x) u
+
+-- after a move its position stood once more than before
+pub repeats_more : (g : Course) (m : Ply) → repeats_of (with_ply g m) ≡ count_by (is_same (now_of (with_ply g m))) (positions_of g) + 1
+repeats_more g m =
+    let now = now_of (with_ply g m) in
+    let all : positions_of (with_ply g m) ≡ positions_of g ++ now ∷ [] =
+    ap (λ (xs : List Placement). g.start ∷ xs) (later-append g.start g.moves m ∙ ap (λ (q : Placement). later g.start g.moves ++ q ∷ []) (sym (now_after-append g.start g.moves m))) in
+    let own : count_by (is_same now) (now ∷ []) ≡ 1 = rw (is_same-refl now) refl in
+    ap (count_by (is_same now)) all ∙ sum_by-append (λ (q : Placement). cond (is_same now q) 1 0) (positions_of g) (now ∷ []) ∙ ap (λ (n : ℕ). count_by (is_same now) (positions_of g) + n) own

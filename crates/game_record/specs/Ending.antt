@@ -1,0 +1,111 @@
+-- How often a position stood, and how a game has ended.
+use Rattle.std.specs.Prelude.{ℕ, ◌<◌, ◌≤◌, ◌↔◌, Bool, true, false, IsTrue, ◌&&◌, ◌||◌, ◌==◌, not, nat_le, if◌then◌else◌, [], ◌∷◌, count_by, Option, Some, None}
+use Rattle.chess_board.specs.declared.board.Kind.{Kind}
+use Rattle.chess_board.specs.declared.board.Kind.TheVariants.{Pawn, Knight, Bishop, Rook, Queen, King}
+use Rattle.chess_board.specs.declared.board.Rights.{Rights}
+use Rattle.chess_board.specs.declared.board.State.{State}
+use Rattle.chess_board.specs.declared.board.State.TheVariants as states
+use Rattle.chess_board.specs.Attack.{is_checked}
+use Rattle.chess_board.specs.Board.{Man, Men, same_side, some_square}
+use Rattle.chess_board.specs.Laws.{Same}
+use Rattle.chess_board.specs.Placement.{Placement}
+use Rattle.chess_board.specs.Play.{is_man, is_minor, StateFits}
+use Rattle.chess_board.specs.Rules.{is_legal}
+use Rattle.game_record.specs.declared.ending.End.{End}
+use Rattle.game_record.specs.declared.ending.End.TheVariants.{Mate, Stale, Dead, Repetition, Fifty}
+use Rattle.game_record.specs.Course.{Course, now_of, positions_of}
+
+-- each kind by a number of its own
+abbrev pub kind_number : Kind → ℕ
+kind_number Pawn = 0
+kind_number Knight = 1
+kind_number Bishop = 2
+kind_number Rook = 3
+kind_number Queen = 4
+kind_number King = 5
+
+abbrev pub same_man : Man → Man → Bool
+same_man None None = true
+same_man None (Some b) = false
+same_man (Some a) None = false
+same_man (Some a) (Some b) = same_side a.0 b.0 && (kind_number a.1 == kind_number b.1)
+
+abbrev pub same_men : Men → Men → Bool
+same_men [] [] = true
+same_men [] (b ∷ others) = false
+same_men (a ∷ men) [] = false
+same_men (a ∷ men) (b ∷ others) = same_man a b && same_men men others
+
+abbrev pub same_right : Bool → Bool → Bool
+same_right true b = b
+same_right false b = not b
+
+abbrev pub same_rights : Rights → Rights → Bool
+same_rights a b = (same_right a.wk b.wk && same_right a.wq b.wq) && (same_right a.bk b.bk && same_right a.bq b.bq)
+
+abbrev pub same_square : Option ℕ → Option ℕ → Bool
+same_square None None = true
+same_square None (Some b) = false
+same_square (Some a) None = false
+same_square (Some a) (Some b) = a == b
+
+-- whether two positions are the same for repetition: men, side on move, rights and passant square
+unfoldable pub is_same : Placement → Placement → Bool
+is_same p q = (same_men p.men q.men && same_side p.side q.side) && (same_rights p.rights q.rights && same_square p.passant q.passant)
+
+-- the test for it decides the relation of the Laws
+abbrev pub SameLaw : Type 0
+SameLaw = (p q : Placement) → IsTrue (is_same p q) ↔ Same p q
+
+-- how often the present position stood, the present time counted
+abbrev pub repeats_of : Course → ℕ
+repeats_of g = count_by (is_same (now_of g)) (positions_of g)
+
+-- whether some move from a square to another is legal
+abbrev pub is_way : Placement → ℕ → ℕ → Bool
+is_way p from to =
+    is_legal p from to None
+    || ((is_legal p from to (Some Queen) || is_legal p from to (Some Rook)) || (is_legal p from to (Some Bishop) || is_legal p from to (Some Knight)))
+
+unfoldable pub has_legal : Placement → Bool
+has_legal p = some_square (λ from. some_square (λ to. is_way p from to))
+
+-- beside the two kings no man, or one bishop or knight alone
+abbrev pub is_dead : Men → Bool
+is_dead men = (count_by is_man men == 2) || ((count_by is_man men == 3) && (count_by is_minor men == 1))
+
+abbrev pub state_by : Bool → Bool → Bool → State
+state_by false true dead = states.Mate
+state_by false false dead = states.Stale
+state_by true checked true = states.Dead
+state_by true checked false = states.Open
+
+-- how a position stands: the first that holds of mate, stalemate and dead
+unfoldable pub state_of : Placement → State
+state_of p = state_by (has_legal p) (is_checked p.men p.side) (is_dead p.men)
+
+abbrev pub StateLaw : Type 0
+StateLaw = (p : Placement) → StateFits p (state_of p)
+
+-- the first that holds of mate, stalemate, dead position, third occurrence and 100 moves without pawn move or capture
+abbrev pub ended_by : State → ℕ → ℕ → Option End
+ended_by states.Mate repeats half = Some Mate
+ended_by states.Stale repeats half = Some Stale
+ended_by states.Dead repeats half = Some Dead
+ended_by states.Open repeats half = if nat_le 3 repeats then Some Repetition else (if nat_le 100 half then Some Fifty else None)
+
+-- how a game has ended, if it has
+unfoldable pub ended_of : Course → Option End
+ended_of g = ended_by (state_of (now_of g)) (repeats_of g) (now_of g).half
+
+-- the end of a game in the words of the Laws
+abbrev pub Ends : Course → Option End → Type 0
+Ends g (Some Mate) = StateFits (now_of g) states.Mate
+Ends g (Some Stale) = StateFits (now_of g) states.Stale
+Ends g (Some Dead) = StateFits (now_of g) states.Dead
+Ends g (Some Repetition) = StateFits (now_of g) states.Open × (3 ≤ repeats_of g)
+Ends g (Some Fifty) = StateFits (now_of g) states.Open × (repeats_of g < 3) × (100 ≤ (now_of g).half)
+Ends g None = StateFits (now_of g) states.Open × (repeats_of g < 3) × ((now_of g).half < 100)
+
+abbrev pub EndingLaw : Type 0
+EndingLaw = (g : Course) → Ends g (ended_of g)

@@ -1,0 +1,4 @@
+pub mod Course
+pub mod Ending
+pub mod Line
+pub mod Keeps

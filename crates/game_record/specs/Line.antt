@@ -1,0 +1,45 @@
+-- The line that tells an engine the position of a game (UCI, April 2006, `position`).
+use Rattle.std.specs.Prelude.{ℕ, ◌≡◌, ◌≤◌, ◌+◌, ◌*◌, Bool, ◌&&◌, ◌==◌, nat_lt, IsTrue, ◌↔◌, if◌then◌else◌, List, [], ◌∷◌, ◌++◌, length, Option, codes}
+use Rattle.std.specs.Option.{option_to_list}
+use Rattle.chess_board.specs.Board.{file_of, rank_of}
+use Rattle.chess_board.specs.Placement.{Placement}
+use Rattle.chess_board.specs.Play.{start_position, IsPosition}
+use Rattle.chess_board.specs.Text.{promotion_text}
+use Rattle.fen_text.specs.Written.{written}
+use Rattle.game_record.specs.Course.{Ply, Course}
+use Rattle.game_record.specs.Ending.{is_same}
+
+abbrev pub ply_text : Ply → List ℕ
+ply_text m = (97 + file_of m.from) ∷ (49 + rank_of m.from) ∷ (97 + file_of m.to) ∷ (49 + rank_of m.to) ∷ promotion_text m.promo
+
+-- each move behind a blank
+abbrev pub spaced : List Ply → List ℕ
+spaced [] = []
+spaced (m ∷ moves) = 32 ∷ (ply_text m ++ spaced moves)
+
+-- the moves, and one that may follow
+abbrev pub told : List Ply → Option Ply → List Ply
+told moves hint = moves ++ option_to_list hint
+
+-- `moves` and each of them, if there are some
+abbrev pub moves_text : List Ply → List ℕ
+moves_text moves = if nat_lt 0 (length moves) then codes " moves" ++ spaced moves else []
+
+-- whether it is the standard start, with its counts 0 and 1
+unfoldable pub is_standard : Placement → Bool
+is_standard p = is_same p start_position && ((p.half == 0) && (p.full == 1))
+
+abbrev pub StandardLaw : Type 0
+StandardLaw = (p : Placement) → IsTrue (is_standard p) ↔ (p ≡ start_position)
+
+-- `startpos`, or `fen` and the text of the start
+abbrev pub start_text : Placement → List ℕ
+start_text p = if is_standard p then codes "startpos" else codes "fen " ++ written p
+
+-- the line of a game, with a move that may follow, without a line feed
+unfoldable pub position_text : Course → Option Ply → List ℕ
+position_text g hint = codes "position " ++ (start_text g.start ++ moves_text (told g.moves hint))
+
+-- at most 6 bytes for each move, and 120 for the rest
+abbrev pub IsShort : Type 0
+IsShort = (g : Course) (hint : Option Ply) → IsPosition g.start → length (position_text g hint) ≤ 120 + 6 * length (told g.moves hint)

@@ -1,0 +1,45 @@
+//! How a game ends.
+ghost use Rattle.std.specs.Prelude.{◌≡◌};
+ghost use Rattle.game_record.specs.Ending.{is_same, state_of, ended_by};
+
+use chess_board::{Position, State};
+
+/// How a game has ended: mate (article 5.1.1), stalemate (5.2.1), a dead position (5.2.2) of two kings with no man
+/// or one bishop or knight alone, the third occurrence of a position (9.2), or 100 moves of both sides
+/// without a pawn's move or a capture (9.3). The last two end a game here without a claim.
+#[derive(Clone, Copy, Debug, PartialEq, Eq)]
+pub enum End {
+    Mate,
+    Stale,
+    Dead,
+    Repetition,
+    Fifty,
+}
+
+/// Whether two positions count as the same for repetition.
+pub(crate) fn is_same(p: &Position, q: &Position) -> bool
+    ensures { result ≡ is_same p.now q.now }
+{
+    p.same(q)
+}
+
+/// How a position stands.
+pub(crate) fn state_of(p: &Position) -> State
+    ensures { result ≡ state_of p.now }
+{
+    p.state()
+}
+
+/// The end in a position that stood so often.
+pub(crate) fn ended_by(state: State, repeats: u32, half: u32) -> Option<End>
+    ensures { result ≡ ended_by state repeats half }
+{
+    match state {
+        State::Mate => Some(End::Mate),
+        State::Stale => Some(End::Stale),
+        State::Dead => Some(End::Dead),
+        State::Open if repeats >= 3 => Some(End::Repetition),
+        State::Open if half >= 100 => Some(End::Fifty),
+        State::Open => None,
+    }
+}

@@ -1,0 +1,182 @@
+//! Games.
+ghost use Rattle.std.specs.Prelude.{◌≡◌, ◌+◌, ◌<◌, ◌≤◌, ◌↔◌, length, count_by, IsErr, IfOk, OnOk, OnErr};
+ghost use Rattle.chess_board.specs.Laws.{IsLegal};
+ghost use Rattle.chess_board.specs.Play.{start_position};
+ghost use Rattle.game_record.specs.Course.{ply_of, plies_of, IsPlayable, played, AreLegal, now_of, positions_of, begun, with_ply, without_last};
+ghost use Rattle.game_record.specs.Ending.{is_same, repeats_of, ended_of};
+
+use crate::ending::{End, ended_by, is_same, state_of};
+use chess_board::{Move, Position};
+use line_io::NoMemory;
+use std::alloc::Global;
+use std::marker::Model;
+
+/// The most moves, of both sides, that a game has room for.
+pub const MOST_PLIES: usize = 12_000;
+
+/// Why a move is not taken.
+#[derive(Clone, Copy, Debug, PartialEq, Eq)]
+pub enum PushFault {
+    /// It is not legal now.
+    Illegal,
+    /// It is legal, and the game has `MOST_PLIES` moves.
+    TooLong,
+}
+
+/// Fewer moves stand than were to be taken back.
+#[derive(Clone, Copy, Debug, PartialEq, Eq)]
+pub struct NoMove;
+
+/// A game: a start position and the moves from there, each legal in its turn. No call but `make` takes memory.
+#[derive(Drop)]
+pub struct Game {
+    start: Position,
+    moves: Vec<Move>,
+    /// The position after each move.
+    later: Vec<Position>,
+}
+
+impl Model for Game {
+    ghost use Rattle.std.specs.Prelude.{vec_capacity};
+    ghost use Rattle.game_record.specs.Course.{Course, plies_of};
+    ghost use Rattle.game_record.specs.Keeps.{Keeps};
+
+    ghost Value = { Course };
+
+    ghost view = { λ g. record { start = g.start; moves = plies_of g.moves.items } };
+
+    ghost invariant = { λ g. Keeps g.start (plies_of g.moves.items) g.later.items (vec_capacity g.moves) (vec_capacity g.later) };
+}
+
+impl Game {
+    /// A game from the standard start, without moves.
+    pub fn make(alloc: Global) -> Result<Game, NoMemory>
+        ensures { IfOk result (λ game. game ≡ begun start_position) }
+    {
+        let moves = Vec::with_capacity(alloc, MOST_PLIES)?;
+        let later = Vec::with_capacity(alloc, MOST_PLIES)?;
+        Ok(Game {
+            start: Position::start(),
+            moves,
+            later,
+        })
+    }
+
+    /// Begins another game.
+    pub fn reset(&mut self, start: Position)
+        ensures { self.new ≡ begun start }
+    {
+        self.start = start;
+        self.moves.clear();
+        self.later.clear();
+    }
+
+    /// Plays a move.
+    pub fn push(&mut self, m: Move) -> Result<(), PushFault>
+        ensures illegal { (result ≡ Err PushFault.Illegal) ↔ (¬ IsPlayable (now_of self.old) (ply_of m)) }
+        ensures long { (result ≡ Err PushFault.TooLong) ↔ (IsPlayable (now_of self.old) (ply_of m) × (length self.old.moves ≡ 12000)) }
+        ensures ok { OnOk result (self.new ≡ with_ply self.old (ply_of m)) }
+        ensures err { OnErr result (self.new ≡ self.old) }
+    {
+        let now = *self.now();
+        if !now.legal(m) {
+            return Err(PushFault::Illegal);
+        }
+        let after = now.play(m);
+        if self.moves.len() >= MOST_PLIES {
+            return Err(PushFault::TooLong);
+        }
+        self.moves.push_reserved(m);
+        self.later.push_reserved(after);
+        Ok(())
+    }
+
+    /// Takes the last n moves back.
+    pub fn undo(&mut self, n: u32) -> Result<(), NoMove>
+        ensures refused { IsErr result ↔ (length self.old.moves < n) }
+        ensures ok { OnOk result (self.new ≡ without_last self.old n) }
+        ensures err { OnErr result (self.new ≡ self.old) }
+    {
+        let plies = self.moves.len();
+        let n = n as usize;
+        if plies < n {
+            return Err(NoMove);
+        }
+        self.moves.truncate(plies - n);
+        self.later.truncate(plies - n);
+        Ok(())
+    }
+
+    /// The position before the first move.
+    pub fn start(&self) -> &Position
+        ensures { result.now ≡ self.now.start }
+    {
+        &self.start
+    }
+
+    /// The present position.
+    pub fn now(&self) -> &Position
+        ensures { result.now ≡ now_of self.now }
+    {
+        match self.later.last() {
+            Some(position) => position,
+            None => &self.start,
+        }
+    }
+
+    /// The moves so far, the first one first.
+    pub fn moves(&self) -> &[Move]
+        ensures moves { plies_of result.now ≡ self.now.moves }
+        ensures legal { AreLegal self.now.start self.now.moves }
+    {
+        self.moves.as_slice()
+    }
+
+    /// How many moves of both sides were played.
+    pub fn plies(&self) -> u32
+        ensures value { result ≡ length self.now.moves }
+        ensures most { result ≤ 12000 }
+    {
+        self.moves.len() as u32
+    }
+
+    /// How many positions of the game so far are the same as this one.
+    fn stood(&self, p: &Position) -> u32
+        ensures value { result ≡ count_by (is_same p.now) (positions_of self.now) }
+        ensures few { result ≤ 12001 }
+    {
+        let start = if is_same(p, &self.start) { 1 } else { 0 };
+        start + count_same(p, self.later.as_slice()) as u32
+    }
+
+    /// How often the present position stood, the present time counted (article 9.2.2).
+    pub fn repeats(&self) -> u32
+        ensures { result ≡ repeats_of self.now }
+    {
+        self.stood(self.now())
+    }
+
+    /// How the game has ended, if it has.
+    pub fn ended(&self) -> Option<End>
+        ensures { result ≡ ended_of self.now }
+    {
+        let now = self.now();
+        ended_by(state_of(now), self.repeats(), now.half())
+    }
+
+    /// How the game will have ended after a legal move.
+    pub fn ended_after(&self, m: Move) -> Option<End>
+        requires { IsPlayable (now_of self.now) (ply_of m) }
+        ensures { result ≡ ended_of (with_ply self.now (ply_of m)) }
+    {
+        let after = self.now().play(m);
+        ended_by(state_of(&after), self.stood(&after) + 1, after.half())
+    }
+}
+
+/// How many of these positions are the same as this one.
+fn count_same(p: &Position, positions: &[Position]) -> usize
+    ensures { result ≡ count_by (is_same p.now) positions.now }
+{
+    positions.iter().filter(|q| is_same(p, q)).count()
+}

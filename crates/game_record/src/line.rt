@@ -1,0 +1,93 @@
+//! The `position` line.
+ghost use Rattle.std.specs.Prelude.{◌≡◌, ◌+◌, ◌<◌, ◌≤◌, ◌↔◌, IsTrue, ◌++◌, ◌∷◌, length, IfSome, codes};
+ghost use Rattle.std.specs.Option.{option_map};
+ghost use Rattle.std.specs.List.{AllByRecursion};
+ghost use Rattle.chess_board.specs.Text.{IsOfficer, text_of};
+ghost use Rattle.line_io.specs.Out.{with};
+ghost use Rattle.game_record.specs.Course.{ply_of, plies_of, IsPlayable, now_of};
+ghost use Rattle.game_record.specs.Line.{is_standard, start_text, spaced, told, moves_text, position_text};
+
+use crate::ending::is_same;
+use crate::game::Game;
+use chess_board::{Move, Position, write_move};
+use fen_text::write_fen;
+use line_io::Out;
+
+/// Whether a position is the standard start, with its counts 0 and 1.
+#[tactic(auto, unfolding(crate::specs::Line::is_standard))]
+fn is_standard(p: &Position) -> bool
+    ensures { result ≡ is_standard p.now }
+{
+    is_same(p, &Position::start()) && (p.half() == 0 && p.full() == 1)
+}
+
+fn write_start(p: &Position, out: &mut Out)
+    requires { length out.old.text + length (start_text p.now) ≤ out.old.room }
+    ensures { out.new ≡ with out.old (start_text p.now) }
+{
+    if is_standard(p) {
+        out.put(b"startpos");
+    } else {
+        out.put(b"fen ");
+        out.put(write_fen(p).as_slice());
+    }
+}
+
+/// Writes a move behind a blank.
+fn write_spaced(m: Move, out: &mut Out)
+    requires officer { IsOfficer m.promo }
+    requires room { length out.old.text + length (32 ∷ text_of m) ≤ out.old.room }
+    ensures { out.new ≡ with out.old (32 ∷ text_of m) }
+{
+    out.put(b" ");
+    out.put(write_move(m).as_slice());
+}
+
+/// Writes each move behind a blank.
+fn write_moves(moves: &[Move], out: &mut Out)
+    requires officers { AllByRecursion (λ m. IsOfficer m.promo) (plies_of moves.now) }
+    requires room { length out.old.text + length (spaced (plies_of moves.now)) ≤ out.old.room }
+    ensures { out.new ≡ with out.old (spaced (plies_of moves.now)) }
+{
+    for m in moves {
+        write_spaced(*m, out);
+    }
+}
+
+/// Whether there is a move.
+fn has_moves(moves: &[Move], hint: Option<Move>) -> bool
+    ensures { IsTrue result ↔ (0 < length (told (plies_of moves.now) (option_map ply_of hint))) }
+{
+    !moves.is_empty() || hint.is_some()
+}
+
+/// Writes the moves and the one that may follow.
+fn write_told(moves: &[Move], hint: Option<Move>, out: &mut Out)
+    requires officers { AllByRecursion (λ m. IsOfficer m.promo) (plies_of moves.now) }
+    requires officer { IfSome hint (λ m. IsOfficer m.promo) }
+    requires room { length out.old.text + length (moves_text (told (plies_of moves.now) (option_map ply_of hint))) ≤ out.old.room }
+    ensures { out.new ≡ with out.old (moves_text (told (plies_of moves.now) (option_map ply_of hint))) }
+{
+    if !has_moves(moves, hint) {
+        return;
+    }
+    out.put(b" moves");
+    write_moves(moves, out);
+    match hint {
+        Some(m) => write_spaced(m, out),
+        None => {}
+    }
+}
+
+impl Game {
+    /// Writes the `position` line of the game, with a move that may follow, and no line feed (UCI, April 2006).
+    pub fn write_position(&self, hint: Option<Move>, out: &mut Out)
+        requires legal { IfSome hint (λ m. IsPlayable (now_of self.now) (ply_of m)) }
+        requires room { length out.old.text + length (position_text self.now (option_map ply_of hint)) ≤ out.old.room }
+        ensures { out.new ≡ with out.old (position_text self.now (option_map ply_of hint)) }
+    {
+        out.put(b"position ");
+        write_start(self.start(), out);
+        write_told(self.moves(), hint, out);
+    }
+}
