@@ -1,3 +1,5 @@
 pub mod Lengths
+pub mod Fronts
 pub mod Cutting
+pub mod Pieces
 pub mod Spelled

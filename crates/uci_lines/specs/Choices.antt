@@ -1,5 +1,5 @@
 -- The parts of a combo.
-use Rattle.std.specs.Prelude.{ℕ, List, [], ◌∷◌, codes, Bool, true, ◌&&◌, if◌then◌else◌, Option, Some, None}
+use Rattle.std.specs.Prelude.{ℕ, List, [], ◌∷◌, codes, length, drop, Bool, true, ◌&&◌, if◌then◌else◌, Option, Some, None}
 use Rattle.std.specs.List.{before_first, onto_first}
 use Rattle.peer_words.specs.Tokens.{is_white, trimmed, first_token, rest}
 use Rattle.uci_lines.specs.Cuts.{Part, cut, is_word, is_choice}
@@ -27,6 +27,11 @@ values text = values_among (pieces true text)
 abbrev pub before_choice : Option Part → List ℕ → List ℕ
 before_choice None text = text
 before_choice (Some part) text = part.before
+
+-- what begins with the first `default` or `var`
+abbrev pub from_choice : Option Part → List ℕ → List ℕ
+from_choice None text = []
+from_choice (Some part) text = drop (length part.before) text
 
 abbrev pub chosen : Option Part → List ℕ
 chosen None = []

@@ -13,6 +13,7 @@ mod words;
 
 pub use engine::read_engine;
 pub use moves::next_move;
+pub use option::next_value;
 pub use orders::{GoControl, Order, write_order};
 pub use peer_words::GoKind;
 pub use says::{EngineMsg, Info, OptionKind, OptionMsg, Score};

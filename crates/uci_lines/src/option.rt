@@ -1,9 +1,9 @@
 // The declarations of options (UCI, "option").
-ghost use Rattle.std.specs.Prelude.{◌≡◌, ◌∷◌, [], true, codes, MatchOption};
+ghost use Rattle.std.specs.Prelude.{◌≡◌, ◌∷◌, [], true, codes, length, ◌≤◌, MatchOption};
 ghost use Rattle.std.specs.Option.{option_map};
-ghost use Rattle.peer_words.specs.Tokens.{tokens};
+ghost use Rattle.peer_words.specs.Tokens.{tokens, trimmed};
 ghost use Rattle.uci_lines.specs.Cuts.{cut, is_word, is_choice};
-ghost use Rattle.uci_lines.specs.Choices.{before_choice, default_value};
+ghost use Rattle.uci_lines.specs.Choices.{values, before_choice, from_choice, default_value};
 ghost use Rattle.uci_lines.specs.Options.{is_on, text_after, shape_named, option_with, option_said};
 ghost use Rattle.uci_lines.specs.Says.{shape_of, declared_by, says_of};
 
@@ -54,6 +54,36 @@ fn combo_default(text: &[u8]) -> &[u8]
         Some(found) => trim(before_choice(found.after)),
         None => &[],
     }
+}
+
+/// What stands before the first `default` or `var`, trimmed, and what begins with it.
+fn split_choice(text: &[u8]) -> (&[u8], &[u8])
+    ensures value { result.0.now ≡ trimmed (before_choice (cut is_choice true text.now) text.now) }
+    ensures others { result.1.now ≡ from_choice (cut is_choice true text.now) text.now }
+    ensures shorter { length result.1.now ≤ length text.now }
+{
+    match find_word(text, Stop::Choice) {
+        Some(found) => {
+            let (_, others) = text.split_at(found.before.len());
+            (trim(found.before), others)
+        }
+        None => (trim(text), &[]),
+    }
+}
+
+/// The first value of a combo, and the text from which the later ones are read. None where there is none.
+pub fn next_value(text: &[u8]) -> Option<(&[u8], &[u8])>
+    ensures { MatchOption result (values text.now ≡ []) (λ p. values text.now ≡ p.0.now ∷ values p.1.now) }
+{
+    let mut others = text;
+    while let Some(found) = find_word(others, Stop::Choice) {
+        let (value, after) = split_choice(found.after);
+        if found.word == b"var".as_slice() {
+            return Some((value, after));
+        }
+        others = after;
+    }
+    None
 }
 
 fn read_kind<'a>(word: &[u8], text: &'a [u8]) -> Option<OptionKind<'a>>
