@@ -13,7 +13,7 @@ use Rattle.chess_board.specs.Play.{AreMen, AreRights, IsPosition, Takeable, can_
 use Rattle.chess_board.proofs.Below.{some_below-found}
 use Rattle.chess_board.proofs.Tests.{both}
 
-board_fits : (men : Men) → AreMen men → fits_board men ≡ true
+pub board_fits : (men : Men) → AreMen men → fits_board men ≡ true
 unfolding fits_board
 board_fits men are =
     let pawns = are.pawns in
@@ -21,7 +21,7 @@ board_fits men are =
     let black : leb (count_by (is_of Black) men) 16 ≡ true = le-leb _ _ are.black_few in
     rw (pawns, white, black) refl
 
-kings_fit : (p : Placement) → IsPosition p → fits_kings p.men p.side ≡ true
+pub kings_fit : (p : Placement) → IsPosition p → fits_kings p.men p.side ≡ true
 unfolding fits_kings
 kings_fit p is =
     let white : eqb (count_by (is_king White) p.men) 1 ≡ true = eq-eqb _ _ is.men.white_king in

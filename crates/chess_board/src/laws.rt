@@ -1,6 +1,8 @@
 //! Laws about the definitions that contracts cite, each a clause of a function that does nothing.
 ghost use Rattle.std.specs.Prelude.{◌≡◌, ◌↔◌, ◌≤◌, IsTrue, length};
 ghost use Rattle.chess_board.specs.Laws.{AttacksLaw, LegalLaw};
+ghost use Rattle.chess_board.specs.Lawful.{BuildLaw};
+ghost use Rattle.chess_board.specs.Played.{PlayLaw};
 ghost use Rattle.chess_board.specs.Text.{text_of, ReadsBack, SpellsOneMove};
 
 use crate::board::Move;
@@ -20,6 +22,16 @@ pub fn attacks_are_lawful()
 /// The test for legal moves decides the relation of the Laws (article 3.10.1).
 pub fn legality_is_lawful()
     ensures { LegalLaw }
+{}
+
+/// What `Position::build` answers is what the Laws say.
+pub fn building_is_lawful()
+    ensures { BuildLaw }
+{}
+
+/// What `Position::play` leaves is what the Laws say.
+pub fn playing_is_lawful()
+    ensures { PlayLaw }
 {}
 
 /// The text of a move has four or five bytes.

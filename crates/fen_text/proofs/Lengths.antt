@@ -1,0 +1,76 @@
+-- How long a written text may be.
+use Rattle.std.proofs.Common.{◌≡◌, ℕ, suc, zero, ◌*◌, ◌≤◌, List, [], ◌∷◌, ◌++◌, Bool, true, false, ◌||◌, cond, length, drop, decimal, Option, Some, None, arith, length-append, lit<}
+use Rattle.std.proofs.lemmas.Fmt.{length-decimal-le}
+use Rattle.std.proofs.lemmas.List.{length-take}
+use Rattle.chess_board.specs.declared.board.Side.{Side}
+use Rattle.chess_board.specs.declared.board.Side.TheVariants.{White, Black}
+use Rattle.chess_board.specs.declared.board.Rights.{Rights}
+use Rattle.chess_board.specs.Board.{Men}
+use Rattle.fen_text.specs.Written.{rank_text, row, lower_ranks, board_text, top_rank, side_text, letter_if, rights_text, passant_text, written, IsShort}
+use Rattle.fen_text.proofs.Rows.{length-rank_text}
+
+length-rank : (men : Men) (rank : ℕ) → length (rank_text 0 (row men rank)) ≤ 8
+length-rank men rank =
+    let text = length-rank_text 0 (row men rank) in
+    let squares = length-take 8 (drop (8 * rank) men) in
+    omega arith
+
+length-lower : (men : Men) (n : ℕ) → length (lower_ranks men n) ≤ 9 * n
+length-lower men zero = omega arith
+length-lower men (suc n) =
+    let text = length-rank men n in
+    let lower = length-lower men n in
+    let both = length-append (rank_text 0 (row men n)) (lower_ranks men n) in
+    omega arith
+
+length-board : (men : Men) → length (board_text men) ≤ 71
+unfolding board_text top_rank
+length-board men =
+    let text = length-rank men 7 in
+    let lower = length-lower men 7 in
+    let both = length-append (rank_text 0 (row men 7)) (lower_ranks men 7) in
+    omega arith
+
+length-side : (side : Side) → length (side_text side) ≡ 1
+length-side White = omega arith
+length-side Black = omega arith
+
+length-if : (right : Bool) (letter : ℕ) → length (letter_if right letter) ≤ 1
+length-if true letter = omega arith
+length-if false letter = omega arith
+
+length-rights : (rights : Rights) → length (rights_text rights) ≤ 4
+length-rights rights = go ((rights.wk || rights.wq) || (rights.bk || rights.bq))
+  where
+    letters : List ℕ
+    letters = letter_if rights.wk 75 ++ (letter_if rights.wq 81 ++ (letter_if rights.bk 107 ++ letter_if rights.bq 113))
+
+    few : length letters ≤ 4
+    few =
+        let wk = length-if rights.wk 75 in
+        let wq = length-if rights.wq 81 in
+        let bk = length-if rights.bk 107 in
+        let bq = length-if rights.bq 113 in
+        simp length-append (omega arith)
+
+    go : (some : Bool) → length (cond some letters (45 ∷ [])) ≤ 4
+    go true = few
+    go false = omega arith
+
+length-passant : (passant : Option ℕ) → length (passant_text passant) ≤ 2
+length-passant None = omega arith
+length-passant (Some at) = omega arith
+
+length-count : (n : ℕ) → n ≤ 99999 → length (decimal n) ≤ 5
+length-count n h = length-decimal-le 5 n (lit< tt) (omega arith) (omega arith)
+
+pub length-written : IsShort
+unfolding written
+length-written p q =
+    let b = length-board p.men in
+    let s = length-side p.side in
+    let r = length-rights p.rights in
+    let e = length-passant p.passant in
+    let h = length-count p.half q.half in
+    let f = length-count p.full q.full.1 in
+    simp length-append (omega arith)

@@ -1,0 +1,56 @@
+-- Which texts spell which positions, and the fault of those that spell none.
+use Rattle.std.specs.Prelude.{ℕ, Bool, is_none, if◌then◌else◌, nat_lt, List, length, filter, Option, Some, None, Result, Ok, Err}
+use Rattle.std.specs.Option.{option_and_then}
+use Rattle.std.specs.List.{slice_split, slice_get}
+use Rattle.chess_board.specs.declared.board.Side.{Side}
+use Rattle.chess_board.specs.declared.board.Rights.{Rights}
+use Rattle.chess_board.specs.declared.board.BuildFault.{BuildFault}
+use Rattle.chess_board.specs.declared.board.BuildFault.TheVariants as build
+use Rattle.chess_board.specs.Board.{Men}
+use Rattle.chess_board.specs.Placement.{Placement}
+use Rattle.chess_board.specs.Play.{built}
+use Rattle.peer_words.specs.Tokens.{is_white}
+use Rattle.fen_text.specs.declared.fault.FenFault.{FenFault}
+use Rattle.fen_text.specs.declared.fault.FenFault.TheVariants.{Board, Side as SideFault, Castling, EnPassant, Half, Full, Kings}
+use Rattle.fen_text.specs.Squares.{board_of}
+use Rattle.fen_text.specs.Fields.{side_of, rights_of, passant_of, count_or}
+
+abbrev pub is_field : List ℕ → Bool
+is_field bytes = nat_lt 0 (length bytes)
+
+-- the longest runs of bytes that are no white space
+abbrev pub fields_of : List ℕ → List (List ℕ)
+fields_of text = filter is_field (slice_split is_white text)
+
+abbrev pub fault_of : BuildFault → FenFault
+fault_of build.Board = Board
+fault_of build.Kings = Kings
+
+abbrev pub or_fault : Result Placement BuildFault → Result Placement FenFault
+or_fault (Ok p) = Ok p
+or_fault (Err fault) = Err (fault_of fault)
+
+-- the position of what the fields spell, or the fault of the first that spells nothing
+abbrev pub spelled : Option Men → Option Side → Option Rights → Option (Option ℕ) → Option ℕ → Option ℕ → Result Placement FenFault
+spelled None side rights passant half full = Err Board
+spelled (Some men) None rights passant half full = Err SideFault
+spelled (Some men) (Some side) None passant half full = Err Castling
+spelled (Some men) (Some side) (Some rights) None half full = Err EnPassant
+spelled (Some men) (Some side) (Some rights) (Some passant) None full = Err Half
+spelled (Some men) (Some side) (Some rights) (Some passant) (Some half) None = Err Full
+spelled (Some men) (Some side) (Some rights) (Some passant) (Some half) (Some full) =
+    or_fault (built (record { men = men; side = side; rights = rights; passant = passant; half = half; full = full }))
+
+-- The first four fields are needed. A half-move count that is missing is 0, and a full one 1.
+abbrev pub position_of_fields : List (List ℕ) → Result Placement FenFault
+position_of_fields fields = spelled
+    (option_and_then board_of (slice_get fields 0))
+    (option_and_then side_of (slice_get fields 1))
+    (option_and_then rights_of (slice_get fields 2))
+    (option_and_then passant_of (slice_get fields 3))
+    (count_or 0 (slice_get fields 4))
+    (if is_none (slice_get fields 6) then count_or 1 (slice_get fields 5) else None)
+
+-- the position that a text spells, or its first fault
+unfoldable pub position_of : List ℕ → Result Placement FenFault
+position_of text = position_of_fields (fields_of text)

@@ -1,0 +1,62 @@
+-- The other fields of a position text.
+use Rattle.std.specs.Prelude.{ℕ, ◌-◌, Bool, true, false, ◌&&◌, ◌||◌, ◌==◌, nat_le, if◌then◌else◌, List, [], ◌∷◌, length, count_by, Option, Some, None}
+use Rattle.std.specs.List.{list_all}
+use Rattle.chess_board.specs.declared.board.Side.{Side}
+use Rattle.chess_board.specs.declared.board.Side.TheVariants.{White, Black}
+use Rattle.chess_board.specs.declared.board.Rights.{Rights}
+use Rattle.chess_board.specs.Board.{square_at}
+use Rattle.peer_words.specs.Tokens.{number}
+
+-- w, b
+abbrev pub side_of : List ℕ → Option Side
+side_of (letter ∷ []) = if letter == 119 then Some White else (if letter == 98 then Some Black else None)
+side_of _ = None
+
+-- a letter of KQkq
+abbrev pub is_right : ℕ → Bool
+is_right letter = (letter == 75 || letter == 81) || (letter == 107 || letter == 113)
+
+-- whether the letter is there; twice is too often
+abbrev pub at_most_once : ℕ → List ℕ → Option Bool
+at_most_once letter field =
+    if count_by (λ b. b == letter) field == 0 then Some false
+    else (if count_by (λ b. b == letter) field == 1 then Some true else None)
+
+abbrev pub all_four : Option Bool → Option Bool → Option Bool → Option Bool → Option Rights
+all_four (Some wk) (Some wq) (Some bk) (Some bq) = Some (record { wk = wk; wq = wq; bk = bk; bq = bq })
+all_four _ _ _ _ = None
+
+abbrev pub no_rights : Rights
+no_rights = record { wk = false; wq = false; bk = false; bq = false }
+
+-- letters of KQkq, each at most once, in any order
+abbrev pub letters_of : List ℕ → Option Rights
+letters_of field =
+    if list_all is_right field
+    then all_four (at_most_once 75 field) (at_most_once 81 field) (at_most_once 107 field) (at_most_once 113 field)
+    else None
+
+-- a dash, or such letters
+abbrev pub rights_of : List ℕ → Option Rights
+rights_of [] = None
+rights_of (byte ∷ []) = if byte == 45 then Some no_rights else letters_of (byte ∷ [])
+rights_of (byte ∷ next ∷ bytes) = letters_of (byte ∷ next ∷ bytes)
+
+-- a file from a to h, and rank 3 or 6
+abbrev pub is_passed : ℕ → ℕ → Bool
+is_passed file rank = (nat_le 97 file && nat_le file 104) && (rank == 51 || rank == 54)
+
+-- a dash, or a square that a pawn may have passed
+abbrev pub passant_of : List ℕ → Option (Option ℕ)
+passant_of (byte ∷ []) = if byte == 45 then Some None else None
+passant_of (file ∷ rank ∷ []) = if is_passed file rank then Some (Some (square_at (file - 97) (rank - 49))) else None
+passant_of _ = None
+
+-- 1 to 5 digits
+abbrev pub count_of : List ℕ → Option ℕ
+count_of field = if nat_le (length field) 5 then number field else None
+
+-- a count that may be missing
+abbrev pub count_or : ℕ → Option (List ℕ) → Option ℕ
+count_or missing None = Some missing
+count_or missing (Some field) = count_of field

@@ -1,0 +1,84 @@
+-- The text of a position: six fields with one blank between.
+use Rattle.std.specs.Prelude.{ℕ, ◌≡◌, ◌≤◌, zero, suc, ◌+◌, ◌*◌, Bool, ◌||◌, nat_lt, if◌then◌else◌, List, [], ◌∷◌, ◌++◌, length, take, drop, Option, Some, None, Ok, decimal}
+use Rattle.std.specs.List.{join_with_byte}
+use Rattle.chess_board.specs.declared.board.Side.{Side}
+use Rattle.chess_board.specs.declared.board.Side.TheVariants.{White, Black}
+use Rattle.chess_board.specs.declared.board.Kind.{Kind}
+use Rattle.chess_board.specs.declared.board.Kind.TheVariants.{Pawn, Knight, Bishop, Rook, Queen, King}
+use Rattle.chess_board.specs.declared.board.Rights.{Rights}
+use Rattle.chess_board.specs.Board.{Men, file_of, rank_of}
+use Rattle.chess_board.specs.Placement.{Placement}
+use Rattle.chess_board.specs.Play.{IsPosition}
+use Rattle.fen_text.specs.Fen.{position_of}
+
+abbrev pub kind_letter : Kind → ℕ
+kind_letter Pawn = 80
+kind_letter Knight = 78
+kind_letter Bishop = 66
+kind_letter Rook = 82
+kind_letter Queen = 81
+kind_letter King = 75
+
+abbrev pub letter_of : Side → Kind → ℕ
+letter_of White kind = kind_letter kind
+letter_of Black kind = kind_letter kind + 32
+
+-- the digit of a run of empty squares, if there are some
+abbrev pub run : ℕ → List ℕ
+run empty = if nat_lt 0 empty then (48 + empty) ∷ [] else []
+
+-- the squares of a rank, behind a run of empty ones: each run is one digit
+abbrev pub rank_text : ℕ → Men → List ℕ
+rank_text empty [] = run empty
+rank_text empty (None ∷ squares) = rank_text (suc empty) squares
+rank_text empty (Some man ∷ squares) = run empty ++ letter_of man.0 man.1 ∷ rank_text 0 squares
+
+-- the eight squares of a rank
+abbrev pub row : Men → ℕ → Men
+row men rank = take 8 (drop (8 * rank) men)
+
+-- the ranks below this one, each behind a slash, the upper one first
+abbrev pub lower_ranks : Men → ℕ → List ℕ
+lower_ranks men zero = []
+lower_ranks men (suc rank) = 47 ∷ (rank_text 0 (row men rank) ++ lower_ranks men rank)
+
+-- the ranks below the top one; kept closed, since the recursion would unfold
+unfoldable pub top_rank : ℕ
+top_rank = 7
+
+unfoldable pub board_text : Men → List ℕ
+board_text men = rank_text 0 (row men top_rank) ++ lower_ranks men top_rank
+
+abbrev pub side_text : Side → List ℕ
+side_text White = 119 ∷ []
+side_text Black = 98 ∷ []
+
+abbrev pub letter_if : Bool → ℕ → List ℕ
+letter_if right letter = if right then letter ∷ [] else []
+
+-- in the order KQkq, or a dash
+abbrev pub rights_text : Rights → List ℕ
+rights_text rights =
+    if (rights.wk || rights.wq) || (rights.bk || rights.bq)
+    then letter_if rights.wk 75 ++ (letter_if rights.wq 81 ++ (letter_if rights.bk 107 ++ letter_if rights.bq 113))
+    else 45 ∷ []
+
+abbrev pub passant_text : Option ℕ → List ℕ
+passant_text None = 45 ∷ []
+passant_text (Some at) = (97 + file_of at) ∷ (49 + rank_of at) ∷ []
+
+abbrev pub fields_text : Placement → List (List ℕ)
+fields_text p =
+    board_text p.men ∷ side_text p.side ∷ rights_text p.rights ∷ passant_text p.passant ∷ decimal p.half ∷ decimal p.full ∷ []
+
+-- the text of a position
+unfoldable pub written : Placement → List ℕ
+written p = join_with_byte 32 (fields_text p)
+
+-- the text of a position is short
+abbrev pub IsShort : Type 0
+IsShort = (p : Placement) → IsPosition p → length (written p) ≤ 93
+
+-- What is written of a position spells it.
+abbrev pub ReadsBack : Type 0
+ReadsBack = (p : Placement) → IsPosition p → position_of (written p) ≡ Ok p

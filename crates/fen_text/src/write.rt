@@ -1,0 +1,181 @@
+//! Writing a text.
+ghost use Rattle.std.specs.Prelude.{◌≡◌, ◌+◌, ◌*◌, ◌<◌, ◌≤◌, ◌∷◌, ◌++◌, [], length, Ok, decimal};
+ghost use Rattle.std.specs.Option.{option_map};
+ghost use Rattle.chess_board.specs.Board.{Men};
+ghost use Rattle.chess_board.specs.Play.{IsPosition};
+ghost use Rattle.fen_text.specs.Fen.{position_of};
+ghost use Rattle.fen_text.specs.Written.{letter_of, run, rank_text, row, board_text, side_text, letter_if, rights_text, passant_text, written, IsShort, ReadsBack};
+
+use crate::squares::Man;
+use arrayvec::ArrayVec;
+use chess_board::{Kind, Position, Rights, Side, Square};
+use itoa::Buffer;
+
+type Text = ArrayVec<u8, 96>;
+
+fn letter_of(side: Side, kind: Kind) -> u8
+    ensures value { result ≡ letter_of side kind }
+{
+    let letter = match kind {
+        Kind::Pawn => b'P',
+        Kind::Knight => b'N',
+        Kind::Bishop => b'B',
+        Kind::Rook => b'R',
+        Kind::Queen => b'Q',
+        Kind::King => b'K',
+    };
+    match side {
+        Side::White => letter,
+        Side::Black => letter + (b'a' - b'A'),
+    }
+}
+
+/// Writes how many squares are empty, if some are.
+fn write_run(empty: u8, text: &mut Text)
+    requires few { empty ≤ 8 }
+    requires room { length text.old.items + empty ≤ 96 }
+    ensures text { text.new.items ≡ text.old.items ++ run empty }
+    ensures short { length text.new.items ≤ length text.old.items + empty }
+{
+    if empty > 0 {
+        text.push(b'0' + empty);
+    }
+}
+
+/// Writes a man behind the empty squares before it, or counts one more of these.
+fn write_square(man: Man, empty: u8, text: &mut Text) -> u8
+    requires few { empty < 8 }
+    requires room { length text.old.items + empty < 96 }
+    ensures text { (squares : Men) → text.new.items ++ rank_text result squares ≡ text.old.items ++ rank_text empty (man ∷ squares) }
+    ensures short { length text.new.items + result ≤ length text.old.items + empty + 1 }
+    ensures counted { result ≤ empty + 1 }
+{
+    match man {
+        None => empty + 1,
+        Some((side, kind)) => {
+            write_run(empty, text);
+            text.push(letter_of(side, kind));
+            0
+        }
+    }
+}
+
+fn write_rank(p: &Position, rank: u8, text: &mut Text)
+    requires men { length p.now.men ≡ 64 }
+    requires rank { rank < 8 }
+    requires room { length text.old.items + 8 ≤ 96 }
+    ensures text { text.new.items ≡ text.old.items ++ rank_text 0 (row p.now.men rank) }
+    ensures short { length text.new.items ≤ length text.old.items + 8 }
+{
+    let mut empty = 0;
+    for file in 0..8 {
+        let at = Square {
+            index: rank * 8 + file,
+        };
+        empty = write_square(p.piece(at), empty, text);
+    }
+    write_run(empty, text);
+}
+
+fn write_board(p: &Position, text: &mut Text)
+    requires men { length p.now.men ≡ 64 }
+    requires room { length text.old.items + 71 ≤ 96 }
+    ensures text { text.new.items ≡ text.old.items ++ board_text p.now.men }
+    ensures short { length text.new.items ≤ length text.old.items + 71 }
+{
+    write_rank(p, 7, text);
+    for rank in (0..7).rev() {
+        text.push(b'/');
+        write_rank(p, rank, text);
+    }
+}
+
+fn side_letter(side: Side) -> u8
+    ensures { result ∷ [] ≡ side_text side }
+{
+    match side {
+        Side::White => b'w',
+        Side::Black => b'b',
+    }
+}
+
+fn write_if(right: bool, letter: u8, text: &mut Text)
+    requires { length text.old.items < 96 }
+    ensures text { text.new.items ≡ text.old.items ++ letter_if right letter }
+    ensures short { length text.new.items ≤ length text.old.items + 1 }
+{
+    if right {
+        text.push(letter);
+    }
+}
+
+fn write_rights(rights: Rights, text: &mut Text)
+    requires { length text.old.items + 4 ≤ 96 }
+    ensures text { text.new.items ≡ text.old.items ++ rights_text rights }
+    ensures short { length text.new.items ≤ length text.old.items + 4 }
+{
+    if (rights.wk || rights.wq) || (rights.bk || rights.bq) {
+        write_if(rights.wk, b'K', text);
+        write_if(rights.wq, b'Q', text);
+        write_if(rights.bk, b'k', text);
+        write_if(rights.bq, b'q', text);
+    } else {
+        text.push(b'-');
+    }
+}
+
+fn write_passant(passant: Option<Square>, text: &mut Text)
+    requires { length text.old.items + 2 ≤ 96 }
+    ensures text { text.new.items ≡ text.old.items ++ passant_text (option_map (λ s. s.index) passant) }
+    ensures short { length text.new.items ≤ length text.old.items + 2 }
+{
+    match passant {
+        None => text.push(b'-'),
+        Some(square) => {
+            text.push(b'a' + square.file());
+            text.push(b'1' + square.rank());
+        }
+    }
+}
+
+fn write_count(count: u32, text: &mut Text)
+    requires small { count ≤ 99999 }
+    requires room { length text.old.items + 5 ≤ 96 }
+    ensures text { text.new.items ≡ text.old.items ++ decimal count }
+    ensures short { length text.new.items ≤ length text.old.items + 5 }
+{
+    let mut buffer = Buffer::new();
+    // There is room for five digits.
+    let _ = text.try_extend_from_slice(buffer.format(count).as_bytes());
+}
+
+/// The text of a position: six fields with one blank between (PGN standard, section 16.1).
+pub fn write_fen(p: &Position) -> ArrayVec<u8, 96>
+    ensures text { result.items ≡ written p.now }
+    ensures read_back { position_of result.items ≡ Ok p.now }
+{
+    p.facts();
+    let mut text = ArrayVec::new();
+    write_board(p, &mut text);
+    text.push(b' ');
+    text.push(side_letter(p.side()));
+    text.push(b' ');
+    write_rights(p.rights(), &mut text);
+    text.push(b' ');
+    write_passant(p.passant(), &mut text);
+    text.push(b' ');
+    write_count(p.half(), &mut text);
+    text.push(b' ');
+    write_count(p.full(), &mut text);
+    text
+}
+
+/// No text of a position has more than 93 bytes.
+pub fn written_is_short()
+    ensures { IsShort }
+{}
+
+/// What is written of a position spells it.
+pub fn written_reads_back()
+    ensures { ReadsBack }
+{}
