@@ -6,3 +6,6 @@ pub mod Options
 pub mod Infos
 pub mod Engine
 pub mod Orders
+pub mod Behind
+pub mod Written
+pub mod Asked

@@ -66,7 +66,7 @@ fn white_at(text: &[u8]) -> Option<usize>
 }
 
 /// What stands before the first white space, and what begins with it.
-fn split_at_white(text: &[u8]) -> (&[u8], &[u8])
+pub(crate) fn split_at_white(text: &[u8]) -> (&[u8], &[u8])
     ensures token { result.0.now ≡ before_first is_white text.now }
     ensures rest { result.1.now ≡ drop (token_end text.now) text.now }
 {

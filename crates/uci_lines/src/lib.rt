@@ -1,6 +1,8 @@
 //! The lines of a chess engine: what it says, and what it is told (Universal Chess Interface, April 2006).
 #![tactic(auto)]
 
+mod asked;
+mod behind;
 mod cut;
 mod engine;
 mod info;
@@ -10,7 +12,9 @@ mod orders;
 mod range;
 mod says;
 mod words;
+mod written;
 
+pub use asked::BadOrder;
 pub use engine::read_engine;
 pub use moves::next_move;
 pub use option::next_value;
