@@ -10,3 +10,4 @@ pub mod Counts
 pub mod Searches
 pub mod Positions
 pub mod Settings
+pub mod Spelling

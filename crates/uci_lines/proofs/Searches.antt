@@ -100,3 +100,102 @@ ponder_takes text (Some others) c e h = with_takes true text others (control_in 
 
 pub search_takes : (text : List ℕ) (c : Command) → search_in text ≡ Some c → SearchIs text c
 search_takes text c h = ponder_takes text (after (codes " ponder") text) c refl h
+
+-- The other way round: what is written is read.
+count_below : (n : ℕ) → is_count n ≡ true → n < 10 ^ 18
+count_below n h = ltb-true n (10 ^ 18) h
+
+positive_below : (n : ℕ) → is_positive n ≡ true → n < 10 ^ 18
+positive_below n h = count_below n (and_true (ltb 0 n) (is_count n) h).1
+
+abbrev depth_text : Option ℕ → List ℕ
+depth_text depth = optional_number (codes " depth ") depth
+
+depth_white : (depth : Option ℕ) → BeginsWhite (depth_text depth)
+depth_white None = tt
+depth_white (Some n) = refl
+
+no_togo : (depth : Option ℕ) → number_behind (codes " movestogo ") (depth_text depth) ≡ None
+unfolding number_behind
+no_togo None = refl
+no_togo (Some n) = refl
+
+no_depth : number_behind (codes " depth ") [] ≡ None
+unfolding number_behind
+no_depth = refl
+
+perhaps_again : (word more : List ℕ) (n : Option ℕ) → is_positive_or_none n ≡ true → BeginsWhite more → number_behind word more ≡ None → perhaps_number word (optional_number word n ++ more) ≡ (n, more)
+perhaps_again word more None h w e = ap (λ o. number_or o more) e
+perhaps_again word more (Some n) h w e =
+    ap (perhaps_number word) (append_assoc word (decimal n) more)
+    ∙ ap (λ o. number_or o (word ++ (decimal n ++ more))) (number_again word more n (positive_below n h) w)
+
+time_again : (time : ℕ) (more : List ℕ) → is_positive time ≡ true → BeginsWhite more → control_in (control_text (MoveTime time) ++ more) ≡ Some (MoveTime time, more)
+unfolding control_in
+time_again time more h w =
+    ap (λ t. infinite_or (after (codes " infinite") t) t) (append_assoc (codes " movetime ") (decimal time) more)
+    ∙ ap (λ o. time_or_clock o (codes " movetime " ++ (decimal time ++ more))) (number_again (codes " movetime ") more time (positive_below time h) w)
+
+no_time : (word : List ℕ) → number_behind (codes " movetime ") (codes " wtime " ++ word) ≡ None
+unfolding number_behind
+no_time word = refl
+
+togo_white : (m depth : Option ℕ) → BeginsWhite (optional_number (codes " movestogo ") m ++ depth_text depth)
+togo_white None depth = depth_white depth
+togo_white (Some n) depth = refl
+
+clock_again : (w b i j : ℕ) (m depth : Option ℕ) → is_positive w ≡ true → is_positive b ≡ true → is_count i ≡ true → is_count j ≡ true → is_positive_or_none m ≡ true → control_in (control_text (Clock w b i j m) ++ depth_text depth) ≡ Some (Clock w b i j m, depth_text depth)
+unfolding control_in clock_in
+clock_again w b i j m depth hw hb hi hj hm =
+    let end = optional_number (codes " movestogo ") m ++ depth_text depth in
+    let four = codes " binc " ++ (decimal j ++ end) in
+    let three = codes " winc " ++ (decimal i ++ four) in
+    let two = codes " btime " ++ (decimal b ++ three) in
+    let all = codes " wtime " ++ (decimal w ++ two) in
+    let whole : control_text (Clock w b i j m) ++ depth_text depth ≡ all = simp append_assoc in
+    let last = perhaps_again (codes " movestogo ") (depth_text depth) m hm (depth_white depth) (no_togo depth) in
+    ap (λ t. infinite_or (after (codes " infinite") t) t) whole
+    ∙ ap (λ o. time_or_clock o all) (no_time (decimal w ++ two))
+    ∙ ap clock_one (number_again (codes " wtime ") two w (positive_below w hw) refl)
+    ∙ ap (clock_two w) (number_again (codes " btime ") three b (positive_below b hb) refl)
+    ∙ ap (clock_three w b) (number_again (codes " winc ") four i (count_below i hi) refl)
+    ∙ ap (clock_four w b i) (number_again (codes " binc ") end j (count_below j hj) (togo_white m depth))
+    ∙ ap (λ (p : Option ℕ × List ℕ). Some (Clock w b i j p.0, p.1)) last
+
+control_again : (ponder : Bool) (control : GoControl) (depth : Option ℕ) → is_search ponder control depth ≡ true → control_in (control_text control ++ depth_text depth) ≡ Some (control, depth_text depth)
+unfolding control_in
+control_again ponder Infinite depth h = refl
+control_again ponder (MoveTime time) depth h = time_again time (depth_text depth) (and_true (is_positive time) (is_positive_or_none depth) h).0 (depth_white depth)
+control_again ponder (Clock w b i j m) depth h =
+    let e = and_true (is_positive w && is_positive b && is_count i && is_count j && is_positive_or_none m) (is_positive_or_none depth) h in
+    let d = and_true (is_positive w && is_positive b && is_count i && is_count j) (is_positive_or_none m) e.0 in
+    let c = and_true (is_positive w && is_positive b && is_count i) (is_count j) d.0 in
+    let k = and_true (is_positive w && is_positive b) (is_count i) c.0 in
+    let a = and_true (is_positive w) (is_positive b) k.0 in
+    clock_again w b i j m depth a.0 a.1 k.1 c.1 d.1
+
+none_positive : (depth : Option ℕ) → is_none_of depth ≡ true → is_positive_or_none depth ≡ true
+none_positive None h = refl
+none_positive (Some n) h = absurd (cc)
+
+depth_fits : (ponder : Bool) (control : GoControl) (depth : Option ℕ) → is_search ponder control depth ≡ true → is_positive_or_none depth ≡ true
+depth_fits ponder Infinite depth h = none_positive depth (and_true (not ponder) (is_none_of depth) h).1
+depth_fits ponder (MoveTime time) depth h = (and_true (is_positive time) (is_positive_or_none depth) h).1
+depth_fits ponder (Clock w b i j m) depth h = (and_true (is_positive w && is_positive b && is_count i && is_count j && is_positive_or_none m) (is_positive_or_none depth) h).1
+
+with_again : (ponder : Bool) (control : GoControl) (depth : Option ℕ) → is_search ponder control depth ≡ true → search_with ponder (control_in (control_text control ++ depth_text depth)) ≡ Some (Go ponder control depth)
+with_again ponder control depth h =
+    let last : perhaps_number (codes " depth ") (depth_text depth) ≡ (depth, []) =
+    ap (perhaps_number (codes " depth ")) (sym (append-nil (depth_text depth))) ∙ perhaps_again (codes " depth ") [] depth (depth_fits ponder control depth h) tt no_depth in
+    ap (search_with ponder) (control_again ponder control depth h)
+    ∙ ap (search_end ponder control) last
+    ∙ ap (λ t. where_true t (Go ponder control depth)) h
+
+no_ponder : (control : GoControl) (more : List ℕ) → after (codes " ponder") (control_text control ++ more) ≡ None
+no_ponder Infinite more = refl
+no_ponder (MoveTime time) more = refl
+no_ponder (Clock w b i j m) more = refl
+
+pub search_again : (ponder : Bool) (control : GoControl) (depth : Option ℕ) → is_search ponder control depth ≡ true → search_in (ponder_text ponder ++ (control_text control ++ depth_text depth)) ≡ Some (Go ponder control depth)
+search_again false control depth h = ap (λ o. ponder_or o (control_text control ++ depth_text depth)) (no_ponder control (depth_text depth)) ∙ with_again false control depth h
+search_again true control depth h = with_again true control depth h

@@ -19,7 +19,7 @@ some_value : (o : Option (List ℕ)) (later : Option (List ℕ × List ℕ)) →
 some_value None later h = (refl, h)
 some_value (Some others) later h = absurd (cc)
 
-none_of : {A : Type 0} → (o : Option A) → is_some o ≡ false → o ≡ None
+pub none_of : {A : Type 0} → (o : Option A) → is_some o ≡ false → o ≡ None
 none_of None h = refl
 none_of (Some x) h = absurd (cc)
 

@@ -1,11 +1,14 @@
 -- The orders that may be written, and the order that a line is.
 use Rattle.std.specs.Prelude.{◌≡◌, ℕ, List, [], ◌∷◌, ◌++◌, codes, Bool, true, false, not, ◌&&◌, if◌then◌else◌, Option, Some, None}
 use Rattle.std.specs.Str.{bytes_eq}
+use Rattle.chess_board.specs.Placement.{Placement}
+use Rattle.chess_board.specs.Play.{IsPosition}
+use Rattle.fen_text.specs.Written.{written}
 use Rattle.uci_lines.specs.declared.orders.GoControl.{GoControl}
 use Rattle.uci_lines.specs.declared.orders.GoControl.TheVariants.{Infinite, MoveTime, Clock}
 use Rattle.uci_lines.specs.Behind.{after, number_behind, perhaps_number}
 use Rattle.uci_lines.specs.Written.{is_text, value_cut, holds_value, is_moves, is_fen, fields_before, is_count, is_positive}
-use Rattle.uci_lines.specs.Orders.{Command, Uci, IsReady, NewGame, Stop, PonderHit, Quit, SetOption, Position, Go}
+use Rattle.uci_lines.specs.Orders.{Command, Uci, IsReady, NewGame, Stop, PonderHit, Quit, SetOption, Position, Go, command_text}
 
 -- The name ends before the first ` value `.
 abbrev pub is_setting : List ℕ → Option (List ℕ) → Bool
@@ -159,3 +162,12 @@ order_in line =
     else (if bytes_eq line (codes "ponderhit") then Some PonderHit
     else (if bytes_eq line (codes "quit") then Some Quit
     else long_order line)))))
+
+-- a line is the text of an order that may be written
+pub record SpellsOrder (line : List ℕ) (order : Command) : Type 0 where
+  pub fits : is_order order ≡ true
+  pub text : line ≡ command_text order
+
+-- The text of every position may stand in an order.
+abbrev pub TakesPositions : Type 0
+TakesPositions = (p : Placement) → IsPosition p → is_fen (written p) ≡ true

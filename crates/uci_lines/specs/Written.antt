@@ -1,5 +1,5 @@
 -- Names, values, moves and positions as they stand in orders.
-use Rattle.std.specs.Prelude.{ℕ, zero, suc, ◌^◌, List, [], ◌∷◌, length, take, drop, codes, Bool, true, false, not, ◌&&◌, if◌then◌else◌, ◌==◌, nat_lt, is_some, Option, Some, None, Result, Ok, Err}
+use Rattle.std.specs.Prelude.{ℕ, zero, suc, ◌^◌, List, [], ◌∷◌, length, take, drop, codes, Bool, true, false, not, ◌&&◌, if◌then◌else◌, ◌==◌, nat_lt, nat_le, is_some, Option, Some, None, Result, Ok, Err}
 use Rattle.std.specs.List.{list_all, slice_split}
 use Rattle.std.specs.Option.{option_map}
 use Rattle.std.specs.Str.{bytes_eq}
@@ -48,10 +48,10 @@ abbrev pub is_moves : List ℕ → Bool
 is_moves text = list_all is_written_move (slice_split is_blank_byte text)
 
 abbrev pub fen_by : Result Placement FenFault → List ℕ → Bool
-fen_by (Ok p) text = bytes_eq (written p) text
+fen_by (Ok p) text = bytes_eq (written p) text && nat_le p.half 99999 && nat_le p.full 99999
 fen_by (Err fault) text = false
 
--- the text of a position as it is written
+-- the text of a position as it is written, with counts of at most five digits, as each position has
 abbrev pub is_fen : List ℕ → Bool
 is_fen text = fen_by (position_of text) text
 

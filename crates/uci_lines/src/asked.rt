@@ -1,9 +1,9 @@
 // The order that a line is.
-ghost use Rattle.std.specs.Prelude.{◌≡◌, codes};
+ghost use Rattle.std.specs.Prelude.{◌≡◌, codes, IfOk, IsOkAnd};
 ghost use Rattle.std.specs.Option.{option_map};
 ghost use Rattle.uci_lines.specs.Behind.{after, number_behind};
-ghost use Rattle.uci_lines.specs.Asked.{is_positive_or_none, is_search, setting_in, moves_in, set_up, position_in, clock_three, clock_in, control_in, search_with, search_in, long_order, order_in};
-ghost use Rattle.uci_lines.specs.Orders.{command_of, optional_now};
+ghost use Rattle.uci_lines.specs.Asked.{is_positive_or_none, is_search, setting_in, moves_in, set_up, position_in, clock_three, clock_in, control_in, search_with, search_in, long_order, order_in, SpellsOrder, TakesPositions};
+ghost use Rattle.uci_lines.specs.Orders.{Command, command_of, optional_now};
 ghost use Rattle.uci_lines.specs.Written.{fields_before};
 
 use crate::behind::{after, number_behind, perhaps_number};
@@ -176,4 +176,21 @@ fn order_in(line: &[u8]) -> Option<Order<'_>>
     } else {
         read_long(line)
     }
+}
+
+/// The order that a line is (UCI, "GUI to engine"). The line has no line feed.
+///
+/// # Errors
+/// `BadOrder` exactly where the line is the text of no order that may be written.
+pub fn read_order(line: &[u8]) -> Result<Order<'_>, BadOrder>
+    ensures found { IfOk result (λ o. SpellsOrder line.now (command_of o)) }
+    ensures only { (c : Command) → SpellsOrder line.now c → IsOkAnd result (λ o. command_of o ≡ c) }
+{
+    order_in(line).ok_or(BadOrder)
+}
+
+/// The text of every position may stand in an order.
+pub fn positions_may_stand()
+    ensures { TakesPositions }
+{
 }

@@ -14,7 +14,7 @@ mod says;
 mod words;
 mod written;
 
-pub use asked::BadOrder;
+pub use asked::{BadOrder, positions_may_stand, read_order};
 pub use engine::read_engine;
 pub use moves::next_move;
 pub use option::next_value;

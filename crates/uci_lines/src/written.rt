@@ -65,7 +65,10 @@ pub(crate) fn is_fen(text: &[u8]) -> bool
     ensures { result ≡ is_fen text.now }
 {
     match read_fen(text) {
-        Ok(position) => write_fen(&position).as_slice() == text,
+        Ok(position) => {
+            position.facts();
+            write_fen(&position).as_slice() == text
+        }
         Err(_) => false,
     }
 }
