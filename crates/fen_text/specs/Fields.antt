@@ -5,7 +5,7 @@ use Rattle.chess_board.specs.declared.board.Side.{Side}
 use Rattle.chess_board.specs.declared.board.Side.TheVariants.{White, Black}
 use Rattle.chess_board.specs.declared.board.Rights.{Rights}
 use Rattle.chess_board.specs.Board.{square_at}
-use Rattle.peer_words.specs.Tokens.{number}
+use Rattle.peer_words.specs.Numbers.{number}
 
 -- w, b
 abbrev pub side_of : List ℕ → Option Side

@@ -1,0 +1,13 @@
+pub mod Lengths
+pub mod Fronts
+pub mod Cutting
+pub mod Pieces
+pub mod Spelled
+pub mod Officers
+pub mod Stripped
+pub mod Parts
+pub mod Counts
+pub mod Searches
+pub mod Positions
+pub mod Settings
+pub mod Spelling

@@ -1,0 +1,41 @@
+-- What stands behind fixed words and numbers.
+use Rattle.std.specs.Prelude.{ℕ, List, [], ◌∷◌, drop, decimal, Bool, if◌then◌else◌, ◌==◌, Option, Some, None}
+use Rattle.std.specs.List.{before_first}
+use Rattle.std.specs.Str.{bytes_eq}
+use Rattle.peer_words.specs.Tokens.{is_white, token_end}
+use Rattle.peer_words.specs.Numbers.{count}
+
+-- what stands behind a word at the front
+abbrev pub after : List ℕ → List ℕ → Option (List ℕ)
+after [] text = Some text
+after (b ∷ bs) [] = None
+after (b ∷ bs) (c ∷ cs) = if c == b then after bs cs else None
+
+abbrev pub exact_by : Option ℕ → List ℕ → Option ℕ
+exact_by None word = None
+exact_by (Some n) word = if bytes_eq (decimal n) word then Some n else None
+
+-- a count as it is written, without leading zeros
+abbrev pub exact_count : List ℕ → Option ℕ
+exact_count word = exact_by (count word) word
+
+abbrev pub counted : Option ℕ → List ℕ → Option (ℕ × List ℕ)
+counted None others = None
+counted (Some n) others = Some (n, others)
+
+-- the count at the front, up to white space, and what follows it
+abbrev pub number_in : Option (List ℕ) → Option (ℕ × List ℕ)
+number_in None = None
+number_in (Some text) = counted (exact_count (before_first is_white text)) (drop (token_end text) text)
+
+-- a word at the front and a count behind it
+unfoldable pub number_behind : List ℕ → List ℕ → Option (ℕ × List ℕ)
+number_behind word text = number_in (after word text)
+
+abbrev pub number_or : Option (ℕ × List ℕ) → List ℕ → Option ℕ × List ℕ
+number_or None text = (None, text)
+number_or (Some found) text = (Some found.0, found.1)
+
+-- the same, where they are there
+abbrev pub perhaps_number : List ℕ → List ℕ → Option ℕ × List ℕ
+perhaps_number word text = number_or (number_behind word text) text

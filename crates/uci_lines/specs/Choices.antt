@@ -1,0 +1,42 @@
+-- The parts of a combo.
+use Rattle.std.specs.Prelude.{ℕ, List, [], ◌∷◌, codes, length, drop, Bool, true, ◌&&◌, if◌then◌else◌, Option, Some, None}
+use Rattle.std.specs.List.{before_first, onto_first}
+use Rattle.peer_words.specs.Tokens.{is_white, trimmed, first_token, rest}
+use Rattle.uci_lines.specs.Cuts.{Part, cut, is_word, is_choice}
+
+-- A text, cut before each token that is `default` or `var`. The first piece is what stands before all of
+-- them; each other begins with its word. fresh: as for `cut`.
+abbrev pub pieces : Bool → List ℕ → List (List ℕ)
+pieces fresh [] = [] ∷ []
+pieces fresh (b ∷ bs) =
+    if fresh && is_choice (before_first is_white (b ∷ bs))
+    then [] ∷ onto_first b (pieces (is_white b) bs)
+    else onto_first b (pieces (is_white b) bs)
+
+-- what stands behind each `var`
+abbrev pub values_among : List (List ℕ) → List (List ℕ)
+values_among [] = []
+values_among (piece ∷ others) =
+    if is_word (codes "var") (first_token piece) then rest piece ∷ values_among others else values_among others
+
+-- the values of a combo
+unfoldable pub values : List ℕ → List (List ℕ)
+values text = values_among (pieces true text)
+
+-- what stands before the first `default` or `var`, or all
+abbrev pub before_choice : Option Part → List ℕ → List ℕ
+before_choice None text = text
+before_choice (Some part) text = part.before
+
+-- what begins with the first `default` or `var`
+abbrev pub from_choice : Option Part → List ℕ → List ℕ
+from_choice None text = []
+from_choice (Some part) text = drop (length part.before) text
+
+abbrev pub chosen : Option Part → List ℕ
+chosen None = []
+chosen (Some part) = trimmed (before_choice (cut is_choice true part.after) part.after)
+
+-- what stands behind the first `default`, up to the next `default` or `var`
+abbrev pub default_value : List ℕ → List ℕ
+default_value text = chosen (cut (is_word (codes "default")) true text)

@@ -1,0 +1,50 @@
+-- Lines that are cut at certain tokens.
+use Rattle.std.specs.Prelude.{ℕ, List, [], ◌∷◌, drop, codes, Bool, true, ◌&&◌, ◌||◌, if◌then◌else◌, Option, Some, None}
+use Rattle.std.specs.List.{before_first, onto_first}
+use Rattle.std.specs.Option.{option_map}
+use Rattle.std.specs.Str.{bytes_eq}
+use Rattle.peer_words.specs.Tokens.{is_white, token_end}
+use Rattle.uci_lines.specs.declared.cut.Stop.{Stop}
+use Rattle.uci_lines.specs.declared.cut.Stop.TheVariants.{Message, Kind, Default, Choice, Ponder}
+use Rattle.uci_lines.specs.declared.cut.Found.{Found}
+
+-- the bytes before a token, the token, and the bytes after it
+pub record Part : Type 0 where
+  pub before : List ℕ
+  pub word : List ℕ
+  pub after : List ℕ
+
+abbrev pub onto_part : ℕ → Part → Part
+onto_part b part = record { before = b ∷ part.before; word = part.word; after = part.after }
+
+-- Where the first token that passes stands. A token begins at the front only where the front is fresh:
+-- the start of the line, or behind white space.
+abbrev pub cut : (List ℕ → Bool) → Bool → List ℕ → Option Part
+cut p fresh [] = None
+cut p fresh (b ∷ bs) =
+    if fresh && p (before_first is_white (b ∷ bs))
+    then Some (record { before = []; word = before_first is_white (b ∷ bs); after = drop (token_end (b ∷ bs)) (b ∷ bs) })
+    else option_map (onto_part b) (cut p (is_white b) bs)
+
+abbrev pub is_word : List ℕ → List ℕ → Bool
+is_word word token = bytes_eq token word
+
+-- the words with which a message begins
+abbrev pub is_known : List ℕ → Bool
+is_known token =
+    is_word (codes "id") token || is_word (codes "uciok") token || is_word (codes "readyok") token
+    || is_word (codes "bestmove") token || is_word (codes "info") token || is_word (codes "option") token
+
+-- the words with which a part of a combo begins
+abbrev pub is_choice : List ℕ → Bool
+is_choice token = is_word (codes "default") token || is_word (codes "var") token
+
+abbrev pub stops : Stop → List ℕ → Bool
+stops Message token = is_known token
+stops Kind token = is_word (codes "type") token
+stops Default token = is_word (codes "default") token
+stops Choice token = is_choice token
+stops Ponder token = is_word (codes "ponder") token
+
+abbrev pub part_of : Found → Part
+part_of found = record { before = found.before.now; word = found.word.now; after = found.after.now }

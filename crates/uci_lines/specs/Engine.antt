@@ -1,0 +1,40 @@
+-- What a line of the engine says.
+use Rattle.std.specs.Prelude.{ℕ, List, codes, true, if◌then◌else◌, Option, Some, None}
+use Rattle.peer_words.specs.Tokens.{first_token, rest}
+use Rattle.chess_board.specs.declared.board.Move.{Move}
+use Rattle.uci_lines.specs.Cuts.{Part, cut, is_word, is_known}
+use Rattle.uci_lines.specs.Moves.{move_of}
+use Rattle.uci_lines.specs.Options.{option_said}
+use Rattle.uci_lines.specs.Infos.{facts_in}
+use Rattle.uci_lines.specs.Says.{Says, Name, UciOk, ReadyOk, Best, Info, Nothing}
+
+-- behind `id`
+abbrev pub name_said : List ℕ → Says
+name_said text = if is_word (codes "name") (first_token text) then Name (rest text) else Nothing
+
+-- behind `ponder`
+abbrev pub hint_in : Option Part → Option Move
+hint_in None = None
+hint_in (Some part) = move_of (first_token part.after)
+
+-- behind `bestmove`
+abbrev pub best_said : List ℕ → Says
+best_said text = Best (move_of (first_token text)) (hint_in (cut (is_word (codes "ponder")) true (rest text)))
+
+-- a known word, with what stands behind it
+abbrev pub said_after : List ℕ → List ℕ → Says
+said_after word text =
+    if is_word (codes "id") word then name_said text
+    else (if is_word (codes "uciok") word then UciOk
+    else (if is_word (codes "readyok") word then ReadyOk
+    else (if is_word (codes "bestmove") word then best_said text
+    else (if is_word (codes "info") word then Info (facts_in text)
+    else option_said text))))
+
+abbrev pub said_by : Option Part → Says
+said_by None = Nothing
+said_by (Some part) = said_after part.word part.after
+
+-- what stands before the first known word is passed over
+unfoldable pub engine_message : List ℕ → Says
+engine_message line = said_by (cut is_known true line)

@@ -1,0 +1,93 @@
+-- What is told of a search.
+use Rattle.std.specs.Prelude.{ℕ, List, [], ◌∷◌, codes, Bool, true, false, if◌then◌else◌, Option, Some, None}
+use Rattle.std.specs.Option.{option_or, option_map}
+use Rattle.peer_words.specs.Tokens.{tokens}
+use Rattle.peer_words.specs.Numbers.{count, centis}
+use Rattle.chess_board.specs.declared.board.Move.{Move}
+use Rattle.uci_lines.specs.declared.says.Score.{Score}
+use Rattle.uci_lines.specs.declared.says.Score.TheVariants.{Cp, Mate}
+use Rattle.uci_lines.specs.declared.info.Field.{Field}
+use Rattle.uci_lines.specs.declared.info.Field.TheVariants as fields
+use Rattle.uci_lines.specs.Cuts.{is_word}
+use Rattle.uci_lines.specs.Moves.{move_of, run}
+use Rattle.uci_lines.specs.Says.{Facts}
+
+-- the field that a token names
+abbrev pub field_named : List ℕ → Field
+field_named t =
+    if is_word (codes "depth") t then fields.Depth
+    else (if is_word (codes "time") t then fields.Time
+    else (if is_word (codes "nodes") t then fields.Nodes
+    else (if is_word (codes "multipv") t then fields.MultiPv
+    else (if is_word (codes "currmovenumber") t then fields.Number
+    else (if is_word (codes "score") t then fields.Score
+    else (if is_word (codes "lowerbound") t then fields.Bound
+    else (if is_word (codes "upperbound") t then fields.Bound
+    else (if is_word (codes "currmove") t then fields.Current
+    else (if is_word (codes "pv") t then fields.Pv
+    else (if is_word (codes "string") t then fields.Text
+    else fields.Other))))))))))
+
+abbrev pub first_count : List (List ℕ) → Option ℕ
+first_count [] = None
+first_count (t ∷ ts) = count t
+
+abbrev pub score_of : List ℕ → List ℕ → Option Score
+score_of unit number =
+    if is_word (codes "cp") unit then option_map (λ n. Cp n) (centis number)
+    else (if is_word (codes "mate") unit then option_map (λ n. Mate n) (centis number) else None)
+
+abbrev pub first_score : List (List ℕ) → Option Score
+first_score [] = None
+first_score (unit ∷ []) = None
+first_score (unit ∷ number ∷ ts) = score_of unit number
+
+abbrev pub first_move : List (List ℕ) → Option Move
+first_move [] = None
+first_move (t ∷ ts) = move_of t
+
+-- a run of moves takes the place of an earlier one, unless it is empty
+abbrev pub newer_run : List Move → List Move → List Move
+newer_run [] old = old
+newer_run (m ∷ moves) old = m ∷ moves
+
+-- What a field says, with the tokens behind its word. Where what must follow does not, nothing changes.
+abbrev pub hear : Field → Facts → List (List ℕ) → Facts
+hear fields.Depth f ts = record f { depth = option_or (first_count ts) f.depth }
+hear fields.Time f ts = record f { time = option_or (first_count ts) f.time }
+hear fields.Nodes f ts = record f { nodes = option_or (first_count ts) f.nodes }
+hear fields.MultiPv f ts = record f { multipv = option_or (first_count ts) f.multipv }
+hear fields.Number f ts = record f { number = option_or (first_count ts) f.number }
+hear fields.Score f ts = record f { score = option_or (first_score ts) f.score }
+hear fields.Bound f ts = record f { bound = true }
+hear fields.Current f ts = record f { current = option_or (first_move ts) f.current }
+hear fields.Pv f ts = record f { pv = newer_run (run ts) f.pv }
+hear fields.Text f ts = f
+hear fields.Other f ts = f
+
+abbrev pub ends_info : Field → Bool
+ends_info fields.Text = true
+ends_info _ = false
+
+-- The tokens are read from left to right, up to `string`. What a field takes names no field itself, so
+-- it may be passed over like any other token.
+abbrev pub facts_from : Facts → List (List ℕ) → Facts
+facts_from f [] = f
+facts_from f (t ∷ ts) = if ends_info (field_named t) then f else facts_from (hear (field_named t) f ts) ts
+
+abbrev pub no_facts : Facts
+no_facts = record {
+  depth = None;
+  time = None;
+  nodes = None;
+  multipv = None;
+  number = None;
+  score = None;
+  bound = false;
+  current = None;
+  pv = [];
+}
+
+-- what stands behind `info`
+unfoldable pub facts_in : List ℕ → Facts
+facts_in text = facts_from no_facts (tokens text)

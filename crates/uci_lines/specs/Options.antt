@@ -1,0 +1,83 @@
+-- The declarations of options.
+use Rattle.std.specs.Prelude.{ℤ, int_lt, ℕ, List, [], ◌∷◌, codes, Bool, true, false, if◌then◌else◌, Option, Some, None}
+use Rattle.std.specs.Int.{int_min, int_max}
+use Rattle.std.specs.Option.{option_or}
+use Rattle.peer_words.specs.Tokens.{tokens, trimmed, first_token, rest}
+use Rattle.peer_words.specs.Numbers.{signed}
+use Rattle.uci_lines.specs.declared.range.Range.{Range as Numbers}
+use Rattle.uci_lines.specs.Cuts.{Part, cut, is_word}
+use Rattle.uci_lines.specs.Choices.{values, default_value}
+use Rattle.uci_lines.specs.Says.{Shape, Check, Spin, Combo, Button, Text, Says, OptionLine, Nothing}
+
+-- whether `default` is followed by `true`
+abbrev pub is_on : Option Part → Bool
+is_on None = false
+is_on (Some part) = is_word (codes "true") (first_token part.after)
+
+-- the three numbers of a spin, as far as they were heard
+pub record Range : Type 0 where
+  pub default : Option ℤ
+  pub min : Option ℤ
+  pub max : Option ℤ
+
+abbrev pub range_of : Numbers → Range
+range_of n = record { default = n.default; min = n.min; max = n.max }
+
+abbrev pub first_signed : List (List ℕ) → Option ℤ
+first_signed [] = None
+first_signed (t ∷ ts) = signed t
+
+-- what a token says of the range, with the tokens behind it
+abbrev pub limited : Range → List ℕ → List (List ℕ) → Range
+limited r t ts =
+    if is_word (codes "default") t then record { default = option_or (first_signed ts) r.default; min = r.min; max = r.max }
+    else (if is_word (codes "min") t then record { default = r.default; min = option_or (first_signed ts) r.min; max = r.max }
+    else (if is_word (codes "max") t then record { default = r.default; min = r.min; max = option_or (first_signed ts) r.max }
+    else r))
+
+abbrev pub range_from : Range → List (List ℕ) → Range
+range_from r [] = r
+range_from r (t ∷ ts) = range_from (limited r t ts) ts
+
+abbrev pub no_range : Range
+no_range = record { default = None; min = None; max = None }
+
+-- The default is moved into the range.
+abbrev pub spin : Option ℤ → Option ℤ → Option ℤ → Option Shape
+spin (Some default) (Some min) (Some max) = if int_lt max min then None else Some (Spin (int_max min (int_min default max)) min max)
+spin _ _ _ = None
+
+abbrev pub spin_in : Range → Option Shape
+spin_in r = spin r.default r.min r.max
+
+-- `<empty>` is the empty text
+abbrev pub shown_text : List ℕ → List ℕ
+shown_text text = if is_word (codes "<empty>") text then [] else text
+
+abbrev pub text_after : Option Part → List ℕ
+text_after None = []
+text_after (Some part) = shown_text (trimmed part.after)
+
+-- the kind of an option by its word, with the rest of the line
+abbrev pub shape_named : List ℕ → List ℕ → Option Shape
+shape_named word text =
+    if is_word (codes "check") word then Some (Check (is_on (cut (is_word (codes "default")) true text)))
+    else (if is_word (codes "spin") word then spin_in (range_from no_range (tokens text))
+    else (if is_word (codes "combo") word then Some (Combo (default_value text) (values text))
+    else (if is_word (codes "button") word then Some Button
+    else (if is_word (codes "string") word then Some (Text (text_after (cut (is_word (codes "default")) true text)))
+    else None))))
+
+abbrev pub option_line : List ℕ → Option Shape → Says
+option_line name None = Nothing
+option_line name (Some shape) = OptionLine name shape
+
+-- the name stands before the first `type`
+abbrev pub option_with : Option Part → Says
+option_with None = Nothing
+option_with (Some part) = option_line (trimmed part.before) (shape_named (first_token part.after) (rest part.after))
+
+-- what stands behind `option`
+unfoldable pub option_said : List ℕ → Says
+option_said text =
+    if is_word (codes "name") (first_token text) then option_with (cut (is_word (codes "type")) true (rest text)) else Nothing

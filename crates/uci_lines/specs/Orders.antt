@@ -1,0 +1,83 @@
+-- What an engine is told, whatever memory its texts lie in, and the texts of it.
+use Rattle.std.specs.Prelude.{ℕ, List, [], ◌∷◌, ◌++◌, codes, decimal, Bool, true, false, Option, Some, None}
+use Rattle.std.specs.Borrow.{Bor}
+use Rattle.uci_lines.specs.declared.orders.GoControl.{GoControl}
+use Rattle.uci_lines.specs.declared.orders.GoControl.TheVariants.{Infinite, MoveTime, Clock}
+use Rattle.uci_lines.specs.declared.orders.Order.{Order}
+use Rattle.uci_lines.specs.declared.orders.Order.TheVariants as orders
+
+pub data Command : Type 0 where
+  Uci : Command
+  IsReady : Command
+  NewGame : Command
+  Stop : Command
+  PonderHit : Command
+  Quit : Command
+  SetOption : (name : List ℕ) (value : Option (List ℕ)) → Command
+  Position : (fen : Option (List ℕ)) (moves : List ℕ) → Command
+  Go : (ponder : Bool) (control : GoControl) (depth : Option ℕ) → Command
+
+-- the text behind a word, where there is one
+abbrev pub optional_text : List ℕ → Option (List ℕ) → List ℕ
+optional_text word None = []
+optional_text word (Some text) = word ++ text
+
+-- the number behind a word, where there is one
+abbrev pub optional_number : List ℕ → Option ℕ → List ℕ
+optional_number word None = []
+optional_number word (Some n) = word ++ decimal n
+
+abbrev pub start_text : Option (List ℕ) → List ℕ
+start_text None = codes "startpos"
+start_text (Some fen) = codes "fen " ++ fen
+
+abbrev pub moves_text : List ℕ → List ℕ
+moves_text [] = []
+moves_text (b ∷ bs) = codes " moves " ++ b ∷ bs
+
+abbrev pub ponder_text : Bool → List ℕ
+ponder_text false = []
+ponder_text true = codes " ponder"
+
+abbrev pub control_text : GoControl → List ℕ
+control_text Infinite = codes " infinite"
+control_text (MoveTime time) = codes " movetime " ++ decimal time
+control_text (Clock wtime btime winc binc movestogo) =
+    codes " wtime " ++ decimal wtime ++ codes " btime " ++ decimal btime ++ codes " winc " ++ decimal winc
+    ++ codes " binc " ++ decimal binc ++ optional_number (codes " movestogo ") movestogo
+
+abbrev pub set_option_text : List ℕ → Option (List ℕ) → List ℕ
+set_option_text name value = codes "setoption name " ++ name ++ optional_text (codes " value ") value
+
+abbrev pub position_text : Option (List ℕ) → List ℕ → List ℕ
+position_text fen moves = codes "position " ++ start_text fen ++ moves_text moves
+
+abbrev pub go_text : Bool → GoControl → Option ℕ → List ℕ
+go_text ponder control depth = codes "go" ++ ponder_text ponder ++ control_text control ++ optional_number (codes " depth ") depth
+
+-- the text of an order, without its line feed
+unfoldable pub command_text : Command → List ℕ
+command_text Uci = codes "uci"
+command_text IsReady = codes "isready"
+command_text NewGame = codes "ucinewgame"
+command_text Stop = codes "stop"
+command_text PonderHit = codes "ponderhit"
+command_text Quit = codes "quit"
+command_text (SetOption name value) = set_option_text name value
+command_text (Position fen moves) = position_text fen moves
+command_text (Go ponder control depth) = go_text ponder control depth
+
+abbrev pub optional_now : Option (Bor (List ℕ)) → Option (List ℕ)
+optional_now None = None
+optional_now (Some text) = Some text.now
+
+abbrev pub command_of : Order → Command
+command_of orders.Uci = Uci
+command_of orders.IsReady = IsReady
+command_of orders.NewGame = NewGame
+command_of orders.Stop = Stop
+command_of orders.PonderHit = PonderHit
+command_of orders.Quit = Quit
+command_of (orders.SetOption name value) = SetOption name.now (optional_now value)
+command_of (orders.Position fen moves) = Position (optional_now fen) moves.now
+command_of (orders.Go ponder control depth) = Go ponder control depth

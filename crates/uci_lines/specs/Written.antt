@@ -1,0 +1,73 @@
+-- Names, values, moves and positions as they stand in orders.
+use Rattle.std.specs.Prelude.{ℕ, zero, suc, ◌^◌, List, [], ◌∷◌, length, take, drop, codes, Bool, true, false, not, ◌&&◌, if◌then◌else◌, ◌==◌, nat_lt, nat_le, is_some, Option, Some, None, Result, Ok, Err}
+use Rattle.std.specs.List.{list_all, slice_split}
+use Rattle.std.specs.Option.{option_map}
+use Rattle.std.specs.Str.{bytes_eq}
+use Rattle.peer_words.specs.Tokens.{trimmed}
+use Rattle.chess_board.specs.declared.board.Move.{Move}
+use Rattle.chess_board.specs.Placement.{Placement}
+use Rattle.chess_board.specs.Text.{text_of}
+use Rattle.fen_text.specs.declared.fault.FenFault.{FenFault}
+use Rattle.fen_text.specs.Fen.{position_of}
+use Rattle.fen_text.specs.Written.{written}
+use Rattle.uci_lines.specs.Behind.{after}
+use Rattle.uci_lines.specs.Moves.{move_of}
+
+-- a text that is not empty and neither begins nor ends with white space
+abbrev pub is_text : List ℕ → Bool
+is_text text = nat_lt 0 (length text) && bytes_eq (trimmed text) text
+
+abbrev pub onto_first_of : ℕ → List ℕ × List ℕ → List ℕ × List ℕ
+onto_first_of b halves = (b ∷ halves.0, halves.1)
+
+-- what stands before and behind the first ` value `
+abbrev pub value_here : Option (List ℕ) → Option (List ℕ × List ℕ) → Option (List ℕ × List ℕ)
+value_here (Some others) later = Some ([], others)
+value_here None later = later
+
+abbrev pub value_cut : List ℕ → Option (List ℕ × List ℕ)
+value_cut [] = None
+value_cut (b ∷ bs) = value_here (after (codes " value ") (b ∷ bs)) (option_map (onto_first_of b) (value_cut bs))
+
+abbrev pub holds_value : List ℕ → Bool
+holds_value text = is_some (value_cut text)
+
+abbrev pub written_by : Option Move → List ℕ → Bool
+written_by None text = false
+written_by (Some m) text = bytes_eq (text_of m) text
+
+-- a move as it is written, its promotion in lower case
+abbrev pub is_written_move : List ℕ → Bool
+is_written_move text = written_by (move_of text) text
+
+abbrev pub is_blank_byte : ℕ → Bool
+is_blank_byte b = b == 32
+
+-- one written move or more, with one blank between
+abbrev pub is_moves : List ℕ → Bool
+is_moves text = list_all is_written_move (slice_split is_blank_byte text)
+
+abbrev pub fen_by : Result Placement FenFault → List ℕ → Bool
+fen_by (Ok p) text = bytes_eq (written p) text && nat_le p.half 99999 && nat_le p.full 99999
+fen_by (Err fault) text = false
+
+-- the text of a position as it is written, with counts of at most five digits, as each position has
+abbrev pub is_fen : List ℕ → Bool
+is_fen text = fen_by (position_of text) text
+
+abbrev pub split_onto : ℕ → List ℕ × List ℕ → List ℕ × List ℕ
+split_onto b halves = (b ∷ halves.0, halves.1)
+
+-- What stands before the blank behind so many others, and what begins with it: six fields stand before
+-- the sixth blank.
+abbrev pub fields_before : ℕ → List ℕ → List ℕ × List ℕ
+fields_before blanks [] = ([], [])
+fields_before zero (b ∷ bs) = if b == 32 then ([], b ∷ bs) else split_onto b (fields_before zero bs)
+fields_before (suc blanks) (b ∷ bs) = split_onto b (fields_before (if b == 32 then blanks else suc blanks) bs)
+
+-- a count that is written with at most 18 digits
+abbrev pub is_count : ℕ → Bool
+is_count n = nat_lt n (10 ^ 18)
+
+abbrev pub is_positive : ℕ → Bool
+is_positive n = nat_lt 0 n && is_count n

@@ -1,0 +1,196 @@
+// The order that a line is.
+ghost use Rattle.std.specs.Prelude.{◌≡◌, codes, IfOk, IsOkAnd};
+ghost use Rattle.std.specs.Option.{option_map};
+ghost use Rattle.uci_lines.specs.Behind.{after, number_behind};
+ghost use Rattle.uci_lines.specs.Asked.{is_positive_or_none, is_search, setting_in, moves_in, set_up, position_in, clock_three, clock_in, control_in, search_with, search_in, long_order, order_in, SpellsOrder, TakesPositions};
+ghost use Rattle.uci_lines.specs.Orders.{Command, command_of, optional_now};
+ghost use Rattle.uci_lines.specs.Written.{fields_before};
+
+use crate::behind::{after, number_behind, perhaps_number};
+use crate::orders::{GoControl, Order};
+use crate::written::{cut_value, is_count, is_fen, is_moves, is_positive, is_text, split_fields};
+
+/// A line is no order.
+#[derive(Clone, Copy, Debug, PartialEq, Eq)]
+pub struct BadOrder;
+
+fn read_setting(text: &[u8]) -> Option<Order<'_>>
+    ensures { option_map command_of result ≡ setting_in text.now }
+{
+    let (name, value) = match cut_value(text) {
+        Some((name, value)) => (name, Some(value)),
+        None => (text, None),
+    };
+    if !is_text(name) {
+        return None;
+    }
+    if let Some(value) = value {
+        if !is_text(value) {
+            return None;
+        }
+    }
+    Some(Order::SetOption { name, value })
+}
+
+fn read_moves(text: &[u8]) -> Option<&[u8]>
+    ensures { optional_now result ≡ moves_in text.now }
+{
+    if text.is_empty() {
+        return Some(text);
+    }
+    let moves = after(b" moves ", text)?;
+    if is_moves(moves) { Some(moves) } else { None }
+}
+
+fn read_set_up(text: &[u8]) -> Option<Order<'_>>
+    ensures { option_map command_of result ≡ set_up (fields_before 5 text.now) }
+{
+    let (fen, others) = split_fields(text);
+    if !is_fen(fen) {
+        return None;
+    }
+    let moves = read_moves(others)?;
+    Some(Order::Position { fen: Some(fen), moves })
+}
+
+fn read_position(text: &[u8]) -> Option<Order<'_>>
+    ensures { option_map command_of result ≡ position_in text.now }
+{
+    match after(b"startpos", text) {
+        Some(others) => {
+            let moves = read_moves(others)?;
+            Some(Order::Position { fen: None, moves })
+        }
+        None => read_set_up(after(b"fen ", text)?),
+    }
+}
+
+/// A clock behind its two times.
+fn read_increments(wtime: u64, btime: u64, text: &[u8]) -> Option<(GoControl, &[u8])>
+    ensures { option_map (λ p. (p.0, p.1.now)) result ≡ clock_three wtime btime (number_behind (codes " winc ") text.now) }
+{
+    let (winc, others) = number_behind(b" winc ", text)?;
+    let (binc, others) = number_behind(b" binc ", others)?;
+    let (movestogo, others) = perhaps_number(b" movestogo ", others);
+    let clock = GoControl::Clock { wtime, btime, winc, binc, movestogo };
+    Some((clock, others))
+}
+
+#[tactic(auto, unfolding(crate::specs::Asked::clock_in))]
+fn read_clock(text: &[u8]) -> Option<(GoControl, &[u8])>
+    ensures { option_map (λ p. (p.0, p.1.now)) result ≡ clock_in text.now }
+{
+    let (wtime, others) = number_behind(b" wtime ", text)?;
+    let (btime, others) = number_behind(b" btime ", others)?;
+    read_increments(wtime, btime, others)
+}
+
+#[tactic(auto, unfolding(crate::specs::Asked::control_in))]
+fn read_control(text: &[u8]) -> Option<(GoControl, &[u8])>
+    ensures { option_map (λ p. (p.0, p.1.now)) result ≡ control_in text.now }
+{
+    if let Some(others) = after(b" infinite", text) {
+        return Some((GoControl::Infinite, others));
+    }
+    match number_behind(b" movetime ", text) {
+        Some((time, others)) => Some((GoControl::MoveTime(time), others)),
+        None => read_clock(text),
+    }
+}
+
+fn is_positive_or_none(n: Option<u64>) -> bool
+    ensures { result ≡ is_positive_or_none n }
+{
+    match n {
+        Some(n) => is_positive(n),
+        None => true,
+    }
+}
+
+fn is_search(ponder: bool, control: GoControl, depth: Option<u64>) -> bool
+    ensures { result ≡ is_search ponder control depth }
+{
+    match control {
+        GoControl::Infinite => !ponder && depth.is_none(),
+        GoControl::MoveTime(time) => is_positive(time) && is_positive_or_none(depth),
+        GoControl::Clock { wtime, btime, winc, binc, movestogo } => {
+            is_positive(wtime)
+                && is_positive(btime)
+                && is_count(winc)
+                && is_count(binc)
+                && is_positive_or_none(movestogo)
+                && is_positive_or_none(depth)
+        }
+    }
+}
+
+fn read_search_with(ponder: bool, text: &[u8]) -> Option<Order<'_>>
+    ensures { option_map command_of result ≡ search_with ponder (control_in text.now) }
+{
+    let (control, others) = read_control(text)?;
+    let (depth, others) = perhaps_number(b" depth ", others);
+    if others.is_empty() && is_search(ponder, control, depth) {
+        Some(Order::Go { ponder, control, depth })
+    } else {
+        None
+    }
+}
+
+fn read_search(text: &[u8]) -> Option<Order<'_>>
+    ensures { option_map command_of result ≡ search_in text.now }
+{
+    match after(b" ponder", text) {
+        Some(others) => read_search_with(true, others),
+        None => read_search_with(false, text),
+    }
+}
+
+fn read_long(line: &[u8]) -> Option<Order<'_>>
+    ensures { option_map command_of result ≡ long_order line.now }
+{
+    if let Some(text) = after(b"setoption name ", line) {
+        return read_setting(text);
+    }
+    if let Some(text) = after(b"position ", line) {
+        return read_position(text);
+    }
+    read_search(after(b"go", line)?)
+}
+
+#[tactic(auto, unfolding(crate::specs::Asked::order_in))]
+fn order_in(line: &[u8]) -> Option<Order<'_>>
+    ensures { option_map command_of result ≡ order_in line.now }
+{
+    if line == b"uci".as_slice() {
+        Some(Order::Uci)
+    } else if line == b"isready".as_slice() {
+        Some(Order::IsReady)
+    } else if line == b"ucinewgame".as_slice() {
+        Some(Order::NewGame)
+    } else if line == b"stop".as_slice() {
+        Some(Order::Stop)
+    } else if line == b"ponderhit".as_slice() {
+        Some(Order::PonderHit)
+    } else if line == b"quit".as_slice() {
+        Some(Order::Quit)
+    } else {
+        read_long(line)
+    }
+}
+
+/// The order that a line is (UCI, "GUI to engine"). The line has no line feed.
+///
+/// # Errors
+/// `BadOrder` exactly where the line is the text of no order that may be written.
+pub fn read_order(line: &[u8]) -> Result<Order<'_>, BadOrder>
+    ensures found { IfOk result (λ o. SpellsOrder line.now (command_of o)) }
+    ensures only { (c : Command) → SpellsOrder line.now c → IsOkAnd result (λ o. command_of o ≡ c) }
+{
+    order_in(line).ok_or(BadOrder)
+}
+
+/// The text of every position may stand in an order.
+pub fn positions_may_stand()
+    ensures { TakesPositions }
+{
+}

@@ -1,0 +1,99 @@
+// Lines that are cut at certain tokens.
+ghost use Rattle.std.specs.Prelude.{◌≡◌, true, drop, position};
+ghost use Rattle.std.specs.List.{before_first};
+ghost use Rattle.peer_words.specs.Tokens.{is_white, token_end};
+ghost use Rattle.std.specs.Option.{option_map};
+ghost use Rattle.uci_lines.specs.Cuts.{cut, stops, part_of};
+
+use peer_words::is_white;
+
+/// The tokens at which a line is cut.
+#[derive(Clone, Copy)]
+pub(crate) enum Stop {
+    /// One with which a message begins.
+    Message,
+    /// `type`
+    Kind,
+    /// `default`
+    Default,
+    /// `default` or `var`
+    Choice,
+    /// `ponder`
+    Ponder,
+}
+
+/// A token, with what stands before and after it.
+#[derive(Clone, Copy)]
+pub(crate) struct Found<'a> {
+    pub before: &'a [u8],
+    pub word: &'a [u8],
+    pub after: &'a [u8],
+}
+
+impl Stop {
+    ghost use Rattle.uci_lines.specs.Cuts.{stops};
+
+    fn has(self, word: &[u8]) -> bool
+        ensures { result ≡ stops self word.now }
+    {
+        match self {
+            Stop::Message => is_known(word),
+            Stop::Kind => word == b"type".as_slice(),
+            Stop::Default => word == b"default".as_slice(),
+            Stop::Choice => word == b"default".as_slice() || word == b"var".as_slice(),
+            Stop::Ponder => word == b"ponder".as_slice(),
+        }
+    }
+}
+
+ghost use Rattle.uci_lines.specs.Cuts.{is_known};
+
+fn is_known(word: &[u8]) -> bool
+    ensures { result ≡ is_known word.now }
+{
+    word == b"id".as_slice()
+        || word == b"uciok".as_slice()
+        || word == b"readyok".as_slice()
+        || word == b"bestmove".as_slice()
+        || word == b"info".as_slice()
+        || word == b"option".as_slice()
+}
+
+fn white_at(text: &[u8]) -> Option<usize>
+    ensures { result ≡ position is_white text.now }
+{
+    text.iter().position(|b| is_white(*b))
+}
+
+/// What stands before the first white space, and what begins with it.
+pub(crate) fn split_at_white(text: &[u8]) -> (&[u8], &[u8])
+    ensures token { result.0.now ≡ before_first is_white text.now }
+    ensures rest { result.1.now ≡ drop (token_end text.now) text.now }
+{
+    match white_at(text) {
+        Some(at) => text.split_at(at),
+        None => (text, &[]),
+    }
+}
+
+/// The first token at which the text is to be cut.
+pub(crate) fn find_word(text: &[u8], stop: Stop) -> Option<Found<'_>>
+    ensures { option_map part_of result ≡ cut (stops stop) true text.now }
+{
+    let mut is_fresh = true;
+    for (i, byte) in text.iter().enumerate() {
+        if is_fresh {
+            let (word, after) = split_at_white(&text[i..]);
+            if stop.has(word) {
+                let before = &text[..i];
+                return Some(Found {
+                    before,
+                    word,
+                    after,
+                });
+            }
+        }
+        is_fresh = is_white(*byte);
+    }
+    None
+}

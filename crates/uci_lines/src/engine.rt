@@ -1,0 +1,63 @@
+// Reads what an engine says.
+ghost use Rattle.std.specs.Prelude.{◌≡◌};
+ghost use Rattle.uci_lines.specs.Engine.{name_said, best_said, said_after, engine_message};
+ghost use Rattle.uci_lines.specs.Says.{says_of};
+
+use crate::cut::{Stop, find_word};
+use crate::info::read_info;
+use crate::moves::move_in;
+use crate::option::read_option;
+use crate::says::EngineMsg;
+use peer_words::split_token;
+
+fn read_name(text: &[u8]) -> EngineMsg<'_>
+    ensures { says_of result ≡ name_said text.now }
+{
+    let (word, others) = split_token(text);
+    if word == b"name".as_slice() {
+        EngineMsg::Name(others)
+    } else {
+        EngineMsg::Nothing
+    }
+}
+
+fn read_best(text: &[u8]) -> EngineMsg<'_>
+    ensures { says_of result ≡ best_said text.now }
+{
+    let (word, others) = split_token(text);
+    let best = move_in(word);
+    let hint = match find_word(others, Stop::Ponder) {
+        Some(found) => move_in(split_token(found.after).0),
+        None => None,
+    };
+    EngineMsg::Best { best, hint }
+}
+
+fn read_after<'a>(word: &[u8], text: &'a [u8]) -> EngineMsg<'a>
+    ensures { says_of result ≡ said_after word.now text.now }
+{
+    if word == b"id".as_slice() {
+        read_name(text)
+    } else if word == b"uciok".as_slice() {
+        EngineMsg::UciOk
+    } else if word == b"readyok".as_slice() {
+        EngineMsg::ReadyOk
+    } else if word == b"bestmove".as_slice() {
+        read_best(text)
+    } else if word == b"info".as_slice() {
+        EngineMsg::Info(read_info(text))
+    } else {
+        read_option(text)
+    }
+}
+
+/// What a line of the engine says (UCI, "Engine to GUI"). It may end with a CR, and has no LF.
+#[tactic(auto, unfolding(crate::specs::Engine::engine_message))]
+pub fn read_engine(line: &[u8]) -> EngineMsg<'_>
+    ensures { says_of result ≡ engine_message line.now }
+{
+    match find_word(line, Stop::Message) {
+        Some(found) => read_after(found.word, found.after),
+        None => EngineMsg::Nothing,
+    }
+}

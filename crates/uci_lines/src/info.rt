@@ -1,0 +1,175 @@
+// What is told of a search (UCI, "info").
+ghost use Rattle.std.specs.Prelude.{◌≡◌};
+ghost use Rattle.peer_words.specs.Tokens.{tokens};
+ghost use Rattle.uci_lines.specs.Infos.{ends_info, field_named, first_count, score_of, first_score, first_move, newer_run, hear, facts_in, facts_from};
+ghost use Rattle.uci_lines.specs.Moves.{run};
+ghost use Rattle.uci_lines.specs.Says.{facts_of};
+
+use crate::moves::{move_in, next_move};
+use crate::says::{Info, Score};
+use crate::words::next_token;
+use chess_board::Move;
+use peer_words::{read_centis, read_count};
+
+/// The words that tell something.
+#[derive(Clone, Copy)]
+pub(crate) enum Field {
+    Depth,
+    Time,
+    Nodes,
+    MultiPv,
+    Number,
+    Score,
+    Bound,
+    Current,
+    Pv,
+    Text,
+    Other,
+}
+
+fn field_named(word: &[u8]) -> Field
+    ensures { result ≡ field_named word.now }
+{
+    if word == b"depth".as_slice() {
+        Field::Depth
+    } else if word == b"time".as_slice() {
+        Field::Time
+    } else if word == b"nodes".as_slice() {
+        Field::Nodes
+    } else if word == b"multipv".as_slice() {
+        Field::MultiPv
+    } else if word == b"currmovenumber".as_slice() {
+        Field::Number
+    } else if word == b"score".as_slice() {
+        Field::Score
+    } else if word == b"lowerbound".as_slice() || word == b"upperbound".as_slice() {
+        Field::Bound
+    } else if word == b"currmove".as_slice() {
+        Field::Current
+    } else if word == b"pv".as_slice() {
+        Field::Pv
+    } else if word == b"string".as_slice() {
+        Field::Text
+    } else {
+        Field::Other
+    }
+}
+
+/// Whether what follows the word is passed over.
+fn ends_info(field: Field) -> bool
+    ensures { result ≡ ends_info field }
+{
+    matches!(field, Field::Text)
+}
+
+fn first_count(text: &[u8]) -> Option<u64>
+    ensures { result ≡ first_count (tokens text.now) }
+{
+    read_count(next_token(text)?.0)
+}
+
+fn first_move(text: &[u8]) -> Option<Move>
+    ensures { result ≡ first_move (tokens text.now) }
+{
+    move_in(next_token(text)?.0)
+}
+
+fn score_of(unit: &[u8], number: &[u8]) -> Option<Score>
+    ensures { result ≡ score_of unit.now number.now }
+{
+    if unit == b"cp".as_slice() {
+        Some(Score::Cp(read_centis(number)?))
+    } else if unit == b"mate".as_slice() {
+        Some(Score::Mate(read_centis(number)?))
+    } else {
+        None
+    }
+}
+
+fn first_score(text: &[u8]) -> Option<Score>
+    ensures { result ≡ first_score (tokens text.now) }
+{
+    let (unit, others) = next_token(text)?;
+    let (number, _) = next_token(others)?;
+    score_of(unit, number)
+}
+
+/// A run of moves takes the place of an earlier one, unless it is empty.
+fn newer_run<'a>(new: &'a [u8], old: &'a [u8]) -> &'a [u8]
+    ensures { run (tokens result.now) ≡ newer_run (run (tokens new.now)) (run (tokens old.now)) }
+{
+    if next_move(new).is_some() { new } else { old }
+}
+
+/// What was told before, and what a field tells with the text behind its word.
+fn hear<'a>(field: Field, info: Info<'a>, text: &'a [u8]) -> Info<'a>
+    ensures { facts_of result ≡ hear field (facts_of info.entry) (tokens text.now) }
+{
+    match field {
+        Field::Depth => Info {
+            depth: first_count(text).or(info.depth),
+            ..info
+        },
+        Field::Time => Info {
+            time: first_count(text).or(info.time),
+            ..info
+        },
+        Field::Nodes => Info {
+            nodes: first_count(text).or(info.nodes),
+            ..info
+        },
+        Field::MultiPv => Info {
+            multipv: first_count(text).or(info.multipv),
+            ..info
+        },
+        Field::Number => Info {
+            number: first_count(text).or(info.number),
+            ..info
+        },
+        Field::Score => Info {
+            score: first_score(text).or(info.score),
+            ..info
+        },
+        Field::Bound => Info {
+            bound: true,
+            ..info
+        },
+        Field::Current => Info {
+            current: first_move(text).or(info.current),
+            ..info
+        },
+        Field::Pv => Info {
+            pv: newer_run(text, info.pv),
+            ..info
+        },
+        Field::Text | Field::Other => info,
+    }
+}
+
+/// Reads what stands behind `info`.
+#[tactic(auto, unfolding(crate::specs::Infos::facts_in))]
+pub(crate) fn read_info(text: &[u8]) -> Info<'_>
+    ensures { facts_of result ≡ facts_in text.now }
+{
+    let mut info = Info {
+        depth: None,
+        time: None,
+        nodes: None,
+        multipv: None,
+        number: None,
+        score: None,
+        bound: false,
+        current: None,
+        pv: &[],
+    };
+    let mut others = text;
+    while let Some((word, after)) = next_token(others) {
+        let field = field_named(word);
+        if ends_info(field) {
+            break;
+        }
+        info = hear(field, info, after);
+        others = after;
+    }
+    info
+}

@@ -1,0 +1,135 @@
+// The declarations of options (UCI, "option").
+ghost use Rattle.std.specs.Prelude.{◌≡◌, ◌∷◌, [], true, codes, length, ◌≤◌, MatchOption};
+ghost use Rattle.std.specs.Option.{option_map};
+ghost use Rattle.peer_words.specs.Tokens.{tokens, trimmed};
+ghost use Rattle.uci_lines.specs.Cuts.{cut, is_word, is_choice};
+ghost use Rattle.uci_lines.specs.Choices.{values, before_choice, from_choice, default_value};
+ghost use Rattle.uci_lines.specs.Options.{is_on, text_after, shape_named, option_with, option_said};
+ghost use Rattle.uci_lines.specs.Says.{shape_of, declared_by, says_of};
+
+use crate::cut::{Stop, find_word};
+use crate::range::read_range;
+use crate::says::{EngineMsg, OptionKind, OptionMsg};
+use peer_words::{split_token, trim};
+
+fn is_on(text: &[u8]) -> bool
+    ensures { result ≡ is_on (cut (is_word (codes "default")) true text.now) }
+{
+    match find_word(text, Stop::Default) {
+        Some(found) => split_token(found.after).0 == b"true".as_slice(),
+        None => false,
+    }
+}
+
+fn text_default(text: &[u8]) -> &[u8]
+    ensures { result.now ≡ text_after (cut (is_word (codes "default")) true text.now) }
+{
+    match find_word(text, Stop::Default) {
+        Some(found) => {
+            let text = trim(found.after);
+            if text == b"<empty>".as_slice() {
+                &[]
+            } else {
+                text
+            }
+        }
+        None => &[],
+    }
+}
+
+/// What stands before the first `default` or `var`.
+fn before_choice(text: &[u8]) -> &[u8]
+    ensures { result.now ≡ before_choice (cut is_choice true text.now) text.now }
+{
+    match find_word(text, Stop::Choice) {
+        Some(found) => found.before,
+        None => text,
+    }
+}
+
+fn combo_default(text: &[u8]) -> &[u8]
+    ensures { result.now ≡ default_value text.now }
+{
+    match find_word(text, Stop::Default) {
+        Some(found) => trim(before_choice(found.after)),
+        None => &[],
+    }
+}
+
+/// What stands before the first `default` or `var`, trimmed, and what begins with it.
+fn split_choice(text: &[u8]) -> (&[u8], &[u8])
+    ensures value { result.0.now ≡ trimmed (before_choice (cut is_choice true text.now) text.now) }
+    ensures others { result.1.now ≡ from_choice (cut is_choice true text.now) text.now }
+    ensures shorter { length result.1.now ≤ length text.now }
+{
+    match find_word(text, Stop::Choice) {
+        Some(found) => {
+            let (_, others) = text.split_at(found.before.len());
+            (trim(found.before), others)
+        }
+        None => (trim(text), &[]),
+    }
+}
+
+/// The first value of a combo, and the text from which the later ones are read. None where there is none.
+pub fn next_value(text: &[u8]) -> Option<(&[u8], &[u8])>
+    ensures { MatchOption result (values text.now ≡ []) (λ p. values text.now ≡ p.0.now ∷ values p.1.now) }
+{
+    let mut others = text;
+    while let Some(found) = find_word(others, Stop::Choice) {
+        let (value, after) = split_choice(found.after);
+        if found.word == b"var".as_slice() {
+            return Some((value, after));
+        }
+        others = after;
+    }
+    None
+}
+
+fn read_kind<'a>(word: &[u8], text: &'a [u8]) -> Option<OptionKind<'a>>
+    ensures { option_map shape_of result ≡ shape_named word.now text.now }
+{
+    if word == b"check".as_slice() {
+        Some(OptionKind::Check { on: is_on(text) })
+    } else if word == b"spin".as_slice() {
+        read_range(text).spin()
+    } else if word == b"combo".as_slice() {
+        Some(OptionKind::Combo {
+            default: combo_default(text),
+            values: text,
+        })
+    } else if word == b"button".as_slice() {
+        Some(OptionKind::Button)
+    } else if word == b"string".as_slice() {
+        Some(OptionKind::Text {
+            default: text_default(text),
+        })
+    } else {
+        None
+    }
+}
+
+fn option_after(text: &[u8]) -> Option<OptionMsg<'_>>
+    ensures { declared_by result ≡ option_with (cut (is_word (codes "type")) true text.now) }
+{
+    let found = find_word(text, Stop::Kind)?;
+    let (word, others) = split_token(found.after);
+    let kind = read_kind(word, others)?;
+    let name = trim(found.before);
+    Some(OptionMsg { name, kind })
+}
+
+/// What stands behind `option`.
+#[tactic(auto, unfolding(crate::specs::Options::option_said))]
+pub(crate) fn read_option(text: &[u8]) -> EngineMsg<'_>
+    ensures { says_of result ≡ option_said text.now }
+{
+    let (word, others) = split_token(text);
+    if word != b"name".as_slice() {
+        return EngineMsg::Nothing;
+    }
+    match option_after(others) {
+        Some(option) => EngineMsg::OptionLine(option),
+        None => EngineMsg::Nothing,
+    }
+}

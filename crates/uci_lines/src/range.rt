@@ -1,0 +1,74 @@
+// The numbers of a spin.
+ghost use Rattle.std.specs.Prelude.{◌≡◌};
+ghost use Rattle.std.specs.Option.{option_map};
+ghost use Rattle.peer_words.specs.Tokens.{tokens};
+ghost use Rattle.uci_lines.specs.Options.{range_of, limited, first_signed, range_from, no_range};
+
+use crate::says::OptionKind;
+use crate::words::next_token;
+use peer_words::read_signed;
+
+/// The three numbers, as far as they were read.
+#[derive(Clone, Copy)]
+pub(crate) struct Range {
+    pub default: Option<i64>,
+    pub min: Option<i64>,
+    pub max: Option<i64>,
+}
+
+impl Range {
+    ghost use Rattle.std.specs.Option.{option_map};
+    ghost use Rattle.uci_lines.specs.Options.{range_of, spin_in};
+    ghost use Rattle.uci_lines.specs.Says.{shape_of};
+
+    /// The spin, with its default moved into the range. None where a number lacks or the range is empty.
+    pub fn spin<'a>(self) -> Option<OptionKind<'a>>
+        ensures { option_map shape_of result ≡ spin_in (range_of self) }
+    {
+        let (default, min, max) = (self.default?, self.min?, self.max?);
+        if min > max {
+            return None;
+        }
+        let default = default.clamp(min, max);
+        Some(OptionKind::Spin { default, min, max })
+    }
+}
+
+fn first_signed(text: &[u8]) -> Option<i64>
+    ensures { result ≡ first_signed (tokens text.now) }
+{
+    read_signed(next_token(text)?.0)
+}
+
+fn limited(range: Range, word: &[u8], after: &[u8]) -> Range
+    ensures { range_of result ≡ limited (range_of range) word.now (tokens after.now) }
+{
+    if word == b"default".as_slice() {
+        let default = first_signed(after).or(range.default);
+        Range { default, ..range }
+    } else if word == b"min".as_slice() {
+        let min = first_signed(after).or(range.min);
+        Range { min, ..range }
+    } else if word == b"max".as_slice() {
+        let max = first_signed(after).or(range.max);
+        Range { max, ..range }
+    } else {
+        range
+    }
+}
+
+pub(crate) fn read_range(text: &[u8]) -> Range
+    ensures { range_of result ≡ range_from no_range (tokens text.now) }
+{
+    let mut range = Range {
+        default: None,
+        min: None,
+        max: None,
+    };
+    let mut others = text;
+    while let Some((word, after)) = next_token(others) {
+        range = limited(range, word, after);
+        others = after;
+    }
+    range
+}

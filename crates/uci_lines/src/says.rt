@@ -1,0 +1,64 @@
+// What an engine says.
+use chess_board::Move;
+
+/// What a line of the engine says (UCI, "Engine to GUI").
+#[derive(Clone, Copy)]
+pub enum EngineMsg<'a> {
+    /// `id name` and a text.
+    Name(&'a [u8]),
+    UciOk,
+    ReadyOk,
+    /// `bestmove`: the move, and the one on which the engine would ponder, each where it is a move text.
+    Best {
+        best: Option<Move>,
+        hint: Option<Move>,
+    },
+    OptionLine(OptionMsg<'a>),
+    Info(Info<'a>),
+    /// Any other line.
+    Nothing,
+}
+
+/// An option that the engine declares.
+#[derive(Clone, Copy)]
+pub struct OptionMsg<'a> {
+    pub name: &'a [u8],
+    pub kind: OptionKind<'a>,
+}
+
+/// The kind of an option, with what it is by default.
+#[derive(Clone, Copy)]
+pub enum OptionKind<'a> {
+    Check { on: bool },
+    Spin { default: i64, min: i64, max: i64 },
+    /// The values stand in the text after `combo`, from which `next_value` reads them.
+    Combo { default: &'a [u8], values: &'a [u8] },
+    Button,
+    /// `string`; `<empty>` is the empty text.
+    Text { default: &'a [u8] },
+}
+
+/// What the engine tells of its search. Times are in milliseconds.
+#[derive(Clone, Copy)]
+pub struct Info<'a> {
+    pub depth: Option<u64>,
+    pub time: Option<u64>,
+    pub nodes: Option<u64>,
+    pub multipv: Option<u64>,
+    /// `currmovenumber`.
+    pub number: Option<u64>,
+    pub score: Option<Score>,
+    /// Whether the score is a lower or upper bound.
+    pub bound: bool,
+    /// `currmove`.
+    pub current: Option<Move>,
+    /// Move texts with white space between, from which `next_move` reads the moves; empty where there are none.
+    pub pv: &'a [u8],
+}
+
+/// A score in hundredths of a pawn, or in moves to mate, from the engine's point of view.
+#[derive(Clone, Copy, Debug, PartialEq, Eq)]
+pub enum Score {
+    Cp(i64),
+    Mate(i64),
+}
