@@ -1,0 +1,6 @@
+pub mod Answers
+pub mod Blocks
+pub mod Choice
+pub mod Faults
+pub mod Lending
+pub mod Script
