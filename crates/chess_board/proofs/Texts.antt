@@ -1,0 +1,35 @@
+-- A text spells at most one move, and the text of a move spells it.
+use Rattle.std.proofs.Common.{◌≡◌, ◌+◌, ◌<◌, ℕ, refl, sym, ◌∙◌, arith, Option, Some, None, [], ◌∷◌}
+use Rattle.chess_board.specs.declared.board.Kind.{Kind}
+use Rattle.chess_board.specs.declared.board.Kind.TheVariants.{Pawn, Knight, Bishop, Rook, Queen, King}
+use Rattle.chess_board.specs.declared.board.Move.{Move}
+use Rattle.chess_board.specs.Board.{file_of, rank_of}
+use Rattle.chess_board.specs.Text.{Spells, SquareSpells, SpellsOneMove, ReadsBack, IsOfficer, promotion_text}
+use Rattle.chess_board.proofs.Places.{move_same}
+
+one_square : (f r a b : ℕ) → a < 64 → b < 64 → SquareSpells f r a → SquareSpells f r b → a ≡ b
+one_square f r a b la lb h k = let h0 = h.0 in let h1 = h.1 in let k0 = k.0 in let k1 = k.1 in omega arith
+
+pub spells-one : SpellsOneMove
+spells-one [] a b h k = absurd h
+spells-one (f ∷ []) a b h k = absurd h
+spells-one (f ∷ r ∷ []) a b h k = absurd h
+spells-one (f ∷ r ∷ g ∷ []) a b h k = absurd h
+spells-one (f ∷ r ∷ g ∷ s ∷ []) a b h k =
+    move_same a b (one_square f r _ _ a.from.on_board b.from.on_board h.0 k.0) (one_square g s _ _ a.to.on_board b.to.on_board h.1 k.1) (h.2 ∙ sym k.2)
+spells-one (f ∷ r ∷ g ∷ s ∷ letter ∷ []) a b h k =
+    move_same a b (one_square f r _ _ a.from.on_board b.from.on_board h.0 k.0) (one_square g s _ _ a.to.on_board b.to.on_board h.1 k.1) (h.2 ∙ sym k.2)
+spells-one (f ∷ r ∷ g ∷ s ∷ letter ∷ more ∷ rest) a b h k = absurd h
+
+reads_back_of : (m : Move) (promo : Option Kind) → m.promo ≡ promo → IsOfficer promo →
+    Spells ((97 + file_of m.from.index) ∷ (49 + rank_of m.from.index) ∷ (97 + file_of m.to.index) ∷ (49 + rank_of m.to.index) ∷ promotion_text promo) m
+reads_back_of m None e h = ((refl, refl), (refl, refl), e)
+reads_back_of m (Some Queen) e h = ((refl, refl), (refl, refl), e, refl)
+reads_back_of m (Some Rook) e h = ((refl, refl), (refl, refl), e, refl)
+reads_back_of m (Some Bishop) e h = ((refl, refl), (refl, refl), e, refl)
+reads_back_of m (Some Knight) e h = ((refl, refl), (refl, refl), e, refl)
+reads_back_of m (Some Pawn) e h = absurd h
+reads_back_of m (Some King) e h = absurd h
+
+pub reads-back : ReadsBack
+reads-back m h = reads_back_of m m.promo refl h

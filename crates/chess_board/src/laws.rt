@@ -1,0 +1,35 @@
+//! Laws about the definitions that contracts cite, each a clause of a function that does nothing.
+ghost use Rattle.std.specs.Prelude.{◌≡◌, ◌↔◌, ◌≤◌, IsTrue, length};
+ghost use Rattle.chess_board.specs.Laws.{AttacksLaw, LegalLaw};
+ghost use Rattle.chess_board.specs.Text.{text_of, ReadsBack, SpellsOneMove};
+
+use crate::board::Move;
+
+/// Moves compare by value.
+pub fn equal_moves(a: Move, b: Move) -> bool
+    ensures { IsTrue result ↔ (a ≡ b) }
+{
+    a == b
+}
+
+/// The test for attacks decides the relation of the Laws (article 3.1.2).
+pub fn attacks_are_lawful()
+    ensures { AttacksLaw }
+{}
+
+/// The test for legal moves decides the relation of the Laws (article 3.10.1).
+pub fn legality_is_lawful()
+    ensures { LegalLaw }
+{}
+
+/// The text of a move has four or five bytes.
+pub fn move_texts_are_short(m: Move)
+    ensures least { 4 ≤ length (text_of m) }
+    ensures most { length (text_of m) ≤ 5 }
+{}
+
+/// A text spells at most one move, and the text of a move spells it.
+pub fn move_texts_are_exact()
+    ensures one { SpellsOneMove }
+    ensures back { ReadsBack }
+{}
