@@ -1,5 +1,5 @@
 -- What an answer makes of a script.
-use Rattle.std.proofs.Common.{◌≡◌, ℕ, zero, suc, Option, Some, get_or, ◌+◌, ◌<◌, ◌≤◌, List, [], ◌∷◌, ◌++◌, length, map, filter, drop, set, Bool, true, false, not, ◌&&◌, cond, ◌==◌, refl, ap, sym, subst, ◌∙◌, append_assoc, arith, add-one, add-zero}
+use Rattle.std.proofs.Common.{◌≡◌, ℕ, zero, suc, Some, get_or, ◌+◌, List, [], ◌∷◌, ◌++◌, length, map, filter, drop, set, Bool, true, false, not, ◌&&◌, cond, ◌==◌, refl, ap, sym, subst, ◌∙◌, arith}
 use Rattle.std.proofs.lemmas.List.{map-append}
 use Rattle.std.proofs.Math.Seq.{drop-nil, set-append_seam, get_or-append_seam}
 use Rattle.std.specs.List.{slice_get}
@@ -10,7 +10,7 @@ use Rattle.std.proofs.lemmas.Slice.Eq.{bytes_eq-Decides}
 use Rattle.std.specs.Str.{bytes_eq}
 use Rattle.peer_words.specs.Tokens.{first_token}
 use Rattle.scripted_engine.specs.Blocks.{Block, Turn, is_for, serves, waits, used}
-use Rattle.scripted_engine.specs.Answers.{blocks_for, asked, last_answer, next_answer, answer_for, answer, Stands, Gives}
+use Rattle.scripted_engine.specs.Answers.{blocks_for, asked, last_answer, next_answer, answer_for, Gives}
 use Rattle.scripted_engine.specs.Choice.{IsChosen, answer_at}
 
 abbrev blocks : List Turn → List Block

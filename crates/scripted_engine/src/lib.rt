@@ -2,7 +2,11 @@
 #![tactic(auto)]
 
 mod block;
+mod ending;
 mod line;
+mod run;
 mod script;
 
+pub use ending::Ending;
+pub use run::scripted_main;
 pub use script::{ScriptFault, Scripted};
