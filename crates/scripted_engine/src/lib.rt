@@ -1,0 +1,12 @@
+//! An engine whose answers stand in a script.
+#![tactic(auto)]
+
+mod block;
+mod ending;
+mod line;
+mod run;
+mod script;
+
+pub use ending::Ending;
+pub use run::scripted_main;
+pub use script::{ScriptFault, Scripted};
