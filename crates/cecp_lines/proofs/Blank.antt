@@ -1,5 +1,7 @@
 -- Lines without the white space at their end.
-use Rattle.std.proofs.Common.{◌≡◌, ℕ, List, [], ◌∷◌, ◌++◌, Bool, true, false, cond, ◌&&◌, refl, ap, ◌∙◌}
+use Rattle.std.proofs.Common.{◌≡◌, ℕ, ◌+◌, ◌-◌, ◌≤◌, List, [], ◌∷◌, ◌++◌, length, take, get_or, Bool, true, false, cond, ◌&&◌, refl, ap, sym, subst, ◌∙◌, arith}
+use Rattle.std.proofs.Math.Seq.{take-length}
+use Rattle.std.proofs.lemmas.List.{take_more}
 use Rattle.std.specs.List.{list_all}
 use Rattle.peer_words.specs.Tokens.{is_white, is_blank, trim_right}
 
@@ -26,3 +28,12 @@ solid_last [] b w = rw w refl
 solid_last (x ∷ xs) b w =
     ap (λ c. cond c [] (x ∷ trim_right (xs ++ b ∷ []))) (ap (λ c. is_white x && c) (blank_more xs b ∙ ap (λ c. is_blank xs && c) w ∙ and_false (is_blank xs)) ∙ and_false (is_white x))
     ∙ ap (λ ys. x ∷ ys) (solid_last xs b w)
+
+last_of : (xs : List ℕ) → 1 ≤ length xs → xs ≡ take (length xs - 1) xs ++ get_or xs (length xs - 1) 0 ∷ []
+last_of xs h = sym (subst (λ n. take n xs ≡ xs) (omega arith) (take-length xs)) ∙ take_more xs (length xs - 1) 0 (omega arith)
+
+pub less_white : (xs : List ℕ) → 1 ≤ length xs → is_white (get_or xs (length xs - 1) 0) ≡ true → trim_right (take (length xs - 1) xs) ≡ trim_right xs
+less_white xs h w = sym (white_last (take (length xs - 1) xs) (get_or xs (length xs - 1) 0) w) ∙ ap trim_right (sym (last_of xs h))
+
+pub no_white : (xs : List ℕ) → 1 ≤ length xs → is_white (get_or xs (length xs - 1) 0) ≡ false → trim_right xs ≡ xs
+no_white xs h w = ap trim_right (last_of xs h) ∙ solid_last (take (length xs - 1) xs) (get_or xs (length xs - 1) 0) w ∙ sym (last_of xs h)

@@ -4,7 +4,6 @@ ghost use Rattle.peer_words.specs.Tokens.{trim_right, trimmed};
 
 use peer_words::{is_white, trim_start};
 
-#[tactic(auto, using(crate::proofs::Blank::white_last, crate::proofs::Blank::solid_last))]
 fn trim_end(line: &[u8]) -> &[u8]
     ensures { result.now ≡ trim_right line.now }
 {

@@ -1,0 +1,11 @@
+//! The desk: what comes of an event, what it changes, and what the interface is told.
+#![tactic(auto)]
+
+mod answers;
+mod deed;
+mod desk;
+mod pings;
+
+pub use deed::{Deed, Sight};
+pub use desk::Desk;
+pub use pings::Pings;
