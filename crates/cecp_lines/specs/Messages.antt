@@ -6,12 +6,14 @@ use Rattle.cecp_lines.specs.declared.iface.IfaceFault.{IfaceFault}
 
 pub data Message : Type 0 where
   Blank : Message
+  Protover : (n : ℕ) → Message
   Ping : (n : ℕ) → Message
   Quit : Message
   Ignored : (line : List ℕ) → Message
 
 abbrev pub message_of : IfaceMsg → Message
 message_of says.Blank = Blank
+message_of (says.Protover n) = Protover n
 message_of (says.Ping n) = Ping n
 message_of says.Quit = Quit
 message_of (says.Ignored line) = Ignored line.now

@@ -1,7 +1,7 @@
 // What the interface says.
 ghost use Rattle.std.specs.Prelude.{◌≡◌};
 ghost use Rattle.cecp_lines.specs.Messages.{read_as};
-ghost use Rattle.cecp_lines.specs.Reading.{is_ignored, ping, reading};
+ghost use Rattle.cecp_lines.specs.Reading.{is_ignored, ping, protover, reading};
 
 use crate::trim;
 use peer_words::{read_number, split_token, trim_start};
@@ -10,6 +10,7 @@ use peer_words::{read_number, split_token, trim_start};
 #[derive(Clone, Copy)]
 pub enum IfaceMsg<'a> {
     Blank,
+    Protover(u32),
     Ping(u32),
     Quit,
     /// A command that changes nothing, with its whole line.
@@ -52,10 +53,26 @@ pub fn read_iface(line: &[u8]) -> Result<IfaceMsg<'_>, IfaceFault>
     if word == b"ping".as_slice() {
         return read_ping(rest);
     }
+    if word == b"protover".as_slice() {
+        return read_protover(rest);
+    }
     if is_ignored(word) {
         return Ok(IfaceMsg::Ignored(trim(line)));
     }
     Err(IfaceFault::UnknownCommand)
+}
+
+fn read_protover(rest: &[u8]) -> Result<IfaceMsg<'_>, IfaceFault>
+    ensures { read_as result ≡ protover rest.now }
+{
+    let (text, after) = split_token(trim_start(rest));
+    if !trim_start(after).is_empty() {
+        return Err(IfaceFault::BadArgument);
+    }
+    match read_number(text) {
+        Some(n) if 2 <= n => Ok(IfaceMsg::Protover(n)),
+        _ => Err(IfaceFault::BadArgument),
+    }
 }
 
 fn read_ping(rest: &[u8]) -> Result<IfaceMsg<'_>, IfaceFault>

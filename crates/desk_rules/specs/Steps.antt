@@ -3,7 +3,6 @@ use Rattle.std.specs.Prelude.{ℕ, List, [], ◌∷◌, ◌++◌, map, Bool, tru
 use Rattle.line_io.specs.Event.{Event}
 use Rattle.line_io.specs.Event as events
 use Rattle.peer_words.specs.Tokens.{trimmed}
-use Rattle.peer_words.specs.declared.kinds.GoKind.TheVariants as kinds
 use Rattle.cecp_lines.specs.Messages.{Message, message_of}
 use Rattle.cecp_lines.specs.Reading.{reading}
 use Rattle.cecp_lines.specs.Replies.{Told}
@@ -56,10 +55,10 @@ abbrev pub line_deed : Verdict → List ℕ → Deed
 line_deed (Refused r) line = Refuses r line
 line_deed (Accepted m) line = Accepts m
 
-abbrev pub engine_says : Here → Says → Deed
-engine_says h hears.UciOk = if is_boot h.engine then Boots else Nothing
-engine_says h hears.ReadyOk = if is_getting h.engine then Readies else Nothing
-engine_says h m = Nothing
+abbrev pub engine_says : EngineState → Says → Deed
+engine_says e hears.UciOk = if is_boot e then Boots else Nothing
+engine_says e hears.ReadyOk = if is_getting e then Readies else Nothing
+engine_says e m = Nothing
 
 abbrev pub dies : EngineState → Deed
 dies e = if is_gone e then Nothing else Dies
@@ -70,7 +69,7 @@ comes h held (events.Iface line) = if h.closed then Nothing else line_deed (verd
 comes h held events.IfaceLong = if h.closed then Nothing else LongLine
 comes h held events.IfaceEnd = Nothing
 comes h held events.IfaceLost = Nothing
-comes h held (events.Engine line) = if h.closed then Nothing else engine_says h (engine_message line)
+comes h held (events.Engine line) = if h.closed then Nothing else engine_says h.engine (engine_message line)
 comes h held events.EngineLong = Nothing
 comes h held events.EngineEnd = dies h.engine
 comes h held events.EngineLost = dies h.engine
@@ -126,14 +125,16 @@ desk_after closed owes h d = record (desk_after_deed h d) { pings = (if answers_
 unfoldable pub waiting : Here → List Command → Deed → List Command
 waiting h held d = held
 
--- `position` and `go` for what is owed: nothing is owed yet
-abbrev pub search_orders : Desk → Call → List Command
-search_orders d c = []
+-- the orders that were chosen: a batch, since nothing is owed yet
+abbrev pub order_list : List Command → Orders → List Command
+order_list ws chosen.Batch = ws ++ orders.IsReady ∷ []
+order_list ws o = []
 
-abbrev pub order_list : List Command → Desk → Orders → List Command
-order_list ws d chosen.Batch = ws ++ orders.IsReady ∷ []
-order_list ws d (chosen.Begin c) = search_orders d c
-order_list ws d o = []
+-- what an order is to the dialogue
+abbrev pub word_of : Command → Word
+word_of orders.Uci = word.Uci
+word_of orders.IsReady = word.IsReady
+word_of o = word.Quit
 
 -- REPLIES
 

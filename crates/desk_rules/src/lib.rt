@@ -6,6 +6,7 @@ mod deed;
 mod desk;
 mod pings;
 
+pub use answers::put_pongs;
 pub use deed::{Deed, Sight};
-pub use desk::Desk;
+pub use desk::{Desk, is_gone};
 pub use pings::Pings;
