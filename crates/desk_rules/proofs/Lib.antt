@@ -1,1 +1,2 @@
-mod Rooms
+pub mod Deeds
+pub mod Rooms

@@ -33,7 +33,7 @@ pong_le n h =
     let short = length-decimal-le 10 n (lit< tt) (omega arith) (omega arith) in
     omega (arith, length-append (decimal n) (10 ∷ []))
 
-lines-append : (ts us : List Told) → told_lines (ts ++ us) ≡ told_lines ts ++ told_lines us
+pub lines-append : (ts us : List Told) → told_lines (ts ++ us) ≡ told_lines ts ++ told_lines us
 lines-append [] us = refl
 lines-append (t ∷ ts) us = ap (λ l. told_line t ++ l) (lines-append ts us) ∙ sym (append_assoc (told_line t) (told_lines ts) (told_lines us))
 
