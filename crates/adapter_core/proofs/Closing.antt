@@ -22,7 +22,7 @@ pub first_true : (a b : Bool) → (a && b) ≡ true → a ≡ true
 first_true true b e = refl
 first_true false b e = cc
 
-second_true : (a b : Bool) → (a && b) ≡ true → b ≡ true
+pub second_true : (a b : Bool) → (a && b) ≡ true → b ≡ true
 second_true true b e = e
 second_true false b e = cc
 
@@ -43,7 +43,7 @@ opened_later ends events.EngineLost m = opened_before ends.opened (not ends.engi
 
 -- SHORT LINES
 
-short_line : (line : List ℕ) → is_line line ≡ true → length line ≤ 65536
+pub short_line : (line : List ℕ) → is_line line ≡ true → length line ≤ 65536
 short_line line e = let h : nat_le (length line) 65536 ≡ true = first_true (nat_le (length line) 65536) (not (has_feed line)) e in grind (arith, nat_tests)
 
 pub short_event : (ends : Ends) (e : Event) → may ends e ≡ true → IsShortEvent e

@@ -49,7 +49,7 @@ at_end limit calls held new got more given result run call end =
     sym (with_call limit calls held new got more given result run call ∙ ap (λ l. given ++ l) e.1 ∙ append-nil given)
 
 -- a line feed would end one more line
-at_wait : (limit calls : ℕ) (held : Held) (got : List ℕ) (given : List Piece) → Runs limit held got given calls → IsWaiting held → given ≡ whole limit got
+pub at_wait : (limit calls : ℕ) (held : Held) (got : List ℕ) (given : List Piece) → Runs limit held got given calls → IsWaiting held → given ≡ whole limit got
 at_wait limit calls held got given run waits =
     let so = so_far limit calls held got (10 ∷ []) given run (λ e. let live = waits.1 in cc) in
     let last = last_closed held.limit held.cut held.bytes waits.0 in

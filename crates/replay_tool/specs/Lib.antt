@@ -1,1 +1,4 @@
-
+pub mod Diagnostics
+pub mod Reading
+pub mod Replay
+pub mod Reached

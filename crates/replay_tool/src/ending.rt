@@ -1,4 +1,8 @@
 // How a run ends.
+ghost use Rattle.std.specs.Prelude.{◌≡◌, ◌+◌, ◌≤◌, length};
+ghost use Rattle.line_io.specs.Out.{with};
+ghost use Rattle.replay_tool.specs.Diagnostics.{code_of, tail_of, diagnostic};
+
 use itoa::Buffer;
 use line_io::Out;
 
@@ -19,7 +23,10 @@ pub enum Ending {
 }
 
 impl Ending {
-    pub fn code(self) -> u8 {
+    /// The status of the program.
+    pub fn code(self) -> u8
+        ensures { result ≡ code_of self }
+    {
         match self {
             Ending::Done => 0,
             Ending::Usage | Ending::NoMark(_) | Ending::MayNotCome(_) => 2,
@@ -30,8 +37,10 @@ impl Ending {
         }
     }
 
-    // The text of a diagnostic, or what stands behind the number of a line.
-    fn text(self) -> &'static [u8] {
+    // The diagnostic, or what stands in it behind the number of a line.
+    pub fn tail(self) -> &'static [u8]
+        ensures { result.now ≡ tail_of self }
+    {
         match self {
             Ending::Done => b"",
             Ending::Usage => b"replay: usage\n",
@@ -44,12 +53,28 @@ impl Ending {
         }
     }
 
-    pub fn put_diagnostic(self, out: &mut Out) {
-        if let Ending::NoMark(line) | Ending::MayNotCome(line) = self {
-            let mut digits = Buffer::new();
-            out.put(b"replay: line ");
-            out.put(digits.format(line).as_bytes());
+    /// Puts the diagnostic, which is one line or nothing.
+    pub fn put_diagnostic(self, out: &mut Out)
+        requires { length out.old.text + 80 ≤ out.old.room }
+        ensures { out.new ≡ with out.old (diagnostic self) }
+    {
+        match self {
+            Ending::NoMark(line) | Ending::MayNotCome(line) => put_line_fault(line, self.tail(), out),
+            _ => out.put(self.tail()),
         }
-        out.put(self.text());
     }
+}
+
+ghost use Rattle.std.specs.Prelude.{◌++◌};
+ghost use Rattle.replay_tool.specs.Diagnostics.{line_fault};
+
+fn put_line_fault(line: u64, tail: &[u8], out: &mut Out)
+    requires tail { length tail.now ≤ 40 }
+    requires room { length out.old.text + 80 ≤ out.old.room }
+    ensures { out.new ≡ with out.old (line_fault line tail.now) }
+{
+    let mut digits = Buffer::new();
+    out.put(b"replay: line ");
+    out.put(digits.format(line).as_bytes());
+    out.put(tail);
 }

@@ -2,7 +2,6 @@
 #![tactic(auto)]
 
 mod ending;
-mod replay;
+
 mod run;
 
-pub use replay::replay_main;
