@@ -1,2 +1,4 @@
 mod Marks
 mod Pieces
+mod Lines
+mod Turns

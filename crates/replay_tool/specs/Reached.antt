@@ -1,6 +1,6 @@
 -- Where a run has come to.
 use Rattle.std.specs.Prelude.{◌≡◌, ℕ, suc, ◌+◌, ◌≤◌, List, [], ◌∷◌, ◌++◌, length, true, Option, Some, None}
-use Rattle.std.specs.Io.KnownBytes.{Appends, IsAtEnd}
+use Rattle.std.specs.Io.KnownBytes.{Appends}
 use Rattle.line_io.specs.Event.{Event, Open}
 use Rattle.line_io.specs.Lines.{Piece, unread}
 use Rattle.line_io.specs.Out.{Text, with, empty}
@@ -12,8 +12,8 @@ use Rattle.adapter_core.specs.Stands.{Stands}
 use Rattle.session_script.specs.Script.{script, events, step_text}
 use Rattle.replay_tool.specs.declared.ending.Ending.{Ending}
 use Rattle.replay_tool.specs.declared.run.Run.{Run}
-use Rattle.replay_tool.specs.Reading.{Said, Comes, first_fault, events_of, opened}
-use Rattle.replay_tool.specs.Replay.{Streams, Got, Stopped}
+use Rattle.replay_tool.specs.Reading.{Said, Comes, first_fault, events_of, ends_over, opened}
+use Rattle.replay_tool.specs.Replay.{Streams, Got, IsAll, Stopped}
 
 -- a run before its first step
 abbrev pub new_run : Settings → Run
@@ -44,9 +44,10 @@ pub record Reached (o : Settings) (run : Run) (start now : Streams) (calls : ℕ
   pub lines : List Piece
   pub runs : Runs 131072 run.lines got lines calls
   pub reads : Got start now got
-  pub ended : run.lines.ended ≡ true → IsAtEnd now.left
+  pub ended : run.lines.ended ≡ true → IsAll start.left got
   pub fine : first_fault 1 opened lines ≡ None
   pub number : run.number ≡ length lines
+  pub ends : run.core.ends ≡ ends_over opened lines
   pub trace : List Step
   pub lawful : Lawful o trace
   pub stands : Stands o run.core trace

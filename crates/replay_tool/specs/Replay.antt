@@ -1,6 +1,6 @@
 -- What a replay leaves.
 use Rattle.std.specs.Prelude.{◌≡◌, ℕ, ◌^◌, ◌≤◌, List, [], ◌∷◌, ◌++◌, length, take, Option, Some, None, IfSome}
-use Rattle.std.specs.Io.KnownBytes.{Appends, IsAtEnd}
+use Rattle.std.specs.Io.KnownBytes.{Appends}
 use Rattle.line_io.specs.Event.{Open}
 use Rattle.line_io.specs.Lines.{Piece, Reads, items}
 use Rattle.line_io.specs.Runs.{whole}
@@ -23,6 +23,10 @@ streams given left taken = record { given = given; left = left; taken = taken }
 abbrev pub Got : Streams → Streams → List ℕ → Type 0
 Got start now got = Reads start.given now.given start.left now.left got
 
+-- the bytes are all that was left
+abbrev pub IsAll : Option (List ℕ) → List ℕ → Type 0
+IsAll left got = IfSome left (λ x. x ≡ got)
+
 -- The output got the script of a lawful trace, but for what is not written yet. The events are Open and those of the lines.
 pub record Scripted (o : Settings) (unwritten : List ℕ) (start now : Streams) (lines : List Piece) : Type 0 where
   pub trace : List Step
@@ -36,7 +40,7 @@ pub record Scripted (o : Settings) (unwritten : List ℕ) (start now : Streams) 
 pub record ReplaysAll (o : Settings) (unwritten : List ℕ) (start now : Streams) : Type 0 where
   pub got : List ℕ
   pub reads : Got start now got
-  pub at_end : IsAtEnd now.left
+  pub all : IsAll start.left got
   pub fine : first_fault 1 opened (items 131072 got) ≡ None
   pub scripted : Scripted o unwritten start now (items 131072 got)
 
