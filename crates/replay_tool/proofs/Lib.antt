@@ -2,3 +2,4 @@ mod Marks
 mod Pieces
 mod Lines
 mod Turns
+mod Written

@@ -10,7 +10,9 @@ use Rattle.adapter_core.specs.Trace.{Step, Lawful}
 use Rattle.adapter_core.specs.View.{View, opening}
 use Rattle.adapter_core.specs.Stands.{Stands}
 use Rattle.session_script.specs.Script.{script, events, step_text}
+use Rattle.line_io.specs.Causes.{Rose}
 use Rattle.replay_tool.specs.declared.ending.Ending.{Ending}
+use Rattle.replay_tool.specs.declared.ending.Ending.TheVariants as endings
 use Rattle.replay_tool.specs.declared.run.Run.{Run}
 use Rattle.replay_tool.specs.Reading.{Said, Comes, first_fault, events_of, ends_over, opened}
 use Rattle.replay_tool.specs.Replay.{Streams, Got, IsAll, Stopped}
@@ -61,3 +63,10 @@ pub record Reached (o : Settings) (run : Run) (start now : Streams) (calls : ℕ
 abbrev pub Turned : Settings → Option Ending → Run → Streams → Streams → ℕ → Type 0
 Turned o None run start now calls = Reached o run start now (suc calls)
 Turned o (Some ending) run start now calls = Stopped o ending run.text.text start now
+
+-- why a turn or a run stopped: the counts of faults before and after of the input and of the output
+pub record Causes (answer : Option Ending) (read_old read_new written_old written_new : ℕ) : Type 0 where
+  pub reads : read_old ≤ read_new
+  pub writes : written_old ≤ written_new
+  pub reading : answer ≡ Some endings.ReadingFailed → Rose read_old read_new
+  pub writing : answer ≡ Some endings.WritingFailed → Rose written_old written_new
