@@ -13,4 +13,4 @@ loop-scripted-preserved g c = λ blocks input0 output0 calls h.
     (suc i.0, omega (arith, i.1), c.in_default.ensures.after blocks input0 output0 i.0 i.2)
 
 pub returns : goal.returns
-returns g c = λ blocks input0 output0 calls h. (c.is_ready.ensures.waits c.loop-scripted-test.false, c.loop-scripted.invariant blocks input0 output0 calls h)
+returns g c = λ blocks input0 output0 calls h. (c.is_ready.ensures.waiting c.loop-scripted-test.false, c.loop-scripted.invariant blocks input0 output0 calls h)

@@ -1,0 +1,82 @@
+-- When a core stands for a trace.
+use Rattle.std.specs.Prelude.{◌≡◌, ℕ, ◌≤◌, List, [], ◌∷◌, ◌++◌, map, length, Bool, true, false, ◌||◌, None, IfSome}
+use Rattle.std.specs.List.{flat_map}
+use Rattle.line_io.specs.Event.{Event}
+use Rattle.line_io.specs.Out.{Text}
+use Rattle.cecp_lines.specs.Replies.{Told}
+use Rattle.policy_rules.specs.declared.settings.Settings.{Settings}
+use Rattle.policy_rules.specs.Policy.{IsProper}
+use Rattle.search_epochs.specs.Talk.{Engine, Boot, Search}
+use Rattle.search_epochs.specs.Talk.{is_move}
+use Rattle.search_epochs.specs.View as dialogue
+use Rattle.search_epochs.specs.View.{kept, mid_view, owed_view}
+use Rattle.desk_rules.specs.Desk.{Here, is_gone}
+use Rattle.desk_rules.specs.Steps.{Deed, comes, what_of, rises, call_after, replies_of, is_death}
+use Rattle.adapter_core.specs.Ends.{ends_after, is_open}
+use Rattle.adapter_core.specs.View.{View, here, choice, orders_of}
+use Rattle.adapter_core.specs.Trace.{State, Step, Lawful, state, event_in, iface_text, engine_text}
+
+-- what the core keeps of a state, where these are the lines of the last step
+abbrev pub view_of : State → Text → Text → View
+view_of s told ordered = record { settings = s.settings; ends = s.ends; desk = s.desk; talk = kept s.talk None; told = told; ordered = ordered }
+
+abbrev pub TicketIsWithin : ℕ → Engine → Type 0
+TicketIsWithin epoch (Search k t s) = t ≤ epoch
+TicketIsWithin epoch e = Unit {0}
+
+-- no search is open
+abbrev pub IsQuiet : Engine → Type 0
+IsQuiet (Search k t s) = ⊥
+IsQuiet e = Unit {0}
+
+-- what holds after each lawful trace
+pub record Holds (s : State) : Type 0 where
+  -- before Open nothing was written
+  pub begins : s.ends.opened ≡ false → s.talk.engine ≡ Boot
+  pub ticket : TicketIsWithin s.talk.epoch s.talk.engine
+  pub last : IfSome s.talk.last (λ t. t ≤ s.talk.epoch)
+  -- no event asks for an order yet, and nothing is called for
+  pub held : s.held ≡ []
+  pub quiet : IsQuiet s.talk.engine
+
+-- The core stands for the trace.
+abbrev pub Stands : Settings → View → List Step → Type 0
+Stands o core trace = (core ≡ view_of (state o trace) core.told core.ordered) × Holds (state o trace)
+
+-- What holds of the core itself, whatever it stands for.
+pub record Keeps (v : View) : Type 0 where
+  pub settings : IsProper v.settings
+  pub pings : length v.desk.pings ≤ 64
+  pub told : v.told.room ≡ 131072
+  pub ordered : v.ordered.room ≡ 131072
+
+-- the step that an event gives, by what stood, what came of the event and what the dialogue is then
+abbrev pub step_at : Here → Deed → View → Event → dialogue.View → Step
+step_at h d v e m = record {
+  event = e;
+  replies = replies_of (ends_after v.ends e).closed (is_move (owed_view m (call_after (ends_after v.ends e).closed h d))) h d;
+  orders = orders_of (is_open e) v.ends.closed (ends_after v.ends e).closed (is_gone h.engine || is_death d) (choice (is_open e) (ends_after v.ends e).closed h d m);
+}
+
+abbrev pub step_of : Here → Deed → View → Event → Step
+step_of h d v e = step_at h d v e (mid_view v.talk (what_of d) (rises h d))
+
+unfoldable pub step_by : View → Event → Step
+step_by v e = step_of (here v) (comes (here v) [] e) v e
+
+-- two lawful traces with the same settings and the same events are equal
+abbrev pub IsOneDialogue : Settings → Type 0
+IsOneDialogue o = (t t' : List Step) → Lawful o t → Lawful o t' → map event_in t ≡ map event_in t' → t ≡ t'
+
+-- There is a step of this event with these lines. It extends each lawful trace that the core stood for, and then the core stands for that.
+pub record Extends (old new : View) (e : Event) (iface engine : List ℕ) : Type 0 where
+  pub step : Step
+  pub event : step.event ≡ e
+  pub iface_is : iface ≡ iface_text step
+  pub engine_is : engine ≡ engine_text step
+  pub extends : (o : Settings) (t : List Step) → Lawful o t → Stands o old t → Lawful o (step ∷ t) × Stands o new (step ∷ t)
+
+-- the text is whole lines, each ended by a line feed
+pub record AreLines (text : List ℕ) : Type 0 where
+  pub lines : List (List ℕ)
+  pub text_is : text ≡ flat_map (λ line. line ++ 10 ∷ []) lines

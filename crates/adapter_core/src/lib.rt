@@ -1,0 +1,9 @@
+//! The core of the adapter: one event in, lines to both peers out.
+#![tactic(auto)]
+
+mod ends;
+mod session;
+mod steps;
+
+pub use ends::Ends;
+pub use session::{Core, Step, one_dialogue};

@@ -1,0 +1,205 @@
+// The core of a session.
+ghost use Rattle.std.specs.Prelude.{◌≡◌, ◌≤◌, [], length, true, IfOk};
+ghost use Rattle.std.specs.Borrow.{sem};
+ghost use Rattle.line_io.specs.Event.{event_of};
+ghost use Rattle.line_io.specs.Out.{empty};
+ghost use Rattle.policy_rules.specs.Policy.{IsProper};
+ghost use Rattle.desk_rules.specs.Desk.{at};
+ghost use Rattle.desk_rules.specs.Steps.{deed_of, rises as epoch_rises, desk_after_deed, comes};
+ghost use Rattle.adapter_core.specs.Ends.{may, is_over};
+ghost use Rattle.adapter_core.specs.View.{opening, IsReadyFor};
+
+use crate::Ends;
+use crate::steps::{choose, hear, is_boots, is_death, is_move, is_open, put_orders, settle_pings, tell};
+use desk_rules::{Deed, Desk, Pings, Sight, is_gone};
+use line_io::{Event, NoMemory, Out};
+use policy_rules::Settings;
+use search_epochs::{Dialogue, EngineState};
+use std::alloc::Global;
+use std::marker::Model;
+
+const ROOM: usize = 131_072;
+
+// The parts of the core.
+#[derive(Drop)]
+pub(crate) struct Parts {
+    settings: Settings,
+    ends: Ends,
+    desk: Desk,
+    talk: Dialogue,
+    told: Out,
+    ordered: Out,
+}
+
+impl Parts {
+    ghost use Rattle.adapter_core.specs.View.{advance, advance_from, here};
+
+    // Takes an event.
+    #[tactic(auto, unfolding(crate::specs::View::advance))]
+    fn take(&mut self, event: &Event)
+        requires { IsReadyFor (here self.old) self.old (comes (here self.old) [] (event_of event.now)) }
+        ensures { self.new ≡ advance self.old (event_of event.now) }
+    {
+        self.told.clear();
+        self.ordered.clear();
+        let sight = Sight {
+            closed: self.ends.closed,
+            engine: self.talk.state(),
+            spent: self.talk.is_spent(),
+        };
+        let deed = self.desk.comes(sight, event);
+        let rises = self.desk.rises(sight, &deed);
+        hear(&mut self.talk, &deed, rises);
+        self.go_on(sight, &deed, event);
+    }
+
+    // Goes on from what came of the event, and what the dialogue is then.
+    fn go_on(&mut self, sight: Sight, deed: &Deed, event: &Event)
+        requires ready { IsReadyFor (at sight self.old.desk) self.old (deed_of deed.now) }
+        requires told { self.old.told ≡ empty 131072 }
+        requires ordered { self.old.ordered ≡ empty 131072 }
+        ensures { self.new ≡ advance_from (at sight self.old.desk) (deed_of deed.now) (event_of event.now) self.old self.old.talk }
+    {
+        let closed = self.ends.closed;
+        self.ends = self.ends.after(event);
+        let gone = is_gone(sight.engine) || is_death(deed);
+        tell(&self.desk, sight, deed, self.ends.closed, &mut self.told);
+        self.desk.take(sight, deed);
+        let call = self.desk.call(self.ends.closed, gone);
+        let owes = is_move(self.talk.owed(call));
+        let opens = is_open(event);
+        let rests = opens || self.ends.closed;
+        let orders = choose(&mut self.talk, rests, call, is_boots(deed));
+        settle_pings(&mut self.desk, self.ends.closed, owes, &mut self.told);
+        put_orders(
+            opens,
+            closed,
+            self.ends.closed,
+            gone,
+            orders,
+            &mut self.ordered,
+        );
+    }
+}
+
+/// The core of a session: it takes what happens, and gives the lines to both peers.
+#[derive(Drop)]
+pub struct Core {
+    parts: Parts,
+}
+
+impl Model for Core {
+    ghost use Rattle.adapter_core.specs.View.{View};
+    ghost use Rattle.adapter_core.specs.Stands.{Keeps};
+
+    ghost Value = { View };
+
+    ghost view = { λ c. c.parts };
+
+    ghost invariant = { λ c. Keeps c.parts };
+}
+
+/// What a step wrote to both peers: whole lines, each with its line feed.
+#[derive(Clone, Copy)]
+pub struct Step<'a> {
+    pub iface: &'a [u8],
+    pub engine: &'a [u8],
+}
+
+impl Core {
+    ghost use Rattle.adapter_core.specs.View.{advance};
+    ghost use Rattle.adapter_core.specs.Stands.{Stands, AreLines};
+    ghost use Rattle.adapter_core.specs.Lending.{StepsOn};
+
+    /// A core before its first step. It takes all memory that it ever uses.
+    pub fn make(alloc: Global, settings: &Settings) -> Result<Core, NoMemory>
+        requires { IsProper settings.now }
+        ensures new { IfOk result (λ core. core ≡ opening settings.now) }
+        ensures stands { IfOk result (λ core. Stands settings.now core []) }
+    {
+        let parts = make_parts(alloc, *settings)?;
+        Ok(Core { parts })
+    }
+
+    /// Whether the event may come.
+    pub fn may(&self, event: &Event) -> bool
+        ensures { result ≡ may self.now.ends (event_of event.now) }
+    {
+        self.parts.ends.may(event)
+    }
+
+    /// One step: for each lawful trace that the core stands for, the lines extend it.
+    pub fn step<'a>(&'a mut self, event: &Event) -> Step<'a>
+        requires { may self.old.ends (event_of event.now) ≡ true }
+        ensures* steps { sem 𝓛 (StepsOn self.entry (event_of event.now) result) }
+        ensures iface_room { length result.iface.now ≤ 131072 }
+        ensures engine_room { length result.engine.now ≤ 131072 }
+    {
+        self.take(event);
+        self.lines()
+    }
+
+    /// The state of the engine: an open search is stale where its ticket is not the epoch.
+    pub fn engine(&self) -> EngineState
+        ensures { result ≡ self.now.talk.state }
+    {
+        self.parts.talk.state()
+    }
+
+    /// Whether both sides have ended.
+    pub fn over(&self) -> bool
+        ensures { result ≡ is_over self.now.ends }
+    {
+        self.parts.ends.iface && self.parts.ends.engine
+    }
+
+    fn take(&mut self, event: &Event)
+        requires { may self.old.ends (event_of event.now) ≡ true }
+        ensures { self.new ≡ advance self.old (event_of event.now) }
+    {
+        self.parts.take(event);
+    }
+
+    fn lines(&self) -> Step<'_>
+        ensures iface { result.iface.now ≡ self.now.told.text }
+        ensures engine { result.engine.now ≡ self.now.ordered.text }
+        ensures iface_room { length result.iface.now ≤ 131072 }
+        ensures engine_room { length result.engine.now ≤ 131072 }
+    {
+        Step {
+            iface: self.parts.told.bytes(),
+            engine: self.parts.ordered.bytes(),
+        }
+    }
+}
+
+fn make_parts(alloc: Global, settings: Settings) -> Result<Parts, NoMemory>
+    ensures { IfOk result (λ parts. parts ≡ opening settings) }
+{
+    Ok(Parts {
+        settings,
+        ends: Ends {
+            opened: false,
+            iface: false,
+            engine: false,
+            iface_lost: false,
+            engine_lost: false,
+            closed: false,
+        },
+        desk: Desk {
+            pings: Pings::make(alloc)?,
+        },
+        talk: Dialogue::new(),
+        told: Out::make(alloc, ROOM)?,
+        ordered: Out::make(alloc, ROOM)?,
+    })
+}
+
+ghost use Rattle.adapter_core.specs.Stands.{IsOneDialogue};
+
+/// A law: two lawful traces with the same settings and the same events are equal.
+pub fn one_dialogue(settings: Settings)
+    ensures { IsOneDialogue settings }
+{
+    let _ = settings;
+}

@@ -1,0 +1,4 @@
+pub mod Desk
+pub mod Lines
+pub mod Steps
+pub mod Texts

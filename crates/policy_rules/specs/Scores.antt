@@ -1,0 +1,56 @@
+-- What the policy says of the scores of the moves that the engine showed.
+use Rattle.std.specs.Prelude.{◌≡◌, ◌+◌, ℕ, zero, suc, ℤ, ◌≤ℤ◌, int_le, pos, neg_ℤ, List, [], ◌∷◌, Bool, true, false, if◌then◌else◌, nat_lt, Option, Some, None}
+use Rattle.policy_rules.specs.declared.settings.Settings.{Settings}
+use Rattle.policy_rules.specs.declared.scores.Scores.{Scores}
+
+-- a score in hundredths of a pawn, or none: a move may be shown without one
+abbrev pub Score : Type 0
+Score = Option ℤ
+
+-- the score is there and at most the bound
+abbrev pub AtMost : ℤ → Score → Type 0
+AtMost bound None = ⊥
+AtMost bound (Some score) = score ≤ℤ bound
+
+-- The last n scores, of which the newest stands first, are there and at most the bound.
+abbrev pub LastAtMost : ℕ → ℤ → List Score → Type 0
+LastAtMost zero bound scores = Unit {0}
+LastAtMost (suc n) bound [] = ⊥
+LastAtMost (suc n) bound (score ∷ scores) = AtMost bound score × LastAtMost n bound scores
+
+-- what counts as lost
+abbrev pub lost_bound : Settings → ℤ
+lost_bound settings = neg_ℤ (pos settings.resign_score)
+
+-- resigning is on, and the last scores are all lost
+abbrev pub Resigns : Settings → List Score → Type 0
+Resigns settings scores = (settings.resign ≡ true) × LastAtMost settings.resign_moves (lost_bound settings) scores
+
+-- none of the last scores is better than even
+abbrev pub AcceptsDraw : Settings → List Score → Type 0
+AcceptsDraw settings scores = LastAtMost settings.resign_moves (pos 0) scores
+
+abbrev pub is_at_most : ℤ → Score → Bool
+is_at_most bound None = false
+is_at_most bound (Some score) = int_le score bound
+
+-- how many of the last scores pass one after the other, counted to 1,000
+abbrev pub run_after : Bool → ℕ → ℕ
+run_after passes run = if passes then (if nat_lt run 1000 then run + 1 else run) else 0
+
+-- before a move is shown
+abbrev pub no_scores : Settings → Scores
+no_scores settings = record { settings = settings; lost = 0; level = 0 }
+
+-- after one move more
+abbrev pub after_shown : Scores → Score → Scores
+after_shown counts score = record {
+  settings = counts.settings;
+  lost = run_after (is_at_most (lost_bound counts.settings) score) counts.lost;
+  level = run_after (is_at_most (pos 0) score) counts.level;
+}
+
+-- the counts that stand for a list of scores, of which the newest stands first
+abbrev pub counted : Settings → List Score → Scores
+counted settings [] = no_scores settings
+counted settings (score ∷ scores) = after_shown (counted settings scores) score

@@ -1,0 +1,5 @@
+mod Marks
+mod Pieces
+mod Lines
+mod Turns
+mod Written

@@ -1,0 +1,67 @@
+-- What is written of a script.
+use Rattle.std.proofs.Common.{◌≡◌, ℕ, ◌+◌, List, [], ◌∷◌, ◌++◌, take, length, Option, Result, OnErr, OnOk, Err, Ok, true, false, refl, sym, ap, subst, ◌∙◌, append-nil}
+use Rattle.std.proofs.Math.Seq.{take-append-add}
+use Rattle.std.specs.Io.KnownBytes.{Appends}
+use Rattle.std.specs.Result.{is_err}
+use Rattle.std.proofs.KnownBytes.{Appends-trans}
+use Rattle.line_io.specs.Event.{Event, Open}
+use Rattle.line_io.specs.Lines.{Piece}
+use Rattle.line_io.specs.Out.{Text, empty}
+use Rattle.line_io.specs.Source.{TakesPrefix}
+use Rattle.policy_rules.specs.declared.settings.Settings.{Settings}
+use Rattle.session_script.specs.Script.{script, events}
+use Rattle.replay_tool.specs.declared.ending.Ending.{Ending}
+use Rattle.replay_tool.specs.declared.ending.Ending.TheVariants as endings
+use Rattle.replay_tool.specs.declared.run.Run.{Run}
+use Rattle.replay_tool.specs.Replay.{Streams, streams, AreFirst, Scripted, ReplaysAll, ReplaysTo, ReplaysWhole, CutShort, Stopped}
+use Rattle.replay_tool.specs.Reached.{Reached, with_text}
+use Rattle.replay_tool.proofs.Turns.{are_first}
+
+pub on_err : {T E : Type 0} (r : Result T E) (P : Type 0) → OnErr r P → is_err r ≡ true → P
+on_err (Ok v) P h e = cc
+on_err (Err x) P h e = h
+
+pub on_ok : {T E : Type 0} (r : Result T E) (P : Type 0) → OnOk r P → is_err r ≡ false → P
+on_ok (Ok v) P h e = h
+on_ok (Err x) P h e = cc
+
+-- the text was written
+pub flushed : (o : Settings) (run run' : Run) (start now : Streams) (calls : ℕ) (taken : Option (List ℕ)) → Reached o run start now calls → Appends now.taken taken run.text.text
+    → run' ≡ with_text run (empty run.text.room) → Reached o run' start (streams now.given now.left taken) calls
+flushed o run run' start now calls taken r a e = subst (λ (x : Run). Reached o x start (streams now.given now.left taken) calls) (sym e) (record {
+  got = r.got;
+  lines = r.lines;
+  runs = r.runs;
+  reads = record { given = r.reads.given; left = r.reads.left };
+  ended = r.ended;
+  fine = r.fine;
+  number = r.number;
+  ends = r.ends;
+  trace = r.trace;
+  lawful = r.lawful;
+  stands = r.stands;
+  events_are = r.events_are;
+  written = r.written ++ run.text.text;
+  appended = Appends-trans start.taken now.taken taken r.written run.text.text r.appended a;
+  script_is = append-nil (r.written ++ run.text.text) ∙ r.script_is;
+  room = r.room;
+})
+
+-- a front of what was not written was written
+cut : (o : Settings) (lines : List Piece) (unwritten : List ℕ) (start now : Streams) (taken : Option (List ℕ)) → AreFirst start.left lines → Scripted o unwritten start now lines → TakesPrefix now.taken taken unwritten
+    → CutShort o start (streams now.given now.left taken)
+cut o lines unwritten start now taken f s t = record {
+  lines = lines;
+  first = f;
+  trace = s.trace;
+  lawful = s.lawful;
+  events_are = s.events_are;
+  front = length s.written + t.0;
+  appended = subst (Appends start.taken taken) (sym (take-append-add s.written unwritten t.0) ∙ ap (take (length s.written + t.0)) s.script_is) (Appends-trans start.taken now.taken taken s.written (take t.0 unwritten) s.appended t.1);
+}
+
+pub cut_reached : (o : Settings) (run : Run) (start now : Streams) (calls : ℕ) (taken : Option (List ℕ)) → Reached o run start now calls → TakesPrefix now.taken taken run.text.text
+    → CutShort o start (streams now.given now.left taken)
+cut_reached o run start now calls taken r t =
+    cut o r.lines run.text.text start now taken (are_first start now run.lines r.got r.lines calls r.runs r.reads r.ended)
+    (record { trace = r.trace; lawful = r.lawful; events_are = r.events_are; written = r.written; appended = r.appended; script_is = r.script_is }) t

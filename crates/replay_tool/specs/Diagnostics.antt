@@ -1,0 +1,36 @@
+-- The statuses and their diagnostics.
+use Rattle.std.specs.Prelude.{ℕ, List, [], ◌∷◌, ◌++◌, codes, decimal}
+use Rattle.replay_tool.specs.declared.ending.Ending.{Ending}
+use Rattle.replay_tool.specs.declared.ending.Ending.TheVariants as endings
+
+abbrev pub code_of : Ending → ℕ
+code_of endings.Done = 0
+code_of endings.Usage = 2
+code_of (endings.NoMark n) = 2
+code_of (endings.MayNotCome n) = 2
+code_of endings.NoMemory = 3
+code_of endings.ReadingFailed = 4
+code_of endings.WritingFailed = 5
+code_of endings.TooLong = 6
+
+abbrev pub one_line : List ℕ → List ℕ
+one_line text = text ++ 10 ∷ []
+
+-- what stands in a diagnostic behind the number of a line, or all of it
+abbrev pub tail_of : Ending → List ℕ
+tail_of endings.Done = []
+tail_of endings.Usage = one_line (codes "replay: usage")
+tail_of (endings.NoMark n) = one_line (codes " has no mark")
+tail_of (endings.MayNotCome n) = one_line (codes " may not come here")
+tail_of endings.NoMemory = one_line (codes "replay: no memory")
+tail_of endings.ReadingFailed = one_line (codes "replay: reading failed")
+tail_of endings.WritingFailed = one_line (codes "replay: writing failed")
+tail_of endings.TooLong = one_line (codes "replay: input too long")
+
+abbrev pub line_fault : ℕ → List ℕ → List ℕ
+line_fault n tail = codes "replay: line " ++ decimal n ++ tail
+
+abbrev pub diagnostic : Ending → List ℕ
+diagnostic (endings.NoMark n) = line_fault n (tail_of (endings.NoMark n))
+diagnostic (endings.MayNotCome n) = line_fault n (tail_of (endings.MayNotCome n))
+diagnostic e = tail_of e

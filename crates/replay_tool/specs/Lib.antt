@@ -1,0 +1,4 @@
+pub mod Diagnostics
+pub mod Reading
+pub mod Replay
+pub mod Reached

@@ -1,0 +1,7 @@
+//! Replays recorded sessions.
+#![tactic(auto)]
+
+mod ending;
+
+mod run;
+

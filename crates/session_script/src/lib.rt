@@ -1,0 +1,6 @@
+//! The script of a session: what happened and what was written, line by line.
+#![tactic(auto)]
+
+mod script;
+
+pub use script::put_step;
