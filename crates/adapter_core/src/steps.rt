@@ -107,6 +107,7 @@ fn put_order(order: &Order, out: &mut Out)
 }
 
 // Puts the orders of a step.
+#[tactic(auto, unfolding(uci_lines::specs::Orders::command_text))]
 pub fn put_orders(
     opens: bool,
     closed: bool,

@@ -136,6 +136,16 @@ IsReply (Thinking depth score time nodes hint pv) = IfSome hint IsWritable × Ar
 IsReply (Stat01 time nodes depth left all current) = IfSome current IsWritable
 IsReply _ = Unit {0}
 
+-- the moves of a reply can be written
+abbrev pub HasWritableMoves : Told → Type 0
+HasWritableMoves (Move m) = IsWritable m
+HasWritableMoves (Illegal m) = IsWritable m
+HasWritableMoves (IllegalLong m) = IsWritable m
+HasWritableMoves (Hint m) = IsWritable m
+HasWritableMoves (Thinking depth score time nodes hint pv) = IfSome hint IsWritable
+HasWritableMoves (Stat01 time nodes depth left all current) = IfSome current IsWritable
+HasWritableMoves _ = Unit {0}
+
 -- the numbers are those of the fields' types
 abbrev pub Fits : Told → Type 0
 Fits (Pong n) = n < 2 ^ 32

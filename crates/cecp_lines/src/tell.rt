@@ -3,7 +3,7 @@ ghost use Rattle.std.specs.Prelude.{◌≡◌, ◌+◌, ◌≤◌, ◌++◌, len
 ghost use Rattle.std.specs.Fmt.{signed_decimal};
 ghost use Rattle.line_io.specs.Out.{with};
 ghost use Rattle.chess_board.specs.Text.{text_of};
-ghost use Rattle.cecp_lines.specs.Replies.{told_of, told_text, reason_text, tell_text, outcome_text, hint_text, current_text, field, IsReply, IsWritable};
+ghost use Rattle.cecp_lines.specs.Replies.{told_of, told_text, reason_text, tell_text, outcome_text, hint_text, current_text, field, HasWritableMoves, IsWritable};
 
 use crate::reply::{Outcome, Reason, Reply, Tell};
 use chess_board::{Move, write_move};
@@ -112,7 +112,7 @@ fn put_current(current: Option<Move>, out: &mut Out)
 
 /// Writes the text of a reply, without a line feed.
 pub fn write_reply(reply: &Reply, out: &mut Out)
-    requires form { IsReply (told_of reply.now) }
+    requires moves { HasWritableMoves (told_of reply.now) }
     requires room { length out.old.text + length (told_text (told_of reply.now)) ≤ out.old.room }
     ensures { out.new ≡ with out.old (told_text (told_of reply.now)) }
 {

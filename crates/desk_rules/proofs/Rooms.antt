@@ -22,9 +22,15 @@ pub trimmed_le : (xs : List ℕ) → length (trimmed xs) ≤ length xs
 trimmed_le xs = omega (arith, left_le xs, right_le (trim_left xs))
 
 -- a refusal is little longer than its line
-pub error_le : (reason : Reason) (line : List ℕ) → length (told_line (Error reason line)) ≤ length line + 26
+pub error_le : (reason : Reason) (line : List ℕ) → length (told_line (Error reason line)) ≤ length line + 28
 error_le reasons.UnknownCommand line = omega (arith, length-append line (10 ∷ []))
 error_le reasons.BadArgument line = omega (arith, length-append line (10 ∷ []))
+error_le reasons.EngineEnded line = omega (arith, length-append line (10 ∷ []))
+error_le reasons.NotAnalyzing line = omega (arith, length-append line (10 ∷ []))
+error_le reasons.NoMoveToUndo line = omega (arith, length-append line (10 ∷ []))
+error_le reasons.UnknownOption line = omega (arith, length-append line (10 ∷ []))
+error_le reasons.BadValue line = omega (arith, length-append line (10 ∷ []))
+error_le reasons.TooManySettings line = omega (arith, length-append line (10 ∷ []))
 error_le reasons.TooManyPings line = omega (arith, length-append line (10 ∷ []))
 error_le reasons.LineTooLong line = omega (arith, length-append line (10 ∷ []))
 

@@ -1,19 +1,21 @@
 // The lines to the interface.
 ghost use Rattle.std.specs.Prelude.{◌≡◌, ◌+◌, ◌*◌, ◌≤◌, length, map};
 ghost use Rattle.line_io.specs.Out.{empty, with};
-ghost use Rattle.cecp_lines.specs.Replies.{told_of};
+ghost use Rattle.cecp_lines.specs.Replies.{told_of, HasWritableMoves};
 ghost use Rattle.cecp_lines.specs.Replies as told;
 ghost use Rattle.desk_rules.specs.Desk.{at};
 ghost use Rattle.desk_rules.specs.Steps.{deed_of, row};
 ghost use Rattle.desk_rules.specs.Texts.{told_line, told_lines, IsShort};
 
 use crate::{Deed, Desk, Sight};
-use cecp_lines::{Reason, Reply, Tell, trim, write_reply};
+use cecp_lines::{Reason, Reply, Tell, write_reply};
 use line_io::Out;
+use peer_words::trim;
 
 // Puts a reply and its line feed.
 fn put_reply(reply: &Reply, out: &mut Out)
-    requires { length out.old.text + length (told_line (told_of reply.now)) ≤ out.old.room }
+    requires moves { HasWritableMoves (told_of reply.now) }
+    requires room { length out.old.text + length (told_line (told_of reply.now)) ≤ out.old.room }
     ensures { out.new ≡ with out.old (told_line (told_of reply.now)) }
 {
     write_reply(reply, out);

@@ -8,8 +8,8 @@ use Rattle.desk_rules.specs.declared.deed.Deed as code
 use Rattle.desk_rules.proofs.Rooms.{error_le, trimmed_le}
 use Rattle.desk_rules.proofs.desk.Desk.put_row.Goals as goal
 
-pub put_reply-requires : goal.put_reply-requires
-put_reply-requires c =
+pub put_reply-requires-clause-room : goal.put_reply-requires-clause-room
+put_reply-requires-clause-room c =
     let room = ap (λ (t : Text). t.room) c.requires.empty in
     let none = ap (λ (t : Text). length t.text) c.requires.empty in
     let line : length c.in-Refuses.line.now ≤ 65536 = subst (λ (d : code.Deed). IsShort (deed_of d)) c.in-Refuses.is c.requires.short in
