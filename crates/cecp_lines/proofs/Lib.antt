@@ -7,3 +7,4 @@ pub mod Complete
 pub mod Answered
 pub mod Fronts
 pub mod Plain
+pub mod Hears
