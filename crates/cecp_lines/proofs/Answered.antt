@@ -1,10 +1,10 @@
 -- The clauses on what was read, from the function that gives it.
-use Rattle.std.proofs.Common.{◌≡◌, ℕ, List, Result, Ok, Err, refl, sym, ap, ◌∙◌}
+use Rattle.std.proofs.Common.{◌≡◌, ℕ, List, Result, Ok, Err, sym, ap, ◌∙◌}
 use Rattle.std.specs.Prelude.{◌↔◌}
 use Rattle.cecp_lines.specs.declared.iface.IfaceMsg.{IfaceMsg}
 use Rattle.cecp_lines.specs.declared.iface.IfaceFault.{IfaceFault}
 use Rattle.cecp_lines.specs.declared.iface.IfaceFault.TheVariants.{UnknownCommand, BadArgument}
-use Rattle.cecp_lines.specs.Messages.{Message, message_of, read_as}
+use Rattle.cecp_lines.specs.Messages.{Message, read_as}
 use Rattle.cecp_lines.specs.Reading.{reading, Spells, IsUnknown, IsBad}
 use Rattle.cecp_lines.proofs.Spellings.{reading_spells}
 use Rattle.cecp_lines.proofs.Complete.{spells_reading, reading_unknown, unknown_reading, reading_bad, bad_reading}

@@ -1,6 +1,6 @@
 -- What a line spells is read of it, and the faults are exact.
-use Rattle.std.proofs.Common.{◌≡◌, ℕ, ℤ, ◌+◌, ◌<◌, ◌≤◌, List, [], ◌∷◌, Bool, true, false, ltb, leb, cond, length, Option, Some, None, Result, Ok, Err, refl, sym, ap, ◌∙◌, subst, inl, inr, arith}
-use Rattle.std.specs.Prelude.{codes, position, ◌↔◌}
+use Rattle.std.proofs.Common.{◌≡◌, ℕ, ◌<◌, ◌≤◌, List, [], ◌∷◌, true, false, leb, cond, length, Option, Some, None, Result, Ok, Err, refl, sym, ap, ◌∙◌, inl, inr, arith}
+use Rattle.std.specs.Prelude.{codes, position}
 use Rattle.std.specs.Option.{option_map, option_and_then, ok_or}
 use Rattle.std.proofs.lemmas.Bool.Decides.{nat_tests}
 use Rattle.chess_board.specs.declared.board.Move.{Move}
@@ -11,15 +11,13 @@ use Rattle.cecp_lines.specs.declared.iface.IfaceFault.{IfaceFault}
 use Rattle.cecp_lines.specs.declared.iface.IfaceFault.TheVariants.{UnknownCommand, BadArgument}
 use Rattle.cecp_lines.specs.declared.words.Command.{Command}
 use Rattle.cecp_lines.specs.declared.words.Command.TheVariants.{Ignored, Bare, With}
-use Rattle.cecp_lines.specs.declared.words.Verb.{Verb}
-use Rattle.cecp_lines.specs.declared.words.Verb.TheVariants as verbs
 use Rattle.cecp_lines.specs.Messages as says
 use Rattle.cecp_lines.specs.Messages.{Message, message_of}
 use Rattle.cecp_lines.specs.Moves.{move_of}
 use Rattle.cecp_lines.specs.Words.{command_of, is_ignored}
-use Rattle.cecp_lines.specs.Reading.{is_empty, only_token, version, base_time, level_of, is_equals, name_at, value_at, setting_of, argument, move_or_unknown, other_line, command_line, reading, HasArgument, HasLevel, HasMove, HasSetting, IsMoveAlone, Spells, IsUnknown, IsBad, SpellsOneMessage}
+use Rattle.cecp_lines.specs.Reading.{is_empty, only_token, version, base_time, level_of, is_equals, value_at, setting_of, argument, move_or_unknown, other_line, command_line, reading, HasArgument, HasLevel, HasMove, HasSetting, IsMoveAlone, Spells, IsUnknown, IsBad, SpellsOneMessage}
 use Rattle.cecp_lines.proofs.Spelled.{move_spells, spells_move}
-use Rattle.cecp_lines.proofs.LineTokens.{Heads, heads, no_tokens, alone, two, tokens_word, empty_is}
+use Rattle.cecp_lines.proofs.LineTokens.{heads, no_tokens, alone, two, tokens_word}
 use Rattle.cecp_lines.proofs.Tables.{move_no_command, ignored_command}
 use Rattle.cecp_lines.proofs.Spellings.{reading_spells}
 

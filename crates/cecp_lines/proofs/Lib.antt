@@ -6,3 +6,5 @@ pub mod Spellings
 pub mod Complete
 pub mod Answered
 pub mod Fronts
+pub mod Plain
+pub mod Hears

@@ -1,7 +1,6 @@
 -- A line's tokens against its first token and the rest.
-use Rattle.std.proofs.Common.{◌≡◌, ℕ, List, [], ◌∷◌, Bool, true, false, cond, Option, Some, None, drop, refl, sym, ap, ◌∙◌}
-use Rattle.std.specs.Str.{bytes_eq}
-use Rattle.peer_words.specs.Tokens.{first_token, rest, trimmed, tokens, trim_left, token_end}
+use Rattle.std.proofs.Common.{◌≡◌, ℕ, List, [], ◌∷◌, Bool, true, false, cond, Some, None, drop, refl, sym, ap, ◌∙◌}
+use Rattle.peer_words.specs.Tokens.{first_token, rest, tokens, trim_left, token_end}
 use Rattle.peer_words.proofs.Trims.{trim_left_trimmed}
 use Rattle.peer_words.proofs.TokenLists.{tokens_some, tokens_none, no_first}
 use Rattle.cecp_lines.specs.Reading.{is_empty, only_token}

@@ -1,6 +1,5 @@
 -- A move that a text spells has a text.
-use Rattle.std.proofs.Common.{◌≡◌, inl, inr, ℕ, Bool, true, false, cond, List, [], ◌∷◌, Option, Some, None, sym, subst, refl}
-use Rattle.chess_board.specs.declared.board.Kind.{Kind}
+use Rattle.std.proofs.Common.{◌≡◌, inl, inr, ℕ, Bool, true, false, cond, List, [], ◌∷◌, Option, Some, None, sym, subst}
 use Rattle.chess_board.specs.declared.board.Kind.TheVariants.{Knight, Bishop, Rook, Queen}
 use Rattle.std.specs.Prelude.{IfSome}
 use Rattle.chess_board.specs.declared.board.Move.{Move}
@@ -21,7 +20,7 @@ chosen false false false false = tt
 officer : (letter : ℕ) → IsOfficer (promotion_of letter)
 officer letter = chosen _ _ _ _
 
-spelled_officer : (text : List ℕ) (m : Move) → MoveSpells text m → IsOfficer m.promo
+pub spelled_officer : (text : List ℕ) (m : Move) → MoveSpells text m → IsOfficer m.promo
 spelled_officer [] m h = absurd h
 spelled_officer (f ∷ []) m h = absurd h
 spelled_officer (f ∷ r ∷ []) m h = absurd h

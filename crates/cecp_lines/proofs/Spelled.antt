@@ -1,14 +1,12 @@
 -- A text spells a move exactly where the function gives it.
-use Rattle.std.proofs.Common.{◌≡◌, ℕ, ◌+◌, ◌-◌, ◌*◌, ◌<◌, ◌≤◌, Bool, true, false, ◌&&◌, ltb, leb, cond, List, [], ◌∷◌, Option, Some, None, refl, sym, ap, ◌∙◌, arith}
+use Rattle.std.proofs.Common.{◌≡◌, ℕ, ◌+◌, ◌-◌, ◌*◌, ◌≤◌, Bool, true, false, ◌&&◌, ltb, leb, cond, List, [], ◌∷◌, Option, Some, None, refl, sym, ap, ◌∙◌, arith}
 use Rattle.std.specs.Prelude.{IsSome, IfSome, IfNone}
 use Rattle.std.proofs.lemmas.Bool.Decides.{nat_tests}
 use Rattle.chess_board.specs.declared.board.Square.{Square}
 use Rattle.chess_board.specs.declared.board.Kind.{Kind}
 use Rattle.chess_board.specs.declared.board.Move.{Move}
-use Rattle.chess_board.specs.Board.{file_of, rank_of}
 use Rattle.chess_board.specs.Text.{Spells, SquareSpells, promotion_of}
-use Rattle.chess_board.proofs.Places.{square_same, move_same}
-use Rattle.chess_board.proofs.Texts.{spells-one}
+use Rattle.chess_board.proofs.Places.{square_same}
 use Rattle.cecp_lines.specs.Moves.{square_if, square_named, move_from, promoted, move_of}
 
 if_there : (n : ℕ) (s : Square) (b : Bool) (e : ltb n 64 ≡ b) → n ≡ s.index → square_if n b e ≡ Some s

@@ -1,15 +1,13 @@
 -- What is read of a line is spelled by it, and what a line spells is read of it.
-use Rattle.std.proofs.Common.{◌≡◌, ℕ, ℤ, ◌+◌, ◌<◌, ◌≤◌, List, [], ◌∷◌, Bool, true, false, ltb, leb, cond, length, Option, Some, None, Result, Ok, Err, refl, sym, ap, ◌∙◌, subst, inl, inr, arith}
+use Rattle.std.proofs.Common.{◌≡◌, ℕ, ◌<◌, ◌≤◌, List, [], ◌∷◌, false, leb, cond, length, Option, Some, None, Ok, Err, refl, ap, ◌∙◌, subst, inl, inr, arith}
 use Rattle.std.specs.Prelude.{codes, position}
 use Rattle.std.specs.Option.{option_map, option_and_then, ok_or}
 use Rattle.std.proofs.lemmas.Bool.Decides.{nat_tests}
 use Rattle.std.proofs.lemmas.Option.{cond_some}
 use Rattle.chess_board.specs.declared.board.Move.{Move}
-use Rattle.chess_board.specs.Text.{Spells as MoveSpells}
 use Rattle.peer_words.specs.Tokens.{first_token, rest, trimmed, tokens}
 use Rattle.peer_words.specs.Numbers.{digits, number, centis, seconds}
 use Rattle.peer_words.proofs.TokenLists.{tokens_none}
-use Rattle.cecp_lines.specs.declared.iface.IfaceFault.{IfaceFault}
 use Rattle.cecp_lines.specs.declared.iface.IfaceFault.TheVariants.{UnknownCommand, BadArgument}
 use Rattle.cecp_lines.specs.declared.words.Command.{Command}
 use Rattle.cecp_lines.specs.declared.words.Command.TheVariants.{Ignored, Bare, With}
@@ -18,15 +16,15 @@ use Rattle.cecp_lines.specs.declared.words.Verb.TheVariants as verbs
 use Rattle.cecp_lines.specs.Messages as says
 use Rattle.cecp_lines.specs.Messages.{Message, message_of}
 use Rattle.cecp_lines.specs.Moves.{move_of}
-use Rattle.cecp_lines.specs.Words.{command_of, is_ignored}
-use Rattle.cecp_lines.specs.Reading.{is_empty, only_token, version, protover, base_time, level, level_of, is_equals, name_at, value_at, setting, setting_of, egt_path, argument, move_or_unknown, other_line, command_line, reading, HasArgument, HasLevel, HasMove, HasSetting, IsMoveAlone, Spells}
-use Rattle.cecp_lines.proofs.Spelled.{move_spells, spells_move}
-use Rattle.cecp_lines.proofs.LineTokens.{heads, no_tokens, rest_empty, alone, two, only, tokens_word, one_token, empty_is}
-use Rattle.cecp_lines.proofs.Tables.{verb_text, Means, found_means, move_no_command, ignored_command}
+use Rattle.cecp_lines.specs.Words.{command_of}
+use Rattle.cecp_lines.specs.Reading.{is_empty, only_token, version, protover, base_time, level, level_of, is_equals, name_at, value_at, setting_of, argument, move_or_unknown, other_line, command_line, reading, HasArgument, HasLevel, Spells}
+use Rattle.cecp_lines.proofs.Spelled.{move_spells}
+use Rattle.cecp_lines.proofs.LineTokens.{tokens_word, one_token}
+use Rattle.cecp_lines.proofs.Tables.{verb_text, found_means}
 
 -- OPTIONS
 
-bind_some : {A B : Type 0} (f : A → Option B) (o : Option A) (y : B) → option_and_then f o ≡ Some y → (x : A) × (o ≡ Some x) × (f x ≡ Some y)
+pub bind_some : {A B : Type 0} (f : A → Option B) (o : Option A) (y : B) → option_and_then f o ≡ Some y → (x : A) × (o ≡ Some x) × (f x ≡ Some y)
 bind_some f None y h = absurd (cc)
 bind_some f (Some x) y h = (x, refl, h)
 

@@ -152,3 +152,9 @@ Fits (Pong n) = n < 2 ^ 32
 Fits (Thinking depth score time nodes hint pv) = (depth < 2 ^ 64) × FitsSigned w64 score × (time < 2 ^ 64) × (nodes < 2 ^ 64)
 Fits (Stat01 time nodes depth left all current) = (time < 2 ^ 64) × (nodes < 2 ^ 64) × (depth < 2 ^ 64) × (left < 2 ^ 64) × (all < 2 ^ 64)
 Fits _ = Unit {0}
+
+-- A line is the text of a reply.
+pub record Tells (line : List ℕ) (t : Told) : Type 0 where
+  pub form : IsReply t
+  pub fits : Fits t
+  pub text : line ≡ told_text t

@@ -19,3 +19,6 @@ pub use read::read_iface;
 pub use reply::{Outcome, Reason, Reply, Tell};
 pub use tell::write_reply;
 pub use write::write_iface;
+
+#[cfg(test)]
+mod tests;

@@ -1,4 +1,4 @@
-use Rattle.std.proofs.Common.{◌∙◌, sym, ap, Some, length, drop}
+use Rattle.std.proofs.Common.{◌∙◌, sym, ap}
 use Rattle.cecp_lines.specs.Hearing.{are_moves}
 use Rattle.cecp_lines.proofs.Fronts.{moves_last, moves_skip, moves_stop}
 use Rattle.cecp_lines.proofs.hear.is_move_list.Goals as goal
