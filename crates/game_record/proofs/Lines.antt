@@ -159,3 +159,15 @@ line_fits g hint before room fits =
 pub put_three : (o p q r : Text) (a b c : List ℕ) → p ≡ with o a → q ≡ with p b → r ≡ with q c → r ≡ with o (a ++ (b ++ c))
 put_three o p q r a b c e f h =
     h ∙ ap (λ (t : Text). with t c) (f ∙ ap (λ (t : Text). with t b) e ∙ put_again o a b) ∙ put_again o (a ++ b) c ∙ ap (with o) (append_assoc a b c)
+
+at_most_one : (hint : Option Ply) → length (option_to_list hint) ≤ 1
+at_most_one None = omega arith
+at_most_one (Some m) = omega arith
+
+-- no line of a game of at most 12,000 moves has more bytes
+pub most_bytes : (g : Course) (hint : Option Ply) → IsPosition g.start → length g.moves ≤ 12000 → length (position_text g hint) ≤ 72126
+most_bytes g hint q few =
+    let short = short-law g hint q in
+    let count = length-append g.moves (option_to_list hint) in
+    let one = at_most_one hint in
+    omega arith

@@ -1,8 +1,9 @@
 //! Games.
-ghost use Rattle.std.specs.Prelude.{◌≡◌, ◌+◌, ◌<◌, ◌≤◌, ◌↔◌, length, count_by, IsErr, IfOk, OnOk, OnErr};
+ghost use Rattle.std.specs.Prelude.{◌≡◌, ◌+◌, ◌<◌, ◌≤◌, ◌↔◌, length, count_by, Option, IsErr, IfOk, OnOk, OnErr};
 ghost use Rattle.chess_board.specs.Laws.{IsLegal};
-ghost use Rattle.chess_board.specs.Play.{start_position};
-ghost use Rattle.game_record.specs.Course.{ply_of, plies_of, IsPlayable, played, AreLegal, now_of, positions_of, begun, with_ply, without_last};
+ghost use Rattle.chess_board.specs.Play.{start_position, IsPosition};
+ghost use Rattle.game_record.specs.Course.{Ply, ply_of, plies_of, IsPlayable, played, AreLegal, now_of, positions_of, begun, with_ply, without_last};
+ghost use Rattle.game_record.specs.Line.{position_text};
 ghost use Rattle.game_record.specs.Ending.{is_same, repeats_of, ended_of};
 
 use crate::ending::{End, ended_by, is_same, state_of};
@@ -138,6 +139,17 @@ impl Game {
         ensures most { result ≤ 12000 }
     {
         self.moves.len() as u32
+    }
+
+    /// What holds of every game, told to a proof. It does nothing when it runs.
+    pub fn facts(&self)
+        ensures start { IsPosition self.now.start }
+        ensures legal { AreLegal self.now.start self.now.moves }
+        ensures few { length self.now.moves ≤ 12000 }
+        ensures short { (hint : Option Ply) → length (position_text self.now hint) ≤ 72126 }
+    {
+        let _moves = self.moves.len();
+        self.start.facts();
     }
 
     /// How many positions of the game so far are the same as this one.
