@@ -94,7 +94,7 @@ before_fits p text part h =
 white_first : (b : ℕ) (bs : List ℕ) → is_white b ≡ true → first_token (b ∷ bs) ≡ first_token bs
 white_first b bs e = rw e refl
 
-black_first : (b : ℕ) (bs : List ℕ) → is_white b ≡ false → first_token (b ∷ bs) ≡ b ∷ before_first is_white bs
+pub black_first : (b : ℕ) (bs : List ℕ) → is_white b ≡ false → first_token (b ∷ bs) ≡ b ∷ before_first is_white bs
 black_first b bs e = ap (before_first is_white) (left b bs e) ∙ front-byte b bs e
   where
     left : (c : ℕ) (cs : List ℕ) → is_white c ≡ false → trim_left (c ∷ cs) ≡ c ∷ cs
@@ -113,7 +113,7 @@ along : (p : List ℕ → Bool) (w : Bool) (bs : List ℕ) (q : Part) → w ≡ 
 along p true bs q e h = absurd (cc)
 along p false bs q e h = h
 
-front_kept : (p : List ℕ → Bool) (bs : List ℕ) (part : Part) → cut p false bs ≡ Some part → before_first is_white part.before ≡ before_first is_white bs
+pub front_kept : (p : List ℕ → Bool) (bs : List ℕ) (part : Part) → cut p false bs ≡ Some part → before_first is_white part.before ≡ before_first is_white bs
 front_kept p [] part h = absurd (cc)
 front_kept p (b ∷ bs) part h = front_kept_step (is_white b) p b bs (cut p (is_white b) bs) part refl h (λ q e k. front_kept p bs q (along p (is_white b) bs q e k))
 

@@ -1,11 +1,14 @@
 pub mod Lengths
 pub mod Fronts
 pub mod Cutting
+pub mod CutTokens
 pub mod Pieces
 pub mod Spelled
 pub mod Officers
 pub mod Stripped
 pub mod Parts
+pub mod Rooms
+pub mod TextLengths
 pub mod Counts
 pub mod Searches
 pub mod Positions

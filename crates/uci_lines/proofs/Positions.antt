@@ -144,8 +144,8 @@ written_halves : (p : Placement) (more : List ℕ) → p.half ≤ 99999 → p.fu
 unfolding written
 written_halves p more h f w =
     words_before (fields_text p) 5 more refl
-      (word-board p.men, (word-side p.side, (word-rights p.rights, (word-passant p.passant, (word-count p.half (omega arith), (word-count p.full (omega arith), tt))))))
-      w
+    (word-board p.men, (word-side p.side, (word-rights p.rights, (word-passant p.passant, (word-count p.half (omega arith), (word-count p.full (omega arith), tt))))))
+    w
 
 fen_halves_by : (text more : List ℕ) (r : Result Placement FenFault) → fen_by r text ≡ true → BeginsBlank more → fields_before 5 (text ++ more) ≡ (text, more)
 fen_halves_by text more (Err fault) h w = absurd (cc)

@@ -30,8 +30,8 @@ four_takes w b i text (Some binc) found e h =
     let others = (perhaps_number (codes " movestogo ") binc.1).1 in
     let inside : text ≡ codes " binc " ++ (decimal binc.0 ++ (optional_number (codes " movestogo ") togo ++ others)) = number_takes (codes " binc ") text binc e ∙ ap (λ t. codes " binc " ++ (decimal binc.0 ++ t)) last in
     pair_is (Clock w b i binc.0 togo) others found _ h
-      (ap (λ t. codes " wtime " ++ (decimal w ++ (codes " btime " ++ (decimal b ++ (codes " winc " ++ (decimal i ++ t)))))) inside
-      ∙ regrouped w b i binc.0 (optional_number (codes " movestogo ") togo) others)
+    (ap (λ t. codes " wtime " ++ (decimal w ++ (codes " btime " ++ (decimal b ++ (codes " winc " ++ (decimal i ++ t)))))) inside
+    ∙ regrouped w b i binc.0 (optional_number (codes " movestogo ") togo) others)
   where
     regrouped : (x y z u : ℕ) (m t : List ℕ) → codes " wtime " ++ (decimal x ++ (codes " btime " ++ (decimal y ++ (codes " winc " ++ (decimal z ++ (codes " binc " ++ (decimal u ++ (m ++ t)))))))) ≡ (codes " wtime " ++ decimal x ++ codes " btime " ++ decimal y ++ codes " winc " ++ decimal z ++ codes " binc " ++ decimal u ++ m) ++ t
     regrouped x y z u m t = simp append_assoc
@@ -102,10 +102,10 @@ pub search_takes : (text : List ℕ) (c : Command) → search_in text ≡ Some c
 search_takes text c h = ponder_takes text (after (codes " ponder") text) c refl h
 
 -- The other way round: what is written is read.
-count_below : (n : ℕ) → is_count n ≡ true → n < 10 ^ 18
+pub count_below : (n : ℕ) → is_count n ≡ true → n < 10 ^ 18
 count_below n h = ltb-true n (10 ^ 18) h
 
-positive_below : (n : ℕ) → is_positive n ≡ true → n < 10 ^ 18
+pub positive_below : (n : ℕ) → is_positive n ≡ true → n < 10 ^ 18
 positive_below n h = count_below n (and_true (ltb 0 n) (is_count n) h).1
 
 abbrev depth_text : Option ℕ → List ℕ
@@ -178,7 +178,7 @@ none_positive : (depth : Option ℕ) → is_none_of depth ≡ true → is_positi
 none_positive None h = refl
 none_positive (Some n) h = absurd (cc)
 
-depth_fits : (ponder : Bool) (control : GoControl) (depth : Option ℕ) → is_search ponder control depth ≡ true → is_positive_or_none depth ≡ true
+pub depth_fits : (ponder : Bool) (control : GoControl) (depth : Option ℕ) → is_search ponder control depth ≡ true → is_positive_or_none depth ≡ true
 depth_fits ponder Infinite depth h = none_positive depth (and_true (not ponder) (is_none_of depth) h).1
 depth_fits ponder (MoveTime time) depth h = (and_true (is_positive time) (is_positive_or_none depth) h).1
 depth_fits ponder (Clock w b i j m) depth h = (and_true (is_positive w && is_positive b && is_count i && is_count j && is_positive_or_none m) (is_positive_or_none depth) h).1

@@ -82,12 +82,12 @@ pub order_takes : (line : List ℕ) (c : Command) → order_in line ≡ Some c �
 unfolding order_in command_text
 order_takes line c h =
     word_or (bytes_eq line (codes "uci")) line (codes "uci") Uci c _ refl refl refl
-      (word_or (bytes_eq line (codes "isready")) line (codes "isready") IsReady c _ refl refl refl
-        (word_or (bytes_eq line (codes "ucinewgame")) line (codes "ucinewgame") NewGame c _ refl refl refl
-          (word_or (bytes_eq line (codes "stop")) line (codes "stop") Stop c _ refl refl refl
-            (word_or (bytes_eq line (codes "ponderhit")) line (codes "ponderhit") PonderHit c _ refl refl refl
-              (word_or (bytes_eq line (codes "quit")) line (codes "quit") Quit c _ refl refl refl
-                (setting_or_spells line (after (codes "setoption name ") line) c refl)))))) h
+    (word_or (bytes_eq line (codes "isready")) line (codes "isready") IsReady c _ refl refl refl
+    (word_or (bytes_eq line (codes "ucinewgame")) line (codes "ucinewgame") NewGame c _ refl refl refl
+    (word_or (bytes_eq line (codes "stop")) line (codes "stop") Stop c _ refl refl refl
+    (word_or (bytes_eq line (codes "ponderhit")) line (codes "ponderhit") PonderHit c _ refl refl refl
+    (word_or (bytes_eq line (codes "quit")) line (codes "quit") Quit c _ refl refl refl
+    (setting_or_spells line (after (codes "setoption name ") line) c refl)))))) h
 
 -- The other way round: the text of an order that may be written is read as it.
 setting_again : (name : List ℕ) (value : Option (List ℕ)) → is_setting name value ≡ true → setting_in (name ++ optional_text (codes " value ") value) ≡ Some (SetOption name value)

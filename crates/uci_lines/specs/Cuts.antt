@@ -1,11 +1,12 @@
 -- Lines that are cut at certain tokens.
-use Rattle.std.specs.Prelude.{ℕ, List, [], ◌∷◌, drop, codes, Bool, true, ◌&&◌, ◌||◌, if◌then◌else◌, Option, Some, None}
+use Rattle.std.specs.Prelude.{ℕ, List, [], ◌∷◌, drop, codes, length, nat_lt, is_none, Bool, true, ◌&&◌, ◌||◌, if◌then◌else◌, Option, Some, None}
 use Rattle.std.specs.List.{before_first, onto_first}
 use Rattle.std.specs.Option.{option_map}
 use Rattle.std.specs.Str.{bytes_eq}
 use Rattle.peer_words.specs.Tokens.{is_white, token_end}
+use Rattle.uci_lines.specs.Moves.{move_of}
 use Rattle.uci_lines.specs.declared.cut.Stop.{Stop}
-use Rattle.uci_lines.specs.declared.cut.Stop.TheVariants.{Message, Kind, Default, Choice, Ponder}
+use Rattle.uci_lines.specs.declared.cut.Stop.TheVariants.{Message, Kind, Default, Choice, Ponder, NoMove}
 use Rattle.uci_lines.specs.declared.cut.Found.{Found}
 
 -- the bytes before a token, the token, and the bytes after it
@@ -39,12 +40,17 @@ is_known token =
 abbrev pub is_choice : List ℕ → Bool
 is_choice token = is_word (codes "default") token || is_word (codes "var") token
 
+-- a token that is no move text
+abbrev pub is_no_move : List ℕ → Bool
+is_no_move token = nat_lt 0 (length token) && is_none (move_of token)
+
 abbrev pub stops : Stop → List ℕ → Bool
 stops Message token = is_known token
 stops Kind token = is_word (codes "type") token
 stops Default token = is_word (codes "default") token
 stops Choice token = is_choice token
 stops Ponder token = is_word (codes "ponder") token
+stops NoMove token = is_no_move token
 
 abbrev pub part_of : Found → Part
 part_of found = record { before = found.before.now; word = found.word.now; after = found.after.now }

@@ -6,6 +6,7 @@ pub mod Options
 pub mod Infos
 pub mod Engine
 pub mod Orders
+pub mod Said
 pub mod Behind
 pub mod Written
 pub mod Asked

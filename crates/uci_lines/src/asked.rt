@@ -50,7 +50,10 @@ fn read_set_up(text: &[u8]) -> Option<Order<'_>>
         return None;
     }
     let moves = read_moves(others)?;
-    Some(Order::Position { fen: Some(fen), moves })
+    Some(Order::Position {
+        fen: Some(fen),
+        moves,
+    })
 }
 
 fn read_position(text: &[u8]) -> Option<Order<'_>>
@@ -72,7 +75,13 @@ fn read_increments(wtime: u64, btime: u64, text: &[u8]) -> Option<(GoControl, &[
     let (winc, others) = number_behind(b" winc ", text)?;
     let (binc, others) = number_behind(b" binc ", others)?;
     let (movestogo, others) = perhaps_number(b" movestogo ", others);
-    let clock = GoControl::Clock { wtime, btime, winc, binc, movestogo };
+    let clock = GoControl::Clock {
+        wtime,
+        btime,
+        winc,
+        binc,
+        movestogo,
+    };
     Some((clock, others))
 }
 
@@ -113,7 +122,13 @@ fn is_search(ponder: bool, control: GoControl, depth: Option<u64>) -> bool
     match control {
         GoControl::Infinite => !ponder && depth.is_none(),
         GoControl::MoveTime(time) => is_positive(time) && is_positive_or_none(depth),
-        GoControl::Clock { wtime, btime, winc, binc, movestogo } => {
+        GoControl::Clock {
+            wtime,
+            btime,
+            winc,
+            binc,
+            movestogo,
+        } => {
             is_positive(wtime)
                 && is_positive(btime)
                 && is_count(winc)
@@ -130,7 +145,11 @@ fn read_search_with(ponder: bool, text: &[u8]) -> Option<Order<'_>>
     let (control, others) = read_control(text)?;
     let (depth, others) = perhaps_number(b" depth ", others);
     if others.is_empty() && is_search(ponder, control, depth) {
-        Some(Order::Go { ponder, control, depth })
+        Some(Order::Go {
+            ponder,
+            control,
+            depth,
+        })
     } else {
         None
     }
@@ -192,5 +211,4 @@ pub fn read_order(line: &[u8]) -> Result<Order<'_>, BadOrder>
 /// The text of every position may stand in an order.
 pub fn positions_may_stand()
     ensures { TakesPositions }
-{
-}
+{}

@@ -5,6 +5,7 @@ ghost use Rattle.peer_words.specs.Tokens.{is_white, token_end};
 ghost use Rattle.std.specs.Option.{option_map};
 ghost use Rattle.uci_lines.specs.Cuts.{cut, stops, part_of};
 
+use crate::moves::move_in;
 use peer_words::is_white;
 
 /// The tokens at which a line is cut.
@@ -20,6 +21,8 @@ pub(crate) enum Stop {
     Choice,
     /// `ponder`
     Ponder,
+    /// One that is no move text.
+    NoMove,
 }
 
 /// A token, with what stands before and after it.
@@ -42,6 +45,7 @@ impl Stop {
             Stop::Default => word == b"default".as_slice(),
             Stop::Choice => word == b"default".as_slice() || word == b"var".as_slice(),
             Stop::Ponder => word == b"ponder".as_slice(),
+            Stop::NoMove => !word.is_empty() && move_in(word).is_none(),
         }
     }
 }

@@ -1,6 +1,7 @@
 // Reads what an engine says.
 ghost use Rattle.std.specs.Prelude.{◌≡◌};
 ghost use Rattle.uci_lines.specs.Engine.{name_said, best_said, said_after, engine_message};
+ghost use Rattle.uci_lines.specs.Said.{CanWrite};
 ghost use Rattle.uci_lines.specs.Says.{says_of};
 
 use crate::cut::{Stop, find_word};
@@ -11,7 +12,8 @@ use crate::says::EngineMsg;
 use peer_words::split_token;
 
 fn read_name(text: &[u8]) -> EngineMsg<'_>
-    ensures { says_of result ≡ name_said text.now }
+    ensures value { says_of result ≡ name_said text.now }
+    ensures writable { CanWrite (says_of result) }
 {
     let (word, others) = split_token(text);
     if word == b"name".as_slice() {
@@ -22,7 +24,8 @@ fn read_name(text: &[u8]) -> EngineMsg<'_>
 }
 
 fn read_best(text: &[u8]) -> EngineMsg<'_>
-    ensures { says_of result ≡ best_said text.now }
+    ensures value { says_of result ≡ best_said text.now }
+    ensures writable { CanWrite (says_of result) }
 {
     let (word, others) = split_token(text);
     let best = move_in(word);
@@ -34,7 +37,8 @@ fn read_best(text: &[u8]) -> EngineMsg<'_>
 }
 
 fn read_after<'a>(word: &[u8], text: &'a [u8]) -> EngineMsg<'a>
-    ensures { says_of result ≡ said_after word.now text.now }
+    ensures value { says_of result ≡ said_after word.now text.now }
+    ensures writable { CanWrite (says_of result) }
 {
     if word == b"id".as_slice() {
         read_name(text)
@@ -54,7 +58,8 @@ fn read_after<'a>(word: &[u8], text: &'a [u8]) -> EngineMsg<'a>
 /// What a line of the engine says (UCI, "Engine to GUI"). It may end with a CR, and has no LF.
 #[tactic(auto, unfolding(crate::specs::Engine::engine_message))]
 pub fn read_engine(line: &[u8]) -> EngineMsg<'_>
-    ensures { says_of result ≡ engine_message line.now }
+    ensures value { says_of result ≡ engine_message line.now }
+    ensures writable { CanWrite (says_of result) }
 {
     match find_word(line, Stop::Message) {
         Some(found) => read_after(found.word, found.after),

@@ -3,9 +3,10 @@ ghost use Rattle.std.specs.Prelude.{◌≡◌};
 ghost use Rattle.peer_words.specs.Tokens.{tokens};
 ghost use Rattle.uci_lines.specs.Infos.{ends_info, field_named, first_count, score_of, first_score, first_move, newer_run, hear, facts_in, facts_from};
 ghost use Rattle.uci_lines.specs.Moves.{run};
+ghost use Rattle.uci_lines.specs.Said.{can_write};
 ghost use Rattle.uci_lines.specs.Says.{facts_of};
 
-use crate::moves::{move_in, next_move};
+use crate::moves::{front_moves, move_in, next_move};
 use crate::says::{Info, Score};
 use crate::words::next_token;
 use chess_board::Move;
@@ -69,7 +70,8 @@ fn first_count(text: &[u8]) -> Option<u64>
 }
 
 fn first_move(text: &[u8]) -> Option<Move>
-    ensures { result ≡ first_move (tokens text.now) }
+    ensures value { result ≡ first_move (tokens text.now) }
+    ensures officer { can_write result }
 {
     move_in(next_token(text)?.0)
 }
@@ -103,7 +105,8 @@ fn newer_run<'a>(new: &'a [u8], old: &'a [u8]) -> &'a [u8]
 
 /// What was told before, and what a field tells with the text behind its word.
 fn hear<'a>(field: Field, info: Info<'a>, text: &'a [u8]) -> Info<'a>
-    ensures { facts_of result ≡ hear field (facts_of info.entry) (tokens text.now) }
+    ensures value { facts_of result ≡ hear field (facts_of info.entry) (tokens text.now) }
+    ensures officer { can_write info.entry.current → can_write result.current }
 {
     match field {
         Field::Depth => Info {
@@ -139,7 +142,7 @@ fn hear<'a>(field: Field, info: Info<'a>, text: &'a [u8]) -> Info<'a>
             ..info
         },
         Field::Pv => Info {
-            pv: newer_run(text, info.pv),
+            pv: newer_run(front_moves(text), info.pv),
             ..info
         },
         Field::Text | Field::Other => info,
@@ -149,7 +152,8 @@ fn hear<'a>(field: Field, info: Info<'a>, text: &'a [u8]) -> Info<'a>
 /// Reads what stands behind `info`.
 #[tactic(auto, unfolding(crate::specs::Infos::facts_in))]
 pub(crate) fn read_info(text: &[u8]) -> Info<'_>
-    ensures { facts_of result ≡ facts_in text.now }
+    ensures value { facts_of result ≡ facts_in text.now }
+    ensures officer { can_write result.current }
 {
     let mut info = Info {
         depth: None,

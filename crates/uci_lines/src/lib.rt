@@ -3,6 +3,7 @@
 
 mod asked;
 mod behind;
+mod canonical;
 mod cut;
 mod engine;
 mod info;
@@ -11,10 +12,13 @@ mod option;
 mod orders;
 mod range;
 mod says;
+#[cfg(test)]
+mod tests;
 mod words;
 mod written;
 
 pub use asked::{BadOrder, positions_may_stand, read_order};
+pub use canonical::write_engine;
 pub use engine::read_engine;
 pub use moves::next_move;
 pub use option::next_value;

@@ -1,10 +1,11 @@
 // The declarations of options (UCI, "option").
-ghost use Rattle.std.specs.Prelude.{◌≡◌, ◌∷◌, [], true, codes, length, ◌≤◌, MatchOption};
+ghost use Rattle.std.specs.Prelude.{◌≡◌, ◌∷◌, [], true, codes, length, ◌≤◌, ◌<◌, MatchOption, IfSome};
 ghost use Rattle.std.specs.Option.{option_map};
 ghost use Rattle.peer_words.specs.Tokens.{tokens, trimmed};
 ghost use Rattle.uci_lines.specs.Cuts.{cut, is_word, is_choice};
 ghost use Rattle.uci_lines.specs.Choices.{values, before_choice, from_choice, default_value};
 ghost use Rattle.uci_lines.specs.Options.{is_on, text_after, shape_named, option_with, option_said};
+ghost use Rattle.uci_lines.specs.Said.{CanWrite};
 ghost use Rattle.uci_lines.specs.Says.{shape_of, declared_by, says_of};
 
 use crate::cut::{Stop, find_word};
@@ -73,7 +74,8 @@ fn split_choice(text: &[u8]) -> (&[u8], &[u8])
 
 /// The first value of a combo, and the text from which the later ones are read. None where there is none.
 pub fn next_value(text: &[u8]) -> Option<(&[u8], &[u8])>
-    ensures { MatchOption result (values text.now ≡ []) (λ p. values text.now ≡ p.0.now ∷ values p.1.now) }
+    ensures first { MatchOption result (values text.now ≡ []) (λ p. values text.now ≡ p.0.now ∷ values p.1.now) }
+    ensures shorter { IfSome result (λ p. length p.1.now < length text.now) }
 {
     let mut others = text;
     while let Some(found) = find_word(others, Stop::Choice) {
@@ -122,7 +124,8 @@ fn option_after(text: &[u8]) -> Option<OptionMsg<'_>>
 /// What stands behind `option`.
 #[tactic(auto, unfolding(crate::specs::Options::option_said))]
 pub(crate) fn read_option(text: &[u8]) -> EngineMsg<'_>
-    ensures { says_of result ≡ option_said text.now }
+    ensures value { says_of result ≡ option_said text.now }
+    ensures writable { CanWrite (says_of result) }
 {
     let (word, others) = split_token(text);
     if word != b"name".as_slice() {

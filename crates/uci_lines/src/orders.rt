@@ -7,7 +7,7 @@ use itoa::Buffer;
 use line_io::Out;
 
 /// What an engine is told (UCI, "GUI to engine").
-#[derive(Clone, Copy)]
+#[derive(Clone, Copy, Debug, PartialEq, Eq)]
 pub enum Order<'a> {
     Uci,
     IsReady,
@@ -54,7 +54,7 @@ fn put_number(word: &[u8], n: u64, out: &mut Out)
     out.put(digits.format(n).as_bytes());
 }
 
-fn put_optional_number(word: &[u8], n: Option<u64>, out: &mut Out)
+pub(crate) fn put_optional_number(word: &[u8], n: Option<u64>, out: &mut Out)
     requires { length out.old.text + length (optional_number word.now n) ≤ out.old.room }
     ensures { out.new ≡ with out.old (optional_number word.now n) }
 {

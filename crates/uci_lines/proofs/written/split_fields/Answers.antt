@@ -10,6 +10,6 @@ loop-i-preserved c =
     let i = c.loop-i.i in
     let later = λ (n : ℕ). moved (take (i + 1) text) (fields_before n (drop (i + 1) text)) in
     elim c.if-byte-eq32.branch [
-      then-byte-eq32+else-blanks-eq0 w ↦ blank_passed text i c.loop-i.blanks _ (omega arith) (blank_is _ w.if-byte-eq32.true) (omega arith) c.loop-i.invariant ∙ ap later (sym w.blanks-is)
-    | else-byte-eq32 w ↦ byte_passed text i c.loop-i.blanks _ (omega arith) (blank_is_not _ w.if-byte-eq32.false) c.loop-i.invariant ∙ ap later (sym w.blanks-is)
+      | then-byte-eq32+else-blanks-eq0 w ↦ blank_passed text i c.loop-i.blanks _ (omega arith) (blank_is _ w.if-byte-eq32.true) (omega arith) c.loop-i.invariant ∙ ap later (sym w.blanks-is)
+      | else-byte-eq32 w ↦ byte_passed text i c.loop-i.blanks _ (omega arith) (blank_is_not _ w.if-byte-eq32.false) c.loop-i.invariant ∙ ap later (sym w.blanks-is)
     ]
