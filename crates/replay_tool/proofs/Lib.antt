@@ -3,3 +3,4 @@ mod Pieces
 mod Lines
 mod Turns
 mod Written
+mod Opens
