@@ -4,3 +4,4 @@ mod Lines
 mod Turns
 mod Written
 mod Opens
+mod Answers
