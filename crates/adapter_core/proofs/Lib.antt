@@ -5,3 +5,4 @@ mod Square
 mod Told
 mod Keeps
 mod Unique
+mod Ended

@@ -68,6 +68,14 @@ step_by v e = step_of (here v) (comes (here v) [] e) v e
 abbrev pub IsOneDialogue : Settings → Type 0
 IsOneDialogue o = (t t' : List Step) → Lawful o t → Lawful o t' → map event_in t ≡ map event_in t' → t ≡ t'
 
+-- nothing is written to the interface once it has ended or was lost
+abbrev pub IsSilentToIface : Settings → Type 0
+IsSilentToIface o = (t : List Step) (step : Step) → Lawful o (step ∷ t) → ((state o (step ∷ t)).ends.iface || (state o (step ∷ t)).ends.iface_lost) ≡ true → step.replies ≡ []
+
+-- nothing is written to the engine once it has ended or was lost
+abbrev pub IsSilentToEngine : Settings → Type 0
+IsSilentToEngine o = (t : List Step) (step : Step) → Lawful o (step ∷ t) → ((state o (step ∷ t)).ends.engine || (state o (step ∷ t)).ends.engine_lost) ≡ true → step.orders ≡ []
+
 -- There is a step of this event with these lines. It extends each lawful trace that the core stood for, and then the core stands for that.
 pub record Extends (old new : View) (e : Event) (iface engine : List ℕ) : Type 0 where
   pub step : Step

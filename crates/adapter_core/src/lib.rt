@@ -6,4 +6,4 @@ mod session;
 mod steps;
 
 pub use ends::Ends;
-pub use session::{Core, Step, one_dialogue};
+pub use session::{Core, Step, ended_sides_get_nothing, one_dialogue};

@@ -134,6 +134,8 @@ impl Core {
         ensures* steps { sem 𝓛 (StepsOn self.entry (event_of event.now) result) }
         ensures iface_room { length result.iface.now ≤ 131072 }
         ensures engine_room { length result.engine.now ≤ 131072 }
+        ensures iface_lines { AreLines result.iface.now }
+        ensures engine_lines { AreLines result.engine.now }
     {
         self.take(event);
         self.lines()
@@ -195,11 +197,19 @@ fn make_parts(alloc: Global, settings: Settings) -> Result<Parts, NoMemory>
     })
 }
 
-ghost use Rattle.adapter_core.specs.Stands.{IsOneDialogue};
+ghost use Rattle.adapter_core.specs.Stands.{IsOneDialogue, IsSilentToIface, IsSilentToEngine};
 
 /// A law: two lawful traces with the same settings and the same events are equal.
 pub fn one_dialogue(settings: Settings)
     ensures { IsOneDialogue settings }
+{
+    let _ = settings;
+}
+
+/// A law: in a lawful trace nothing is written to a side that has ended or was lost.
+pub fn ended_sides_get_nothing(settings: Settings)
+    ensures iface { IsSilentToIface settings }
+    ensures engine { IsSilentToEngine settings }
 {
     let _ = settings;
 }

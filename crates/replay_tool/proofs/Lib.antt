@@ -3,3 +3,5 @@ mod Pieces
 mod Lines
 mod Turns
 mod Written
+mod Opens
+mod Answers

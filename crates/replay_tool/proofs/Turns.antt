@@ -7,9 +7,9 @@ use Rattle.line_io.specs.declared.lines.Item.TheVariants as answers
 use Rattle.line_io.specs.declared.faults.ReadFault.{ReadFault}
 use Rattle.line_io.specs.Event.{Event, Open}
 use Rattle.line_io.specs.Lending.{outcome, AnswersWhen}
-use Rattle.line_io.specs.Lines.{Piece, Whole, TooLong, Held, Given, Gave, Advances, EndsAt, Reads, rest, items, IsWaiting}
+use Rattle.line_io.specs.Lines.{Piece, Whole, TooLong, Held, Given, Gave, Advances, EndsAt, Reads, rest, items, IsWaiting, flag, weight}
 use Rattle.line_io.specs.Out.{Text, with}
-use Rattle.line_io.specs.Runs.{Runs, goes, goes_on, pieces_of, Call, whole}
+use Rattle.line_io.specs.Runs.{Runs, begins, goes, goes_on, pieces_of, Call, whole}
 use Rattle.line_io.proofs.Runs.{so_far, at_end, at_fault, at_wait, few_calls}
 use Rattle.policy_rules.specs.declared.settings.Settings.{Settings}
 use Rattle.adapter_core.specs.declared.ends.Ends.{Ends}
@@ -138,26 +138,45 @@ on_end o run start before calls r new given left n =
       };
     }
 
+-- no whole line is left to be taken
+module _ (o : Settings) (run : Run) (start before : Streams) (calls : ℕ) (r : Reached o run start before calls) where
+  -- all whole lines that were got were taken
+  pub on_whole : (least : ℕ) (now : Streams) (got : List ℕ) → now.taken ≡ before.taken → Got start now got → r.lines ≡ whole 131072 got → least ≤ length got → ReplaysWhole o least run.text.text start now
+  on_whole least now got t g same l = record {
+    got = got;
+    reads = g;
+    least_is = l;
+    first = subst (AreFirst start.left) same (are_first start before run.lines r.got r.lines calls r.runs r.reads r.ended);
+    fine = ap (first_fault 1 opened) (sym same) ∙ r.fine;
+    scripted = record {
+      trace = r.trace;
+      lawful = r.lawful;
+      events_are = r.events_are ∙ ap (λ (ls : List Piece). Open ∷ events_of opened ls) same;
+      written = r.written;
+      appended = subst (λ (x : Option (List ℕ)). Appends start.taken x r.written) (sym t) r.appended;
+      script_is = r.script_is;
+    };
+  }
+
+  -- after so many calls, and with no whole line and no end
+  pub on_many : IsWaiting run.lines → 8589934592 ≤ calls → ReplaysWhole o 4294967296 run.text.text start before
+  on_many w l =
+      let few = few_calls 131072 calls run.lines r.got r.lines r.runs in
+      let live : flag run.lines.ended ≡ 0 = ap flag w.1 in
+      on_whole 4294967296 before r.got refl r.reads (at_wait 131072 calls run.lines r.got r.lines r.runs w) (omega arith)
+
 -- a fault of the input
 pub on_fault : (o : Settings) (run : Run) (start before : Streams) (calls : ℕ) (r : Reached o run start before calls) (new : Held) (given left : Option (List ℕ)) (f : ReadFault)
     → Next run.lines new before (streams given left before.taken) (Err f) → ReplaysWhole o 0 run.text.text start (streams given left before.taken)
 on_fault o run start before calls r new given left f n =
     let c = call o run start before calls r new given left (Err f) n in
     let same : r.lines ≡ whole 131072 (r.got ++ n.0) = at_fault 131072 calls run.lines new r.got n.0 r.lines (Err f) r.runs c refl in
-    record {
-      got = r.got ++ n.0;
-      reads = got o run start before calls r new given left (Err f) n;
-      least_is = omega arith;
-      fine = ap (first_fault 1 opened) (sym same) ∙ r.fine;
-      scripted = record {
-        trace = r.trace;
-        lawful = r.lawful;
-        events_are = r.events_are ∙ ap (λ (ls : List Piece). Open ∷ events_of opened ls) same;
-        written = r.written;
-        appended = r.appended;
-        script_is = r.script_is;
-      };
-    }
+    on_whole o run start before calls r 0 (streams given left before.taken) (r.got ++ n.0) refl (got o run start before calls r new given left (Err f) n) same (omega arith)
+
+-- the limit of a reader stays
+pub limit_stays : {held : Held} → {got : List ℕ} → {lines : List Piece} → {calls : ℕ} → Runs 131072 held got lines calls → held.limit ≡ 131072
+limit_stays begins = refl
+limit_stays (goes run c on) = c.advances.limit ∙ limit_stays run
 
 -- a line
 module _ (o : Settings) (run : Run) (start before : Streams) (calls : ℕ) (r : Reached o run start before calls) (new : Held) (given left : Option (List ℕ)) (item : Item) (p : Piece)
@@ -273,3 +292,11 @@ module _ (o : Settings) (run : Run) (start before : Streams) (calls : ℕ) (r : 
   pub on_line : (core : View) (text : Text) (answer : Option Ending) → answer ≡ fault_said (run.number + 1) said → Takes run.core core said run.text text
       → Turned o answer (record { core = core; lines = new; text = text; number = run.number + 1 }) start now calls
   on_line core text answer e t = subst (λ (a : Option Ending). Turned o a (record { core = core; lines = new; text = text; number = run.number + 1 }) start now calls) (sym e) (of_said said core text refl t)
+
+flag_le : (b : Bool) → flag b ≤ 1
+flag_le true = omega arith
+flag_le false = omega arith
+
+-- what a reader holds is little
+pub light : (held : Held) → held.limit ≡ 131072 → length held.bytes ≤ held.limit + 4096 → weight held ≤ 135169
+light held e l = omega (arith, flag_le held.cut)

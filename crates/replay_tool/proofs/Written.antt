@@ -1,11 +1,11 @@
 -- What is written of a script.
-use Rattle.std.proofs.Common.{◌≡◌, ℕ, ◌+◌, List, [], ◌∷◌, ◌++◌, take, length, Option, Result, OnErr, OnOk, Err, Ok, true, false, refl, sym, ap, subst, ◌∙◌, append-nil}
+use Rattle.std.proofs.Common.{◌≡◌, ℕ, ◌+◌, List, [], ◌∷◌, ◌++◌, take, length, Option, Some, None, Result, OnErr, OnOk, Err, Ok, true, false, refl, sym, ap, subst, ◌∙◌, append-nil}
 use Rattle.std.proofs.Math.Seq.{take-append-add}
 use Rattle.std.specs.Io.KnownBytes.{Appends}
 use Rattle.std.specs.Result.{is_err}
 use Rattle.std.proofs.KnownBytes.{Appends-trans}
 use Rattle.line_io.specs.Event.{Event, Open}
-use Rattle.line_io.specs.Lines.{Piece}
+use Rattle.line_io.specs.Lines.{Piece, items}
 use Rattle.line_io.specs.Out.{Text, empty}
 use Rattle.line_io.specs.Source.{TakesPrefix}
 use Rattle.policy_rules.specs.declared.settings.Settings.{Settings}
@@ -13,7 +13,7 @@ use Rattle.session_script.specs.Script.{script, events}
 use Rattle.replay_tool.specs.declared.ending.Ending.{Ending}
 use Rattle.replay_tool.specs.declared.ending.Ending.TheVariants as endings
 use Rattle.replay_tool.specs.declared.run.Run.{Run}
-use Rattle.replay_tool.specs.Replay.{Streams, streams, AreFirst, Scripted, ReplaysAll, ReplaysTo, ReplaysWhole, CutShort, Stopped}
+use Rattle.replay_tool.specs.Replay.{Streams, streams, AreFirst, IsAll, is_cut, Scripted, ReplaysAll, ReplaysTo, ReplaysWhole, CutShort, Stopped}
 use Rattle.replay_tool.specs.Reached.{Reached, with_text}
 use Rattle.replay_tool.proofs.Turns.{are_first}
 
@@ -65,3 +65,42 @@ pub cut_reached : (o : Settings) (run : Run) (start now : Streams) (calls : ℕ)
 cut_reached o run start now calls taken r t =
     cut o r.lines run.text.text start now taken (are_first start now run.lines r.got r.lines calls r.runs r.reads r.ended)
     (record { trace = r.trace; lawful = r.lawful; events_are = r.events_are; written = r.written; appended = r.appended; script_is = r.script_is }) t
+
+-- the rest was written
+all_written : (o : Settings) (lines : List Piece) (unwritten : List ℕ) (start now : Streams) (taken : Option (List ℕ)) → Scripted o unwritten start now lines → Appends now.taken taken unwritten
+    → Scripted o [] start (streams now.given now.left taken) lines
+all_written o lines unwritten start now taken s a = record {
+  trace = s.trace;
+  lawful = s.lawful;
+  events_are = s.events_are;
+  written = s.written ++ unwritten;
+  appended = Appends-trans start.taken now.taken taken s.written unwritten s.appended a;
+  script_is = append-nil (s.written ++ unwritten) ∙ s.script_is;
+}
+
+pub stop_written : (o : Settings) (e : Ending) (unwritten : List ℕ) (start now : Streams) (taken : Option (List ℕ)) → is_cut e ≡ false → Stopped o e unwritten start now → Appends now.taken taken unwritten
+    → Stopped o e [] start (streams now.given now.left taken)
+stop_written o endings.Done unwritten start now taken c s a = record { got = s.got; reads = record { given = s.reads.given; left = s.reads.left }; all = s.all; fine = s.fine; scripted = all_written o _ unwritten start now taken s.scripted a }
+stop_written o (endings.NoMark n) unwritten start now taken c s a = record { lines = s.lines; first = s.first; is_fault = s.is_fault; scripted = all_written o _ unwritten start now taken s.scripted a }
+stop_written o (endings.MayNotCome n) unwritten start now taken c s a = record { lines = s.lines; first = s.first; is_fault = s.is_fault; scripted = all_written o _ unwritten start now taken s.scripted a }
+stop_written o endings.ReadingFailed unwritten start now taken c s a = record { got = s.got; reads = record { given = s.reads.given; left = s.reads.left }; least_is = s.least_is; first = s.first; fine = s.fine; scripted = all_written o _ unwritten start now taken s.scripted a }
+stop_written o endings.TooLong unwritten start now taken c s a = record { got = s.got; reads = record { given = s.reads.given; left = s.reads.left }; least_is = s.least_is; first = s.first; fine = s.fine; scripted = all_written o _ unwritten start now taken s.scripted a }
+stop_written o endings.WritingFailed unwritten start now taken c s a = cc
+stop_written o endings.Usage unwritten start now taken c s a = absurd s
+stop_written o endings.NoMemory unwritten start now taken c s a = absurd s
+
+all_first : (l0 : Option (List ℕ)) (got : List ℕ) → IsAll l0 got → AreFirst l0 (items 131072 got)
+all_first None got a = tt
+all_first (Some x) got a = ([], ap (items 131072) a ∙ sym (append-nil (items 131072 got)))
+
+-- a front of the rest was written
+pub stop_cut : (o : Settings) (e : Ending) (unwritten : List ℕ) (start now : Streams) (taken : Option (List ℕ)) → is_cut e ≡ false → Stopped o e unwritten start now → TakesPrefix now.taken taken unwritten
+    → CutShort o start (streams now.given now.left taken)
+stop_cut o endings.Done unwritten start now taken c s t = cut o _ unwritten start now taken (all_first start.left s.got s.all) s.scripted t
+stop_cut o (endings.NoMark n) unwritten start now taken c s t = cut o _ unwritten start now taken s.first s.scripted t
+stop_cut o (endings.MayNotCome n) unwritten start now taken c s t = cut o _ unwritten start now taken s.first s.scripted t
+stop_cut o endings.ReadingFailed unwritten start now taken c s t = cut o _ unwritten start now taken s.first s.scripted t
+stop_cut o endings.TooLong unwritten start now taken c s t = cut o _ unwritten start now taken s.first s.scripted t
+stop_cut o endings.WritingFailed unwritten start now taken c s t = cc
+stop_cut o endings.Usage unwritten start now taken c s t = absurd s
+stop_cut o endings.NoMemory unwritten start now taken c s t = absurd s

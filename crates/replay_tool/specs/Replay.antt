@@ -1,5 +1,5 @@
 -- What a replay leaves.
-use Rattle.std.specs.Prelude.{◌≡◌, ℕ, ◌^◌, ◌≤◌, List, [], ◌∷◌, ◌++◌, length, take, Option, Some, None, IfSome}
+use Rattle.std.specs.Prelude.{◌≡◌, ℕ, ◌^◌, ◌≤◌, List, [], ◌∷◌, ◌++◌, length, take, Bool, true, false, Option, Some, None, IfSome}
 use Rattle.std.specs.Io.KnownBytes.{Appends}
 use Rattle.line_io.specs.Event.{Open}
 use Rattle.line_io.specs.Lines.{Piece, Reads, items}
@@ -60,6 +60,7 @@ pub record ReplaysWhole (o : Settings) (least : ℕ) (unwritten : List ℕ) (sta
   pub got : List ℕ
   pub reads : Got start now got
   pub least_is : least ≤ length got
+  pub first : AreFirst start.left (whole 131072 got)
   pub fine : first_fault 1 opened (whole 131072 got) ≡ None
   pub scripted : Scripted o unwritten start now (whole 131072 got)
 
@@ -72,6 +73,11 @@ pub record CutShort (o : Settings) (start now : Streams) : Type 0 where
   pub events_are : events trace ≡ Open ∷ events_of opened lines
   pub front : ℕ
   pub appended : Appends start.taken now.taken (take front (script trace))
+
+-- writing failed
+abbrev pub is_cut : Ending → Bool
+is_cut endings.WritingFailed = true
+is_cut e = false
 
 -- how a run stopped
 abbrev pub Stopped : Settings → Ending → List ℕ → Streams → Streams → Type 0

@@ -2,6 +2,7 @@
 #![tactic(auto)]
 
 mod ending;
-
+mod replay;
 mod run;
 
+pub use replay::replay_main;

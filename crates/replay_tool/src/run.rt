@@ -210,7 +210,7 @@ impl Run {
         ensures room { self.new.text.room ≡ 4194304 }
     {
         let ending = self.play(input, output);
-        if ending == Ending::WritingFailed {
+        if is_cut(ending) {
             return ending;
         }
         if self.flush(output).is_err() {
@@ -232,6 +232,13 @@ impl Run {
     }
 }
 
+fn is_cut(ending: Ending) -> bool
+    ensures { result ≡ is_cut ending }
+{
+    matches!(ending, Ending::WritingFailed)
+}
+
+ghost use Rattle.replay_tool.specs.Replay.{is_cut};
 ghost use Rattle.std.specs.Prelude.{◌≢◌};
 ghost use Rattle.line_io.specs.Lines.{IsReady, weight, flag};
 ghost use Rattle.replay_tool.specs.Reached.{Causes};

@@ -1,0 +1,16 @@
+use Rattle.std.proofs.Common.{◌≡◌, ◌+◌, ◌≤◌, ◌∙◌, ap, sym, refl, subst, Option, Some, arith}
+use Rattle.replay_tool.specs.declared.ending.Ending.{Ending}
+use Rattle.replay_tool.specs.Replay.{Streams, streams}
+use Rattle.replay_tool.specs.Reached.{Turned}
+use Rattle.replay_tool.proofs.Turns.{on_many}
+use Rattle.replay_tool.proofs.run.Run.drain.Goals as goal
+
+pub returns-then-not-is_ready-clause-stopped : goal.returns-then-not-is_ready-clause-stopped
+returns-then-not-is_ready-clause-stopped g c = λ o start r.
+    on_many o c.loop.self start (streams (g.I.Source.given c.loop.input) (g.I.Source.left c.loop.input) (g.O.Sink.taken c.loop.output)) _ (c.loop.invariant.reached o start r)
+    (c.is_ready.ensures.waiting c.if-not-is_ready.true) (omega arith)
+
+pub returns-in-Some-clause-stopped : goal.returns-in-Some-clause-stopped
+returns-in-Some-clause-stopped g c = λ o start r.
+    let turned = c.turn.ensures.turned o start _ (c.loop.invariant.reached o start r) in
+    subst (λ (a : Option Ending). Turned o a c.turn.new.self start (streams (g.I.Source.given c.turn.new.input) (g.I.Source.left c.turn.new.input) (g.O.Sink.taken c.turn.new.output)) (8589934592 + c.loop.counter)) c.in-Some.is turned

@@ -1,0 +1,54 @@
+-- What the program answers.
+use Rattle.std.specs.Prelude.{◌≡◌, ◌⊎◌, ℕ, ◌^◌, ◌<◌, List, [], ◌∷◌, Bool, true, false, if◌then◌else◌, codes, Option, Some, None, Vec, vec_items, map}
+use Rattle.std.specs.Str.{bytes_eq}
+use Rattle.std.specs.Io.KnownBytes.{Appends}
+use Rattle.line_io.specs.Causes.{Rose}
+use Rattle.line_io.specs.Lines.{items}
+use Rattle.line_io.specs.Source.{TakesPrefix}
+use Rattle.policy_rules.specs.Policy.{usual}
+use Rattle.replay_tool.specs.declared.ending.Ending.{Ending}
+use Rattle.replay_tool.specs.declared.ending.Ending.TheVariants as endings
+use Rattle.replay_tool.specs.Diagnostics.{code_of, diagnostic}
+use Rattle.replay_tool.specs.Reading.{first_fault, opened}
+use Rattle.replay_tool.specs.Replay.{Streams, Stopped}
+
+-- the bytes of words
+abbrev pub texts : {Z : Type 0} → List (Vec ℕ Z) → List (List ℕ)
+texts words = map vec_items words
+
+-- the words command a replay
+abbrev pub is_replay : List (List ℕ) → Bool
+is_replay (word ∷ []) = bytes_eq word (codes "replay")
+is_replay words = false
+
+-- the counts of faults of the input, the output and the diagnostic
+pub record Counts : Type 0 where
+  pub read : ℕ
+  pub written : ℕ
+  pub told : ℕ
+
+abbrev pub counts : ℕ → ℕ → ℕ → Counts
+counts read written told = record { read = read; written = written; told = told }
+
+abbrev pub status_of : Ending → Bool → ℕ
+status_of ending failed = if failed then 5 else code_of ending
+
+-- the status and the diagnostic are those of the ending, or the diagnostic could not be written
+abbrev pub Tells : ℕ → Ending → Option (List ℕ) → Option (List ℕ) → Counts → Counts → Type 0
+Tells code ending diag_old diag_new old new =
+    ((code ≡ code_of ending) × Appends diag_old diag_new (diagnostic ending))
+    ⊎ ((code ≡ 5) × Rose old.told new.told × TakesPrefix diag_old diag_new (diagnostic ending))
+
+-- how it ended: the words that do not fit and want of memory leave the input and the output untouched
+abbrev pub EndsAs : Bool → Type 0 → Ending → Streams → Streams → Type 0
+EndsAs fits untouched endings.Usage start now = (fits ≡ false) × untouched
+EndsAs fits untouched endings.NoMemory start now = (fits ≡ true) × untouched
+EndsAs fits untouched ending start now = (fits ≡ true) × Stopped usual ending [] start now
+
+-- There is an ending that is so, is told, and has its cause.
+pub record Ran (fits : Bool) (untouched : Type 0) (code : ℕ) (start now : Streams) (diag_old diag_new : Option (List ℕ)) (old new : Counts) : Type 0 where
+  pub ending : Ending
+  pub ends : EndsAs fits untouched ending start now
+  pub tells : Tells code ending diag_old diag_new old new
+  pub reading : ending ≡ endings.ReadingFailed → Rose old.read new.read
+  pub writing : ending ≡ endings.WritingFailed → Rose old.written new.written
