@@ -11,9 +11,9 @@ use Rattle.chess_board.specs.Placement.{Placement}
 use Rattle.chess_board.specs.Rules.{is_en_passant, is_legal, is_at, fifth_rank, sixth_rank, beside}
 use Rattle.chess_board.specs.Play.{AreMen, AreRights, IsPosition, Takeable, can_take, fits_board, fits_kings, at_home, rights_at_home, built, settled, settled_at, is_supported, top_count}
 use Rattle.chess_board.proofs.Below.{some_below-found}
-use Rattle.chess_board.proofs.Tests.{both}
+use Rattle.chess_board.proofs.Bools.{both}
 
-board_fits : (men : Men) → AreMen men → fits_board men ≡ true
+pub board_fits : (men : Men) → AreMen men → fits_board men ≡ true
 unfolding fits_board
 board_fits men are =
     let pawns = are.pawns in
@@ -21,7 +21,7 @@ board_fits men are =
     let black : leb (count_by (is_of Black) men) 16 ≡ true = le-leb _ _ are.black_few in
     rw (pawns, white, black) refl
 
-kings_fit : (p : Placement) → IsPosition p → fits_kings p.men p.side ≡ true
+pub kings_fit : (p : Placement) → IsPosition p → fits_kings p.men p.side ≡ true
 unfolding fits_kings
 kings_fit p is =
     let white : eqb (count_by (is_king White) p.men) 1 ≡ true = eq-eqb _ _ is.men.white_king in

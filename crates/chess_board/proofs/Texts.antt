@@ -1,10 +1,12 @@
 -- A text spells at most one move, and the text of a move spells it.
-use Rattle.std.proofs.Common.{◌≡◌, ◌+◌, ◌<◌, ℕ, refl, sym, ◌∙◌, arith, Option, Some, None, [], ◌∷◌}
+use Rattle.std.proofs.Common.{◌≡◌, ◌+◌, ◌<◌, ℕ, ⊎_elim, subst, refl, sym, ◌∙◌, arith, Option, Some, None, [], ◌∷◌}
 use Rattle.chess_board.specs.declared.board.Kind.{Kind}
 use Rattle.chess_board.specs.declared.board.Kind.TheVariants.{Pawn, Knight, Bishop, Rook, Queen, King}
 use Rattle.chess_board.specs.declared.board.Move.{Move}
+use Rattle.chess_board.specs.declared.board.Side.{Side}
 use Rattle.chess_board.specs.Board.{file_of, rank_of}
-use Rattle.chess_board.specs.Text.{Spells, SquareSpells, SpellsOneMove, ReadsBack, IsOfficer, promotion_text}
+use Rattle.chess_board.specs.Laws.{IsPromotion, Promotes}
+use Rattle.chess_board.specs.Text.{Spells, SquareSpells, SpellsOneMove, ReadsBack, LegalIsWritten, IsOfficer, promotion_text}
 use Rattle.chess_board.proofs.Places.{move_same}
 
 one_square : (f r a b : ℕ) → a < 64 → b < 64 → SquareSpells f r a → SquareSpells f r b → a ≡ b
@@ -33,3 +35,27 @@ reads_back_of m (Some King) e h = absurd h
 
 pub reads-back : ReadsBack
 reads-back m h = reads_back_of m m.promo refl h
+
+-- a text names no pawn and no king, and a legal move promotes to none
+pub promotion-officer : (promo : Option Kind) → IsPromotion promo → IsOfficer promo
+promotion-officer None h = absurd h
+promotion-officer (Some Pawn) h = absurd h
+promotion-officer (Some King) h = absurd h
+promotion-officer (Some Knight) h = tt
+promotion-officer (Some Bishop) h = tt
+promotion-officer (Some Rook) h = tt
+promotion-officer (Some Queen) h = tt
+
+none-officer : (promo : Option Kind) → promo ≡ None → IsOfficer promo
+none-officer promo e = subst IsOfficer (sym e) tt
+
+pub promotes-officer : (side : Side) (piece : Kind) (to : ℕ) (promo : Option Kind) → Promotes side piece to promo → IsOfficer promo
+promotes-officer side Pawn to promo h = ⊎_elim (λ p. promotion-officer promo p.1) (λ n. none-officer promo n.1) h
+promotes-officer side Knight to promo h = none-officer promo h
+promotes-officer side Bishop to promo h = none-officer promo h
+promotes-officer side Rook to promo h = none-officer promo h
+promotes-officer side Queen to promo h = none-officer promo h
+promotes-officer side King to promo h = none-officer promo h
+
+pub legal-written : LegalIsWritten
+legal-written p m h = promotes-officer p.side h.piece m.to.index m.promo h.promoted

@@ -1,0 +1,196 @@
+//! Move counts that are known of the rules, and each public function once.
+use crate::{
+    BuildFault, Kind, Move, Position, Rights, Side, Square, State, equal_moves, equal_positions,
+    read_move, write_move,
+};
+use std::process::Abort;
+use std::test::Fail;
+
+/// The man of a FEN's letter.
+fn man_of(letter: u8) -> Option<(Side, Kind)> {
+    let side = if letter.is_ascii_uppercase() {
+        Side::White
+    } else {
+        Side::Black
+    };
+    let kind = match letter.to_ascii_lowercase() {
+        b'p' => Kind::Pawn,
+        b'n' => Kind::Knight,
+        b'b' => Kind::Bishop,
+        b'r' => Kind::Rook,
+        b'q' => Kind::Queen,
+        b'k' => Kind::King,
+        _ => return None,
+    };
+    Some((side, kind))
+}
+
+/// The men of a FEN's first field.
+fn board_of(field: &str) -> [Option<(Side, Kind)>; 64] {
+    let mut board = [None; 64];
+    let mut file = 0u8;
+    let mut rank = 7u8;
+    for letter in field.as_bytes() {
+        match *letter {
+            b'/' => {
+                file = 0;
+                rank = rank.saturating_sub(1);
+            }
+            b'1'..=b'8' => file = file.saturating_add(*letter - b'0'),
+            _ => {
+                if let Some(at) = Square::at(file, rank) {
+                    board[at.index as usize] = man_of(*letter);
+                }
+                file = file.saturating_add(1);
+            }
+        }
+    }
+    board
+}
+
+/// The position of a FEN's first four fields, with the rights as letters.
+fn position_of(
+    field: &str,
+    side: Side,
+    rights: &str,
+    passant: Option<Square>,
+) -> Result<Position, BuildFault> {
+    let rights = Rights {
+        wk: rights.contains('K'),
+        wq: rights.contains('Q'),
+        bk: rights.contains('k'),
+        bq: rights.contains('q'),
+    };
+    Position::build(&board_of(field), side, rights, passant, 0, 1)
+}
+
+/// How many ways there are to play so many moves.
+fn count_lines(position: Position, depth: u32) -> u64 {
+    if depth == 0 {
+        return 1;
+    }
+    let mut count = 0u64;
+    for m in position.moves().as_slice() {
+        count = count.saturating_add(count_lines(position.play(*m), depth - 1));
+    }
+    count
+}
+
+#[test]
+fn counts_lines_of_play(rt: HostRuntime) -> Result<(), Fail> {
+    let table = [
+        (
+            "rnbqkbnr/pppppppp/8/8/8/8/PPPPPPPP/RNBQKBNR",
+            "KQkq",
+            3,
+            8_902,
+        ),
+        (
+            "r3k2r/p1ppqpb1/bn2pnp1/3PN3/1p2P3/2N2Q1p/PPPBBPPP/R3K2R",
+            "KQkq",
+            3,
+            97_862,
+        ),
+        ("8/2p5/3p4/KP5r/1R3p1k/8/4P1P1/8", "-", 3, 2_812),
+        (
+            "rnbq1k1r/pp1Pbppp/2p5/8/2B5/8/PPP1NnPP/RNBQK2R",
+            "KQ",
+            3,
+            62_379,
+        ),
+    ];
+    for (field, rights, depth, lines) in table {
+        let position = position_of(field, Side::White, rights, None)?;
+        assert_eq!(rt; count_lines(position, depth), lines, "{field}");
+    }
+    Ok(())
+}
+
+/// The position after moves that are written with blanks between.
+fn after(rt: &impl Abort, mut position: Position, moves: &str) -> Position {
+    for text in moves.split(' ') {
+        let m = read_move(text.as_bytes()).expect(rt, "a move text");
+        assert!(rt; position.legal(m), "{text}");
+        position = position.play(m);
+    }
+    position
+}
+
+#[test]
+fn plays_moves(rt: HostRuntime) -> Result<(), Fail> {
+    let start = Position::start();
+    let e1 = Square::at(4, 0).expect(&rt, "e1");
+    let d6 = Square::at(3, 5).expect(&rt, "d6");
+    let f3 = Square::at(5, 2).expect(&rt, "f3");
+    assert_eq!(rt; Square::at(8, 0), None);
+    assert_eq!(rt; (f3.file(), f3.rank()), (5, 2));
+    assert_eq!(rt; start.piece(e1), Some((Side::White, Kind::King)));
+    assert_eq!(rt; start.side().other(), Side::Black);
+    assert!(rt; start.rights().wk && start.rights().bq);
+    assert!(rt; start.attacked(f3, Side::White) && !start.attacked(f3, Side::Black));
+    assert!(rt; !start.in_check());
+    assert!(rt; equal_positions(&start, &Position::start()));
+    start.facts();
+
+    let knights = after(&rt, start, "g1f3 g8f6 f3g1 f6g8");
+    assert!(rt; knights.same(&start) && knights != start);
+    assert_eq!(rt; (knights.half(), knights.full()), (4, 3));
+    assert_eq!(rt; after(&rt, start, "e2e4").passant(), None);
+    assert_eq!(rt;
+        after(&rt, start, "e2e4 a7a6 e4e5 d7d5").passant(),
+        Some(d6)
+    );
+    assert_eq!(rt;
+        after(&rt, start, "e2e4 a7a6 e4e5 d7d5 e5d6").piece(d6),
+        Some((Side::White, Kind::Pawn))
+    );
+    let castled = after(&rt, start, "g2g3 a7a6 f1g2 a6a5 g1f3 a5a4 e1g1");
+    assert!(rt; !castled.rights().wk && castled.rights().bk);
+    assert_eq!(rt;
+        after(&rt, start, "f2f3 e7e5 g2g4 d8h4").state(),
+        State::Mate
+    );
+    Ok(())
+}
+
+#[test]
+fn reads_and_builds(rt: HostRuntime) -> Result<(), Fail> {
+    let start = Position::start();
+    let moves = start.moves();
+    let first = moves.as_slice().first().copied();
+    assert_eq!(rt; first, read_move(b"a2a3"));
+    let promotion = Move {
+        from: Square::at(1, 6).expect(&rt, "b7"),
+        to: Square::at(0, 7).expect(&rt, "a8"),
+        promo: Some(Kind::Queen),
+    };
+    assert_eq!(rt; write_move(promotion).as_slice(), b"b7a8q".as_slice());
+    assert!(rt; read_move(b"b7a8Q").is_some_and(|m| equal_moves(m, promotion)));
+    assert!(rt; !start.legal(promotion));
+    assert_eq!(rt; read_move(b"e2e9"), None);
+    assert_eq!(rt; read_move(b"e7e8k"), None);
+
+    let states = [
+        ("7k/5Q2/6K1/8/8/8/8/8", Side::Black, Ok(State::Stale)),
+        ("8/8/4k3/8/8/3NK3/8/8", Side::White, Ok(State::Dead)),
+        ("8/8/4k3/8/8/3RK3/8/8", Side::White, Ok(State::Open)),
+        ("4k2P/8/8/8/8/8/8/4K3", Side::White, Err(BuildFault::Board)),
+        ("4k3/8/8/8/8/8/8/8", Side::White, Err(BuildFault::Kings)),
+        ("4k3/8/8/8/8/8/4R3/4K3", Side::White, Err(BuildFault::Kings)),
+    ];
+    for (field, side, state) in states {
+        let found = position_of(field, side, "KQkq", None).map(|position| position.state());
+        assert_eq!(rt; found, state, "{field}");
+    }
+    let counted = Position::build(
+        &board_of("4k3/8/8/8/8/8/8/4K2R"),
+        Side::White,
+        start.rights(),
+        None,
+        100_000,
+        0,
+    )?;
+    assert_eq!(rt; (counted.half(), counted.full()), (99_999, 1));
+    assert!(rt; counted.rights().wk && !counted.rights().wq);
+    Ok(())
+}
