@@ -78,10 +78,10 @@ answers_done file file' input input' output output' s script heard f i =
     elim (s.ends) [
       | inl h ↦ absurd h.0
       | inr h ↦
-        let t = all_told input.left input'.left s.heard heard s.from_input.left i in
-        let same = whole_file file file' s.script script s.from_file f h.0 in
-        let told = h.2.all t.0 (λ e. over input.left input'.left t.0 heard i t.1 (h.2.at_end e)) in
-        subst (λ (l : List ℕ). Appends output.taken output'.taken l) (told ∙ ap (λ b. replies (blocks_of s.script) (items 65536 b)) (sym t.2) ∙ ap (λ b. replies (blocks_of b) (items 65536 heard)) same) s.to_output
+          let t = all_told input.left input'.left s.heard heard s.from_input.left i in
+          let same = whole_file file file' s.script script s.from_file f h.0 in
+          let told = h.2.all t.0 (λ e. over input.left input'.left t.0 heard i t.1 (h.2.at_end e)) in
+          subst (λ (l : List ℕ). Appends output.taken output'.taken l) (told ∙ ap (λ b. replies (blocks_of s.script) (items 65536 b)) (sym t.2) ∙ ap (λ b. replies (blocks_of b) (items 65536 heard)) same) s.to_output
     ]
 
 pub answers : (ending : Ending) (file file' input input' : Giver) (output output' : Taker) → Session ending file file' input input' output output' → AnswersInput (code_of ending) file input output output'

@@ -115,10 +115,13 @@ read_failed blocks turns old new input0 input input' output0 output calls fault 
       told = h.told;
       gave = gave_more input0 input input' h.heard n.0 h.gave n.1;
       took = h.took;
-      ends = (rose_later input0.faults input.faults input'.faults h.reads rose, record {
-        all = h.answered ∙ ap (λ ps. replies blocks ps) pieces;
-        no_quit = ap (λ ps. has_quit (until_quit ps)) (sym pieces) ∙ h.no_quit;
-      });
+      ends = (
+        rose_later input0.faults input.faults input'.faults h.reads rose,
+        record {
+          all = h.answered ∙ ap (λ ps. replies blocks ps) pieces;
+          no_quit = ap (λ ps. has_quit (until_quit ps)) (sym pieces) ∙ h.no_quit;
+        },
+      );
     }
 
 line_more : (ps : List Piece) (line : List ℕ) → has_quit (until_quit ps) ≡ false → until_quit (ps ++ Whole line ∷ []) ≡ until_quit ps ++ line ∷ []
@@ -170,7 +173,7 @@ answered_quit blocks turns turns' old new input0 input input' output0 output out
     let g = gives blocks (until_quit h.pieces) h.stands in
     let here = with_line blocks turns old new input0 input input' output0 output calls line [] r is on n h (λ _. refl) in
     let seen : until_quit (items 65536 (h.heard ++ n.0)) ≡ until_quit h.pieces ++ line ∷ [] =
-        ap (λ b. until_quit (items 65536 b)) (sym (append-nil (h.heard ++ n.0))) ∙ ap until_quit here ∙ until_append h.pieces (Whole line ∷ rest new []) h.no_quit ∙ ap (λ l. until_quit h.pieces ++ line ∷ l) (quit_behind line (rest new []) quit) in
+    ap (λ b. until_quit (items 65536 b)) (sym (append-nil (h.heard ++ n.0))) ∙ ap until_quit here ∙ until_append h.pieces (Whole line ∷ rest new []) h.no_quit ∙ ap (λ l. until_quit h.pieces ++ line ∷ l) (quit_behind line (rest new []) quit) in
     record {
       heard = h.heard ++ n.0;
       told = h.told ++ text;
@@ -179,7 +182,7 @@ answered_quit blocks turns turns' old new input0 input input' output0 output out
       ends = record {
         ended = new.ended;
         all = λ left live. ap (λ l. l ++ text) h.answered ∙ ap (λ l. replies blocks h.pieces ++ l) g.0 ∙ sym (replies_last blocks h.pieces (rest new left) line h.no_quit (quit_behind line (rest new left) quit))
-          ∙ ap (λ ps. replies blocks ps) (sym (with_line blocks turns old new input0 input input' output0 output calls line left r is on n h live));
+            ∙ ap (λ ps. replies blocks ps) (sym (with_line blocks turns old new input0 input input' output0 output calls line left r is on n h live));
         at_end = over_by old.ended old new input0 input input' r n h.heard refl h.gave h.at_end;
         at_quit = λ _. ap has_quit seen ∙ has_append (until_quit h.pieces) (line ∷ []) ∙ ap (λ v. has_quit (until_quit h.pieces) || (v || false)) quit ∙ or_true (has_quit (until_quit h.pieces));
       };
@@ -196,20 +199,22 @@ write_failed blocks turns turns' old new input0 input input' output0 output outp
       told = h.told ++ take wrote.0 text;
       gave = gave_more input0 input input' h.heard n.0 h.gave n.1;
       took = Appends-trans output0.taken output.taken output'.taken h.told (take wrote.0 text) h.took wrote.1;
-      ends = (rose_later output0.faults output.faults output'.faults h.writes rose, record {
-        ended = new.ended;
-        front = λ left live.
-          let later = replies_after blocks (until_quit h.pieces ++ line ∷ []) (behind line (rest new left)) in
-          (
-            drop wrote.0 text ++ later,
-            append_assoc h.told (take wrote.0 text) (drop wrote.0 text ++ later)
-            ∙ ap (λ l. h.told ++ l) (sym (append_assoc (take wrote.0 text) (drop wrote.0 text) later) ∙ ap (λ l. l ++ later) (take-append-drop wrote.0 text ∙ g.0))
-            ∙ ap (λ l. l ++ (answer blocks (until_quit h.pieces) line ++ later)) h.answered
-            ∙ sym (replies_line blocks h.pieces (rest new left) line h.no_quit)
-            ∙ ap (λ ps. replies blocks ps) (sym (with_line blocks turns old new input0 input input' output0 output calls line left r is on n h live))
-          );
-        at_end = over_by old.ended old new input0 input input' r n h.heard refl h.gave h.at_end;
-      });
+      ends = (
+        rose_later output0.faults output.faults output'.faults h.writes rose,
+        record {
+          ended = new.ended;
+          front = λ left live.
+              let later = replies_after blocks (until_quit h.pieces ++ line ∷ []) (behind line (rest new left)) in (
+                drop wrote.0 text ++ later,
+                append_assoc h.told (take wrote.0 text) (drop wrote.0 text ++ later)
+                    ∙ ap (λ l. h.told ++ l) (sym (append_assoc (take wrote.0 text) (drop wrote.0 text) later) ∙ ap (λ l. l ++ later) (take-append-drop wrote.0 text ∙ g.0))
+                    ∙ ap (λ l. l ++ (answer blocks (until_quit h.pieces) line ++ later)) h.answered
+                    ∙ sym (replies_line blocks h.pieces (rest new left) line h.no_quit)
+                    ∙ ap (λ ps. replies blocks ps) (sym (with_line blocks turns old new input0 input input' output0 output calls line left r is on n h live)),
+              );
+          at_end = over_by old.ended old new input0 input input' r n h.heard refl h.gave h.at_end;
+        },
+      );
     }
 
 pub on_ok : {T E : Type 0} (r : Result T E) (P : Type 0) → OnOk r P → is_err r ≡ false → P
@@ -278,10 +283,13 @@ endless blocks turns held input0 input output0 output calls many waits h =
       told = h.told;
       gave = h.gave;
       took = h.took;
-      ends = (omega arith, record {
-        all = h.answered ∙ ap (λ ps. replies blocks ps) pieces;
-        no_quit = ap (λ ps. has_quit (until_quit ps)) (sym pieces) ∙ h.no_quit;
-      });
+      ends = (
+        omega arith,
+        record {
+          all = h.answered ∙ ap (λ ps. replies blocks ps) pieces;
+          no_quit = ap (λ ps. has_quit (until_quit ps)) (sym pieces) ∙ h.no_quit;
+        },
+      );
     }
 
 pub drained_end : (o : Option Ending) (blocks : List Block) (turns : List Turn) (held : Held) (input0 input : Giver) (output0 output : Taker) (calls : ℕ) → 8589934593 ≤ calls → Drained o blocks turns held input0 input output0 output calls → Answered (unwrap_or o Endless) blocks input0 input output0 output

@@ -10,3 +10,6 @@ mod script;
 pub use ending::Ending;
 pub use run::scripted_main;
 pub use script::{ScriptFault, Scripted};
+
+#[cfg(test)]
+mod tests;

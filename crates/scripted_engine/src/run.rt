@@ -138,7 +138,7 @@ fn open_script<F: Source>(alloc: Global, file: &mut F) -> Result<Scripted, Endin
         let new = giver (F.given file.new) (F.left file.new) (F.faults file.new) in
         (script : List ℕ) × Gave old new script
         × MatchResult result (λ scripted. IsRead new script × (first_bad script ≡ None) × Stands scripted (blocks_of script) [])
-            (NoScript old new script) }
+        (NoScript old new script) }
 {
     let script = read_script(alloc, file)?;
     match Scripted::make(alloc, script.as_slice()) {

@@ -19,11 +19,10 @@ returns-in-Err g c =
     let old = giver (g.F.Source.given c.args.file.now) (g.F.Source.left c.args.file.now) (g.F.Source.faults c.args.file.now) in
     let now = giver (g.F.Source.given c.loop-script.file) (g.F.Source.left c.loop-script.file) (g.F.Source.faults c.loop-script.file) in
     let new = giver (g.F.Source.given c.read.new.self) (g.F.Source.left c.read.new.self) (g.F.Source.faults c.read.new.self) in
-    let i = c.loop-script.invariant in
-    (
+    let i = c.loop-script.invariant in (
       c.loop-script.script.items,
       gave_kept old now new c.loop-script.script.items i.gave c.in-Err.ensures.gives c.in-Err.ensures.takes,
-      (i.fits, rose_later old.faults now.faults new.faults i.later c.in-Err.ensures.cause.failed)
+      (i.fits, rose_later old.faults now.faults new.faults i.later c.in-Err.ensures.cause.failed),
     )
 
 pub returns-in-Ok-eq0 : goal.returns-in-Ok-eq0
@@ -33,11 +32,10 @@ returns-in-Ok-eq0 g c =
     let new = giver (g.F.Source.given c.read.new.self) (g.F.Source.left c.read.new.self) (g.F.Source.faults c.read.new.self) in
     let i = c.loop-script.invariant in
     let got = take c.in-Ok-eq0.field-0 c.read.new.buf in
-    let same = none_taken c.loop-script.script.items c.read.new.buf c.in-Ok-eq0.field-0 c.in-Ok-eq0.field-0-test in
-    (
+    let same = none_taken c.loop-script.script.items c.read.new.buf c.in-Ok-eq0.field-0 c.in-Ok-eq0.field-0-test in (
       c.loop-script.script.items ++ got,
       gave_taken old now new c.loop-script.script.items got i.gave c.in-Ok-eq0.ensures.gives c.in-Ok-eq0.ensures.takes.0,
-      (same, record { fits = omega (arith, ap length same, i.fits); at_end = c.in-Ok-eq0.ensures.takes.1 c.in-Ok-eq0.field-0-test })
+      (same, record { fits = omega (arith, ap length same, i.fits); at_end = c.in-Ok-eq0.ensures.takes.1 c.in-Ok-eq0.field-0-test }),
     )
 
 pub returns-then-count-len : goal.returns-then-count-len
@@ -46,11 +44,10 @@ returns-then-count-len g c =
     let now = giver (g.F.Source.given c.loop-script.file) (g.F.Source.left c.loop-script.file) (g.F.Source.faults c.loop-script.file) in
     let new = giver (g.F.Source.given c.read.new.self) (g.F.Source.left c.read.new.self) (g.F.Source.faults c.read.new.self) in
     let i = c.loop-script.invariant in
-    let got = take c.in-Ok.count c.read.new.buf in
-    (
+    let got = take c.in-Ok.count c.read.new.buf in (
       c.loop-script.script.items ++ got,
       gave_taken old now new c.loop-script.script.items got i.gave c.in-Ok.ensures.gives c.in-Ok.ensures.takes.0,
-      omega (arith, length-append c.loop-script.script.items got, c.in-Ok.ensures.bound.1, c.len.ensures, c.if-count-len.true, i.fits)
+      omega (arith, length-append c.loop-script.script.items got, c.in-Ok.ensures.bound.1, c.len.ensures, c.if-count-len.true, i.fits),
     )
 
 pub loop-script-preserved : goal.loop-script-preserved
@@ -77,9 +74,8 @@ returns-in_err-extend_from_slice-in-Ok g c =
     let new = giver (g.F.Source.given c.read.new.self) (g.F.Source.left c.read.new.self) (g.F.Source.faults c.read.new.self) in
     let i = c.loop-script.invariant in
     let got = take c.in-Ok.count c.read.new.buf in
-    let fits : length (c.loop-script.script.items ++ got) ≤ 16777216 = omega (arith, length-append c.loop-script.script.items got, c.in-Ok.ensures.bound.1, c.len.ensures, c.if-count-len.false, i.fits) in
-    (
+    let fits : length (c.loop-script.script.items ++ got) ≤ 16777216 = omega (arith, length-append c.loop-script.script.items got, c.in-Ok.ensures.bound.1, c.len.ensures, c.if-count-len.false, i.fits) in (
       c.loop-script.script.items ++ got,
       gave_taken old now new c.loop-script.script.items got i.gave c.in-Ok.ensures.gives c.in-Ok.ensures.takes.0,
-      no_memory c.from_residual-in_err-extend_from_slice-in-Ok.result old new (c.loop-script.script.items ++ got) c.from_residual-in_err-extend_from_slice-in-Ok.ensures.1 fits
+      no_memory c.from_residual-in_err-extend_from_slice-in-Ok.result old new (c.loop-script.script.items ++ got) c.from_residual-in_err-extend_from_slice-in-Ok.ensures.1 fits,
     )
