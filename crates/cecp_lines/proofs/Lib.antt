@@ -10,3 +10,4 @@ pub mod Plain
 pub mod Hears
 pub mod Tellings
 pub mod Rereads
+pub mod Lists

@@ -29,20 +29,20 @@ use Rattle.cecp_lines.proofs.Fronts.{stripped_front}
 use Rattle.cecp_lines.proofs.Plain.{decimal_written, move_written}
 
 -- a text cut at the first byte of a kind
-cut_position : (k : ℕ) (xs ys : List ℕ) → list_all (λ b. not (eqb b k)) xs ≡ true → position (λ b. eqb b k) (xs ++ (k ∷ ys)) ≡ Some (length xs)
+pub cut_position : (k : ℕ) (xs ys : List ℕ) → list_all (λ b. not (eqb b k)) xs ≡ true → position (λ b. eqb b k) (xs ++ (k ∷ ys)) ≡ Some (length xs)
 cut_position k xs ys h =
     let stop : position_or_len (λ b. eqb b k) (xs ++ (k ∷ ys)) ≡ length xs = prefix_stops (λ b. not (eqb b k)) xs k ys h (rw ((Decides-eqb k k).1 refl) refl) in
     let within : length xs < length (xs ++ (k ∷ ys)) = omega (arith, length-append xs (k ∷ ys)) in
     let t : ltb (length xs) (length (xs ++ (k ∷ ys))) ≡ true = grind (arith, nat_tests) in
     rw (stop, t) refl
 
-no_position : (k : ℕ) (xs : List ℕ) → list_all (λ b. not (eqb b k)) xs ≡ true → position (λ b. eqb b k) xs ≡ None
+pub no_position : (k : ℕ) (xs : List ℕ) → list_all (λ b. not (eqb b k)) xs ≡ true → position (λ b. eqb b k) xs ≡ None
 no_position k xs h =
     let whole : position_or_len (λ b. eqb b k) xs ≡ length xs = prefix_whole (λ b. not (eqb b k)) xs h in
     let t : ltb (length xs) (length xs) ≡ false = grind (arith, nat_tests) in
     rw (whole, t) refl
 
-after_cut : (k : ℕ) (xs ys : List ℕ) → drop (length xs + 1) (xs ++ (k ∷ ys)) ≡ ys
+pub after_cut : (k : ℕ) (xs ys : List ℕ) → drop (length xs + 1) (xs ++ (k ∷ ys)) ≡ ys
 after_cut k xs ys = drop-append-add xs (k ∷ ys) 1
 
 field_reads : {A : Type 0} (read : List ℕ → Option A) (xs ys : List ℕ) (x : A) → list_all (λ b. not (eqb b 32)) xs ≡ true → read xs ≡ Some x → field_of read (cut (xs ++ (32 ∷ ys))) ≡ Some (x, ys)
@@ -55,7 +55,7 @@ field_reads read xs ys x h e =
 no_space_digit : (c : ℕ) → is_ascii_digit c ≡ true → not (eqb c 32) ≡ true
 no_space_digit c h = grind (arith, nat_tests)
 
-decimal_solid : (n : ℕ) → n < 2 ^ 64 → list_all (λ b. not (eqb b 32)) (decimal n) ≡ true
+pub decimal_solid : (n : ℕ) → n < 2 ^ 64 → list_all (λ b. not (eqb b 32)) (decimal n) ≡ true
 decimal_solid n h = all_of is_ascii_digit (λ b. not (eqb b 32)) no_space_digit (decimal n) (decimal_digits n h)
 
 pub number_reads : (n : ℕ) (more : List ℕ) → n < 2 ^ 64 → number_field (decimal n ++ (32 ∷ more)) ≡ Some (n, more)
