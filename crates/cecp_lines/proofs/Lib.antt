@@ -11,3 +11,4 @@ pub mod Hears
 pub mod Tellings
 pub mod Rereads
 pub mod Lists
+pub mod Exact

@@ -34,7 +34,7 @@ look_step {C = C} P w a x c true others e p k h =
     subst (λ (y : C). P w y) what (subst (λ (u : List ℕ). P u x) (sym same) p)
 look_step P w a x c false others e p k h = k h
 
-look : {C : Type 0} (P : List ℕ → C → Type 0) (rows : List (List ℕ × C)) → AllByRecursion (λ row. P row.0 row.1) rows → (w : List ℕ) (c : C) → lookup (bytes_eq w) rows ≡ Some c → P w c
+pub look : {C : Type 0} (P : List ℕ → C → Type 0) (rows : List (List ℕ × C)) → AllByRecursion (λ row. P row.0 row.1) rows → (w : List ℕ) (c : C) → lookup (bytes_eq w) rows ≡ Some c → P w c
 look P [] all w c h = absurd (cc)
 look P (row ∷ rows) all w c h = look_step P w row.0 row.1 c (bytes_eq w row.0) (lookup (bytes_eq w) rows) refl all.0 (look P rows all.1 w c) h
 
@@ -114,7 +114,7 @@ last_by text (Some at) p e h =
     (w.1, m.1, at_byte 32 text at e ∙ ap (λ x. x ++ (32 ∷ drop (at + 1) text)) w.0 ∙ ap (λ x. decimal b.0 ++ (32 ∷ x)) m.0)
 
 -- five numbers and a move, each behind a blank
-stat_text : (front a b c d e f : List ℕ) → front ++ (a ++ (32 ∷ (b ++ (32 ∷ (c ++ (32 ∷ (d ++ (32 ∷ (e ++ f))))))))) ≡ front ++ field a ++ field b ++ field c ++ field d ++ e ++ f
+pub stat_text : (front a b c d e f : List ℕ) → front ++ (a ++ (32 ∷ (b ++ (32 ∷ (c ++ (32 ∷ (d ++ (32 ∷ (e ++ f))))))))) ≡ front ++ field a ++ field b ++ field c ++ field d ++ e ++ f
 stat_text front a b c d e f = simp append_assoc
 
 stat01_tells : (text : List ℕ) (t : Told) → stat01_in text ≡ Some t → Tells (codes "stat01: " ++ text) t
@@ -178,7 +178,7 @@ hint_by text None p e h =
     subst (λ (q : Option AnyMove × List ℕ). IfSome q.0 IsWritable × (text ≡ hint_text q.0 ++ q.1)) same (tt, refl)
 hint_by text (Some inner) p e h = hint_inner text inner (position is_paren inner) p e h
 
-thinking_text : (a b c d e f : List ℕ) → a ++ (32 ∷ (b ++ (32 ∷ (c ++ (32 ∷ (d ++ (32 ∷ (e ++ f)))))))) ≡ field a ++ field b ++ field c ++ field d ++ e ++ f
+pub thinking_text : (a b c d e f : List ℕ) → a ++ (32 ∷ (b ++ (32 ∷ (c ++ (32 ∷ (d ++ (32 ∷ (e ++ f)))))))) ≡ field a ++ field b ++ field c ++ field d ++ e ++ f
 thinking_text a b c d e f = simp append_assoc
 
 thinking_tells : (text : List ℕ) (t : Told) → thinking_in text ≡ Some t → Tells text t
@@ -219,8 +219,3 @@ told_by line (Some r) t e h = let same : told_of r ≡ t = cc in subst (λ (u : 
 
 pub told_tells : (line : List ℕ) (t : Told) → told_in line ≡ Some t → Tells line t
 told_tells line t h = told_by line (fixed_of line) t refl h
-
--- the same of what was read
-pub reply_tells : (line : List ℕ) (r : Option Reply) → option_map told_of r ≡ told_in line → IfSome r (λ reply. Tells line (told_of reply))
-reply_tells line None h = tt
-reply_tells line (Some reply) h = told_tells line (told_of reply) (sym h)
