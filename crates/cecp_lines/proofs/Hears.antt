@@ -32,7 +32,7 @@ use Rattle.cecp_lines.proofs.Fronts.{stripped_is}
 use Rattle.cecp_lines.proofs.Plain.{written_is, written_move_is}
 
 -- a text cut at the first byte of a kind
-at_byte : (k : ℕ) (xs : List ℕ) (at : ℕ) → position (λ b. eqb b k) xs ≡ Some at → xs ≡ take at xs ++ (k ∷ drop (at + 1) xs)
+pub at_byte : (k : ℕ) (xs : List ℕ) (at : ℕ) → position (λ b. eqb b k) xs ≡ Some at → xs ≡ take at xs ++ (k ∷ drop (at + 1) xs)
 at_byte k xs at h =
     let c = cond_some (ltb (position_or_len (λ b. eqb b k) xs) (length xs)) (position_or_len (λ b. eqb b k) xs) at h in
     let lt : position_or_len (λ b. eqb b k) xs < length xs = grind (arith, nat_tests, c.0) in
@@ -41,7 +41,7 @@ at_byte k xs at h =
     ∙ ap (λ b. before_first (λ c. eqb c k) xs ++ (b ∷ after_first (λ c. eqb c k) xs)) byte
     ∙ ap (λ n. take n xs ++ (k ∷ drop (n + 1) xs)) c.1
 
-map_some : {A B : Type 0} (f : A → B) (o : Option A) (y : B) → option_map f o ≡ Some y → (x : A) × (o ≡ Some x) × (f x ≡ y)
+pub map_some : {A B : Type 0} (f : A → B) (o : Option A) (y : B) → option_map f o ≡ Some y → (x : A) × (o ≡ Some x) × (f x ≡ y)
 map_some f None y h = absurd (cc)
 map_some f (Some x) y h = (x, refl, cc)
 
@@ -55,7 +55,7 @@ field_by read text (Some at) p e h =
     let k = with_parts (read (take at text)) (drop (at + 1) text) p h in
     (take at text, k.0, at_byte 32 text at e ∙ ap (λ r. take at text ++ (32 ∷ r)) k.1)
 
-number_is : (text : List ℕ) (p : ℕ × List ℕ) → number_field text ≡ Some p → (text ≡ decimal p.0 ++ (32 ∷ p.1)) × (p.0 < 2 ^ 64)
+pub number_is : (text : List ℕ) (p : ℕ × List ℕ) → number_field text ≡ Some p → (text ≡ decimal p.0 ++ (32 ∷ p.1)) × (p.0 < 2 ^ 64)
 number_is text p h =
     let f = field_by written text (position is_space text) p refl h in
     let w = written_is f.0 p.0 f.1 in
@@ -92,7 +92,7 @@ signed_by text false z e h =
     let w = written_is text n.0 n.1 in
     (w.0 ∙ sym n.2, n.3)
 
-score_is : (text : List ℕ) (p : ℤ × List ℕ) → score_field text ≡ Some p → (text ≡ signed_decimal p.0 ++ (32 ∷ p.1)) × SFits w64 p.0
+pub score_is : (text : List ℕ) (p : ℤ × List ℕ) → score_field text ≡ Some p → (text ≡ signed_decimal p.0 ++ (32 ∷ p.1)) × SFits w64 p.0
 score_is text p h =
     let f = field_by written_signed text (position is_space text) p refl h in
     let w = signed_by f.0 (starts_with_minus f.0) p.0 refl f.1 in

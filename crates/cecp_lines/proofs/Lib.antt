@@ -8,3 +8,7 @@ pub mod Answered
 pub mod Fronts
 pub mod Plain
 pub mod Hears
+pub mod Tellings
+pub mod Rereads
+pub mod Lists
+pub mod Exact

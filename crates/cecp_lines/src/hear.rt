@@ -1,8 +1,8 @@
 // The reply that a line spells.
-ghost use Rattle.std.specs.Prelude.{◌≡◌, is_some, ◌+◌, ◌-◌, ◌*◌, ◌<◌, ◌≤◌, ◌^◌, length, position, IfSome};
+ghost use Rattle.std.specs.Prelude.{◌≡◌, ◌↔◌, Some, is_some, ◌+◌, ◌-◌, ◌*◌, ◌<◌, ◌≤◌, ◌^◌, length, position, IfSome};
 ghost use Rattle.std.specs.Option.{option_map};
 ghost use Rattle.std.specs.List.{list_all};
-ghost use Rattle.cecp_lines.specs.Replies.{told_of, IsWritable, is_feature_name, is_name_byte};
+ghost use Rattle.cecp_lines.specs.Replies.{Told, told_of, Tells, IsWritable, is_feature_name, is_name_byte};
 ghost use Rattle.cecp_lines.specs.Hearing.{stripped, plain, written, written_signed, written_move, are_moves, is_space, is_paren, is_plain, cut, number_field, score_field, fixed_of, reason_of, feature_in, is_repeated, error_in, pong_in, last_in, stat01_in, hint_in, thinking_in, told_in, with_front};
 ghost use Rattle.cecp_lines.specs.Reading.{is_equals};
 
@@ -355,12 +355,20 @@ fn read_with_front(line: &[u8]) -> Option<Reply<'_>>
     read_thinking(line)
 }
 
-/// The reply whose text the line is, without its line feed. None where no reply has this text.
-pub fn read_reply(line: &[u8]) -> Option<Reply<'_>>
+fn read_told(line: &[u8]) -> Option<Reply<'_>>
     ensures { option_map told_of result ≡ told_in line.now }
 {
     match fixed_reply(line) {
         Some(reply) => Some(reply),
         None => read_with_front(line),
     }
+}
+
+/// The reply whose text the line is, without its line feed. None where no reply has this text.
+pub fn read_reply(line: &[u8]) -> Option<Reply<'_>>
+    ensures value { option_map told_of result ≡ told_in line.now }
+    // A reply is read exactly where the line is its text.
+    ensures told { (t : Told) → (option_map told_of result ≡ Some t) ↔ Tells line.now t }
+{
+    read_told(line)
 }
