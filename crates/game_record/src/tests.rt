@@ -155,8 +155,14 @@ fn plays_takes_back_and_writes(rt: HostRuntime) -> Result<(), Fail> {
 #[test]
 fn takes_the_longest_game(rt: HostRuntime) -> Result<(), Fail> {
     let mut game = Game::make(rt.alloc())?;
-    for _ in 0..MOST_PLIES / 4 {
-        play_all(&rt, &mut game, &SHUFFLE);
+    for round in 0..MOST_PLIES / 4 {
+        play_all(&rt, &mut game, &SHUFFLE[..3]);
+        let want = if round == 0 {
+            None
+        } else {
+            Some(End::Repetition)
+        };
+        ends(&rt, &mut game, SHUFFLE[3], want);
     }
     assert_eq!(rt;
         (game.plies(), game.repeats(), game.ended()),
