@@ -1,4 +1,6 @@
-pub mod Courses
+pub mod Replays
 pub mod Sames
+pub mod Times
+pub mod Courses
 pub mod States
 pub mod Lines

@@ -3,7 +3,6 @@ use Rattle.std.proofs.Common.{◌≡◌, ℕ, ◌+◌, ◌<◌, ◌≤◌, List,
 use Rattle.std.specs.Prelude.{count_by}
 use Rattle.std.specs.Bool.{Decides}
 use Rattle.std.proofs.lemmas.Bool.Decides.{Decides-and, Decides-or, Decides-eqb, nat_tests}
-use Rattle.std.proofs.lemmas.List.Sums.{sum_by-append}
 use Rattle.chess_board.specs.declared.board.Kind.{Kind}
 use Rattle.chess_board.specs.declared.board.Kind.TheVariants.{Pawn, Knight, Bishop, Rook, Queen, King}
 use Rattle.chess_board.specs.declared.board.Move.{Move}
@@ -23,9 +22,9 @@ use Rattle.chess_board.proofs.Bools.{either}
 use Rattle.chess_board.proofs.Texts.{legal-written}
 use Rattle.game_record.specs.declared.ending.End.TheVariants as ends
 use Rattle.game_record.specs.Course.{Ply, Course, now_of, positions_of, with_ply, later}
-use Rattle.game_record.specs.Ending.{is_same, is_way, has_legal, is_dead, state_by, state_of, ended_by, ended_of, repeats_of, Ends, StateLaw, EndingLaw}
-use Rattle.game_record.proofs.Courses.{later-append, now_after-append}
-use Rattle.game_record.proofs.Sames.{is_same-refl}
+use Rattle.game_record.specs.Ending.{is_way, has_legal, is_dead, state_by, state_of, ended_by, ended_of, stood_in, repeats_of, Ends, StateLaw, EndingLaw}
+use Rattle.game_record.proofs.Replays.{later-append, now_after-append}
+use Rattle.game_record.proofs.Times.{stood_once}
 
 or_left : (a b : Bool) → a ≡ true → (a || b) ≡ true
 or_left a b e = rw e refl
@@ -146,10 +145,9 @@ pub ended_same : (a b : State) (r q h k : ℕ) → a ≡ b → r ≡ q → h ≡
 ended_same a b r q h k s t u = ap (λ (x : State). ended_by x r h) s ∙ ap (λ (x : ℕ). ended_by b x h) t ∙ ap (λ (x : ℕ). ended_by b q x) u
 
 -- after a move its position stood once more than before
-pub repeats_more : (g : Course) (m : Ply) → repeats_of (with_ply g m) ≡ count_by (is_same (now_of (with_ply g m))) (positions_of g) + 1
+pub repeats_more : (g : Course) (m : Ply) → repeats_of (with_ply g m) ≡ stood_in (now_of (with_ply g m)) (positions_of g) + 1
 repeats_more g m =
     let now = now_of (with_ply g m) in
     let all : positions_of (with_ply g m) ≡ positions_of g ++ now ∷ [] =
     ap (λ (xs : List Placement). g.start ∷ xs) (later-append g.start g.moves m ∙ ap (λ (q : Placement). later g.start g.moves ++ q ∷ []) (sym (now_after-append g.start g.moves m))) in
-    let own : count_by (is_same now) (now ∷ []) ≡ 1 = rw (is_same-refl now) refl in
-    ap (count_by (is_same now)) all ∙ sum_by-append (λ (q : Placement). cond (is_same now q) 1 0) (positions_of g) (now ∷ []) ∙ ap (λ (n : ℕ). count_by (is_same now) (positions_of g) + n) own
+    ap (stood_in now) all ∙ stood_once now (positions_of g)

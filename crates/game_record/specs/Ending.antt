@@ -1,5 +1,5 @@
 -- How often a position stood, and how a game has ended.
-use Rattle.std.specs.Prelude.{ℕ, ◌<◌, ◌≤◌, ◌↔◌, Bool, true, false, IsTrue, ◌&&◌, ◌||◌, ◌==◌, not, nat_le, if◌then◌else◌, [], ◌∷◌, count_by, Option, Some, None}
+use Rattle.std.specs.Prelude.{ℕ, ◌<◌, ◌≤◌, ◌↔◌, Bool, true, false, IsTrue, ◌&&◌, ◌||◌, ◌==◌, not, nat_le, if◌then◌else◌, List, [], ◌∷◌, count_by, Option, Some, None}
 use Rattle.chess_board.specs.declared.board.Kind.{Kind}
 use Rattle.chess_board.specs.declared.board.Kind.TheVariants.{Pawn, Knight, Bishop, Rook, Queen, King}
 use Rattle.chess_board.specs.declared.board.Rights.{Rights}
@@ -57,9 +57,13 @@ is_same p q = (same_men p.men q.men && same_side p.side q.side) && (same_rights 
 abbrev pub SameLaw : Type 0
 SameLaw = (p q : Placement) → IsTrue (is_same p q) ↔ Same p q
 
+-- how many of the positions are the same as this one
+abbrev pub stood_in : Placement → List Placement → ℕ
+stood_in p positions = count_by (is_same p) positions
+
 -- how often the present position stood, the present time counted
 abbrev pub repeats_of : Course → ℕ
-repeats_of g = count_by (is_same (now_of g)) (positions_of g)
+repeats_of g = stood_in (now_of g) (positions_of g)
 
 -- whether some move from a square to another is legal
 abbrev pub is_way : Placement → ℕ → ℕ → Bool

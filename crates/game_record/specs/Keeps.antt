@@ -1,16 +1,29 @@
 -- What a game keeps.
-use Rattle.std.specs.Prelude.{ℕ, ◌≡◌, ◌≤◌, List, length}
+use Rattle.std.specs.Prelude.{ℕ, ◌≡◌, ◌+◌, ◌<◌, ◌≤◌, List, [], ◌∷◌, ◌++◌, length, take, slice_index, slice_index_or}
 use Rattle.chess_board.specs.Placement.{Placement}
-use Rattle.game_record.specs.Course.{Ply, later, AreLegal}
+use Rattle.game_record.specs.Course.{Ply, played, later, AreLegal}
+use Rattle.game_record.specs.Ending.{stood_in}
 
 -- the most moves of a game
 abbrev pub most_plies : ℕ
 most_plies = 12000
 
--- the positions are those after the moves, and there is room for more of both
-pub record Keeps (start : Placement) (moves : List Ply) (positions : List Placement) (move_room position_room : ℕ) : Type 0 where
+-- how often the position after each move then stood, where these stood before the first
+abbrev pub times_of : List Placement → Placement → List Ply → List ℕ
+times_of before p [] = []
+times_of before p (m ∷ moves) = stood_in (played p m) (before ++ played p m ∷ []) ∷ times_of (before ++ played p m ∷ []) (played p m) moves
+
+-- with each position how often it then stood
+pub record AreTimes (start : Placement) (positions : List Placement) (times : List ℕ) : Type 0 where
+  pub length_is : length times ≡ length positions
+  pub each : (k : ℕ) → k < length positions → slice_index times k ≡ stood_in (slice_index_or positions k start) (start ∷ take (k + 1) positions)
+
+-- the positions are those after the moves, with their times, and there is room for more of all
+pub record Keeps (start : Placement) (moves : List Ply) (positions : List Placement) (times : List ℕ) (move_room position_room time_room : ℕ) : Type 0 where
   pub positions_are : positions ≡ later start moves
+  pub times_are : times ≡ times_of (start ∷ []) start moves
   pub legal : AreLegal start moves
   pub few : length moves ≤ most_plies
   pub move_room_is : most_plies ≤ move_room
   pub position_room_is : most_plies ≤ position_room
+  pub time_room_is : most_plies ≤ time_room

@@ -1,10 +1,11 @@
 //! Games.
-ghost use Rattle.std.specs.Prelude.{◌≡◌, ◌+◌, ◌<◌, ◌≤◌, ◌↔◌, length, count_by, Option, IsErr, IfOk, OnOk, OnErr};
+ghost use Rattle.std.specs.Prelude.{◌≡◌, ◌+◌, ◌<◌, ◌≤◌, ◌↔◌, ◌∷◌, length, Option, IsErr, IfOk, OnOk, OnErr};
 ghost use Rattle.chess_board.specs.Laws.{IsLegal};
 ghost use Rattle.chess_board.specs.Play.{start_position, IsPosition};
 ghost use Rattle.game_record.specs.Course.{Ply, ply_of, plies_of, IsPlayable, played, AreLegal, now_of, positions_of, begun, with_ply, without_last};
 ghost use Rattle.game_record.specs.Line.{position_text};
-ghost use Rattle.game_record.specs.Ending.{is_same, repeats_of, ended_of};
+ghost use Rattle.game_record.specs.Ending.{stood_in, repeats_of, ended_of};
+ghost use Rattle.game_record.specs.Keeps.{AreTimes};
 
 use crate::ending::{End, ended_by, is_same, state_of};
 use chess_board::{Move, Position};
@@ -35,6 +36,8 @@ pub struct Game {
     moves: Vec<Move>,
     /// The position after each move.
     later: Vec<Position>,
+    /// How often each of these then stood.
+    times: Vec<u32>,
 }
 
 impl Model for Game {
@@ -46,7 +49,7 @@ impl Model for Game {
 
     ghost view = { λ g. record { start = g.start; moves = plies_of g.moves.items } };
 
-    ghost invariant = { λ g. Keeps g.start (plies_of g.moves.items) g.later.items (vec_capacity g.moves) (vec_capacity g.later) };
+    ghost invariant = { λ g. Keeps g.start (plies_of g.moves.items) g.later.items g.times.items (vec_capacity g.moves) (vec_capacity g.later) (vec_capacity g.times) };
 }
 
 impl Game {
@@ -56,10 +59,12 @@ impl Game {
     {
         let moves = Vec::with_capacity(alloc, MOST_PLIES)?;
         let later = Vec::with_capacity(alloc, MOST_PLIES)?;
+        let times = Vec::with_capacity(alloc, MOST_PLIES)?;
         Ok(Game {
             start: Position::start(),
             moves,
             later,
+            times,
         })
     }
 
@@ -70,6 +75,7 @@ impl Game {
         self.start = start;
         self.moves.clear();
         self.later.clear();
+        self.times.clear();
     }
 
     /// Plays a move.
@@ -84,11 +90,13 @@ impl Game {
             return Err(PushFault::Illegal);
         }
         let after = now.play(m);
+        let times = self.stood(&after) + 1;
         if self.moves.len() >= MOST_PLIES {
             return Err(PushFault::TooLong);
         }
         self.moves.push_reserved(m);
         self.later.push_reserved(after);
+        self.times.push_reserved(times);
         Ok(())
     }
 
@@ -105,6 +113,7 @@ impl Game {
         }
         self.moves.truncate(plies - n);
         self.later.truncate(plies - n);
+        self.times.truncate(plies - n);
         Ok(())
     }
 
@@ -152,20 +161,22 @@ impl Game {
         self.start.facts();
     }
 
-    /// How many positions of the game so far are the same as this one.
+    /// How often a position stood in the game so far.
     fn stood(&self, p: &Position) -> u32
-        ensures value { result ≡ count_by (is_same p.now) (positions_of self.now) }
+        ensures value { result ≡ stood_in p.now (positions_of self.now) }
         ensures few { result ≤ 12001 }
     {
-        let start = if is_same(p, &self.start) { 1 } else { 0 };
-        start + count_same(p, self.later.as_slice()) as u32
+        last_stood(p, &self.start, self.later.as_slice(), self.times.as_slice())
     }
 
     /// How often the present position stood, the present time counted (article 9.2.2).
     pub fn repeats(&self) -> u32
         ensures { result ≡ repeats_of self.now }
     {
-        self.stood(self.now())
+        match self.times.last() {
+            Some(times) => *times,
+            None => 1,
+        }
     }
 
     /// How the game has ended, if it has.
@@ -186,9 +197,15 @@ impl Game {
     }
 }
 
-/// How many of these positions are the same as this one.
-fn count_same(p: &Position, positions: &[Position]) -> usize
-    ensures { result ≡ count_by (is_same p.now) positions.now }
+/// How often a position stood: as often as its last occurrence says.
+fn last_stood(p: &Position, start: &Position, later: &[Position], times: &[u32]) -> u32
+    requires { AreTimes start.now later.now times.now }
+    ensures { result ≡ stood_in p.now (start.now ∷ later.now) }
 {
-    positions.iter().filter(|q| is_same(p, q)).count()
+    for i in (0..later.len()).rev() {
+        if is_same(p, &later[i]) {
+            return times[i];
+        }
+    }
+    if is_same(p, start) { 1 } else { 0 }
 }

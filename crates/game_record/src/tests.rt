@@ -1,7 +1,7 @@
 ghost use Rattle.std.specs.Prelude.{◌≡◌, ◌+◌, ◌≤◌, length, IfSome};
 ghost use Rattle.game_record.specs.Course.{ply_of, IsPlayable, now_of};
 
-use crate::{End, Game, MOST_PLIES, NoMove, PushFault};
+use crate::{End, Game, NoMove, PushFault};
 use chess_board::{Move, Position, read_move};
 use fen_text::read_fen;
 use line_io::Out;
@@ -155,8 +155,9 @@ fn plays_takes_back_and_writes(rt: HostRuntime) -> Result<(), Fail> {
 #[test]
 fn takes_the_longest_game(rt: HostRuntime) -> Result<(), Fail> {
     let mut game = Game::make(rt.alloc())?;
-    for _ in 0..MOST_PLIES / 4 {
+    for round in 0..3_000 {
         play_all(&rt, &mut game, &SHUFFLE);
+        assert_eq!(rt; game.repeats(), round + 2);
     }
     assert_eq!(rt;
         (game.plies(), game.repeats(), game.ended()),

@@ -1,5 +1,4 @@
 use Rattle.std.proofs.Common.{◌≤◌, length, subst, ap}
-use Rattle.chess_board.specs.Placement.{Placement}
 use Rattle.chess_board.specs.Play.{IsPosition}
 use Rattle.game_record.specs.Course.{Course}
 use Rattle.game_record.proofs.Lines.{most_bytes}

@@ -3,7 +3,7 @@ use Rattle.std.proofs.Common.{◌≡◌, ◌-◌, List, length, sym, ap, ◌∙�
 use Rattle.std.specs.List.{slice_get}
 use Rattle.chess_board.specs.Placement.{Placement}
 use Rattle.game_record.specs.Course.{now_of, later, plies_of}
-use Rattle.game_record.proofs.Courses.{last_some, last_none}
+use Rattle.game_record.proofs.Replays.{last_some, last_none}
 use Rattle.game_record.proofs.game.Game.now.Goals as goal
 
 pub returns-in-Some : goal.returns-in-Some
