@@ -345,6 +345,7 @@ fn orders(rt: HostRuntime) {
 }
 
 #[test]
+#[tactic(auto, unfolding(crate::specs::Orders::command_text, crate::specs::Said::said_text))]
 fn lists_and_texts(rt: HostRuntime) -> Result<(), Fail> {
     positions_may_stand();
     let combo = b"default Always var Always var Fail  High default x var";

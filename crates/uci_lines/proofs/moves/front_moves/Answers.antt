@@ -13,4 +13,4 @@ returns-in-Some c =
     ∙ sym (run_before c.args.text.now (part_of c.in-Some.found) (sym c.in-Some.ensures))
 
 pub returns-in-None : goal.returns-in-None
-returns-in-None c = ap (λ t. run (tokens t)) c.trim.ensures ∙ ap run (tokens_trimmed c.args.text.now)
+returns-in-None c = ap (λ t. run (tokens t)) c.trim-in-None.ensures ∙ ap run (tokens_trimmed c.args.text.now)
