@@ -117,12 +117,12 @@ module _ (s : State) (step : Step) (holds : Holds s) where
         held = none_held (has_ready (map word_of step.orders)) (waiting (here s) s.held (deed s step.event)) (none_asked (here s) s.held (deed s step.event) holds.held);
         quiet = quiet_all (mid s step.event).epoch (mid s step.event).engine step.orders (quiet_heard s.talk.engine (said_of u.what) holds.quiet);
       } where
-    back : (epoch : ℕ) (e : Engine) → TicketWithin epoch e → TicketIsWithin epoch e
-    back epoch Boot w = tt
-    back epoch Getting w = tt
-    back epoch Idle w = tt
-    back epoch Gone w = tt
-    back epoch (Search k t s) w = w
+        back : (epoch : ℕ) (e : Engine) → TicketWithin epoch e → TicketIsWithin epoch e
+        back epoch Boot w = tt
+        back epoch Getting w = tt
+        back epoch Idle w = tt
+        back epoch Gone w = tt
+        back epoch (Search k t s) w = w
 
 -- what holds after any lawful trace
 pub holds_of : (o : Settings) (t : List Step) → Lawful o t → Holds (state o t)

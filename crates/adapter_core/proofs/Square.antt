@@ -120,9 +120,9 @@ module _ (s : State) (told ordered : Text) (e : Event) (holds : Holds s) where
       boots_are s.talk.epoch s.talk.engine (here s) s.held (deed s e) refl fits
       ∙ or_none (leaves_boot s.talk.engine (what_of (deed s e)))
       ∙ ap (λ (ws : List Command). leaves_boot s.talk.engine (what_of (deed s e)) || not (is_empty (map word_of ws))) (sym no_waits) where
-    or_none : (b : Bool) → b ≡ (b || false)
-    or_none true = refl
-    or_none false = refl
+        or_none : (b : Bool) → b ≡ (b || false)
+        or_none true = refl
+        or_none false = refl
 
   -- in an open session the choice is the dialogue's
   chosen_by : is_open e ≡ false → closed_after s e ≡ false → choice_here ≡ settled_by s.talk (turn s e)

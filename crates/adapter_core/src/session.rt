@@ -10,7 +10,9 @@ ghost use Rattle.adapter_core.specs.Ends.{may, is_over};
 ghost use Rattle.adapter_core.specs.View.{opening, IsReadyFor};
 
 use crate::Ends;
-use crate::steps::{choose, hear, is_boots, is_death, is_move, is_open, put_orders, settle_pings, tell};
+use crate::steps::{
+    choose, hear, is_boots, is_death, is_move, is_open, put_orders, settle_pings, tell,
+};
 use desk_rules::{Deed, Desk, Pings, Sight, is_gone};
 use line_io::{Event, NoMemory, Out};
 use policy_rules::Settings;

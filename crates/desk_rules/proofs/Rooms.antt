@@ -52,8 +52,8 @@ pub pong_more : (start ns : List ℕ) (i : ℕ) → i < length ns → (start ++ 
 pong_more start ns i h =
     append_assoc start (told_lines (map Pong (take i ns))) (told_line (Pong (get_or ns i 0)))
     ∙ ap (λ l. start ++ l) (
-      ap (λ l. told_lines (map Pong (take i ns)) ++ l) (sym (append-nil (told_line (Pong (get_or ns i 0)))))
-      ∙ sym (lines-append (map Pong (take i ns)) (Pong (get_or ns i 0) ∷ []))
-      ∙ ap told_lines (sym (map-append (take i ns) (get_or ns i 0 ∷ [])))
-      ∙ ap (λ l. told_lines (map Pong l)) (sym (take_more ns i 0 h))
+    ap (λ l. told_lines (map Pong (take i ns)) ++ l) (sym (append-nil (told_line (Pong (get_or ns i 0)))))
+    ∙ sym (lines-append (map Pong (take i ns)) (Pong (get_or ns i 0) ∷ []))
+    ∙ ap told_lines (sym (map-append (take i ns) (get_or ns i 0 ∷ [])))
+    ∙ ap (λ l. told_lines (map Pong l)) (sym (take_more ns i 0 h))
     )

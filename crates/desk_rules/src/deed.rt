@@ -18,10 +18,7 @@ pub enum Deed<'a> {
     Opens,
     LongLine,
     /// A line of the interface is refused.
-    Refuses {
-        reason: Reason,
-        line: &'a [u8],
-    },
+    Refuses { reason: Reason, line: &'a [u8] },
     /// A line of the interface is obeyed.
     Accepts(IfaceMsg<'a>),
     /// The engine leaves Boot.

@@ -1,5 +1,5 @@
 -- What the program answers.
-use Rattle.std.specs.Prelude.{◌≡◌, ◌⊎◌, ℕ, ◌^◌, ◌<◌, List, [], ◌∷◌, Bool, true, false, if◌then◌else◌, codes, Option, Some, None, Vec, vec_items, map}
+use Rattle.std.specs.Prelude.{◌≡◌, ◌⊎◌, ℕ, ◌^◌, ◌<◌, List, [], ◌∷◌, length, Bool, true, false, if◌then◌else◌, codes, Option, Some, None, Vec, vec_items, map}
 use Rattle.std.specs.Str.{bytes_eq}
 use Rattle.std.specs.Io.KnownBytes.{Appends}
 use Rattle.line_io.specs.Causes.{Rose}
@@ -10,7 +10,7 @@ use Rattle.replay_tool.specs.declared.ending.Ending.{Ending}
 use Rattle.replay_tool.specs.declared.ending.Ending.TheVariants as endings
 use Rattle.replay_tool.specs.Diagnostics.{code_of, diagnostic}
 use Rattle.replay_tool.specs.Reading.{first_fault, opened}
-use Rattle.replay_tool.specs.Replay.{Streams, Stopped}
+use Rattle.replay_tool.specs.Replay.{Streams, Stopped, ReplaysTo}
 
 -- the bytes of words
 abbrev pub texts : {Z : Type 0} → List (Vec ℕ Z) → List (List ℕ)
@@ -52,3 +52,28 @@ pub record Ran (fits : Bool) (untouched : Type 0) (code : ℕ) (start now : Stre
   pub tells : Tells code ending diag_old diag_new old new
   pub reading : ending ≡ endings.ReadingFailed → Rose old.read new.read
   pub writing : ending ≡ endings.WritingFailed → Rose old.written new.written
+
+-- the words that fit no command are told, and nothing else happens
+abbrev pub IsUsage : Bool → Type 0 → ℕ → Type 0
+IsUsage fits untouched code = fits ≡ false → ((code ≡ 2) ⊎ (code ≡ 5)) × untouched
+
+-- the first fault of the input is told, and the lines before it are replayed
+pub record FindsFault (start now : Streams) (diag_old diag_new : Option (List ℕ)) : Type 0 where
+  pub fault : Ending
+  pub is_told : Appends diag_old diag_new (diagnostic fault)
+  pub replays : ReplaysTo usual fault [] start now
+
+-- no count rose
+pub record IsSteady (old new : Counts) : Type 0 where
+  pub read : Rose old.read new.read → ⊥
+  pub written : Rose old.written new.written → ⊥
+  pub told : Rose old.told new.told → ⊥
+
+-- an input without a fault of fewer than 2^32 bytes is replayed, or there was no memory
+abbrev pub Completes : ℕ → Option (List ℕ) → Counts → Counts → Type 0
+Completes code left old new = (x : List ℕ) → left ≡ Some x → length x < 2 ^ 32 → first_fault 1 opened (items 131072 x) ≡ None → IsSteady old new → (code ≡ 0) ⊎ (code ≡ 3)
+
+-- the first fault of an input of fewer than 2^32 bytes is told, or there was no memory
+abbrev pub TellsFault : ℕ → Option (List ℕ) → Option (List ℕ) → Option (List ℕ) → Counts → Counts → Type 0
+TellsFault code left diag_old diag_new old new = (x : List ℕ) (fault : Ending) → left ≡ Some x → length x < 2 ^ 32 → first_fault 1 opened (items 131072 x) ≡ Some fault → IsSteady old new
+    → ((code ≡ 2) × Appends diag_old diag_new (diagnostic fault)) ⊎ (code ≡ 3)

@@ -59,7 +59,11 @@ impl Ending {
         ensures { out.new ≡ with out.old (diagnostic self) }
     {
         match self {
-            Ending::NoMark(line) | Ending::MayNotCome(line) => put_line_fault(line, self.tail(), out),
+            Ending::NoMark(line) | Ending::MayNotCome(line) => put_line_fault(
+                line,
+                self.tail(),
+                out,
+            ),
             _ => out.put(self.tail()),
         }
     }

@@ -4,5 +4,7 @@
 mod ending;
 mod replay;
 mod run;
+#[cfg(test)]
+mod tests;
 
 pub use replay::replay_main;

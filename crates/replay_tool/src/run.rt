@@ -17,7 +17,9 @@ ghost use Rattle.replay_tool.specs.Replay.{Streams, streams, Stopped};
 
 use crate::ending::Ending;
 use adapter_core::Core;
-use line_io::{Event, Failed, Item, Lines, Mark, NoMemory, Out, Sink, Source, read_mark, write_all};
+use line_io::{
+    Event, Failed, Item, Lines, Mark, NoMemory, Out, Sink, Source, read_mark, write_all,
+};
 use policy_rules::Settings;
 use session_script::put_step;
 use std::alloc::Global;

@@ -1,31 +1,12 @@
-use Rattle.std.proofs.Common.{◌≡◌, ◌∙◌, ap, sym, refl, true, false}
-use Rattle.replay_tool.specs.declared.ending.Ending.TheVariants as endings
-use Rattle.replay_tool.specs.Program.{counts}
-use Rattle.replay_tool.proofs.Answers.{tells}
+use Rattle.std.proofs.Common.{◌≡◌}
+use Rattle.replay_tool.proofs.Answers.{writing, complete, faulty}
 use Rattle.replay_tool.proofs.replay.replay_main.Goals as goal
 
-pub returns-then-not-is_replay : goal.returns-then-not-is_replay
-returns-then-not-is_replay g c = record {
-  ran = record {
-    ending = endings.Usage;
-    ends = (sym c.is_replay.ensures ∙ c.if-not-is_replay.true, (refl, refl));
-    tells = tells c.status.result.code endings.Usage c.write_all.result c.is_err-failed.result c.tail.result.now (g.D.Sink.taken c.args.diag.now) (g.D.Sink.taken c.write_all.new.sink)
-        (counts (g.I.Source.faults c.args.input.now) (g.O.Sink.faults c.args.output.now) (g.D.Sink.faults c.args.diag.now)) (counts (g.I.Source.faults c.args.input.now) (g.O.Sink.faults c.args.output.now) (g.D.Sink.faults c.write_all.new.sink))
-        c.is_err-failed.ensures.value c.status.ensures c.tail.ensures c.write_all.ensures.ok c.write_all.ensures.err c.write_all.ensures.cause;
-    reading = λ e. cc;
-    writing = λ e. cc;
-  };
-}
+pub returns-clause-writing : goal.returns-clause-writing
+returns-clause-writing g c = writing _ _ _ _ _ _ _ _ _ c.run_words.ensures
 
-pub returns-in_default : goal.returns-in_default
-returns-in_default g c = record {
-  ran = record {
-    ending = endings.NoMemory;
-    ends = (sym c.is_replay.ensures ∙ c.if-not-is_replay.false, (refl, refl));
-    tells = tells c.status-in_default.result.code endings.NoMemory c.write_all-in_default.result c.is_err-failed-in_default.result c.tail-in_default.result.now (g.D.Sink.taken c.args.diag.now) (g.D.Sink.taken c.write_all-in_default.new.sink)
-        (counts (g.I.Source.faults c.args.input.now) (g.O.Sink.faults c.args.output.now) (g.D.Sink.faults c.args.diag.now)) (counts (g.I.Source.faults c.args.input.now) (g.O.Sink.faults c.args.output.now) (g.D.Sink.faults c.write_all-in_default.new.sink))
-        c.is_err-failed-in_default.ensures.value c.status-in_default.ensures c.tail-in_default.ensures c.write_all-in_default.ensures.ok c.write_all-in_default.ensures.err c.write_all-in_default.ensures.cause;
-    reading = λ e. cc;
-    writing = λ e. cc;
-  };
-}
+pub returns-clause-complete : goal.returns-clause-complete
+returns-clause-complete g c = complete _ _ _ _ _ _ _ _ _ c.run_words.ensures
+
+pub returns-clause-faulty : goal.returns-clause-faulty
+returns-clause-faulty g c = faulty _ _ _ _ _ _ _ _ _ c.run_words.ensures

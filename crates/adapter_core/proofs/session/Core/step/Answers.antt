@@ -11,8 +11,7 @@ pub returns : goal.returns
 unfolding step_by
 returns c =
     let old = c.args.self.now in
-    let e = event_of c.args.event.now in
-    (
+    let e = event_of c.args.event.now in (
       (
         refl,
         λ _. tt,

@@ -1,0 +1,111 @@
+// Worked sessions.
+use crate::replay_main;
+use line_io::{MemSink, MemSource};
+use std::alloc::Global;
+use std::test::Fail;
+
+// Replays an input that is read in pieces, some reads of which fail. It gives the status and what
+// was written to the output and to the diagnostic.
+fn replayed(
+    alloc: Global,
+    input: &[u8],
+    piece: usize,
+    fails: &[u64],
+) -> Result<(u8, Vec<u8>, Vec<u8>), Fail>
+    requires { 0 < piece }
+{
+    let mut source = MemSource::make(alloc, input, piece, fails)?;
+    let mut output = MemSink::make(alloc, 1_000_000, &[])?;
+    let mut diag = MemSink::make(alloc, 100, &[])?;
+    let words = vec![in alloc; Vec::from_slice(alloc, b"replay")?]?;
+    let status = replay_main(alloc, words.as_slice(), &mut source, &mut output, &mut diag);
+    let written = Vec::from_slice(alloc, output.taken())?;
+    let told = Vec::from_slice(alloc, diag.taken())?;
+    Ok((status.code, written, told))
+}
+
+ghost use Rattle.std.specs.Prelude.{◌<◌};
+
+const HANDSHAKE: &[u8] = b"x ping 1\nu uciok\nx ping 2\nu readyok\nx hello\nx quit\nu.\n";
+
+const HANDSHAKE_SCRIPT: &[u8] =
+    b"U uci\nx ping 1\nX pong 1\nu uciok\nU isready\nx ping 2\nX pong 2\nu readyok\nx hello\nX Error (unknown command): hello\nx quit\nU quit\nu.\n";
+
+const ENDINGS: &[u8] = b"x  ping 7\t\nx!\nu?\nx ping\nx \nu.\nx.\n";
+
+const ENDINGS_SCRIPT: &[u8] =
+    b"U uci\nx  ping 7\t\nX pong 7\nx!\nX Error (line too long): ...\nu?\nX tellusererror Engine ended\nx ping\nX Error (bad argument): ping\nx \nu.\nx.\n";
+
+#[test]
+fn scripts_are_replayed(rt: HostRuntime) -> Result<(), Fail> {
+    let alloc = rt.alloc();
+    let table: [(&[u8], &[u8]); 3] = [
+        (b"", b"U uci\n"),
+        (HANDSHAKE, HANDSHAKE_SCRIPT),
+        (ENDINGS, ENDINGS_SCRIPT),
+    ];
+    for (input, script) in table {
+        for piece in 1..8usize {
+            let (status, written, told) = replayed(alloc, input, piece, &[])?;
+            assert_eq!(rt; status, 0);
+            assert_eq!(rt; written.as_slice(), script);
+            assert_eq!(rt; told.as_slice(), b"".as_slice());
+        }
+        let (status, written, _) = replayed(alloc, script, 4096, &[])?;
+        assert_eq!(rt; status, 0);
+        assert_eq!(rt; written.as_slice(), script);
+    }
+    Ok(())
+}
+
+#[test]
+fn faults_are_told(rt: HostRuntime) -> Result<(), Fail> {
+    let alloc = rt.alloc();
+    let (status, written, told) = replayed(alloc, b"x xboard\nx ping 3\nhello\n", 5, &[])?;
+    assert_eq!(rt; status, 2);
+    assert_eq!(rt;
+        written.as_slice(),
+        b"U uci\nx xboard\nx ping 3\nX pong 3\n".as_slice()
+    );
+    assert_eq!(rt; told.as_slice(), b"replay: line 3 has no mark\n".as_slice());
+    let (status, written, told) = replayed(alloc, b"x quit\nx ping 1\n", 5, &[])?;
+    assert_eq!(rt; status, 2);
+    assert_eq!(rt; written.as_slice(), b"U uci\nx quit\nU quit\n".as_slice());
+    assert_eq!(rt;
+        told.as_slice(),
+        b"replay: line 2 may not come here\n".as_slice()
+    );
+    let (status, written, told) = replayed(alloc, b"x ping 1\nx ping 2\n", 9, &[2])?;
+    assert_eq!(rt; status, 4);
+    assert_eq!(rt;
+        written.as_slice(),
+        b"U uci\nx ping 1\nX pong 1\n".as_slice()
+    );
+    assert_eq!(rt; told.as_slice(), b"replay: reading failed\n".as_slice());
+    Ok(())
+}
+
+// A line of so many letters.
+fn letters(alloc: Global, count: usize, end: &[u8]) -> Result<Vec<u8>, Fail> {
+    let mut line = Vec::from_slice(alloc, b"x ")?;
+    for _ in 0..count {
+        line.push(b'a')?;
+    }
+    line.extend_from_slice(end)?;
+    Ok(line)
+}
+
+#[test]
+fn long_lines_have_no_mark(rt: HostRuntime) -> Result<(), Fail> {
+    let alloc = rt.alloc();
+    let longest = letters(alloc, 65_536, b"\n")?;
+    let (status, written, _) = replayed(alloc, longest.as_slice(), 4096, &[])?;
+    assert_eq!(rt; status, 0);
+    assert_eq!(rt; written.len(), 6 + 65_539 + 2 + 25 + 65_537);
+    let longer = letters(alloc, 65_537, b"\n")?;
+    let (status, written, told) = replayed(alloc, longer.as_slice(), 4096, &[])?;
+    assert_eq!(rt; status, 2);
+    assert_eq!(rt; written.as_slice(), b"U uci\n".as_slice());
+    assert_eq!(rt; told.as_slice(), b"replay: line 1 has no mark\n".as_slice());
+    Ok(())
+}
