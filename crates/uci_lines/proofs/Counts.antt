@@ -1,10 +1,7 @@
 -- A count behind a word, in both directions.
-use Rattle.std.proofs.Common.{◌≡◌, ℕ, ◌<◌, ◌^◌, List, [], ◌∷◌, ◌++◌, Bool, true, false, cond, Option, Some, None, decimal, refl, sym, ap, ◌∙◌, arith, append_assoc, drop}
-use Rattle.std.specs.Option.{option_map}
+use Rattle.std.proofs.Common.{◌≡◌, ℕ, ◌<◌, ◌^◌, List, ◌++◌, Bool, true, false, cond, Option, Some, None, decimal, refl, sym, ap, ◌∙◌, arith, append_assoc}
 use Rattle.std.specs.Str.{bytes_eq}
-use Rattle.std.specs.List.{before_first}
 use Rattle.std.proofs.lemmas.Slice.Eq.{bytes_eq-Decides}
-use Rattle.peer_words.specs.Tokens.{is_white, token_end}
 use Rattle.peer_words.specs.Numbers.{count}
 use Rattle.peer_words.proofs.Written.{count_decimal, decimal_token}
 use Rattle.uci_lines.specs.Orders.{optional_number}

@@ -1,9 +1,8 @@
 -- The tokens of a text that is cut: those before, the one at the cut, those after.
-use Rattle.std.proofs.Common.{◌≡◌, ℕ, List, [], ◌∷◌, ◌++◌, Bool, true, false, not, ◌&&◌, Option, Some, None, is_none, ltb, length, drop, refl, sym, ap, ◌∙◌}
-use Rattle.std.specs.List.{before_first}
+use Rattle.std.proofs.Common.{◌≡◌, ℕ, List, [], ◌∷◌, ◌++◌, Bool, true, false, Option, Some, None, is_none, ltb, length, refl, sym, ap, ◌∙◌}
 use Rattle.std.specs.Option.{option_map}
 use Rattle.chess_board.specs.declared.board.Move.{Move}
-use Rattle.peer_words.specs.Tokens.{is_white, token_end, trim_left, first_token, rest, trimmed, tokens}
+use Rattle.peer_words.specs.Tokens.{is_white, trim_left, trimmed, tokens}
 use Rattle.peer_words.proofs.TokenLists.{tokens_some, tokens_white, tokens_trimmed}
 use Rattle.peer_words.proofs.Trims.{and_true}
 use Rattle.uci_lines.specs.Cuts.{Part, onto_part, cut, is_no_move}

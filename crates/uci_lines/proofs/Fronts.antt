@@ -1,5 +1,5 @@
 -- The token at the front of a text, and what stands behind it.
-use Rattle.std.proofs.Common.{◌≡◌, ℕ, suc, ◌+◌, List, [], ◌∷◌, ◌++◌, Bool, true, false, not, ◌&&◌, ltb, length, take, drop, refl, sym, ap, ◌∙◌, arith}
+use Rattle.std.proofs.Common.{◌≡◌, ℕ, suc, ◌+◌, List, [], ◌∷◌, ◌++◌, Bool, true, false, not, ltb, length, drop, refl, sym, ap, ◌∙◌, arith}
 use Rattle.std.specs.List.{before_first, list_all}
 use Rattle.peer_words.specs.Tokens.{is_white, is_token, token_end, trim_left, first_token, rest, trimmed}
 use Rattle.peer_words.proofs.Trims.{and_true}

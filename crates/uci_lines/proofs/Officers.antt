@@ -1,5 +1,5 @@
 -- A move that a text spells has a promotion that can be written.
-use Rattle.std.proofs.Common.{◌≡◌, ℕ, List, [], ◌∷◌, Bool, true, false, ◌||◌, cond, eqb, Option, Some, None, refl, sym, subst}
+use Rattle.std.proofs.Common.{◌≡◌, ℕ, List, [], ◌∷◌, Bool, true, false, ◌||◌, cond, eqb, Option, Some, None, sym, subst}
 use Rattle.std.specs.Option.{IfSome}
 use Rattle.chess_board.specs.declared.board.Move.{Move}
 use Rattle.chess_board.specs.declared.board.Kind.{Kind}

@@ -5,7 +5,7 @@ use Rattle.std.proofs.lemmas.List.{take_more, append-nil}
 use Rattle.std.proofs.lemmas.List.Splits.{slice_split_first}
 use Rattle.std.proofs.lemmas.List.Sums.{prefix_len-le-length}
 use Rattle.std.proofs.lemmas.Bool.Decides.{nat_tests}
-use Rattle.std.specs.List.{list_all, slice_split, before_first, after_first, position_or_len}
+use Rattle.std.specs.List.{list_all, slice_split, before_first, position_or_len}
 use Rattle.std.specs.Option.{option_map}
 use Rattle.uci_lines.specs.Behind.{after}
 use Rattle.uci_lines.specs.Written.{onto_first_of, value_here, value_cut, split_onto, fields_before, is_written_move, is_blank_byte, is_moves}

@@ -1,13 +1,13 @@
 -- The pieces of a combo, one by one.
-use Rattle.std.proofs.Common.{◌≡◌, ℕ, suc, List, [], ◌∷◌, ◌++◌, Bool, true, false, not, ◌&&◌, ◌||◌, cond, Option, Some, None, ltb, ◌<◌, ◌≤◌, length, length-append, arith, drop, codes, refl, sym, ap, ◌∙◌, subst, append_assoc}
+use Rattle.std.proofs.Common.{◌≡◌, ℕ, suc, List, [], ◌∷◌, ◌++◌, Bool, true, false, not, ◌&&◌, ◌||◌, cond, Option, Some, None, ltb, ◌<◌, ◌≤◌, length, length-append, arith, drop, codes, refl, sym, ap, ◌∙◌}
 use Rattle.std.proofs.Math.Seq.{drop-append_seam}
 use Rattle.std.proofs.lemmas.Bool.Decides.{nat_tests}
-use Rattle.std.specs.List.{before_first, onto_first, list_all}
+use Rattle.std.specs.List.{onto_first, list_all}
 use Rattle.std.specs.Option.{option_map}
-use Rattle.peer_words.specs.Tokens.{is_white, is_token, trim_left, trimmed, first_token, rest}
+use Rattle.peer_words.specs.Tokens.{is_white, is_token, trimmed, first_token, rest}
 use Rattle.uci_lines.specs.Cuts.{Part, onto_part, cut, is_word, is_choice}
 use Rattle.uci_lines.specs.Choices.{pieces, values_among, values, before_choice, from_choice}
-use Rattle.uci_lines.proofs.Fronts.{BeginsWhite, front, behind, front-white, behind-white, front-byte, behind-byte, first_is, rest_is, front_is, behind_is}
+use Rattle.uci_lines.proofs.Fronts.{BeginsWhite, front, behind, front-white, behind-white, front-byte, behind-byte, first_is, rest_is}
 use Rattle.uci_lines.proofs.Cutting.{Cuts, cut_is, part_at, step, second, first_before, first_none, cut_token}
 
 pub join_first : List ℕ → List (List ℕ) → List (List ℕ)

@@ -1,10 +1,10 @@
 -- The orders that set a position up, in both directions.
-use Rattle.std.proofs.Common.{◌≡◌, ℕ, zero, suc, ◌+◌, ◌-◌, ◌<◌, ◌≤◌, length, List, [], ◌∷◌, ◌++◌, Bool, true, false, ◌&&◌, cond, eqb, leb, le-leb, Option, Some, None, Result, Ok, Err, codes, refl, sym, ap, ◌∙◌, arith, append_assoc, subst}
+use Rattle.std.proofs.Common.{◌≡◌, ℕ, zero, suc, ◌-◌, ◌<◌, ◌≤◌, length, List, [], ◌∷◌, ◌++◌, Bool, true, false, ◌&&◌, cond, eqb, leb, le-leb, Option, Some, None, Result, Ok, Err, codes, refl, sym, ap, ◌∙◌, arith, append_assoc, subst}
 use Rattle.std.proofs.lemmas.List.{append-nil}
 use Rattle.std.specs.List.{join_with_byte, AllByRecursion}
 use Rattle.std.proofs.lemmas.Bool.Decides.{nat_tests}
 use Rattle.peer_words.proofs.Trims.{and_true}
-use Rattle.uci_lines.specs.Orders.{Command, Position, start_text, moves_text, position_text}
+use Rattle.uci_lines.specs.Orders.{Command, Position, start_text, moves_text}
 use Rattle.uci_lines.specs.Behind.{after}
 use Rattle.uci_lines.specs.Moves.{move_of}
 use Rattle.std.specs.Str.{bytes_eq}
@@ -18,7 +18,7 @@ use Rattle.fen_text.proofs.Boards.{word-board}
 use Rattle.fen_text.proofs.Others.{word-side, word-rights, word-passant, word-count}
 use Rattle.fen_text.proofs.Back.{reads_back}
 use Rattle.uci_lines.specs.Written.{is_moves, fen_by, is_fen, fields_before, split_onto}
-use Rattle.uci_lines.specs.Asked.{is_start, is_played, is_order, moves_by, moves_in, placed, set_up, fen_in, start_in, position_in}
+use Rattle.uci_lines.specs.Asked.{is_start, is_played, moves_by, moves_in, placed, set_up, fen_in, start_in, position_in}
 use Rattle.uci_lines.proofs.Stripped.{word_after}
 use Rattle.uci_lines.proofs.Counts.{same_text, text_same}
 

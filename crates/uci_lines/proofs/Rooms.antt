@@ -1,5 +1,5 @@
 -- Room for the next piece of a text.
-use Rattle.std.proofs.Common.{◌≡◌, ℕ, ◌+◌, ◌≤◌, List, ◌++◌, length, length-append, append_assoc, sym, ap, ◌∙◌, arith}
+use Rattle.std.proofs.Common.{◌≡◌, ℕ, ◌+◌, ◌≤◌, List, ◌++◌, length, length-append, append_assoc, ap, ◌∙◌, arith}
 use Rattle.line_io.specs.Out.{Text, with}
 
 pub room_for : (now old : Text) (piece others all : List ℕ) → with now (piece ++ others) ≡ with old all → length old.text + length all ≤ old.room → length now.text + length piece ≤ now.room

@@ -1,11 +1,11 @@
 -- The orders that begin a search, in both directions.
-use Rattle.std.proofs.Common.{◌≡◌, ℕ, ◌<◌, ◌^◌, List, [], ◌∷◌, ◌++◌, Bool, true, false, not, ◌&&◌, cond, ltb, Option, Some, None, codes, decimal, refl, sym, ap, ◌∙◌, arith, append_assoc}
+use Rattle.std.proofs.Common.{◌≡◌, ℕ, ◌<◌, ◌^◌, List, [], ◌∷◌, ◌++◌, Bool, true, false, not, ◌&&◌, ltb, Option, Some, None, codes, decimal, refl, sym, ap, ◌∙◌, append_assoc}
 use Rattle.std.proofs.lemmas.Bool.{ltb-true}
 use Rattle.std.proofs.lemmas.List.{append-nil}
 use Rattle.peer_words.proofs.Trims.{and_true}
 use Rattle.uci_lines.specs.declared.orders.GoControl.{GoControl}
 use Rattle.uci_lines.specs.declared.orders.GoControl.TheVariants.{Infinite, MoveTime, Clock}
-use Rattle.uci_lines.specs.Orders.{Command, Go, optional_number, ponder_text, control_text, go_text}
+use Rattle.uci_lines.specs.Orders.{Command, Go, optional_number, ponder_text, control_text}
 use Rattle.uci_lines.specs.Behind.{after, number_behind, number_or, perhaps_number}
 use Rattle.uci_lines.specs.Written.{is_count, is_positive}
 use Rattle.uci_lines.specs.Asked.{is_positive_or_none, is_none_of, is_search, is_order, where_true, clock_one, clock_two, clock_three, clock_four, clock_in, time_or_clock, infinite_or, control_in, is_nil, search_end, search_with, ponder_or, search_in}

@@ -1,9 +1,9 @@
 -- The orders that set an option, in both directions.
-use Rattle.std.proofs.Common.{◌≡◌, ◌≢◌, ℕ, zero, suc, ◌+◌, ◌<◌, ◌≤◌, List, [], ◌∷◌, ◌++◌, Bool, true, false, not, ◌&&◌, ◌==◌, cond, Option, Some, None, is_some, codes, length, take, drop, refl, sym, ap, ◌∙◌, arith, append_assoc, length-append, subst}
+use Rattle.std.proofs.Common.{◌≡◌, ℕ, ◌≤◌, List, [], ◌∷◌, ◌++◌, Bool, true, false, ◌==◌, cond, Option, Some, None, is_some, codes, length, refl, sym, ap, ◌∙◌, arith, append_assoc, length-append, subst}
 use Rattle.std.specs.Option.{option_map}
 use Rattle.uci_lines.specs.Behind.{after}
-use Rattle.uci_lines.specs.Written.{is_text, onto_first_of, value_here, value_cut, holds_value}
-use Rattle.uci_lines.proofs.Stripped.{after_word, word_after}
+use Rattle.uci_lines.specs.Written.{onto_first_of, value_here, value_cut, holds_value}
+use Rattle.uci_lines.proofs.Stripped.{word_after}
 
 some_by : (t : Bool) (x y : Option (List ℕ)) → is_some x ≡ is_some y → is_some (cond t x None) ≡ is_some (cond t y None)
 some_by true x y h = h

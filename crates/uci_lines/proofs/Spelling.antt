@@ -1,11 +1,11 @@
 -- The order that a line is, in both directions.
-use Rattle.std.proofs.Common.{◌≡◌, ℕ, List, [], ◌∷◌, ◌++◌, Bool, true, false, not, ◌&&◌, cond, Option, Some, None, Result, Ok, Err, is_some, codes, refl, sym, ap, ◌∙◌, append_assoc, subst}
+use Rattle.std.proofs.Common.{◌≡◌, ℕ, List, ◌++◌, Bool, true, false, not, ◌&&◌, cond, Option, Some, None, Result, is_some, codes, refl, sym, ap, ◌∙◌, append_assoc, subst}
 use Rattle.std.proofs.lemmas.List.{append-nil}
 use Rattle.std.specs.Option.{option_map, ok_or}
 use Rattle.std.specs.Result.{IfOk, IsOkAnd}
 use Rattle.std.specs.Str.{bytes_eq}
 use Rattle.peer_words.proofs.Trims.{and_true}
-use Rattle.uci_lines.specs.Orders.{command_of, Command, Uci, IsReady, NewGame, Stop, PonderHit, Quit, SetOption, Position, Go, command_text, optional_text, optional_number, set_option_text, start_text, moves_text, position_text, ponder_text, control_text, go_text}
+use Rattle.uci_lines.specs.Orders.{command_of, Command, Uci, IsReady, NewGame, Stop, PonderHit, Quit, SetOption, Position, Go, command_text, optional_text, optional_number, start_text, moves_text, ponder_text, control_text}
 use Rattle.uci_lines.specs.declared.orders.Order.{Order}
 use Rattle.uci_lines.specs.declared.asked.BadOrder.{BadOrder}
 use Rattle.uci_lines.specs.Behind.{after}

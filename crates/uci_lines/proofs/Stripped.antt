@@ -1,13 +1,9 @@
 -- What stands behind fixed words and numbers, in both directions.
-use Rattle.std.proofs.Common.{◌≡◌, ◌≢◌, ℕ, ◌<◌, ◌^◌, List, [], ◌∷◌, ◌++◌, Bool, true, false, cond, eqb, Option, Some, None, Bor, take, drop, length, decimal, refl, sym, ap, ◌∙◌, arith, append_assoc, subst}
-use Rattle.std.specs.Option.{MatchOption, option_map}
-use Rattle.std.specs.Str.{bytes_eq}
-use Rattle.std.specs.List.{before_first}
+use Rattle.std.proofs.Common.{◌≡◌, ◌≢◌, ℕ, List, [], ◌∷◌, ◌++◌, Bool, true, false, cond, eqb, Option, Some, None, Bor, refl, sym, ap, ◌∙◌, arith}
+use Rattle.std.specs.Option.{MatchOption}
 use Rattle.std.proofs.lemmas.Bool.Decides.{nat_tests}
-use Rattle.peer_words.specs.Tokens.{is_white, token_end}
-use Rattle.peer_words.specs.Numbers.{count}
 use Rattle.uci_lines.specs.Orders.{optional_now}
-use Rattle.uci_lines.specs.Behind.{after, exact_by, exact_count, counted, number_in, number_behind}
+use Rattle.uci_lines.specs.Behind.{after}
 
 same_byte : (b c : ℕ) → eqb c b ≡ true → c ≡ b
 same_byte b c h = grind (arith, nat_tests)

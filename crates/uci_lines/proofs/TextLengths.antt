@@ -1,12 +1,12 @@
 -- The greatest lengths of orders.
-use Rattle.std.proofs.Common.{◌≡◌, ℕ, ◌+◌, ◌<◌, ◌≤◌, ◌^◌, List, [], ◌∷◌, ◌++◌, Bool, true, false, not, ◌&&◌, Option, Some, None, codes, decimal, length, length-append, arith, lit<}
+use Rattle.std.proofs.Common.{◌≡◌, ℕ, ◌+◌, ◌<◌, ◌≤◌, ◌^◌, List, [], ◌∷◌, Bool, true, false, ◌&&◌, Option, Some, None, codes, decimal, length, length-append, arith, lit<}
 use Rattle.std.proofs.lemmas.Fmt.{length-decimal-le}
 use Rattle.peer_words.proofs.Trims.{and_true}
 use Rattle.uci_lines.specs.declared.orders.GoControl.{GoControl}
 use Rattle.uci_lines.specs.declared.orders.GoControl.TheVariants.{Infinite, MoveTime, Clock}
-use Rattle.uci_lines.specs.Orders.{Command, optional_text, optional_number, set_option_text, start_text, moves_text, position_text, ponder_text, control_text, go_text}
+use Rattle.uci_lines.specs.Orders.{optional_text, optional_number, set_option_text, start_text, moves_text, position_text, ponder_text, control_text, go_text}
 use Rattle.uci_lines.specs.Written.{is_count, is_positive}
-use Rattle.uci_lines.specs.Asked.{is_positive_or_none, is_none_of, is_search}
+use Rattle.uci_lines.specs.Asked.{is_positive_or_none, is_search}
 use Rattle.uci_lines.proofs.Searches.{count_below, positive_below, depth_fits}
 
 pub count_length : (n : ℕ) → n < 10 ^ 18 → length (decimal n) ≤ 18

@@ -1,5 +1,5 @@
 -- What stands behind fixed words and numbers.
-use Rattle.std.specs.Prelude.{ℕ, List, [], ◌∷◌, drop, decimal, Bool, if◌then◌else◌, ◌==◌, Option, Some, None}
+use Rattle.std.specs.Prelude.{ℕ, List, [], ◌∷◌, drop, decimal, if◌then◌else◌, ◌==◌, Option, Some, None}
 use Rattle.std.specs.List.{before_first}
 use Rattle.std.specs.Str.{bytes_eq}
 use Rattle.peer_words.specs.Tokens.{is_white, token_end}

@@ -1,6 +1,6 @@
 -- Lines that are cut at certain tokens.
-use Rattle.std.specs.Prelude.{ℕ, List, [], ◌∷◌, drop, codes, length, nat_lt, is_none, Bool, true, ◌&&◌, ◌||◌, if◌then◌else◌, Option, Some, None}
-use Rattle.std.specs.List.{before_first, onto_first}
+use Rattle.std.specs.Prelude.{ℕ, List, [], ◌∷◌, drop, codes, length, nat_lt, is_none, Bool, ◌&&◌, ◌||◌, if◌then◌else◌, Option, Some, None}
+use Rattle.std.specs.List.{before_first}
 use Rattle.std.specs.Option.{option_map}
 use Rattle.std.specs.Str.{bytes_eq}
 use Rattle.peer_words.specs.Tokens.{is_white, token_end}

@@ -1,5 +1,5 @@
 -- What is told of a search.
-use Rattle.std.specs.Prelude.{ℕ, List, [], ◌∷◌, codes, Bool, true, false, if◌then◌else◌, Option, Some, None}
+use Rattle.std.specs.Prelude.{ℕ, List, [], ◌∷◌, codes, Bool, true, false, if◌then◌else◌, Option, None}
 use Rattle.std.specs.Option.{option_or, option_map}
 use Rattle.peer_words.specs.Tokens.{tokens}
 use Rattle.peer_words.specs.Numbers.{count, centis}

@@ -1,4 +1,4 @@
-use Rattle.std.proofs.Common.{◌≡◌, ◌++◌, ◌∙◌, codes, sym, ap}
+use Rattle.std.proofs.Common.{◌++◌, ◌∙◌, codes, sym, ap}
 use Rattle.line_io.specs.Out.{with}
 use Rattle.peer_words.specs.Tokens.{tokens}
 use Rattle.chess_board.specs.Text.{text_of}

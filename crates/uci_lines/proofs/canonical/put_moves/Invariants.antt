@@ -1,4 +1,4 @@
-use Rattle.std.proofs.Common.{◌≡◌, ◌++◌, length}
+use Rattle.std.proofs.Common.{◌≡◌, length}
 use Rattle.line_io.specs.Out.{with}
 use Rattle.peer_words.specs.Tokens.{tokens}
 use Rattle.uci_lines.specs.Moves.{run}

@@ -1,7 +1,6 @@
 use Rattle.std.proofs.Common.{◌++◌, codes}
-use Rattle.std.specs.Fmt.{signed_decimal}
 use Rattle.uci_lines.specs.Says.{shape_of}
-use Rattle.uci_lines.specs.Said.{spaced, range_text, shape_text}
+use Rattle.uci_lines.specs.Said.{spaced, shape_text}
 use Rattle.uci_lines.proofs.Rooms.{two}
 use Rattle.uci_lines.proofs.canonical.put_option.Goals as goal
 

@@ -1,4 +1,4 @@
-use Rattle.std.proofs.Common.{◌≡◌, ◌++◌, ◌∙◌, codes, sym, ap}
+use Rattle.std.proofs.Common.{◌++◌, ◌∙◌, codes, sym, ap}
 use Rattle.line_io.specs.Out.{with}
 use Rattle.uci_lines.specs.Choices.{values}
 use Rattle.uci_lines.specs.Said.{spaced, each_value}

@@ -1,4 +1,4 @@
-use Rattle.std.proofs.Common.{◌≡◌, ◌&&◌, ◌∙◌, Bool, true, false, List, ℕ, Some, take, drop, get_or, sym, ap, refl, arith, ◌+◌}
+use Rattle.std.proofs.Common.{◌≡◌, ◌&&◌, ◌∙◌, Bool, true, false, List, ℕ, Some, take, drop, sym, ap, refl, arith, ◌+◌}
 use Rattle.std.proofs.lemmas.List.{take_rest}
 use Rattle.std.specs.List.{before_first}
 use Rattle.peer_words.specs.Tokens.{is_white, token_end}

@@ -1,4 +1,4 @@
-use Rattle.std.proofs.Common.{◌≡◌, sym}
+use Rattle.std.proofs.Common.{◌≡◌}
 use Rattle.uci_lines.specs.Moves.{move_of}
 use Rattle.uci_lines.proofs.Spelled.{read_is}
 use Rattle.uci_lines.proofs.Officers.{some_officer}

@@ -1,5 +1,4 @@
 use Rattle.std.proofs.Common.{◌≡◌, length}
-use Rattle.std.specs.List.{list_all, slice_split}
 use Rattle.uci_lines.specs.Written.{is_moves}
 use Rattle.uci_lines.proofs.written.is_moves.Given as goal
 
