@@ -1,21 +1,21 @@
 -- The order of a search may be written, and how long its text is at most.
-use Rattle.std.proofs.Common.{◌≡◌, ℕ, zero, suc, ◌+◌, ◌-◌, ◌/◌, ◌%◌, ◌*◌, ◌^◌, ◌<◌, ◌≤◌, Bool, true, false, ◌&&◌, cond, eqb, ltb, List, [], ◌∷◌, ◌++◌, length, Option, Some, None, refl, sym, arith, lit<, lit≤}
+use Rattle.std.proofs.Common.{◌≡◌, ℕ, ◌+◌, ◌-◌, ◌/◌, ◌%◌, ◌^◌, ◌<◌, ◌≤◌, Bool, true, false, cond, eqb, List, ◌++◌, length, Option, Some, None, refl, arith, lit<, lit≤}
 use Rattle.std.proofs.Math.Nat.{max-le, mod-lt}
 use Rattle.std.proofs.lemmas.Bool.Decides.{nat_tests}
 use Rattle.std.proofs.lemmas.List.{length-append}
 use Rattle.std.proofs.lemmas.Fmt.{length-decimal-le}
-use Rattle.std.specs.Prelude.{ℤ, pos, negsuc, max, codes, decimal}
+use Rattle.std.specs.Prelude.{max, codes, decimal}
 use Rattle.chess_board.specs.declared.board.Side.{Side}
 use Rattle.chess_board.specs.declared.board.Side.TheVariants.{White, Black}
 use Rattle.peer_words.specs.declared.kinds.GoKind.TheVariants.{Move, Ponder, Analyse}
 use Rattle.uci_lines.specs.declared.orders.GoControl.{GoControl}
-use Rattle.uci_lines.specs.declared.orders.GoControl.TheVariants.{Infinite, MoveTime, Clock}
-use Rattle.uci_lines.specs.Orders.{Command, Go, command_text, go_text, control_text, ponder_text, optional_number}
+use Rattle.uci_lines.specs.declared.orders.GoControl.TheVariants.{Clock}
+use Rattle.uci_lines.specs.Orders.{command_text, go_text, control_text, optional_number}
 use Rattle.clock_map.specs.declared.clocks.Clocks.{Clocks}
 use Rattle.clock_map.specs.declared.clocks.Control.{Control}
 use Rattle.clock_map.specs.declared.clocks.Control.TheVariants.{Session, Fixed}
 use Rattle.clock_map.specs.Clocks.{AreShort, IsShort, IsShortControl, IsShortLimit, at_least_one}
-use Rattle.clock_map.specs.Search.{moves_to_go, times_of, time_of, search_order, most, AreFewBytes}
+use Rattle.clock_map.specs.Search.{moves_to_go, time_of, AreFewBytes}
 
 -- a word and a short number
 digits : (n : ℕ) → IsShort n → length (decimal n) ≤ 10

@@ -1,8 +1,8 @@
 -- The numbers of the clocks have at most ten digits.
-use Rattle.std.proofs.Common.{◌≡◌, ℕ, zero, suc, ◌+◌, ◌*◌, ◌^◌, ◌<◌, ◌≤◌, Bool, true, false, cond, eqb, List, [], ◌∷◌, Option, Some, None, refl, sym, subst, arith, lit<, lit≤}
+use Rattle.std.proofs.Common.{◌≡◌, ℕ, zero, suc, ◌*◌, ◌^◌, ◌<◌, ◌≤◌, Bool, true, false, cond, eqb, Some, None, refl, subst, arith, lit<, lit≤}
 use Rattle.std.proofs.Math.Nat.{max-le}
 use Rattle.std.proofs.lemmas.Bool.Decides.{nat_tests}
-use Rattle.std.specs.Prelude.{ℤ, pos, negsuc, neg_ℤ, nat_abs, max, ◌*ℤ◌, FitsSigned}
+use Rattle.std.specs.Prelude.{ℤ, pos, negsuc, neg_ℤ, nat_abs, max, FitsSigned}
 use Rattle.std.proofs.Common.{w64, to_z, of_z}
 use Rattle.std.proofs.lemmas.Int.{to_z-of_z}
 use Rattle.cecp_lines.specs.declared.iface.IfaceMsg.{IfaceMsg}
@@ -11,8 +11,7 @@ use Rattle.cecp_lines.specs.Messages as says
 use Rattle.cecp_lines.specs.Messages.{Message, message_of}
 use Rattle.cecp_lines.specs.Reading.{CanBeRead}
 use Rattle.clock_map.specs.declared.clocks.Clocks.{Clocks}
-use Rattle.clock_map.specs.declared.clocks.Control.TheVariants.{Session, Fixed}
-use Rattle.clock_map.specs.Clocks.{AreShort, IsShort, IsShortLimit, after_message, after_new, at_least_one, of_centis, limit, StayShort, StayShortAtNew}
+use Rattle.clock_map.specs.Clocks.{AreShort, IsShort, IsShortLimit, after_message, at_least_one, of_centis, StayShort}
 use Rattle.clock_map.proofs.Numbers.{digits_small, seconds_small, base_small, centis_small}
 
 max_small : (n : ℕ) → n < 10 ^ 10 → max n 1 < 10 ^ 10
@@ -87,8 +86,13 @@ limit_short false n e h = (grind (arith, nat_tests), h)
 
 after_level_short : (c : Clocks) (mps base inc : ℕ) → AreShort c → CanBeRead (says.Level mps base inc) → AreShort (after_message c (says.Level mps base inc))
 after_level_short c mps base inc s h = record {
-  control = tt; moves = moves_read mps base inc h; base = shown_short base (base_read mps base inc h); increment = increment_read mps base inc h;
-  depth = s.depth; engine = shown_short base (base_read mps base inc h); opponent = shown_short base (base_read mps base inc h);
+  control = tt;
+  moves = moves_read mps base inc h;
+  base = shown_short base (base_read mps base inc h);
+  increment = increment_read mps base inc h;
+  depth = s.depth;
+  engine = shown_short base (base_read mps base inc h);
+  opponent = shown_short base (base_read mps base inc h);
 }
 
 pub stay_short : StayShort

@@ -1,10 +1,10 @@
 -- How large the numbers of a line are at most.
-use Rattle.std.proofs.Common.{◌≡◌, ℕ, zero, suc, ◌+◌, ◌-◌, ◌*◌, ◌^◌, ◌<◌, ◌≤◌, List, [], ◌∷◌, Bool, true, false, ◌&&◌, cond, ltb, leb, eqb, length, take, drop, position, Option, Some, None, refl, sym, ap, ◌∙◌, subst, arith, lit<}
+use Rattle.std.proofs.Common.{◌≡◌, ℕ, zero, suc, ◌+◌, ◌-◌, ◌*◌, ◌^◌, ◌<◌, ◌≤◌, List, [], ◌∷◌, Bool, true, false, ◌&&◌, cond, ltb, leb, length, take, drop, position, Option, Some, None, refl, sym, subst, arith, lit<}
 use Rattle.std.proofs.Math.Nat.{pow-le-pow_right}
 use Rattle.std.proofs.lemmas.Nat.{mul-le}
 use Rattle.std.proofs.lemmas.Bool.Decides.{nat_tests}
 use Rattle.std.proofs.lemmas.Int.Digits.{digits_value-lt}
-use Rattle.std.specs.Prelude.{ℤ, pos, negsuc, neg_ℤ, nat_abs}
+use Rattle.std.specs.Prelude.{ℤ, pos, neg_ℤ, nat_abs}
 use Rattle.std.specs.List.{list_all}
 use Rattle.std.specs.Option.{option_map}
 use Rattle.std.specs.Char.{is_ascii_digit, digit_value}
@@ -64,7 +64,7 @@ seconds_at_small None t ms e = whole_and_part (digits 6 t) (Some 0) ms (digits_s
 seconds_at_small (Some at) t ms e =
     let part = drop (at + 1) t in
     whole_and_part (digits 6 (take at t)) (thousandths part) ms (digits_small 6 (take at t))
-        (λ n. part_small (digits 3 part) (length part) n (digits_small 3 part)) e
+    (λ n. part_small (digits 3 part) (length part) n (digits_small 3 part)) e
 
 pub seconds_small : (t : List ℕ) (ms : ℕ) → seconds t ≡ Some ms → ms < 10 ^ 10
 seconds_small t ms e = seconds_at_small (position is_point t) t ms e

@@ -1,5 +1,5 @@
 -- The clocks after the messages of the interface. All times are in milliseconds.
-use Rattle.std.specs.Prelude.{◌≡◌, ℕ, ◌+◌, ◌*◌, ◌<◌, ◌^◌, ◌==◌, if◌then◌else◌, ℤ, pos, negsuc, ◌*ℤ◌, max, List, [], ◌∷◌, Option, Some, None}
+use Rattle.std.specs.Prelude.{ℕ, ◌<◌, ◌^◌, ◌==◌, if◌then◌else◌, ℤ, pos, negsuc, ◌*ℤ◌, max, Option, Some, None}
 use Rattle.cecp_lines.specs.Messages.{Message, Level, St, Sd, Time, Otim}
 use Rattle.cecp_lines.specs.Reading.{CanBeRead}
 use Rattle.clock_map.specs.declared.clocks.Clocks.{Clocks}

@@ -114,11 +114,12 @@ impl Clocks {
             } => {
                 self.control = Control::Session;
                 self.moves = *mps;
-                self.base = shown(*base_ms);
                 self.increment = *inc_ms;
-                self.engine = self.base;
-                self.opponent = self.base;
-            },
+                let base = shown(*base_ms);
+                self.base = base;
+                self.engine = base;
+                self.opponent = base;
+            }
             IfaceMsg::St(ms) => self.control = Control::Fixed(*ms),
             IfaceMsg::Sd(n) => self.depth = limit(*n),
             IfaceMsg::Time(n) => self.engine = of_centis(*n),

@@ -6,12 +6,10 @@ ghost use Rattle.clock_map.specs.Search.{AreSpelled, AreFewBytes};
 pub fn clocks_stay_short()
     ensures lines { StayShort }
     ensures new_game { StayShortAtNew }
-{
-}
+{}
 
 /// Under such clocks the order of a search may be written, and its text is short.
 pub fn searches_are_short()
     ensures spelled { AreSpelled }
     ensures short { AreFewBytes }
-{
-}
+{}
