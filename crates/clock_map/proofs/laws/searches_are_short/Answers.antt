@@ -1,0 +1,5 @@
+use Rattle.clock_map.proofs.Lengths.{few_bytes}
+use Rattle.clock_map.proofs.laws.searches_are_short.Goals as goal
+
+pub returns-clause-short : goal.returns-clause-short
+returns-clause-short c = few_bytes

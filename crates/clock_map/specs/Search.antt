@@ -1,0 +1,44 @@
+-- The order for a search under the clocks.
+use Rattle.std.specs.Prelude.{ℕ, ◌-◌, ◌/◌, ◌%◌, ◌≤◌, ◌==◌, if◌then◌else◌, true, false, max, length, Option, Some, None}
+use Rattle.chess_board.specs.declared.board.Side.{Side}
+use Rattle.chess_board.specs.declared.board.Side.TheVariants.{White, Black}
+use Rattle.peer_words.specs.declared.kinds.GoKind.{GoKind}
+use Rattle.peer_words.specs.declared.kinds.GoKind.TheVariants.{Move, Ponder, Analyse}
+use Rattle.uci_lines.specs.declared.orders.GoControl.{GoControl}
+use Rattle.uci_lines.specs.declared.orders.GoControl.TheVariants.{Infinite, MoveTime, Clock}
+use Rattle.uci_lines.specs.Orders.{Command, Go, command_text}
+use Rattle.uci_lines.specs.Asked.{SpellsOrder}
+use Rattle.clock_map.specs.declared.clocks.Clocks.{Clocks}
+use Rattle.clock_map.specs.declared.clocks.Control.{Control}
+use Rattle.clock_map.specs.declared.clocks.Control.TheVariants.{Session, Fixed}
+use Rattle.clock_map.specs.Clocks.{at_least_one, AreShort}
+
+-- How many moves are left until the next time control, where there is one. A move is two plies.
+abbrev pub moves_to_go : ℕ → ℕ → Option ℕ
+moves_to_go moves plies = if moves == 0 then None else Some (moves - plies / 2 % moves)
+
+-- White's and Black's time, where the engine has this side
+abbrev pub times_of : Clocks → Side → ℕ → GoControl
+times_of c White plies = Clock (at_least_one c.engine) (at_least_one c.opponent) c.increment c.increment (moves_to_go c.moves plies)
+times_of c Black plies = Clock (at_least_one c.opponent) (at_least_one c.engine) c.increment c.increment (moves_to_go c.moves plies)
+
+abbrev pub time_of : Control → Clocks → Side → ℕ → GoControl
+time_of Session c side plies = times_of c side plies
+time_of (Fixed time) c side plies = MoveTime (max time 1)
+
+-- The order for a search of this side after so many plies. For pondering the hint is one of them.
+abbrev pub search_order : Clocks → Side → ℕ → GoKind → Command
+search_order c side plies Move = Go false (time_of c.control c side plies) c.depth
+search_order c side plies Ponder = Go true (time_of c.control c side plies) c.depth
+search_order c side plies Analyse = Go false Infinite None
+
+-- Such an order may be written, and its text is what the line of it is read back from.
+abbrev pub AreSpelled : Type 0
+AreSpelled = (c : Clocks) (side : Side) (plies : ℕ) (kind : GoKind) → AreShort c → SpellsOrder (command_text (search_order c side plies kind)) (search_order c side plies kind)
+
+-- how long its text is at most
+abbrev pub most : ℕ
+most = 113
+
+abbrev pub AreFewBytes : Type 0
+AreFewBytes = (c : Clocks) (side : Side) (plies : ℕ) (kind : GoKind) → AreShort c → length (command_text (search_order c side plies kind)) ≤ most
