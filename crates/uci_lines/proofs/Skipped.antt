@@ -1,10 +1,9 @@
 -- White space and other words are passed over.
-use Rattle.std.proofs.Common.{◌≡◌, ℕ, suc, ◌+◌, ◌-◌, ◌<◌, ◌≤◌, List, [], ◌∷◌, drop, length, Bool, true, false, not, cond, ◌==◌, ◌&&◌, refl, ap, ◌∙◌, sym, arith, length-drop, subst}
+use Rattle.std.proofs.Common.{◌≡◌, ℕ, suc, ◌+◌, ◌<◌, ◌≤◌, List, [], ◌∷◌, drop, length, Bool, true, false, not, cond, ◌==◌, ◌&&◌, refl, ap, ◌∙◌, sym, arith, length-drop, subst}
 use Rattle.std.proofs.lemmas.Bool.Decides.{nat_tests}
-use Rattle.std.specs.List.{before_first, position_or_len}
-use Rattle.std.specs.Str.{bytes_eq}
+use Rattle.std.specs.List.{before_first}
 use Rattle.peer_words.specs.Tokens.{is_white, trim_left, token_end}
-use Rattle.uci_lines.specs.Engine.{is_known, says_word, message_from, engine_message}
+use Rattle.uci_lines.specs.Engine.{is_known, says_word, message_from}
 use Rattle.uci_lines.specs.Says.{Says}
 
 -- what is said where a token begins with this byte

@@ -1,6 +1,5 @@
-use Rattle.std.proofs.Common.{◌≡◌, ◌∙◌, sym, ap, subst, length, drop, ◌<◌, true, List, ℕ}
-use Rattle.std.specs.List.{before_first}
-use Rattle.peer_words.specs.Tokens.{is_white, trim_left, token_end}
+use Rattle.std.proofs.Common.{◌∙◌, sym, ap, subst, length, ◌<◌, true, List, ℕ}
+use Rattle.peer_words.specs.Tokens.{trim_left}
 use Rattle.uci_lines.specs.Engine.{message_from, is_known, says_word, engine_message}
 use Rattle.uci_lines.proofs.Skipped.{BeginsToken, begins, known, unknown, shorter, nothing_left, trimmed_from}
 use Rattle.uci_lines.proofs.engine.read_engine.Goals as goal
