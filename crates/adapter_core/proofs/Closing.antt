@@ -7,13 +7,12 @@ use Rattle.cecp_lines.specs.Messages.{Message}
 use Rattle.cecp_lines.specs.Messages as says
 use Rattle.cecp_lines.specs.Reading.{reading}
 use Rattle.cecp_lines.specs.declared.iface.IfaceFault.{IfaceFault}
-use Rattle.cecp_lines.specs.declared.iface.IfaceFault.TheVariants as faults
 use Rattle.cecp_lines.specs.declared.reply.Reason.{Reason}
 use Rattle.uci_lines.specs.Engine.{engine_message}
 use Rattle.uci_lines.specs.Orders.{Command}
 use Rattle.desk_rules.specs.Desk.{Here, is_gone}
-use Rattle.desk_rules.specs.Lines.{verdict, judged, refusal, is_epoch_line}
-use Rattle.desk_rules.specs.Steps.{Deed, Nothing, Opens, LongLine, Refuses, Accepts, Boots, Readies, Dies, comes, line_deed, rises, engine_says}
+use Rattle.desk_rules.specs.Lines.{verdict, judged, refusal}
+use Rattle.desk_rules.specs.Steps.{Deed, Nothing, LongLine, Accepts, Boots, Dies, comes, line_deed, engine_says}
 use Rattle.desk_rules.proofs.Deeds.{IsShortEvent}
 use Rattle.adapter_core.specs.declared.ends.Ends.{Ends}
 use Rattle.adapter_core.specs.Ends.{may, ends_after, is_open, is_quit, is_quit_message}

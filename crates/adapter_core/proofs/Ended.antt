@@ -1,11 +1,11 @@
 -- Nothing is written to a side that has ended.
-use Rattle.std.proofs.Common.{◌≡◌, ℕ, List, [], ◌∷◌, map, Bool, true, false, cond, not, ◌&&◌, ◌||◌, Option, Some, None, refl, sym, ap, subst, ◌∙◌}
+use Rattle.std.proofs.Common.{◌≡◌, ℕ, List, [], ◌∷◌, map, Bool, true, false, cond, not, ◌||◌, Option, Some, None, refl, sym, ap, subst, ◌∙◌}
 use Rattle.line_io.specs.Event.{Event, is_line}
 use Rattle.line_io.specs.Event as events
 use Rattle.uci_lines.specs.Orders.{Command}
 use Rattle.cecp_lines.specs.Replies.{Told}
 use Rattle.policy_rules.specs.declared.settings.Settings.{Settings}
-use Rattle.search_epochs.specs.Talk.{Engine, Boot, Getting, Idle, Search, Gone, Word, Uci, Setup, IsReady, Position, Go, Stop, PonderHit, Quit, MaySendAll, sent_all, heard, said_of}
+use Rattle.search_epochs.specs.Talk.{Engine, Boot, Getting, Idle, Search, Gone, Word, MaySendAll, sent_all, heard, said_of}
 use Rattle.search_epochs.specs.View.{forget}
 use Rattle.desk_rules.specs.Desk.{is_gone}
 use Rattle.desk_rules.specs.Steps.{Deed, Nothing, Opens, LongLine, Refuses, Accepts, Boots, Readies, Dies, comes, what_of, is_death, word_of, dies}
@@ -14,9 +14,9 @@ use Rattle.search_epochs.specs.declared.words.Said.TheVariants as said
 use Rattle.uci_lines.specs.Orders as orders
 use Rattle.adapter_core.specs.declared.ends.Ends.{Ends}
 use Rattle.adapter_core.specs.Ends.{may, ends_after, is_open, is_quit}
-use Rattle.adapter_core.specs.Trace.{State, Step, Lawful, IsLawful, state, state_after, here, deed, turn, mid, closed_after, gone_after, replies, last_orders}
+use Rattle.adapter_core.specs.Trace.{State, Step, Lawful, state, deed, turn, mid, closed_after, gone_after, last_orders}
 use Rattle.adapter_core.specs.Stands.{IsSilentToIface, IsSilentToEngine}
-use Rattle.adapter_core.proofs.Closing.{closed_stays, opened_later}
+use Rattle.adapter_core.proofs.Closing.{opened_later}
 
 -- THE INTERFACE
 

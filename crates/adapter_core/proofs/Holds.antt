@@ -1,22 +1,19 @@
 -- What holds after each lawful trace.
-use Rattle.std.proofs.Common.{◌≡◌, ℕ, ◌+◌, ◌≤◌, List, [], ◌∷◌, map, Bool, true, false, cond, Option, Some, None, IfSome, sym, ap, subst, ◌∙◌, arith, refl}
+use Rattle.std.proofs.Common.{◌≡◌, ℕ, ◌+◌, ◌≤◌, List, [], ◌∷◌, map, Bool, true, false, cond, Option, Some, None, IfSome, sym, subst, arith, refl}
 use Rattle.peer_words.specs.declared.kinds.GoKind.TheVariants as kinds
-use Rattle.search_epochs.specs.declared.words.Said.{Said}
-use Rattle.search_epochs.specs.declared.words.Said.TheVariants as said
 use Rattle.search_epochs.specs.Talk.{Turn, Engine, Boot, Getting, Idle, Search, Gone, Word, Uci, Setup, IsReady, Position, Go, Stop, PonderHit, Quit, heard, said_of, sent, sent_all, closed_ticket}
 use Rattle.search_epochs.proofs.Whole.{heard_within, last_within}
 use Rattle.search_epochs.proofs.Turns.{TicketWithin}
 use Rattle.line_io.specs.Event.{Event}
-use Rattle.line_io.specs.Out.{Text, empty, with}
+use Rattle.line_io.specs.Out.{Text}
 use Rattle.uci_lines.specs.Orders.{Command}
 use Rattle.uci_lines.specs.Orders as orders
 use Rattle.policy_rules.specs.declared.settings.Settings.{Settings}
 use Rattle.desk_rules.specs.Steps.{waiting, word_of}
-use Rattle.desk_rules.specs.Texts.{told_lines, command_lines}
 use Rattle.adapter_core.specs.Ends.{may}
-use Rattle.adapter_core.specs.Trace.{State, Step, Lawful, IsLawful, state, state_after, here, deed, turn, mid, has_ready, still_held, iface_text, engine_text}
+use Rattle.adapter_core.specs.Trace.{State, Step, Lawful, state, state_after, here, deed, turn, mid, has_ready, iface_text, engine_text}
 use Rattle.adapter_core.specs.View.{View, advance}
-use Rattle.adapter_core.specs.Stands.{view_of, Holds, IsQuiet, TicketIsWithin, Stands, Extends, step_by}
+use Rattle.adapter_core.specs.Stands.{view_of, Holds, IsQuiet, TicketIsWithin, Stands, step_by}
 use Rattle.adapter_core.proofs.Closing.{opened_later}
 use Rattle.adapter_core.proofs.Orders.{quiet_heard}
 use Rattle.adapter_core.proofs.Square.{within, none_asked, lawful, stands, step_here, step_is}

@@ -1,12 +1,12 @@
 -- What holds of the core itself.
-use Rattle.std.proofs.Common.{◌≡◌, ℕ, ◌≤◌, List, [], ◌∷◌, ◌++◌, length, Bool, true, false, cond, ◌||◌, refl, sym, ap, subst, ◌∙◌, arith}
+use Rattle.std.proofs.Common.{◌≡◌, ◌≤◌, [], length, Bool, true, false, cond, refl, ap, arith}
 use Rattle.line_io.specs.Event.{Event}
 use Rattle.search_epochs.specs.declared.words.Call.TheVariants as calls
 use Rattle.search_epochs.specs.Talk.{is_move}
 use Rattle.cecp_lines.specs.Messages as says
 use Rattle.desk_rules.specs.Desk.{Here}
 use Rattle.desk_rules.specs.Lines.{change}
-use Rattle.desk_rules.specs.Steps.{Deed, Nothing, Opens, LongLine, Refuses, Accepts, Boots, Readies, Dies, comes, desk_after_deed, answers_pings}
+use Rattle.desk_rules.specs.Steps.{Deed, Accepts, Boots, comes, desk_after_deed, answers_pings}
 use Rattle.desk_rules.proofs.Deeds.{comes_short, deed_room, deed_pings}
 use Rattle.adapter_core.specs.Ends.{may, ends_after}
 use Rattle.adapter_core.specs.View.{View, here, advance, IsReadyFor}

@@ -1,6 +1,5 @@
 -- The words of the orders that are written.
 use Rattle.std.proofs.Common.{◌≡◌, ℕ, List, [], ◌∷◌, ◌++◌, map, Bool, true, false, cond, Option, Some, None, refl, ap}
-use Rattle.search_epochs.specs.declared.words.Call.{Call}
 use Rattle.search_epochs.specs.declared.words.Call.TheVariants as calls
 use Rattle.search_epochs.specs.declared.words.Orders.{Orders}
 use Rattle.search_epochs.specs.declared.words.Orders.TheVariants as chosen
@@ -8,14 +7,13 @@ use Rattle.chess_board.specs.declared.board.Move.{Move}
 use Rattle.search_epochs.specs.declared.words.EngineState.TheVariants as states
 use Rattle.search_epochs.specs.declared.words.Said.{Said}
 use Rattle.search_epochs.specs.declared.words.Said.TheVariants as said
-use Rattle.search_epochs.specs.Talk.{Engine, Boot, Getting, Idle, Search, Gone, Word, Uci, Setup, IsReady, Position, Go, Stop, PonderHit, Quit, AllSetup, heard, What, Says, Plays, Hurries, Quiet, leaves_boot, is_empty, is_hurry}
-use Rattle.search_epochs.specs.View.{words, is_batch_order, forget, choose, settle, begins, is_pondered, played_of}
+use Rattle.search_epochs.specs.Talk.{Engine, Boot, Getting, Idle, Search, Gone, IsReady, heard, What, Says, Plays, Hurries, Quiet, leaves_boot, is_hurry}
+use Rattle.search_epochs.specs.View.{words, forget, choose, settle, begins, is_pondered, played_of}
 use Rattle.uci_lines.specs.Orders.{Command}
 use Rattle.uci_lines.specs.Orders as orders
 use Rattle.desk_rules.specs.Desk.{Here, is_boot}
 use Rattle.desk_rules.specs.Steps.{Deed, Nothing, Opens, LongLine, Refuses, Accepts, Boots, Readies, Dies, order_list, word_of, what_of, what_accepted}
 use Rattle.desk_rules.proofs.Deeds.{Fits}
-use Rattle.adapter_core.specs.Trace.{has_ready}
 use Rattle.adapter_core.specs.View.{is_boots}
 use Rattle.adapter_core.specs.Stands.{IsQuiet}
 

@@ -1,7 +1,6 @@
 -- A step of the core is a step of the trace that it stands for.
-use Rattle.std.proofs.Common.{◌≡◌, ℕ, List, [], ◌∷◌, ◌++◌, map, Bool, true, false, not, cond, ◌&&◌, ◌||◌, Option, Some, None, refl, sym, ap, subst, ◌∙◌}
+use Rattle.std.proofs.Common.{◌≡◌, ℕ, List, [], ◌∷◌, map, Bool, true, false, not, cond, ◌||◌, Option, None, refl, sym, ap, subst, ◌∙◌}
 use Rattle.chess_board.specs.declared.board.Move.{Move}
-use Rattle.search_epochs.specs.declared.words.Call.{Call}
 use Rattle.search_epochs.specs.declared.words.Call.TheVariants as calls
 use Rattle.search_epochs.specs.declared.words.Orders.{Orders}
 use Rattle.search_epochs.specs.declared.words.Orders.TheVariants as chosen
@@ -19,10 +18,10 @@ use Rattle.uci_lines.specs.Orders.{Command}
 use Rattle.uci_lines.specs.Orders as orders
 use Rattle.desk_rules.specs.Desk.{Here}
 use Rattle.desk_rules.specs.Texts.{told_lines, command_lines}
-use Rattle.desk_rules.specs.Steps.{Deed, comes, what_of, rises, call_after, waiting, order_list, word_of, replies_of}
+use Rattle.desk_rules.specs.Steps.{Deed, comes, what_of, waiting, order_list, word_of}
 use Rattle.desk_rules.proofs.Deeds.{Fits, comes_fits}
 use Rattle.adapter_core.specs.Ends.{may, ends_after, is_open}
-use Rattle.adapter_core.specs.Trace.{State, Step, IsLawful, AreSettled, state_after, here, deed, turn, mid, owing, closed_after, desk_of, replies, gone_after, still_held, has_ready}
+use Rattle.adapter_core.specs.Trace.{State, Step, IsLawful, AreSettled, state_after, here, deed, turn, mid, owing, closed_after, desk_of, replies, gone_after}
 use Rattle.adapter_core.specs.View.{View, advance, advance_at, advance_from, finish, choice, orders_of, is_boots}
 use Rattle.adapter_core.specs.Stands.{view_of, step_at, step_of, step_by, Holds, TicketIsWithin, IsQuiet}
 use Rattle.adapter_core.proofs.Closing.{closed_stays, closes_later}

@@ -5,11 +5,10 @@ use Rattle.cecp_lines.specs.Replies.{Told}
 use Rattle.uci_lines.specs.Orders.{Command}
 use Rattle.uci_lines.specs.Orders as orders
 use Rattle.policy_rules.specs.declared.settings.Settings.{Settings}
-use Rattle.search_epochs.specs.Talk.{has_batch, has_quit, is_due, is_hit, is_hurry, MaySendAll, Engine}
-use Rattle.search_epochs.proofs.Same.{same}
+use Rattle.search_epochs.specs.Talk.{has_batch, has_quit, is_due, MaySendAll, Engine}
 use Rattle.desk_rules.specs.Steps.{word_of}
 use Rattle.adapter_core.specs.Ends.{is_open}
-use Rattle.adapter_core.specs.Trace.{State, Step, IsLawful, AreSettled, Lawful, state, turn, mid, owing, closed_after, event_in}
+use Rattle.adapter_core.specs.Trace.{State, Step, IsLawful, AreSettled, Lawful, state, turn, mid, closed_after, event_in}
 
 -- where no batch is due, no order that is built may be written
 none : (epoch : _) (e : Engine) (os : List Command) → has_batch (map word_of os) ≡ false → has_quit (map word_of os) ≡ false → MaySendAll epoch e (map word_of os) → os ≡ []

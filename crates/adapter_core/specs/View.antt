@@ -1,7 +1,7 @@
 -- What the core keeps, and how an event changes it.
-use Rattle.std.specs.Prelude.{ℕ, ◌+◌, ◌*◌, List, [], ◌∷◌, map, Bool, true, false, ◌||◌, if◌then◌else◌, ◌≤◌, length, None, ◌≡◌}
+use Rattle.std.specs.Prelude.{ℕ, List, [], ◌∷◌, map, Bool, true, false, ◌||◌, if◌then◌else◌, ◌≤◌, length, None, ◌≡◌}
 use Rattle.line_io.specs.Event.{Event}
-use Rattle.line_io.specs.Out.{Text, empty, with}
+use Rattle.line_io.specs.Out.{empty, with}
 use Rattle.cecp_lines.specs.Replies.{Told}
 use Rattle.cecp_lines.specs.Replies as told
 use Rattle.uci_lines.specs.Orders.{Command}
@@ -13,7 +13,6 @@ use Rattle.search_epochs.specs.declared.words.Orders.TheVariants as chosen
 use Rattle.search_epochs.specs.Talk.{is_move}
 use Rattle.search_epochs.specs.View as dialogue
 use Rattle.search_epochs.specs.View.{owed_view, mid_view, settle, after_settled}
-use Rattle.desk_rules.specs.declared.desk.Desk.{Desk}
 use Rattle.desk_rules.specs.declared.deed.Sight.{Sight}
 use Rattle.desk_rules.specs.Desk.{at, Here, opening_desk, is_gone}
 use Rattle.desk_rules.specs.Steps.{Deed, Boots, comes, what_of, rises, call_after, desk_after, order_list, replies_of, is_death, desk_after_deed, HasRoomFor}

@@ -1,5 +1,5 @@
 -- What a deed tells of the event that it came of.
-use Rattle.std.proofs.Common.{◌≡◌, ℕ, ◌+◌, ◌<◌, ◌≤◌, List, [], ◌∷◌, ◌++◌, length, Bool, true, false, not, cond, ◌&&◌, Option, Some, None, Result, Ok, Err, refl, arith, length-append}
+use Rattle.std.proofs.Common.{◌≡◌, ℕ, ◌≤◌, List, [], ◌∷◌, length, Bool, true, false, cond, Option, Some, None, Result, Ok, Err, refl, arith, length-append}
 use Rattle.line_io.specs.Event.{Event}
 use Rattle.line_io.specs.Event as events
 use Rattle.cecp_lines.specs.Messages.{Message}
@@ -16,7 +16,7 @@ use Rattle.search_epochs.specs.declared.words.EngineState.{EngineState}
 use Rattle.desk_rules.specs.declared.desk.Desk.{Desk}
 use Rattle.desk_rules.specs.Desk.{Here, is_gone, is_boot, is_getting}
 use Rattle.desk_rules.specs.Lines.{Verdict, Refused, Accepted, judged, refusal, verdict, change, HasRoom}
-use Rattle.desk_rules.specs.Steps.{Deed, Nothing, Opens, LongLine, Refuses, Accepts, Boots, Readies, Dies, line_deed, engine_says, dies, comes, desk_after_deed, HasRoomFor}
+use Rattle.desk_rules.specs.Steps.{Deed, Nothing, LongLine, Accepts, Boots, Readies, Dies, line_deed, engine_says, comes, desk_after_deed, HasRoomFor}
 use Rattle.desk_rules.specs.Texts.{IsShort}
 
 -- what holds where an event had this deed

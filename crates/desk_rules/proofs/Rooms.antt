@@ -1,12 +1,10 @@
 -- How long the texts of lines are.
-use Rattle.std.proofs.Common.{◌≡◌, ℕ, suc, ◌+◌, ◌*◌, ◌^◌, ◌<◌, ◌≤◌, List, [], ◌∷◌, ◌++◌, length, map, take, get_or, Bool, true, false, cond, decimal, arith, length-append, append_assoc, append-nil, lit<, refl, ap, sym, ◌∙◌}
+use Rattle.std.proofs.Common.{◌≡◌, ℕ, suc, ◌+◌, ◌^◌, ◌<◌, ◌≤◌, List, [], ◌∷◌, ◌++◌, length, map, take, get_or, true, false, cond, decimal, arith, length-append, append_assoc, append-nil, lit<, refl, ap, sym, ◌∙◌}
 use Rattle.std.proofs.lemmas.List.{take_more}
 use Rattle.std.proofs.lemmas.Fmt.{length-decimal-le}
-use Rattle.cecp_lines.specs.Replies.{Told, told_text, Pong, Error, TellError}
+use Rattle.cecp_lines.specs.Replies.{Told, Pong, Error}
 use Rattle.cecp_lines.specs.declared.reply.Reason.{Reason}
 use Rattle.cecp_lines.specs.declared.reply.Reason.TheVariants as reasons
-use Rattle.cecp_lines.specs.declared.reply.Tell.{Tell}
-use Rattle.cecp_lines.specs.declared.reply.Tell.TheVariants as tells
 use Rattle.peer_words.specs.Tokens.{is_white, is_blank, trim_left, trim_right, trimmed}
 use Rattle.desk_rules.specs.Texts.{told_line, told_lines}
 

@@ -1,5 +1,5 @@
 -- Interface lines: which are refused, what they change, what they ask of the engine, which begin an epoch.
-use Rattle.std.specs.Prelude.{ℕ, List, [], ◌∷◌, ◌++◌, Bool, true, false, not, if◌then◌else◌, ◌&&◌, nat_le, ◌<◌, length, Option, Some, None, Result, Ok, Err}
+use Rattle.std.specs.Prelude.{List, [], ◌∷◌, ◌++◌, Bool, true, false, not, if◌then◌else◌, ◌&&◌, nat_le, ◌<◌, length, Option, Some, None, Result, Ok, Err}
 use Rattle.cecp_lines.specs.Messages.{Message}
 use Rattle.cecp_lines.specs.Messages as says
 use Rattle.cecp_lines.specs.declared.iface.IfaceFault.{IfaceFault}

@@ -1,8 +1,7 @@
-use Rattle.std.proofs.Common.{◌≡◌, ◌+◌, ◌*◌, ◌≤◌, ◌++◌, ◌∷◌, [], ◌∙◌, arith, ap, sym, subst, length, map, take, get_or, List, ℕ, length-append, append_assoc, append-nil}
-use Rattle.std.proofs.lemmas.List.{take_more}
+use Rattle.std.proofs.Common.{◌∙◌, arith, ap, length, get_or, List, ℕ, length-append}
 use Rattle.line_io.specs.Out.{Text, with}
 use Rattle.cecp_lines.specs.Replies as told
-use Rattle.desk_rules.specs.Texts.{told_line, told_lines}
+use Rattle.desk_rules.specs.Texts.{told_line}
 use Rattle.desk_rules.proofs.Rooms.{pong_more}
 use Rattle.desk_rules.proofs.answers.put_pongs.Goals as goal
 

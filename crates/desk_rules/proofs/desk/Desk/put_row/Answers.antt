@@ -1,7 +1,6 @@
-use Rattle.std.proofs.Common.{◌≤◌, arith, ap, subst, length, List, ℕ, length-append}
+use Rattle.std.proofs.Common.{◌≤◌, arith, ap, subst, length, length-append}
 use Rattle.line_io.specs.Out.{Text}
 use Rattle.cecp_lines.specs.Replies.{Error}
-use Rattle.peer_words.specs.Tokens.{trimmed}
 use Rattle.desk_rules.specs.Steps.{deed_of}
 use Rattle.desk_rules.specs.Texts.{told_line, IsShort}
 use Rattle.desk_rules.specs.declared.deed.Deed as code
