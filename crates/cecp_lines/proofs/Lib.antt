@@ -13,3 +13,4 @@ pub mod Rereads
 pub mod Lists
 pub mod Exact
 pub mod Spoken
+pub mod Again

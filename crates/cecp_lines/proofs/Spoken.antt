@@ -100,7 +100,7 @@ seconds_below t ms h = seconds_by t (position is_point t) ms h
 black_digit : (c : ℕ) → is_ascii_digit c ≡ true → not (is_white c) ≡ true
 black_digit c h = grind (arith, nat_tests)
 
-black_over : (c : ℕ) → 33 ≤ c → not (is_white c) ≡ true
+pub black_over : (c : ℕ) → 33 ≤ c → not (is_white c) ≡ true
 black_over c h = grind (arith, nat_tests)
 
 -- a token with black bytes behind it
