@@ -12,3 +12,5 @@ pub mod Tellings
 pub mod Rereads
 pub mod Lists
 pub mod Exact
+pub mod Spoken
+pub mod Again

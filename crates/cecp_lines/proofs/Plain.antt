@@ -24,7 +24,7 @@ use Rattle.cecp_lines.proofs.Spelled.{move_spells, spells_move}
 use Rattle.cecp_lines.proofs.Officers.{spelled_officer}
 use Rattle.cecp_lines.proofs.Spellings.{bind_some}
 
-as_digits : (cs : List ℕ) → list_all is_ascii_digit cs ≡ true → AllDigits 10 cs
+pub as_digits : (cs : List ℕ) → list_all is_ascii_digit cs ≡ true → AllDigits 10 cs
 as_digits [] h = tt
 as_digits (c ∷ cs) h =
     let both = and_true (is_ascii_digit c) (list_all is_ascii_digit cs) h in

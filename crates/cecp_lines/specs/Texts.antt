@@ -5,6 +5,7 @@ use Rattle.chess_board.specs.Text.{text_of}
 use Rattle.peer_words.specs.Numbers.{seconds_text}
 use Rattle.cecp_lines.specs.Messages as says
 use Rattle.cecp_lines.specs.Messages.{Message}
+use Rattle.cecp_lines.specs.Reading.{Spells, CanBeRead}
 
 -- a blank and the rest, where there is one
 abbrev pub after_blank : List ℕ → List ℕ
@@ -62,3 +63,7 @@ message_text (says.Memory n) = codes "memory " ++ decimal n
 message_text (says.Cores n) = codes "cores " ++ decimal n
 message_text (says.EgtPath kind path) = codes "egtpath " ++ kind ++ codes " " ++ path
 message_text msg = bare_text msg
+
+-- The canonical spelling of a message that some line spells, spells it.
+abbrev pub MessagesReadBack : Type 0
+MessagesReadBack = (m : Message) → CanBeRead m → Spells (message_text m) m
