@@ -1,5 +1,5 @@
 -- What the program answers.
-use Rattle.std.proofs.Common.{◌≡◌, ℕ, ◌^◌, ◌<◌, ◌≤◌, List, [], ◌∷◌, ◌++◌, length, Bool, true, false, Option, Some, None, Result, Ok, Err, OnOk, OnErr, refl, sym, ap, subst, ◌∙◌, ◌⊎◌, inl, inr, arith, length-append}
+use Rattle.std.proofs.Common.{◌≡◌, ℕ, ◌^◌, ◌<◌, ◌≤◌, List, [], length, Bool, true, false, Option, Some, None, Result, Ok, Err, OnOk, OnErr, refl, sym, ap, subst, ◌∙◌, ◌⊎◌, inl, inr, arith, length-append}
 use Rattle.std.specs.Io.KnownBytes.{Appends, Consumes}
 use Rattle.std.specs.Result.{is_err}
 use Rattle.line_io.specs.Causes.{HasCause, Rose}
@@ -7,11 +7,11 @@ use Rattle.line_io.specs.Lines.{Piece, items}
 use Rattle.line_io.specs.Source.{TakesPrefix}
 use Rattle.replay_tool.specs.declared.ending.Ending.{Ending}
 use Rattle.replay_tool.specs.declared.ending.Ending.TheVariants as endings
-use Rattle.replay_tool.specs.Diagnostics.{code_of, diagnostic, tail_of}
+use Rattle.replay_tool.specs.Diagnostics.{code_of, diagnostic}
 use Rattle.std.proofs.KnownBytes.{Appends-nil}
 use Rattle.policy_rules.specs.Policy.{usual}
 use Rattle.replay_tool.specs.Reading.{first_fault, opened}
-use Rattle.replay_tool.specs.Replay.{Streams, streams, Got, AreFirst, IsAll, is_cut, Stopped, ReplaysAll, ReplaysTo, ReplaysWhole, CutShort}
+use Rattle.replay_tool.specs.Replay.{Streams, AreFirst, IsAll, is_cut, Stopped, ReplaysAll, ReplaysWhole, CutShort}
 use Rattle.replay_tool.specs.Program.{Counts, status_of, Tells, EndsAs, Ran, IsUsage, FindsFault, IsSteady, Completes, TellsFault}
 use Rattle.replay_tool.proofs.Lines.{fault_stays}
 use Rattle.replay_tool.proofs.Written.{stop_cut}

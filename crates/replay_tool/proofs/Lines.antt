@@ -1,5 +1,5 @@
 -- One line more.
-use Rattle.std.proofs.Common.{◌≡◌, ℕ, suc, ◌+◌, List, [], ◌∷◌, ◌++◌, length, Option, Some, None, refl, sym, ap, ◌∙◌, arith}
+use Rattle.std.proofs.Common.{◌≡◌, ℕ, suc, ◌+◌, List, [], ◌∷◌, ◌++◌, length, Option, Some, None, refl, ap, ◌∙◌, arith}
 use Rattle.line_io.specs.Event.{Event}
 use Rattle.line_io.specs.Lines.{Piece}
 use Rattle.adapter_core.specs.declared.ends.Ends.{Ends}

@@ -1,14 +1,12 @@
 -- The first step of a run.
-use Rattle.std.proofs.Common.{◌≡◌, ℕ, List, [], ◌∷◌, ◌++◌, Option, refl, sym, ap, subst, ◌∙◌}
+use Rattle.std.proofs.Common.{◌≡◌, [], ◌∷◌, ◌++◌, refl, sym, ap, subst, ◌∙◌}
 use Rattle.std.proofs.KnownBytes.{Appends-nil, Consumes-nil}
 use Rattle.line_io.specs.Event.{Event, Open}
-use Rattle.line_io.specs.Out.{Text, with}
-use Rattle.line_io.specs.Runs.{Runs, begins}
+use Rattle.line_io.specs.Out.{Text}
+use Rattle.line_io.specs.Runs.{begins}
 use Rattle.policy_rules.specs.declared.settings.Settings.{Settings}
 use Rattle.adapter_core.specs.Ends.{ends_after, at_start}
-use Rattle.adapter_core.specs.Trace.{Step}
 use Rattle.adapter_core.specs.View.{View, opening}
-use Rattle.adapter_core.specs.Stands.{Stands}
 use Rattle.adapter_core.proofs.Holds.{begins as holds_at_first}
 use Rattle.session_script.specs.Script.{step_text}
 use Rattle.replay_tool.specs.declared.run.Run.{Run}

@@ -1,5 +1,5 @@
 -- What a turn comes to.
-use Rattle.std.proofs.Common.{◌≡◌, ℕ, suc, ◌+◌, ◌*◌, ◌≤◌, List, [], ◌∷◌, ◌++◌, length, Bool, true, false, Option, Some, None, IfSome, IsTrue, Result, Ok, Err, IsErr, refl, sym, ap, subst, ◌∙◌, arith, inr, append_assoc, length-append, append-nil}
+use Rattle.std.proofs.Common.{◌≡◌, ℕ, suc, ◌+◌, ◌≤◌, List, [], ◌∷◌, ◌++◌, length, Bool, true, false, Option, Some, None, IsTrue, Result, Ok, Err, refl, sym, ap, subst, ◌∙◌, arith, inr, append_assoc, length-append, append-nil}
 use Rattle.std.specs.Io.KnownBytes.{Appends, Consumes, IsAtEnd}
 use Rattle.std.proofs.KnownBytes.{Appends-trans, Consumes-trans}
 use Rattle.line_io.specs.declared.lines.Item.{Item}
@@ -7,23 +7,23 @@ use Rattle.line_io.specs.declared.lines.Item.TheVariants as answers
 use Rattle.line_io.specs.declared.faults.ReadFault.{ReadFault}
 use Rattle.line_io.specs.Event.{Event, Open}
 use Rattle.line_io.specs.Lending.{outcome, AnswersWhen}
-use Rattle.line_io.specs.Lines.{Piece, Whole, TooLong, Held, Given, Gave, Advances, EndsAt, Reads, rest, items, IsWaiting, flag, weight}
-use Rattle.line_io.specs.Out.{Text, with}
+use Rattle.line_io.specs.Lines.{Piece, Held, Given, Gave, Advances, EndsAt, Reads, rest, items, IsWaiting, flag, weight}
+use Rattle.line_io.specs.Out.{Text}
 use Rattle.line_io.specs.Runs.{Runs, begins, goes, goes_on, pieces_of, Call, whole}
 use Rattle.line_io.proofs.Runs.{so_far, at_end, at_fault, at_wait, few_calls}
 use Rattle.policy_rules.specs.declared.settings.Settings.{Settings}
 use Rattle.adapter_core.specs.declared.ends.Ends.{Ends}
 use Rattle.adapter_core.specs.Ends.{ends_after}
-use Rattle.adapter_core.specs.Trace.{Step, Lawful, state}
+use Rattle.adapter_core.specs.Trace.{Step, state}
 use Rattle.adapter_core.specs.View.{View}
 use Rattle.adapter_core.specs.Stands.{Stands}
-use Rattle.session_script.specs.Script.{script, events, step_text}
+use Rattle.session_script.specs.Script.{step_text}
 use Rattle.replay_tool.specs.declared.ending.Ending.{Ending}
 use Rattle.replay_tool.specs.declared.ending.Ending.TheVariants as endings
 use Rattle.replay_tool.specs.declared.run.Run.{Run}
 use Rattle.replay_tool.specs.Reading.{Said, Comes, Passes, HasNoMark, Cannot, line_says, ends_said, ends_over, fault_said, first_fault, events_said, events_of, opened}
-use Rattle.replay_tool.specs.Replay.{Streams, streams, Got, Scripted, ReplaysAll, ReplaysTo, ReplaysWhole, AreFirst, IsAll}
-use Rattle.replay_tool.specs.Reached.{Adds, Steps, Takes, Reached, Turned}
+use Rattle.replay_tool.specs.Replay.{Streams, streams, Got, ReplaysAll, ReplaysTo, ReplaysWhole, AreFirst, IsAll}
+use Rattle.replay_tool.specs.Reached.{Steps, Takes, Reached, Turned}
 use Rattle.replay_tool.proofs.Lines.{ends_more, fault_more, events_more}
 
 -- what a call of the reader tells

@@ -1,19 +1,17 @@
 -- What is written of a script.
-use Rattle.std.proofs.Common.{◌≡◌, ℕ, ◌+◌, List, [], ◌∷◌, ◌++◌, take, length, Option, Some, None, Result, OnErr, OnOk, Err, Ok, true, false, refl, sym, ap, subst, ◌∙◌, append-nil}
+use Rattle.std.proofs.Common.{◌≡◌, ℕ, ◌+◌, List, [], ◌++◌, take, length, Option, Some, None, Result, OnErr, OnOk, Err, Ok, true, false, sym, ap, subst, ◌∙◌, append-nil}
 use Rattle.std.proofs.Math.Seq.{take-append-add}
 use Rattle.std.specs.Io.KnownBytes.{Appends}
 use Rattle.std.specs.Result.{is_err}
 use Rattle.std.proofs.KnownBytes.{Appends-trans}
-use Rattle.line_io.specs.Event.{Event, Open}
 use Rattle.line_io.specs.Lines.{Piece, items}
-use Rattle.line_io.specs.Out.{Text, empty}
+use Rattle.line_io.specs.Out.{empty}
 use Rattle.line_io.specs.Source.{TakesPrefix}
 use Rattle.policy_rules.specs.declared.settings.Settings.{Settings}
-use Rattle.session_script.specs.Script.{script, events}
 use Rattle.replay_tool.specs.declared.ending.Ending.{Ending}
 use Rattle.replay_tool.specs.declared.ending.Ending.TheVariants as endings
 use Rattle.replay_tool.specs.declared.run.Run.{Run}
-use Rattle.replay_tool.specs.Replay.{Streams, streams, AreFirst, IsAll, is_cut, Scripted, ReplaysAll, ReplaysTo, ReplaysWhole, CutShort, Stopped}
+use Rattle.replay_tool.specs.Replay.{Streams, streams, AreFirst, IsAll, is_cut, Scripted, CutShort, Stopped}
 use Rattle.replay_tool.specs.Reached.{Reached, with_text}
 use Rattle.replay_tool.proofs.Turns.{are_first}
 

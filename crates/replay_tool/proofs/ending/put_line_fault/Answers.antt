@@ -1,4 +1,4 @@
-use Rattle.std.proofs.Common.{◌∙◌, ap, sym, codes, decimal, List, ℕ}
+use Rattle.std.proofs.Common.{◌∙◌, ap, codes, decimal, List, ℕ}
 use Rattle.line_io.specs.Out.{Text, with}
 use Rattle.replay_tool.proofs.Pieces.{three}
 use Rattle.replay_tool.proofs.ending.put_line_fault.Goals as goal

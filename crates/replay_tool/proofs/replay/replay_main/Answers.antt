@@ -1,4 +1,3 @@
-use Rattle.std.proofs.Common.{◌≡◌}
 use Rattle.replay_tool.proofs.Answers.{writing, complete, faulty}
 use Rattle.replay_tool.proofs.replay.replay_main.Goals as goal
 

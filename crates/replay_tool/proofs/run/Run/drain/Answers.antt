@@ -1,6 +1,6 @@
-use Rattle.std.proofs.Common.{◌≡◌, ◌+◌, ◌≤◌, ◌∙◌, ap, sym, refl, subst, Option, Some, arith}
+use Rattle.std.proofs.Common.{◌+◌, subst, Option, arith}
 use Rattle.replay_tool.specs.declared.ending.Ending.{Ending}
-use Rattle.replay_tool.specs.Replay.{Streams, streams}
+use Rattle.replay_tool.specs.Replay.{streams}
 use Rattle.replay_tool.specs.Reached.{Turned}
 use Rattle.replay_tool.proofs.Turns.{on_many}
 use Rattle.replay_tool.proofs.run.Run.drain.Goals as goal

@@ -1,4 +1,4 @@
-use Rattle.std.proofs.Common.{◌≡◌, ◌+◌, ◌≤◌, ℕ, Option, List}
+use Rattle.std.proofs.Common.{◌≡◌, ◌+◌, ◌≤◌}
 use Rattle.line_io.specs.Lines.{weight, flag}
 use Rattle.policy_rules.specs.declared.settings.Settings.{Settings}
 use Rattle.replay_tool.specs.Replay.{Streams, streams}

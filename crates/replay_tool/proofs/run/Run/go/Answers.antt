@@ -1,4 +1,4 @@
-use Rattle.std.proofs.Common.{◌≡◌, ◌∙◌, ap, sym, refl}
+use Rattle.std.proofs.Common.{◌∙◌, sym}
 use Rattle.replay_tool.specs.Replay.{Streams, streams}
 use Rattle.replay_tool.proofs.Written.{on_err, on_ok, stop_cut, stop_written}
 use Rattle.replay_tool.proofs.run.Run.go.Goals as goal

@@ -1,8 +1,8 @@
-use Rattle.std.proofs.Common.{◌≡◌, ◌+◌, ◌≤◌, ◌∙◌, ap, sym, refl, subst, Option, Some, arith}
+use Rattle.std.proofs.Common.{◌∙◌, ap, subst, Option, arith}
 use Rattle.replay_tool.specs.declared.ending.Ending.{Ending}
 use Rattle.replay_tool.specs.declared.run.Run.{Run}
 use Rattle.replay_tool.specs.Replay.{Streams, streams}
-use Rattle.replay_tool.specs.Reached.{Turned, Reached}
+use Rattle.replay_tool.specs.Reached.{Turned}
 use Rattle.replay_tool.proofs.Turns.{limit_stays, light}
 use Rattle.replay_tool.proofs.Opens.{reached_open}
 use Rattle.replay_tool.proofs.run.Run.play.Goals as goal

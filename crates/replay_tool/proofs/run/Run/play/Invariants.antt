@@ -1,5 +1,5 @@
-use Rattle.std.proofs.Common.{◌≡◌, ◌+◌, ◌≤◌, ℕ, Option, List}
-use Rattle.replay_tool.specs.Replay.{Streams, streams}
+use Rattle.std.proofs.Common.{◌≡◌, ◌≤◌}
+use Rattle.replay_tool.specs.Replay.{streams}
 use Rattle.replay_tool.specs.Reached.{Reached}
 use Rattle.replay_tool.proofs.run.Run.play.Given as goal
 

@@ -1,4 +1,4 @@
-use Rattle.std.proofs.Common.{◌≡◌, ◌∙◌, ap, sym, refl, Ok, Err, Option, List, ℕ, Some, ◌+◌}
+use Rattle.std.proofs.Common.{◌∙◌, ap, refl, Ok, Err, ◌+◌}
 use Rattle.line_io.specs.declared.lines.Item.{Item}
 use Rattle.line_io.specs.declared.lines.Item.TheVariants as items
 use Rattle.line_io.specs.Lines.{Whole, TooLong}

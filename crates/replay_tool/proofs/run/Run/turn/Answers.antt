@@ -1,6 +1,5 @@
-use Rattle.std.proofs.Common.{◌≡◌, ◌∙◌, ap, sym, refl, List, ℕ}
-use Rattle.line_io.specs.Source.{TakesPrefix}
-use Rattle.replay_tool.specs.Replay.{Streams, streams}
+use Rattle.std.proofs.Common.{◌∙◌, sym}
+use Rattle.replay_tool.specs.Replay.{streams}
 use Rattle.replay_tool.proofs.Written.{on_err, on_ok, flushed, cut_reached}
 use Rattle.replay_tool.proofs.run.Run.turn.Goals as goal
 
