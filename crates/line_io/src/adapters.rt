@@ -1,0 +1,88 @@
+// The edge to the world: a source and a sink over std's Read and Write.
+use crate::{Failed, Sink, Source};
+use std::io::{Read, Write};
+
+/// A source over a reader. It tells nothing of its bytes, and counts the reads that failed.
+#[derive(Drop)]
+pub struct ReadAdapter<R> {
+    inner: R,
+    faults: u64,
+}
+
+impl<R> ReadAdapter<R> {
+    ghost use Rattle.std.specs.Prelude.{◌≡◌};
+    ghost use Rattle.line_io.specs.Adapters.{read_faults};
+
+    /// Over a reader, with no fault counted.
+    pub fn new(reader: R) -> ReadAdapter<R>
+        ensures { read_faults result ≡ 0 }
+    {
+        ReadAdapter {
+            inner: reader,
+            faults: 0,
+        }
+    }
+}
+
+impl<R: Read> Source for ReadAdapter<R> {
+    ghost use Rattle.std.specs.Prelude.{None};
+    ghost use Rattle.line_io.specs.Adapters.{read_faults};
+
+    ghost given = { λ s. None };
+
+    ghost left = { λ s. None };
+
+    ghost faults = { λ s. read_faults s };
+
+    fn read(&mut self, buf: &mut [u8]) -> Result<usize, Failed> {
+        match self.inner.read(buf) {
+            Ok(count) => Ok(count),
+            Err(_) => {
+                self.faults = self.faults.saturating_add(1);
+                Err(Failed)
+            }
+        }
+    }
+}
+
+/// A sink over a writer. It tells nothing of its bytes, and counts the writes that failed or took
+/// nothing.
+#[derive(Drop)]
+pub struct WriteAdapter<W> {
+    inner: W,
+    faults: u64,
+}
+
+impl<W> WriteAdapter<W> {
+    ghost use Rattle.std.specs.Prelude.{◌≡◌};
+    ghost use Rattle.line_io.specs.Adapters.{write_faults};
+
+    /// Over a writer, with no fault counted.
+    pub fn new(writer: W) -> WriteAdapter<W>
+        ensures { write_faults result ≡ 0 }
+    {
+        WriteAdapter {
+            inner: writer,
+            faults: 0,
+        }
+    }
+}
+
+impl<W: Write> Sink for WriteAdapter<W> {
+    ghost use Rattle.std.specs.Prelude.{None};
+    ghost use Rattle.line_io.specs.Adapters.{write_faults};
+
+    ghost taken = { λ s. None };
+
+    ghost faults = { λ s. write_faults s };
+
+    fn write(&mut self, piece: &[u8]) -> Result<usize, Failed> {
+        match self.inner.write(piece) {
+            Ok(count) if count > 0 => Ok(count),
+            _ => {
+                self.faults = self.faults.saturating_add(1);
+                Err(Failed)
+            }
+        }
+    }
+}
