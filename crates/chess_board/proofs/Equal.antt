@@ -1,7 +1,11 @@
--- What `==` says of sides, kinds, men, squares and moves: exactly that they are the same.
-use Rattle.std.proofs.Common.{◌≡◌, Bool, ◌&&◌, Option, Some, None, refl, ap, eqb}
+-- What `==` says of sides, kinds, men, moves and positions: exactly that they are the same.
+use Rattle.std.proofs.Common.{◌≡◌, Bool, ◌&&◌, Option, Some, None, refl, ap, eqb, ℕ}
+use Rattle.std.proofs.Math.Bool.{beq}
+use Rattle.std.specs.Cmp.{booleans_Decides}
 use Rattle.std.specs.Bool.{Decides}
 use Rattle.std.specs.Option.{option_eq}
+use Rattle.std.specs.Cmp.Lexicographic.{pointwise}
+use Rattle.std.proofs.lemmas.Slice.Eq.{slice_eq-Decides}
 use Rattle.std.proofs.lemmas.Bool.Decides.{Decides-and, Decides-eqb}
 use Rattle.chess_board.specs.declared.board.Side.{Side}
 use Rattle.chess_board.specs.declared.board.Side.TheVariants.{White, Black}
@@ -10,7 +14,9 @@ use Rattle.chess_board.specs.declared.board.Kind.TheVariants.{Pawn, Knight, Bish
 use Rattle.chess_board.specs.declared.board.Move.{Move}
 use Rattle.chess_board.specs.contracts.board.SidePartialEq.TheImpl as sides
 use Rattle.chess_board.specs.contracts.board.KindPartialEq.TheImpl as kinds
-use Rattle.chess_board.specs.Board.{Man}
+use Rattle.chess_board.specs.declared.board.Rights.{Rights}
+use Rattle.chess_board.specs.Board.{Man, Men}
+use Rattle.chess_board.specs.Placement.{Placement}
 use Rattle.chess_board.proofs.Places.{move_same}
 
 -- `==` of two sides, kinds, men and moves
@@ -91,3 +97,38 @@ moves-Decides a b =
     let law = Decides-and (eqb a.from.index b.from.index) (eqb a.to.index b.to.index && option_eq kind_test a.promo b.promo) (Decides-eqb a.from.index b.from.index)
     (Decides-and (eqb a.to.index b.to.index) (option_eq kind_test a.promo b.promo) (Decides-eqb a.to.index b.to.index) promo) in
     (λ e. let same = law.0 e in move_same a b same.0 same.1.0 same.1.1, λ e. law.1 (ap (λ (m : Move). m.from.index) e, (ap (λ (m : Move). m.to.index) e, ap (λ (m : Move). m.promo) e)))
+
+-- `==` of rights and of positions
+abbrev pub rights_test : Rights → Rights → Bool
+rights_test a b = beq a.wk b.wk && (beq a.wq b.wq && (beq a.bk b.bk && beq a.bq b.bq))
+
+abbrev pub position_test : Placement → Placement → Bool
+position_test p q = eqb p.half q.half && (eqb p.full q.full && (pointwise man_test p.men q.men && (side_test p.side q.side && (rights_test p.rights q.rights && option_eq eqb p.passant q.passant))))
+
+abbrev rights_of : Bool → Bool → Bool → Bool → Rights
+rights_of a b c d = record { wk = a; wq = b; bk = c; bq = d }
+
+rights-Decides : (a b : Rights) → Decides (rights_test a b) (a ≡ b)
+rights-Decides a b =
+    let law = Decides-and (beq a.wk b.wk) (beq a.wq b.wq && (beq a.bk b.bk && beq a.bq b.bq)) (booleans_Decides a.wk b.wk)
+    (Decides-and (beq a.wq b.wq) (beq a.bk b.bk && beq a.bq b.bq) (booleans_Decides a.wq b.wq) (Decides-and (beq a.bk b.bk) (beq a.bq b.bq) (booleans_Decides a.bk b.bk) (booleans_Decides a.bq b.bq))) in (
+      λ e. let same = law.0 e in let one = same.0 in let two = same.1.0 in let three = same.1.1.0 in let four = same.1.1.1 in
+          let whole : rights_of a.wk a.wq a.bk a.bq ≡ rights_of b.wk b.wq b.bk b.bq = cc in whole,
+      λ e. law.1 (ap (λ (r : Rights). r.wk) e, (ap (λ (r : Rights). r.wq) e, (ap (λ (r : Rights). r.bk) e, ap (λ (r : Rights). r.bq) e))),
+    )
+
+abbrev placed : Men → Side → Rights → Option ℕ → ℕ → ℕ → Placement
+placed men side rights passant half full = record { men = men; side = side; rights = rights; passant = passant; half = half; full = full }
+
+pub positions-Decides : (p q : Placement) → Decides (position_test p q) (p ≡ q)
+positions-Decides p q =
+    let men = pointwise man_test p.men q.men in
+    let side = side_test p.side q.side in
+    let rights = rights_test p.rights q.rights in
+    let passant = option_eq eqb p.passant q.passant in
+    let law = Decides-and (eqb p.half q.half) _ (Decides-eqb p.half q.half) (Decides-and (eqb p.full q.full) _ (Decides-eqb p.full q.full)
+    (Decides-and men _ (slice_eq-Decides men-Decides p.men q.men men refl) (Decides-and side _ (sides-Decides p.side q.side) (Decides-and rights passant (rights-Decides p.rights q.rights) (option-Decides eqb Decides-eqb p.passant q.passant))))) in (
+      λ e. let same = law.0 e in let a = same.0 in let b = same.1.0 in let c = same.1.1.0 in let d = same.1.1.1.0 in let f = same.1.1.1.1.0 in let g = same.1.1.1.1.1 in
+          let whole : placed p.men p.side p.rights p.passant p.half p.full ≡ placed q.men q.side q.rights q.passant q.half q.full = cc in whole,
+      λ e. law.1 (ap (λ (x : Placement). x.half) e, (ap (λ (x : Placement). x.full) e, (ap (λ (x : Placement). x.men) e, (ap (λ (x : Placement). x.side) e, (ap (λ (x : Placement). x.rights) e, ap (λ (x : Placement). x.passant) e))))),
+    )

@@ -6,12 +6,20 @@ ghost use Rattle.chess_board.specs.Played.{PlayLaw};
 ghost use Rattle.chess_board.specs.Text.{text_of, LegalIsWritten, ReadsBack, SpellsOneMove};
 
 use crate::board::Move;
+use crate::position::Position;
 
 /// Moves compare by value.
 pub fn equal_moves(a: Move, b: Move) -> bool
     ensures { IsTrue result ↔ (a ≡ b) }
 {
     a == b
+}
+
+/// Positions compare by value.
+pub fn equal_positions(a: &Position, b: &Position) -> bool
+    ensures { IsTrue result ↔ (a.now ≡ b.now) }
+{
+    *a == *b
 }
 
 /// The test for attacks decides the relation of the Laws (article 3.1.2).

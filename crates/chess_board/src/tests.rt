@@ -1,7 +1,7 @@
 //! Move counts that are known of the rules, and each public function once.
 use crate::{
-    BuildFault, Kind, Move, Position, Rights, Side, Square, State, equal_moves, read_move,
-    write_move,
+    BuildFault, Kind, Move, Position, Rights, Side, Square, State, equal_moves, equal_positions,
+    read_move, write_move,
 };
 use std::process::Abort;
 use std::test::Fail;
@@ -83,20 +83,20 @@ fn counts_lines_of_play(rt: HostRuntime) -> Result<(), Fail> {
             "rnbqkbnr/pppppppp/8/8/8/8/PPPPPPPP/RNBQKBNR",
             "KQkq",
             3,
-            8902,
+            8_902,
         ),
         (
             "r3k2r/p1ppqpb1/bn2pnp1/3PN3/1p2P3/2N2Q1p/PPPBBPPP/R3K2R",
             "KQkq",
-            2,
-            2039,
+            3,
+            97_862,
         ),
-        ("8/2p5/3p4/KP5r/1R3p1k/8/4P1P1/8", "-", 2, 191),
+        ("8/2p5/3p4/KP5r/1R3p1k/8/4P1P1/8", "-", 3, 2_812),
         (
             "rnbq1k1r/pp1Pbppp/2p5/8/2B5/8/PPP1NnPP/RNBQK2R",
             "KQ",
-            2,
-            1486,
+            3,
+            62_379,
         ),
     ];
     for (field, rights, depth, lines) in table {
@@ -129,6 +129,7 @@ fn plays_moves(rt: HostRuntime) -> Result<(), Fail> {
     assert!(rt; start.rights().wk && start.rights().bq);
     assert!(rt; start.attacked(f3, Side::White) && !start.attacked(f3, Side::Black));
     assert!(rt; !start.in_check());
+    assert!(rt; equal_positions(&start, &Position::start()));
     start.facts();
 
     let knights = after(&rt, start, "g1f3 g8f6 f3g1 f6g8");
