@@ -2,7 +2,9 @@
 #![tactic(auto)]
 
 mod kinds;
+mod numbers;
 mod tokens;
 
 pub use kinds::GoKind;
-pub use tokens::{is_white, read_number, split_token, trim_start};
+pub use numbers::{read_centis, read_count, read_digits, read_number, read_seconds, read_signed};
+pub use tokens::{is_white, split_token, trim, trim_end, trim_start};

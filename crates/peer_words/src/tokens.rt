@@ -1,19 +1,20 @@
-// Tokens and numbers.
-ghost use Rattle.std.specs.Prelude.{◌≡◌, ◌≤◌, ◌+◌, ◌<◌, ◌^◌, length, drop, Some, None, position};
+// White space, tokens and rests.
+ghost use Rattle.std.specs.Prelude.{◌≡◌, ◌≤◌, ◌+◌, ◌<◌, length, drop, position};
 ghost use Rattle.std.specs.List.{before_first};
-ghost use Rattle.peer_words.specs.Tokens.{is_white, trim_left, token_end, trimmed, number};
+ghost use Rattle.peer_words.specs.Tokens.{is_white, trim_left, trim_right, trimmed, token_end, first_token, rest};
 
+/// Blank, tab or CR.
 pub fn is_white(byte: u8) -> bool
     ensures { result ≡ is_white byte }
 {
     byte == b' ' || byte == b'\t' || byte == b'\r'
 }
 
-/// Without the white space at the start.
-pub fn trim_start(line: &[u8]) -> &[u8]
-    ensures { result.now ≡ trim_left line.now }
+/// The text without the white space at its start.
+pub fn trim_start(text: &[u8]) -> &[u8]
+    ensures { result.now ≡ trim_left text.now }
 {
-    let mut rest = line;
+    let mut rest = text;
     while let [first, others @ ..] = rest {
         if !is_white(*first) {
             break;
@@ -23,36 +24,49 @@ pub fn trim_start(line: &[u8]) -> &[u8]
     rest
 }
 
-fn white_at(line: &[u8]) -> Option<usize>
-    ensures { result ≡ position is_white line.now }
+/// The text without the white space at its end.
+pub fn trim_end(text: &[u8]) -> &[u8]
+    ensures { result.now ≡ trim_right text.now }
 {
-    line.iter().position(|b| is_white(*b))
-}
-
-/// The first token, and what follows it, where the line begins with no white space.
-pub fn split_token(line: &[u8]) -> (&[u8], &[u8])
-    ensures token { result.0.now ≡ before_first is_white line.now }
-    ensures rest { result.1.now ≡ drop (token_end line.now) line.now }
-{
-    match white_at(line) {
-        Some(at) => line.split_at(at),
-        None => (line, &[]),
-    }
-}
-
-/// A number of 1 to 9 digits.
-pub fn read_number(text: &[u8]) -> Option<u32>
-    ensures { result ≡ number text.now }
-{
-    if text.is_empty() || text.len() > 9 {
-        return None;
-    }
-    let mut n = 0u32;
-    for b in text {
-        if !b.is_ascii_digit() {
-            return None;
+    let mut rest = text;
+    while let [others @ .., last] = rest {
+        if !is_white(*last) {
+            break;
         }
-        n = n * 10 + u32::from(*b - b'0');
+        rest = others;
     }
-    Some(n)
+    rest
+}
+
+/// The text without the white space at both ends.
+pub fn trim(text: &[u8]) -> &[u8]
+    ensures { result.now ≡ trimmed text.now }
+{
+    trim_end(trim_start(text))
+}
+
+fn white_at(text: &[u8]) -> Option<usize>
+    ensures { result ≡ position is_white text.now }
+{
+    text.iter().position(|b| is_white(*b))
+}
+
+/// What stands before the first white space, and what begins with it.
+fn split_at_white(text: &[u8]) -> (&[u8], &[u8])
+    ensures token { result.0.now ≡ before_first is_white text.now }
+    ensures rest { result.1.now ≡ drop (token_end text.now) text.now }
+{
+    match white_at(text) {
+        Some(at) => text.split_at(at),
+        None => (text, &[]),
+    }
+}
+
+/// The first token of a line, empty where there is none, and the trimmed rest after it.
+pub fn split_token(line: &[u8]) -> (&[u8], &[u8])
+    ensures token { result.0.now ≡ first_token line.now }
+    ensures rest { result.1.now ≡ rest line.now }
+{
+    let (token, after) = split_at_white(trim_start(line));
+    (token, trim(after))
 }

@@ -1,6 +1,7 @@
-use Rattle.std.proofs.Common.{◌∙◌, arith, sym, get_or}
+use Rattle.std.proofs.Common.{◌∙◌, ◌^◌, ◌≤◌, arith, sym, get_or, lit<}
+use Rattle.std.proofs.Math.Nat.{pow-le-pow_right}
 use Rattle.peer_words.proofs.Digits.{digit, small, more_value, more_digits, more_bound}
-use Rattle.peer_words.proofs.tokens.read_number.Goals as goal
+use Rattle.peer_words.proofs.numbers.read_digits.Goals as goal
 
 pub overflow_mul-n : goal.overflow_mul-n
 overflow_mul-n c = omega (arith, small c.loop-b.b-index (omega arith))
@@ -17,3 +18,8 @@ loop-b-preserved c =
       bound = more_bound c.loop-b.b-index c.loop-b.n _ c.loop-b.invariant.bound (omega arith);
       digits = more_digits c.args.text.now c.loop-b.b-index (omega arith) c.loop-b.invariant.digits yes;
     }
+
+pub returns-clause-below : goal.returns-clause-below
+returns-clause-below c =
+    let p : 10 ^ c.loop-b.b-index ≤ 10 ^ c.args.most = pow-le-pow_right (lit< tt) (omega arith) in
+    omega arith

@@ -1,0 +1,14 @@
+pub mod Spelled
+pub mod Officers
+pub mod LineTokens
+pub mod Tables
+pub mod Spellings
+pub mod Complete
+pub mod Answered
+pub mod Fronts
+pub mod Plain
+pub mod Hears
+pub mod Tellings
+pub mod Rereads
+pub mod Lists
+pub mod Exact

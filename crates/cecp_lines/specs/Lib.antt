@@ -1,0 +1,7 @@
+pub mod Moves
+pub mod Messages
+pub mod Words
+pub mod Reading
+pub mod Replies
+pub mod Texts
+pub mod Hearing

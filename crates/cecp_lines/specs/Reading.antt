@@ -1,0 +1,195 @@
+-- The message that a line of the interface spells: as a function, and as a relation.
+use Rattle.std.specs.Prelude.{◌≡◌, ℕ, ◌+◌, ◌*◌, ◌<◌, ◌≤◌, ◌⊎◌, ◌≢◌, codes, true, List, [], ◌∷◌, length, take, drop, position, Bool, if◌then◌else◌, ◌==◌, nat_le, Option, Some, None, Result, Ok, Err}
+use Rattle.std.specs.Option.{option_map, option_and_then, ok_or}
+use Rattle.std.specs.Str.{bytes_eq}
+use Rattle.chess_board.specs.declared.board.Move.{Move}
+use Rattle.chess_board.specs.Text.{Spells as MoveSpells}
+use Rattle.peer_words.specs.Tokens.{first_token, rest, trimmed, tokens}
+use Rattle.peer_words.specs.Numbers.{digits, number, centis, seconds}
+use Rattle.cecp_lines.specs.declared.iface.IfaceFault.{IfaceFault}
+use Rattle.cecp_lines.specs.declared.iface.IfaceFault.TheVariants.{UnknownCommand, BadArgument}
+use Rattle.cecp_lines.specs.declared.words.Command.{Command}
+use Rattle.cecp_lines.specs.declared.words.Command.TheVariants.{Ignored, Bare, With}
+use Rattle.cecp_lines.specs.declared.words.Verb.{Verb}
+use Rattle.cecp_lines.specs.declared.words.Verb.TheVariants as verbs
+use Rattle.cecp_lines.specs.Messages as says
+use Rattle.cecp_lines.specs.Messages.{Message, message_of}
+use Rattle.cecp_lines.specs.Moves.{move_of}
+use Rattle.cecp_lines.specs.Words.{is_ignored, command_of}
+
+abbrev pub is_empty : List ℕ → Bool
+is_empty text = bytes_eq text []
+
+-- the token of a text of one token at most
+abbrev pub only_token : List ℕ → Option (List ℕ)
+only_token text = if is_empty (rest text) then Some (first_token text) else None
+
+-- a version of at least 2
+abbrev pub version : ℕ → Option Message
+version n = if nat_le 2 n then Some (says.Protover n) else None
+
+abbrev pub protover : List ℕ → Option Message
+protover text = option_and_then version (option_and_then number (only_token text))
+
+abbrev pub is_colon : ℕ → Bool
+is_colon b = b == 58
+
+-- minutes and seconds, of which there are at most 59, in milliseconds
+abbrev pub minutes_seconds : Option ℕ → Option ℕ → Option ℕ
+minutes_seconds (Some m) (Some s) = if nat_le s 59 then Some (m * 60000 + s * 1000) else None
+minutes_seconds (Some m) None = None
+minutes_seconds None s = None
+
+abbrev pub base_at : Option ℕ → List ℕ → Option ℕ
+base_at None text = option_map (λ m. m * 60000) (digits 4 text)
+base_at (Some at) text = minutes_seconds (digits 4 (take at text)) (digits 2 (drop (at + 1) text))
+
+-- 1 to 4 digits, and perhaps a colon and 1 or 2 digits more: minutes and seconds, as a number of milliseconds
+abbrev pub base_time : List ℕ → Option ℕ
+base_time text = base_at (position is_colon text) text
+
+abbrev pub level_of : Option ℕ → Option ℕ → Option ℕ → Option Message
+level_of (Some mps) (Some base_ms) (Some inc_ms) = Some (says.Level mps base_ms inc_ms)
+level_of (Some mps) (Some base_ms) None = None
+level_of (Some mps) None inc_ms = None
+level_of None base_ms inc_ms = None
+
+abbrev pub level : List ℕ → Option Message
+level text = level_of (digits 4 (first_token text)) (base_time (first_token (rest text))) (option_and_then seconds (only_token (rest (rest text))))
+
+abbrev pub is_equals : ℕ → Bool
+is_equals b = b == 61
+
+-- a text is split at its first `=`
+abbrev pub name_at : Option ℕ → List ℕ → List ℕ
+name_at None text = text
+name_at (Some at) text = trimmed (take at text)
+
+abbrev pub value_at : Option ℕ → List ℕ → Option (List ℕ)
+value_at None text = None
+value_at (Some at) text = Some (drop (at + 1) text)
+
+abbrev pub setting_of : List ℕ → Option (List ℕ) → Option Message
+setting_of name value = if is_empty name then None else Some (says.SetOption name value)
+
+abbrev pub setting : List ℕ → Option Message
+setting text = setting_of (name_at (position is_equals text) text) (value_at (position is_equals text) text)
+
+abbrev pub egt_path : List ℕ → Option Message
+egt_path text = if is_empty (rest text) then None else Some (says.EgtPath (first_token text) (rest text))
+
+-- the message of a command with arguments and the trimmed rest of its line
+abbrev pub argument : Verb → List ℕ → Option Message
+argument verbs.Protover text = protover text
+argument verbs.Ping text = option_map (λ n. says.Ping n) (option_and_then number (only_token text))
+argument verbs.UserMove text = option_map (λ m. says.UserMove m) (option_and_then move_of (only_token text))
+argument verbs.SetBoard text = Some (says.SetBoard text)
+argument verbs.Level text = level text
+argument verbs.St text = option_map (λ ms. says.St ms) (option_and_then seconds (only_token text))
+argument verbs.Sd text = option_map (λ n. says.Sd n) (option_and_then number (only_token text))
+argument verbs.Time text = option_map (λ n. says.Time n) (option_and_then centis (only_token text))
+argument verbs.Otim text = option_map (λ n. says.Otim n) (option_and_then centis (only_token text))
+argument verbs.SetOption text = setting text
+argument verbs.Memory text = option_map (λ n. says.Memory n) (option_and_then number (only_token text))
+argument verbs.Cores text = option_map (λ n. says.Cores n) (option_and_then number (only_token text))
+argument verbs.EgtPath text = egt_path text
+
+abbrev pub move_or_unknown : Option Move → Result Message IfaceFault
+move_or_unknown (Some m) = Ok (says.UserMove m)
+move_or_unknown None = Err UnknownCommand
+
+-- a line whose first token is no command: white space, or a move alone
+abbrev pub other_line : List ℕ → List ℕ → Result Message IfaceFault
+other_line word more =
+    if is_empty word then Ok says.Blank
+    else (if is_empty more then move_or_unknown (move_of word) else Err UnknownCommand)
+
+-- what is read of a line by what its first token stands for
+abbrev pub command_line : Option Command → List ℕ → Result Message IfaceFault
+command_line (Some Ignored) line = Ok (says.Ignored (trimmed line))
+command_line (Some (Bare msg)) line = Ok (message_of msg)
+command_line (Some (With verb)) line = ok_or (argument verb (rest line)) BadArgument
+command_line None line = other_line (first_token line) (rest line)
+
+-- the message that a line spells, or why it spells none
+abbrev pub reading : List ℕ → Result Message IfaceFault
+reading line = command_line (command_of (first_token line)) line
+
+-- THE RELATION, ROW BY ROW
+
+-- the line's first token is the word
+abbrev pub Begins : List ℕ → List ℕ → Type 0
+Begins line word = first_token line ≡ word
+
+-- the line is the word and one argument of this value
+abbrev pub HasArgument : {A : Type 0} → List ℕ → List ℕ → (List ℕ → Option A) → A → Type 0
+HasArgument line word read value = (t : List ℕ) × (tokens line ≡ word ∷ t ∷ []) × (read t ≡ Some value)
+
+-- `level` with moves a session, base time and increment
+abbrev pub HasLevel : List ℕ → ℕ → ℕ → ℕ → Type 0
+HasLevel line mps base_ms inc_ms =
+    (a b c : List ℕ) × (tokens line ≡ codes "level" ∷ a ∷ b ∷ c ∷ []) × (digits 4 a ≡ Some mps) × (base_time b ≡ Some base_ms) × (seconds c ≡ Some inc_ms)
+
+-- the line is a move text alone
+abbrev pub IsMoveAlone : List ℕ → Move → Type 0
+IsMoveAlone line m = (t : List ℕ) × (tokens line ≡ t ∷ []) × MoveSpells t m
+
+-- a move text after `usermove`, or alone
+abbrev pub HasMove : List ℕ → Move → Type 0
+HasMove line m = ((t : List ℕ) × (tokens line ≡ codes "usermove" ∷ t ∷ []) × MoveSpells t m) ⊎ IsMoveAlone line m
+
+-- a name that is not empty, and perhaps a value, split at the first `=`
+abbrev pub HasSetting : List ℕ → List ℕ → Option (List ℕ) → Type 0
+HasSetting text name value = (0 < length name) × (name ≡ name_at (position is_equals text) text) × (value ≡ value_at (position is_equals text) text)
+
+-- A line spells a message.
+abbrev pub Spells : List ℕ → Message → Type 0
+Spells line says.Blank = tokens line ≡ []
+Spells line (says.Ignored text) = (is_ignored (first_token line) ≡ true) × (text ≡ trimmed line)
+Spells line says.New = Begins line (codes "new")
+Spells line says.Quit = Begins line (codes "quit")
+Spells line says.Force = Begins line (codes "force")
+Spells line says.Go = Begins line (codes "go")
+Spells line says.PlayOther = Begins line (codes "playother")
+Spells line says.MoveNow = Begins line (codes "?")
+Spells line says.Draw = Begins line (codes "draw")
+Spells line says.Hint = Begins line (codes "hint")
+Spells line says.Undo = Begins line (codes "undo")
+Spells line says.Remove = Begins line (codes "remove")
+Spells line says.Hard = Begins line (codes "hard")
+Spells line says.Easy = Begins line (codes "easy")
+Spells line says.Post = Begins line (codes "post")
+Spells line says.NoPost = Begins line (codes "nopost")
+Spells line says.Analyze = Begins line (codes "analyze")
+Spells line says.Exit = Begins line (codes "exit")
+Spells line says.Dot = Begins line (codes ".")
+Spells line says.Result = Begins line (codes "result")
+Spells line (says.Protover n) = HasArgument line (codes "protover") number n × (2 ≤ n)
+Spells line (says.Ping n) = HasArgument line (codes "ping") number n
+Spells line (says.UserMove m) = HasMove line m
+Spells line (says.SetBoard text) = Begins line (codes "setboard") × (text ≡ rest line)
+Spells line (says.Level mps base_ms inc_ms) = HasLevel line mps base_ms inc_ms
+Spells line (says.St ms) = HasArgument line (codes "st") seconds ms
+Spells line (says.Sd n) = HasArgument line (codes "sd") number n
+Spells line (says.Time n) = HasArgument line (codes "time") centis n
+Spells line (says.Otim n) = HasArgument line (codes "otim") centis n
+Spells line (says.SetOption name value) = Begins line (codes "option") × HasSetting (rest line) name value
+Spells line (says.Memory n) = HasArgument line (codes "memory") number n
+Spells line (says.Cores n) = HasArgument line (codes "cores") number n
+Spells line (says.EgtPath kind path) = Begins line (codes "egtpath") × (kind ≡ first_token (rest line)) × (path ≡ rest (rest line)) × (0 < length path)
+
+-- the message is one that some line spells
+abbrev pub CanBeRead : Message → Type 0
+CanBeRead msg = (line : List ℕ) × Spells line msg
+
+-- The first token is no command word, and the line is not one move text.
+abbrev pub IsUnknown : List ℕ → Type 0
+IsUnknown line = (first_token line ≢ []) × (command_of (first_token line) ≡ None) × ((m : Move) → IsMoveAlone line m → ⊥)
+
+-- every other line that spells nothing
+abbrev pub IsBad : List ℕ → Type 0
+IsBad line = ((m : Message) → Spells line m → ⊥) × (IsUnknown line → ⊥)
+
+-- A line spells at most one message.
+abbrev pub SpellsOneMessage : Type 0
+SpellsOneMessage = (line : List ℕ) (a b : Message) → Spells line a → Spells line b → a ≡ b

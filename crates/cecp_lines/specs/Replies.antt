@@ -1,0 +1,150 @@
+-- What the interface is told, whatever memory its bytes lie in, and the texts.
+use Rattle.std.specs.Prelude.{◌≡◌, ℕ, ℤ, ◌<◌, ◌^◌, List, [], ◌∷◌, ◌++◌, length, map, Bool, true, not, ◌&&◌, ◌||◌, ◌==◌, nat_lt, codes, decimal, Option, Some, None, IfSome}
+use Rattle.std.specs.Fmt.{signed_decimal}
+use Rattle.std.specs.Int.RustNames.{FitsSigned}
+use mir.Syntax.{w64}
+use Rattle.std.specs.List.{list_all, join_with_byte, AllByRecursion}
+use Rattle.chess_board.specs.declared.board.Move.{Move as AnyMove}
+use Rattle.chess_board.specs.Text.{text_of, IsOfficer}
+use Rattle.peer_words.specs.Tokens.{is_white, trimmed}
+use Rattle.cecp_lines.specs.declared.reply.Reason.{Reason}
+use Rattle.cecp_lines.specs.declared.reply.Reason.TheVariants as reasons
+use Rattle.cecp_lines.specs.declared.reply.Tell.{Tell}
+use Rattle.cecp_lines.specs.declared.reply.Tell.TheVariants as tells
+use Rattle.cecp_lines.specs.declared.reply.Outcome.{Outcome}
+use Rattle.cecp_lines.specs.declared.reply.Outcome.TheVariants as outcomes
+use Rattle.cecp_lines.specs.declared.reply.Reply.{Reply}
+use Rattle.cecp_lines.specs.declared.reply.Reply.TheVariants as replies
+
+pub data Told : Type 0 where
+  Feature : (name value : List ℕ) → Told
+  Move : (shown : AnyMove) → Told
+  Illegal : (played : AnyMove) → Told
+  IllegalLong : (played : AnyMove) → Told
+  Error : (reason : Reason) (line : List ℕ) → Told
+  TellError : (tell : Tell) → Told
+  Pong : (n : ℕ) → Told
+  OfferDraw : Told
+  Resign : Told
+  Hint : (hint : AnyMove) → Told
+  Result : (outcome : Outcome) → Told
+  Thinking : (depth : ℕ) (score : ℤ) (time nodes : ℕ) (hint : Option AnyMove) (pv : List ℕ) → Told
+  Stat01 : (time nodes depth left all : ℕ) (current : Option AnyMove) → Told
+
+abbrev pub told_of : Reply → Told
+told_of (replies.Feature name value) = Feature name.now value.now
+told_of (replies.Move m) = Move m
+told_of (replies.Illegal m) = Illegal m
+told_of (replies.IllegalLong m) = IllegalLong m
+told_of (replies.Error reason line) = Error reason line.now
+told_of (replies.TellError tell) = TellError tell
+told_of (replies.Pong n) = Pong n
+told_of replies.OfferDraw = OfferDraw
+told_of replies.Resign = Resign
+told_of (replies.Hint m) = Hint m
+told_of (replies.Result outcome) = Result outcome
+told_of (replies.Thinking depth score time nodes hint pv) = Thinking depth score time nodes hint pv.now
+told_of (replies.Stat01 time nodes depth left all current) = Stat01 time nodes depth left all current
+
+abbrev pub reason_text : Reason → List ℕ
+reason_text reasons.UnknownCommand = codes "unknown command"
+reason_text reasons.BadArgument = codes "bad argument"
+reason_text reasons.EngineEnded = codes "engine ended"
+reason_text reasons.NotAnalyzing = codes "not analyzing"
+reason_text reasons.NoMoveToUndo = codes "no move to undo"
+reason_text reasons.UnknownOption = codes "unknown option"
+reason_text reasons.BadValue = codes "bad value"
+reason_text reasons.TooManySettings = codes "too many settings"
+reason_text reasons.TooManyPings = codes "too many pings"
+reason_text reasons.LineTooLong = codes "line too long"
+
+abbrev pub tell_text : Tell → List ℕ
+tell_text tells.Position = codes "tellusererror Illegal position"
+tell_text tells.Move = codes "tellusererror Illegal move by engine"
+tell_text tells.Ended = codes "tellusererror Engine ended"
+
+abbrev pub outcome_text : Outcome → List ℕ
+outcome_text outcomes.WhiteMates = codes "1-0 {White mates}"
+outcome_text outcomes.BlackMates = codes "0-1 {Black mates}"
+outcome_text outcomes.Stalemate = codes "1/2-1/2 {Stalemate}"
+outcome_text outcomes.Dead = codes "1/2-1/2 {Draw by insufficient material}"
+outcome_text outcomes.Repetition = codes "1/2-1/2 {Draw by repetition}"
+outcome_text outcomes.Fifty = codes "1/2-1/2 {Draw by fifty-move rule}"
+
+-- a number and a blank
+abbrev pub field : List ℕ → List ℕ
+field number = number ++ (32 ∷ [])
+
+-- the hint of a ponder search, in parentheses and before a blank
+abbrev pub hint_text : Option AnyMove → List ℕ
+hint_text None = []
+hint_text (Some m) = 40 ∷ (text_of m ++ (41 ∷ 32 ∷ []))
+
+abbrev pub current_text : Option AnyMove → List ℕ
+current_text None = []
+current_text (Some m) = 32 ∷ text_of m
+
+-- the text of a reply, without its line feed
+abbrev pub told_text : Told → List ℕ
+told_text (Feature name value) = codes "feature " ++ name ++ codes "=" ++ value
+told_text (Move m) = codes "move " ++ text_of m
+told_text (Illegal m) = codes "Illegal move: " ++ text_of m
+told_text (IllegalLong m) = codes "Illegal move (game too long): " ++ text_of m
+told_text (Error reason line) = codes "Error (" ++ reason_text reason ++ codes "): " ++ line
+told_text (TellError tell) = tell_text tell
+told_text (Pong n) = codes "pong " ++ decimal n
+told_text OfferDraw = codes "offer draw"
+told_text Resign = codes "resign"
+told_text (Hint m) = codes "Hint: " ++ text_of m
+told_text (Result outcome) = outcome_text outcome
+told_text (Thinking depth score time nodes hint pv) =
+    field (decimal depth) ++ field (signed_decimal score) ++ field (decimal time) ++ field (decimal nodes) ++ hint_text hint ++ pv
+told_text (Stat01 time nodes depth left all current) =
+    codes "stat01: " ++ field (decimal time) ++ field (decimal nodes) ++ field (decimal depth) ++ field (decimal left) ++ decimal all ++ current_text current
+
+-- neither empty, nor with white space or `=` in it
+abbrev pub is_name_byte : ℕ → Bool
+is_name_byte b = not (is_white b || b == 61)
+
+abbrev pub is_feature_name : List ℕ → Bool
+is_feature_name name = nat_lt 0 (length name) && list_all is_name_byte name
+
+abbrev pub IsWritable : AnyMove → Type 0
+IsWritable m = IsOfficer m.promo
+
+-- one or more written moves with one blank between
+pub record AreMoves (pv : List ℕ) : Type 0 where
+  pub moves : List AnyMove
+  pub some : 0 < length moves
+  pub writable : AllByRecursion IsWritable moves
+  pub text : pv ≡ join_with_byte 32 (map text_of moves)
+
+-- the line that a refusal repeats is trimmed, and one that was too long is not repeated
+abbrev pub IsRepeated : Reason → List ℕ → Type 0
+IsRepeated reasons.LineTooLong line = line ≡ codes "..."
+IsRepeated _ line = trimmed line ≡ line
+
+-- what the fields of a reply that some line spells meet, besides the range of their types
+abbrev pub IsReply : Told → Type 0
+IsReply (Feature name value) = is_feature_name name ≡ true
+IsReply (Move m) = IsWritable m
+IsReply (Illegal m) = IsWritable m
+IsReply (IllegalLong m) = IsWritable m
+IsReply (Error reason line) = IsRepeated reason line
+IsReply (Hint m) = IsWritable m
+IsReply (Thinking depth score time nodes hint pv) = IfSome hint IsWritable × AreMoves pv
+IsReply (Stat01 time nodes depth left all current) = IfSome current IsWritable
+IsReply _ = Unit {0}
+
+-- the numbers are those of the fields' types
+abbrev pub Fits : Told → Type 0
+Fits (Pong n) = n < 2 ^ 32
+Fits (Thinking depth score time nodes hint pv) = (depth < 2 ^ 64) × FitsSigned w64 score × (time < 2 ^ 64) × (nodes < 2 ^ 64)
+Fits (Stat01 time nodes depth left all current) = (time < 2 ^ 64) × (nodes < 2 ^ 64) × (depth < 2 ^ 64) × (left < 2 ^ 64) × (all < 2 ^ 64)
+Fits _ = Unit {0}
+
+-- A line is the text of a reply.
+pub record Tells (line : List ℕ) (t : Told) : Type 0 where
+  pub form : IsReply t
+  pub fits : Fits t
+  pub text : line ≡ told_text t

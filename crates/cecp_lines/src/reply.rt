@@ -1,0 +1,87 @@
+// What the interface is told.
+
+use chess_board::Move;
+
+/// Why a line was refused.
+#[derive(Clone, Copy, Debug, PartialEq, Eq)]
+pub enum Reason {
+    UnknownCommand,
+    BadArgument,
+    EngineEnded,
+    NotAnalyzing,
+    NoMoveToUndo,
+    UnknownOption,
+    BadValue,
+    TooManySettings,
+    TooManyPings,
+    LineTooLong,
+}
+
+/// What the user is to be told.
+#[derive(Clone, Copy, Debug, PartialEq, Eq)]
+pub enum Tell {
+    /// A position that is none.
+    Position,
+    /// An illegal move by the engine.
+    Move,
+    /// The engine ended.
+    Ended,
+}
+
+/// How a game ended.
+#[derive(Clone, Copy, Debug, PartialEq, Eq)]
+pub enum Outcome {
+    WhiteMates,
+    BlackMates,
+    Stalemate,
+    Dead,
+    Repetition,
+    Fifty,
+}
+
+/// A line for the interface: Chess Engine Communication Protocol, version 2, section "Commands from
+/// the engine to xboard". The thinking line and `stat01` are those of its sections "Thinking
+/// Output" and "Analyze Mode".
+#[derive(Clone, Copy, Debug, PartialEq, Eq)]
+pub enum Reply<'a> {
+    /// A feature and its value, with the quotes where it has some.
+    Feature {
+        name: &'a [u8],
+        value: &'a [u8],
+    },
+    Move(Move),
+    Illegal(Move),
+    /// A move that would make the game too long.
+    IllegalLong(Move),
+    /// A refusal of the trimmed line.
+    Error {
+        reason: Reason,
+        line: &'a [u8],
+    },
+    TellError(Tell),
+    Pong(u32),
+    OfferDraw,
+    Resign,
+    Hint(Move),
+    Result(Outcome),
+    /// Depth in plies, score in hundredths of a pawn, time in hundredths of a second, nodes, the
+    /// move that is pondered on, and one or more moves with one blank between.
+    Thinking {
+        depth: u64,
+        score: i64,
+        time: u64,
+        nodes: u64,
+        hint: Option<Move>,
+        pv: &'a [u8],
+    },
+    /// Time in hundredths of a second, nodes, depth, how many moves are left and how many there
+    /// are, and the move that is searched.
+    Stat01 {
+        time: u64,
+        nodes: u64,
+        depth: u64,
+        left: u64,
+        all: u64,
+        current: Option<Move>,
+    },
+}

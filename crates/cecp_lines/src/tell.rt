@@ -1,0 +1,178 @@
+// The texts of replies.
+ghost use Rattle.std.specs.Prelude.{◌≡◌, ◌+◌, ◌≤◌, ◌++◌, length, decimal, IfSome};
+ghost use Rattle.std.specs.Fmt.{signed_decimal};
+ghost use Rattle.line_io.specs.Out.{with};
+ghost use Rattle.chess_board.specs.Text.{text_of};
+ghost use Rattle.cecp_lines.specs.Replies.{told_of, told_text, reason_text, tell_text, outcome_text, hint_text, current_text, field, IsReply, IsWritable};
+
+use crate::reply::{Outcome, Reason, Reply, Tell};
+use chess_board::{Move, write_move};
+use itoa::Buffer;
+use line_io::Out;
+
+fn words_of(reason: Reason) -> &'static [u8]
+    ensures { result.now ≡ reason_text reason }
+{
+    match reason {
+        Reason::UnknownCommand => b"unknown command",
+        Reason::BadArgument => b"bad argument",
+        Reason::EngineEnded => b"engine ended",
+        Reason::NotAnalyzing => b"not analyzing",
+        Reason::NoMoveToUndo => b"no move to undo",
+        Reason::UnknownOption => b"unknown option",
+        Reason::BadValue => b"bad value",
+        Reason::TooManySettings => b"too many settings",
+        Reason::TooManyPings => b"too many pings",
+        Reason::LineTooLong => b"line too long",
+    }
+}
+
+fn tell_line(tell: Tell) -> &'static [u8]
+    ensures { result.now ≡ tell_text tell }
+{
+    match tell {
+        Tell::Position => b"tellusererror Illegal position",
+        Tell::Move => b"tellusererror Illegal move by engine",
+        Tell::Ended => b"tellusererror Engine ended",
+    }
+}
+
+fn result_line(outcome: Outcome) -> &'static [u8]
+    ensures { result.now ≡ outcome_text outcome }
+{
+    match outcome {
+        Outcome::WhiteMates => b"1-0 {White mates}",
+        Outcome::BlackMates => b"0-1 {Black mates}",
+        Outcome::Stalemate => b"1/2-1/2 {Stalemate}",
+        Outcome::Dead => b"1/2-1/2 {Draw by insufficient material}",
+        Outcome::Repetition => b"1/2-1/2 {Draw by repetition}",
+        Outcome::Fifty => b"1/2-1/2 {Draw by fifty-move rule}",
+    }
+}
+
+fn put_move(m: Move, out: &mut Out)
+    requires writable { IsWritable m }
+    requires room { length out.old.text + length (text_of m) ≤ out.old.room }
+    ensures { out.new ≡ with out.old (text_of m) }
+{
+    out.put(write_move(m).as_slice());
+}
+
+/// Some words and a move.
+pub(crate) fn put_words_and_move(words: &[u8], m: Move, out: &mut Out)
+    requires writable { IsWritable m }
+    requires room { length out.old.text + length (words.now ++ text_of m) ≤ out.old.room }
+    ensures { out.new ≡ with out.old (words.now ++ text_of m) }
+{
+    out.put(words);
+    put_move(m, out);
+}
+
+/// A number and a blank.
+fn put_field(n: u64, out: &mut Out)
+    requires { length out.old.text + length (field (decimal n)) ≤ out.old.room }
+    ensures { out.new ≡ with out.old (field (decimal n)) }
+{
+    let mut digits = Buffer::new();
+    out.put(digits.format(n).as_bytes());
+    out.put(b" ");
+}
+
+fn put_score(n: i64, out: &mut Out)
+    requires { length out.old.text + length (field (signed_decimal n)) ≤ out.old.room }
+    ensures { out.new ≡ with out.old (field (signed_decimal n)) }
+{
+    let mut digits = Buffer::new();
+    out.put(digits.format(n).as_bytes());
+    out.put(b" ");
+}
+
+fn put_hint(hint: Option<Move>, out: &mut Out)
+    requires writable { IfSome hint IsWritable }
+    requires room { length out.old.text + length (hint_text hint) ≤ out.old.room }
+    ensures { out.new ≡ with out.old (hint_text hint) }
+{
+    if let Some(m) = hint {
+        out.put(b"(");
+        put_move(m, out);
+        out.put(b") ");
+    }
+}
+
+fn put_current(current: Option<Move>, out: &mut Out)
+    requires writable { IfSome current IsWritable }
+    requires room { length out.old.text + length (current_text current) ≤ out.old.room }
+    ensures { out.new ≡ with out.old (current_text current) }
+{
+    if let Some(m) = current {
+        out.put(b" ");
+        put_move(m, out);
+    }
+}
+
+/// Writes the text of a reply, without a line feed.
+pub fn write_reply(reply: &Reply, out: &mut Out)
+    requires form { IsReply (told_of reply.now) }
+    requires room { length out.old.text + length (told_text (told_of reply.now)) ≤ out.old.room }
+    ensures { out.new ≡ with out.old (told_text (told_of reply.now)) }
+{
+    match reply {
+        Reply::Feature { name, value } => {
+            out.put(b"feature ");
+            out.put(name);
+            out.put(b"=");
+            out.put(value);
+        }
+        Reply::Move(m) => put_words_and_move(b"move ", *m, out),
+        Reply::Illegal(m) => put_words_and_move(b"Illegal move: ", *m, out),
+        Reply::IllegalLong(m) => put_words_and_move(b"Illegal move (game too long): ", *m, out),
+        Reply::Error { reason, line } => {
+            out.put(b"Error (");
+            out.put(words_of(*reason));
+            out.put(b"): ");
+            out.put(line);
+        }
+        Reply::TellError(tell) => out.put(tell_line(*tell)),
+        Reply::Pong(n) => {
+            let mut digits = Buffer::new();
+            out.put(b"pong ");
+            out.put(digits.format(*n).as_bytes());
+        }
+        Reply::OfferDraw => out.put(b"offer draw"),
+        Reply::Resign => out.put(b"resign"),
+        Reply::Hint(m) => put_words_and_move(b"Hint: ", *m, out),
+        Reply::Result(outcome) => out.put(result_line(*outcome)),
+        Reply::Thinking {
+            depth,
+            score,
+            time,
+            nodes,
+            hint,
+            pv,
+        } => {
+            put_field(*depth, out);
+            put_score(*score, out);
+            put_field(*time, out);
+            put_field(*nodes, out);
+            put_hint(*hint, out);
+            out.put(pv);
+        }
+        Reply::Stat01 {
+            time,
+            nodes,
+            depth,
+            left,
+            all,
+            current,
+        } => {
+            let mut digits = Buffer::new();
+            out.put(b"stat01: ");
+            put_field(*time, out);
+            put_field(*nodes, out);
+            put_field(*depth, out);
+            put_field(*left, out);
+            out.put(digits.format(*all).as_bytes());
+            put_current(*current, out);
+        }
+    }
+}
