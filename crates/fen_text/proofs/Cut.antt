@@ -1,10 +1,9 @@
 -- Lists cut at a byte, where each piece has only bytes above it.
-use Rattle.std.proofs.Common.{◌≡◌, ℕ, suc, ◌<◌, ◌≤◌, List, [], ◌∷◌, ◌++◌, Bool, true, false, length, get_or, refl, ap, ◌∙◌, arith}
+use Rattle.std.proofs.Common.{◌≡◌, ℕ, suc, ◌<◌, ◌≤◌, List, [], ◌∷◌, ◌++◌, Bool, true, false, ltb, length, get_or, refl, ap, ◌∙◌, arith}
 use Rattle.std.specs.List.{AllByRecursion, slice_split, onto_first, join_with_byte, filter}
 use Rattle.std.proofs.lemmas.Bool.Decides.{nat_tests}
 use Rattle.std.proofs.lemmas.List.Splits.{slice_split-cons_yes, slice_split-cons_no}
-use Rattle.peer_words.specs.Tokens.{is_white}
-use Rattle.fen_text.specs.Fen.{is_field, fields_of}
+use Rattle.peer_words.specs.Tokens.{is_white, tokens}
 use Rattle.fen_text.specs.Squares.{is_slash}
 
 -- each byte is above this one
@@ -49,6 +48,9 @@ split_words : (x : List ℕ) (xs : List (List ℕ)) → IsWord x → AllByRecurs
 split_words x [] w ws = split_whole 32 is_white white_spares x w.1
 split_words x (y ∷ ys) w ws = split_first 32 is_white white_spares x 32 (join_with_byte 32 (y ∷ ys)) w.1 refl ∙ ap (λ zs. x ∷ zs) (split_words y ys ws.0 ws.1)
 
+abbrev pub is_field : List ℕ → Bool
+is_field bytes = ltb 0 (length bytes)
+
 words_stay : (xs : List (List ℕ)) → AllByRecursion IsWord xs → filter is_field xs ≡ xs
 words_stay [] ws = refl
 words_stay (x ∷ xs) ws =
@@ -57,5 +59,5 @@ words_stay (x ∷ xs) ws =
     rw e (ap (λ ys. x ∷ ys) (words_stay xs ws.1))
 
 -- the fields of words with one blank between are these words
-pub fields_of_words : (x : List ℕ) (xs : List (List ℕ)) → IsWord x → AllByRecursion IsWord xs → fields_of (join_with_byte 32 (x ∷ xs)) ≡ x ∷ xs
+pub fields_of_words : (x : List ℕ) (xs : List (List ℕ)) → IsWord x → AllByRecursion IsWord xs → tokens (join_with_byte 32 (x ∷ xs)) ≡ x ∷ xs
 fields_of_words x xs w ws = ap (filter is_field) (split_words x xs w ws) ∙ words_stay (x ∷ xs) (w, ws)

@@ -119,7 +119,6 @@ count_of-text n h =
     let few : length (decimal n) ≤ 5 = length-decimal-le 5 n (lit< tt) (omega arith) wide in
     let a : leb (length (decimal n)) 5 ≡ true = grind (arith, nat_tests) in
     let b : ltb 0 (length (decimal n)) ≡ true = grind (arith, nat_tests) in
-    let c : leb (length (decimal n)) 9 ≡ true = grind (arith, nat_tests) in
     let d = (digits-decimal n wide).0 in
     let v : digits_value 10 (decimal n) ≡ n = (decimal_is_IsNumeral n wide).1 in
-    rw (a, b, c, d, v) refl
+    rw (b, a, d, v) refl

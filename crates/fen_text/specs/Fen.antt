@@ -1,7 +1,7 @@
 -- Which texts spell which positions, and the fault of those that spell none.
-use Rattle.std.specs.Prelude.{ℕ, Bool, is_none, if◌then◌else◌, nat_lt, List, length, filter, Option, Some, None, Result, Ok, Err}
+use Rattle.std.specs.Prelude.{ℕ, is_none, if◌then◌else◌, List, Option, Some, None, Result, Ok, Err}
 use Rattle.std.specs.Option.{option_and_then}
-use Rattle.std.specs.List.{slice_split, slice_get}
+use Rattle.std.specs.List.{slice_get}
 use Rattle.chess_board.specs.declared.board.Side.{Side}
 use Rattle.chess_board.specs.declared.board.Rights.{Rights}
 use Rattle.chess_board.specs.declared.board.BuildFault.{BuildFault}
@@ -9,18 +9,11 @@ use Rattle.chess_board.specs.declared.board.BuildFault.TheVariants as build
 use Rattle.chess_board.specs.Board.{Men}
 use Rattle.chess_board.specs.Placement.{Placement}
 use Rattle.chess_board.specs.Play.{built}
-use Rattle.peer_words.specs.Tokens.{is_white}
+use Rattle.peer_words.specs.Tokens.{tokens}
 use Rattle.fen_text.specs.declared.fault.FenFault.{FenFault}
 use Rattle.fen_text.specs.declared.fault.FenFault.TheVariants.{Board, Side as SideFault, Castling, EnPassant, Half, Full, Kings}
 use Rattle.fen_text.specs.Squares.{board_of}
 use Rattle.fen_text.specs.Fields.{side_of, rights_of, passant_of, count_or}
-
-abbrev pub is_field : List ℕ → Bool
-is_field bytes = nat_lt 0 (length bytes)
-
--- the longest runs of bytes that are no white space
-abbrev pub fields_of : List ℕ → List (List ℕ)
-fields_of text = filter is_field (slice_split is_white text)
 
 abbrev pub fault_of : BuildFault → FenFault
 fault_of build.Board = Board
@@ -53,4 +46,4 @@ position_of_fields fields = spelled
 
 -- the position that a text spells, or its first fault
 unfoldable pub position_of : List ℕ → Result Placement FenFault
-position_of text = position_of_fields (fields_of text)
+position_of text = position_of_fields (tokens text)

@@ -5,7 +5,7 @@ use Rattle.chess_board.specs.declared.board.Side.{Side}
 use Rattle.chess_board.specs.declared.board.Side.TheVariants.{White, Black}
 use Rattle.chess_board.specs.declared.board.Rights.{Rights}
 use Rattle.chess_board.specs.Board.{square_at}
-use Rattle.peer_words.specs.Numbers.{number}
+use Rattle.peer_words.specs.Numbers.{digits}
 
 -- w, b
 abbrev pub side_of : List ℕ → Option Side
@@ -54,7 +54,7 @@ passant_of _ = None
 
 -- 1 to 5 digits
 abbrev pub count_of : List ℕ → Option ℕ
-count_of field = if nat_le (length field) 5 then number field else None
+count_of field = digits 5 field
 
 -- a count that may be missing
 abbrev pub count_or : ℕ → Option (List ℕ) → Option ℕ

@@ -4,14 +4,14 @@ ghost use Rattle.std.specs.List.{slice_get, list_all};
 ghost use Rattle.std.specs.Option.{option_map, option_and_then};
 ghost use Rattle.fen_text.specs.Seen.{bytes_of};
 ghost use Rattle.fen_text.specs.Fields.{side_of, is_right, at_most_once, letters_of, rights_of, passant_of, count_of, count_or};
-ghost use Rattle.fen_text.specs.Fen.{fields_of};
+ghost use Rattle.peer_words.specs.Tokens.{tokens};
 
 use chess_board::{Rights, Side, Square};
-use peer_words::{is_white, read_number};
+use peer_words::{is_white, read_digits};
 
 /// The field with this number, counted from 0.
 pub(crate) fn nth_field(text: &[u8], n: usize) -> Option<&[u8]>
-    ensures { bytes_of result ≡ slice_get (fields_of text.now) n }
+    ensures { bytes_of result ≡ slice_get (tokens text.now) n }
 {
     text.split(|b| is_white(*b))
         .filter(|field| !field.is_empty())
@@ -93,10 +93,7 @@ pub(crate) fn read_passant(field: Option<&[u8]>) -> Option<Option<Square>>
 fn read_count(field: &[u8]) -> Option<u32>
     ensures { result ≡ count_of field.now }
 {
-    if field.len() > 5 {
-        return None;
-    }
-    read_number(field)
+    Some(read_digits(field, 5)? as u32)
 }
 
 /// A count, or what stands for it where the field is missing.
