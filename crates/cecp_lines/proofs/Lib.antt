@@ -14,3 +14,4 @@ pub mod Lists
 pub mod Exact
 pub mod Spoken
 pub mod Again
+pub mod Lengths

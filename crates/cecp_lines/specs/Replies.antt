@@ -1,5 +1,5 @@
 -- What the interface is told, whatever memory its bytes lie in, and the texts.
-use Rattle.std.specs.Prelude.{◌≡◌, ℕ, ℤ, ◌<◌, ◌^◌, List, [], ◌∷◌, ◌++◌, length, map, Bool, true, not, ◌&&◌, ◌||◌, ◌==◌, nat_lt, codes, decimal, Option, Some, None, IfSome}
+use Rattle.std.specs.Prelude.{◌≡◌, ℕ, ℤ, ◌+◌, ◌<◌, ◌≤◌, ◌^◌, List, [], ◌∷◌, ◌++◌, length, map, Bool, true, not, ◌&&◌, ◌||◌, ◌==◌, nat_lt, codes, decimal, Option, Some, None, IfSome}
 use Rattle.std.specs.Fmt.{signed_decimal}
 use Rattle.std.specs.Int.RustNames.{FitsSigned}
 use mir.Syntax.{w64}
@@ -158,3 +158,14 @@ pub record Tells (line : List ℕ) (t : Told) : Type 0 where
   pub form : IsReply t
   pub fits : Fits t
   pub text : line ≡ told_text t
+
+-- how many bytes of a reply's text are borrowed
+abbrev pub borrowed : Told → ℕ
+borrowed (Feature name value) = length name + length value
+borrowed (Error reason line) = length line
+borrowed (Thinking depth score time nodes hint pv) = length pv
+borrowed _ = 0
+
+-- No text is longer than its borrowed bytes and 128 more.
+abbrev pub RepliesAreShort : Type 0
+RepliesAreShort = (t : Told) → Fits t → length (told_text t) ≤ 128 + borrowed t

@@ -14,7 +14,7 @@ mod write;
 
 pub use hear::read_reply;
 pub use iface::{IfaceFault, IfaceMsg};
-pub use laws::{lines_are_unambiguous, written_messages_are_read_again};
+pub use laws::{lines_are_unambiguous, replies_are_short, written_messages_are_read_again};
 pub use read::read_iface;
 pub use reply::{Outcome, Reason, Reply, Tell};
 pub use tell::write_reply;

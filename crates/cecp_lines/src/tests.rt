@@ -1,7 +1,7 @@
 // What no clause says: that the definitions mean the lines that real interfaces and engines write.
 use crate::{
     IfaceFault, IfaceMsg, Outcome, Reason, Reply, Tell, lines_are_unambiguous, read_iface,
-    read_reply, write_iface, write_reply, written_messages_are_read_again,
+    read_reply, replies_are_short, write_iface, write_reply, written_messages_are_read_again,
 };
 use chess_board::{Kind, Move, Square};
 use line_io::Out;
@@ -124,6 +124,7 @@ fn lines_of_interfaces(rt: HostRuntime) {
     }
     lines_are_unambiguous();
     written_messages_are_read_again();
+    replies_are_short();
 }
 
 #[test]
