@@ -1,9 +1,20 @@
 -- The moves that fit among those that were looked at.
-use Rattle.std.proofs.Common.{◌≡◌, ◌≢◌, ℕ, zero, suc, ◌+◌, ◌<◌, ◌≤◌, List, [], ◌∷◌, ◌++◌, length, filter, take, drop, get_or, Bool, true, false, cond, Option, Some, None, refl, ap, sym, subst, ◌∙◌, arith, add-one, take-append-drop, append-nil}
+use Rattle.std.proofs.Common.{◌≡◌, ◌≢◌, ℕ, zero, suc, ◌+◌, ◌<◌, ◌≤◌, List, [], ◌∷◌, ◌++◌, length, filter, take, drop, get_or, Bool, true, false, cond, Option, Some, None, Result, Ok, Err, IsTrue, ◌↔◌, refl, ap, sym, subst, ◌∙◌, arith, add-one, take-append-drop, append-nil}
 use Rattle.std.proofs.Math.Seq.{take-suc}
 use Rattle.std.proofs.lemmas.List.{take_all}
 use Rattle.std.specs.List.{Contains, AllPairs}
 use Rattle.std.proofs.lemmas.List.Elements.{filter-append}
+use Rattle.std.proofs.lemmas.List.Kept.{AllPairs-filter}
+use Rattle.std.proofs.lemmas.Map.Text.{is_eq-slice_cmp}
+use Rattle.std.proofs.lemmas.Slice.Eq.{bytes_eq-Decides}
+use Rattle.std.specs.Option.{is_some, ok_or}
+use Rattle.std.specs.Ordering.{is_eq}
+use Rattle.chess_board.specs.Laws.{IsLegal}
+use Rattle.chess_board.specs.Placement.{Placement}
+use Rattle.chess_board.specs.Text.{ComesBefore, text_of}
+use Rattle.san_text.specs.Fit.{agrees, AgreesText, IsRead, IsSpelled}
+use Rattle.san_text.specs.Spelling.{Spelling, spelled}
+use Rattle.san_text.specs.declared.fault.SanFault.TheVariants.{NoFit, Ambiguous}
 use Rattle.chess_board.specs.declared.board.Move.{Move}
 
 abbrev pub found_list : Option Move → List Move
@@ -47,3 +58,49 @@ pub found_same : (p : Move → Bool) (xs : List Move) (i : ℕ) (x : Move) → i
 found_same p xs i x l e t =
     ap (λ (ys : List Move). filter p ys) (rw add-one (take-suc xs i x l ∙ ap (λ y. take i xs ++ y ∷ []) (sym e)))
     ∙ filter-append p (take i xs) (x ∷ []) ∙ ap (λ v. filter p (take i xs) ++ cond v (x ∷ []) []) t ∙ append-nil (filter p (take i xs))
+
+some_found : (o : Option Move) → is_some o ≡ true → (a : Move) × (o ≡ Some a)
+some_found None e = cc
+some_found (Some a) e = (a, refl)
+
+-- a text does not come before itself
+not_before : (a : Move) → ComesBefore a a → ⊥
+not_before a h = let e = is_eq-slice_cmp (text_of a) (text_of a) ∙ (bytes_eq-Decides (text_of a) (text_of a)).1 refl in cc (ap is_eq h, e)
+
+-- a second one that fits is another
+pub two_found : (p : Move → Bool) (xs : List Move) (i : ℕ) (m : Move) (found : Option Move) → i < length xs → m ≡ get_or xs i m → p m ≡ true → filter p (take i xs) ≡ found_list found → is_some found ≡ true → AllPairs ComesBefore xs
+    → (a : Move) × (Contains xs a × ((p a ≡ true) × (a ≡ m → ⊥)))
+two_found p xs i m found l e t inv some ordered =
+    let f = some_found found some in
+    let front : filter p (take (i + 1) xs) ≡ f.0 ∷ m ∷ [] = found_more p xs i m l e t ∙ ap (λ ys. ys ++ m ∷ []) (inv ∙ ap found_list f.1) in
+    let all : filter p xs ≡ f.0 ∷ m ∷ filter p (drop (i + 1) xs) =
+        ap (λ (ys : List Move). filter p ys) (sym (take-append-drop (i + 1) xs)) ∙ filter-append p (take (i + 1) xs) (drop (i + 1) xs) ∙ ap (λ ys. ys ++ filter p (drop (i + 1) xs)) front in
+    let first = first_kept p xs f.0 (m ∷ filter p (drop (i + 1) xs)) all in
+    let pairs : AllPairs ComesBefore (f.0 ∷ m ∷ filter p (drop (i + 1) xs)) = subst (λ (ys : List Move). AllPairs ComesBefore ys) all (AllPairs-filter ComesBefore p xs ordered) in
+    (f.0, (first.0, (first.1, λ same. not_before f.0 (subst (λ (x : Move). ComesBefore f.0 x) (sym same) (pairs 0 1 m (omega arith) (omega arith))))))
+
+pub all_found : (p : Move → Bool) (xs : List Move) (i : ℕ) (found : Option Move) → length xs ≤ i → filter p (take i xs) ≡ found_list found → filter p xs ≡ found_list found
+all_found p xs i found l e = ap (λ (ys : List Move). filter p ys) (sym (take_all i xs l)) ∙ e
+
+-- what is read at the end
+pub read_end : (p : Placement) (text : List ℕ) (s : Spelling) (xs : List Move) (found : Option Move) → spelled text ≡ Some s → ((m : Move) → Contains xs m ↔ IsLegal p m.from.index m.to.index m.promo) → filter (agrees p s) xs ≡ found_list found → IsRead p text (ok_or found NoFit)
+read_end p text s xs None e each f =
+    (
+      subst (λ (o : Option Spelling). IsSpelled o) (sym e) tt,
+      λ n h. let c = passes_stay (agrees p s) xs n ((each n).1 h.0) (subst (λ (o : Option Spelling). AgreesText p o n) e h.1) in
+        let d = subst (λ (ys : List Move). Contains ys n) f c in absurd (omega (arith, d.1))
+    )
+read_end p text s xs (Some a) e each f =
+    let first = first_kept (agrees p s) xs a [] f in
+    (
+      ((each a).0 first.0, subst (λ (o : Option Spelling). AgreesText p o a) (sym e) first.1),
+      λ n h. only_one a n (subst (λ (ys : List Move). Contains ys n) f (passes_stay (agrees p s) xs n ((each n).1 h.0) (subst (λ (o : Option Spelling). AgreesText p o n) e h.1)))
+    )
+
+-- two that fit
+pub read_two : (p : Placement) (text : List ℕ) (s : Spelling) (xs : List Move) (i : ℕ) (m : Move) (found : Option Move) → spelled text ≡ Some s → ((m : Move) → Contains xs m ↔ IsLegal p m.from.index m.to.index m.promo) → AllPairs ComesBefore xs
+    → i < length xs → m ≡ get_or xs i m → agrees p s m ≡ true → filter (agrees p s) (take i xs) ≡ found_list found → is_some found ≡ true → IsRead p text (Err Ambiguous)
+read_two p text s xs i m found e each ordered l g t inv some =
+    let two = two_found (agrees p s) xs i m found l g t inv some ordered in
+    let fits : (n : Move) → agrees p s n ≡ true → AgreesText p (spelled text) n = λ n h. subst (λ (o : Option Spelling). AgreesText p o n) (sym e) h in
+    (two.0, (m, (((each two.0).0 two.1.0, fits two.0 two.1.1.0), ((each m).0 (i, l, sym g), fits m t), two.1.1.1)))
