@@ -74,7 +74,7 @@ two_found p xs i m found l e t inv some ordered =
     let f = some_found found some in
     let front : filter p (take (i + 1) xs) ≡ f.0 ∷ m ∷ [] = found_more p xs i m l e t ∙ ap (λ ys. ys ++ m ∷ []) (inv ∙ ap found_list f.1) in
     let all : filter p xs ≡ f.0 ∷ m ∷ filter p (drop (i + 1) xs) =
-        ap (λ (ys : List Move). filter p ys) (sym (take-append-drop (i + 1) xs)) ∙ filter-append p (take (i + 1) xs) (drop (i + 1) xs) ∙ ap (λ ys. ys ++ filter p (drop (i + 1) xs)) front in
+    ap (λ (ys : List Move). filter p ys) (sym (take-append-drop (i + 1) xs)) ∙ filter-append p (take (i + 1) xs) (drop (i + 1) xs) ∙ ap (λ ys. ys ++ filter p (drop (i + 1) xs)) front in
     let first = first_kept p xs f.0 (m ∷ filter p (drop (i + 1) xs)) all in
     let pairs : AllPairs ComesBefore (f.0 ∷ m ∷ filter p (drop (i + 1) xs)) = subst (λ (ys : List Move). AllPairs ComesBefore ys) all (AllPairs-filter ComesBefore p xs ordered) in
     (f.0, (first.0, (first.1, λ same. not_before f.0 (subst (λ (x : Move). ComesBefore f.0 x) (sym same) (pairs 0 1 m (omega arith) (omega arith))))))
@@ -84,17 +84,15 @@ all_found p xs i found l e = ap (λ (ys : List Move). filter p ys) (sym (take_al
 
 -- what is read at the end
 pub read_end : (p : Placement) (text : List ℕ) (s : Spelling) (xs : List Move) (found : Option Move) → spelled text ≡ Some s → ((m : Move) → Contains xs m ↔ IsLegal p m.from.index m.to.index m.promo) → filter (agrees p s) xs ≡ found_list found → IsRead p text (ok_or found NoFit)
-read_end p text s xs None e each f =
-    (
-      subst (λ (o : Option Spelling). IsSpelled o) (sym e) tt,
-      λ n h. let c = passes_stay (agrees p s) xs n ((each n).1 h.0) (subst (λ (o : Option Spelling). AgreesText p o n) e h.1) in
-        let d = subst (λ (ys : List Move). Contains ys n) f c in absurd (omega (arith, d.1))
-    )
+read_end p text s xs None e each f = (
+  subst (λ (o : Option Spelling). IsSpelled o) (sym e) tt,
+  λ n h. let c = passes_stay (agrees p s) xs n ((each n).1 h.0) (subst (λ (o : Option Spelling). AgreesText p o n) e h.1) in
+      let d = subst (λ (ys : List Move). Contains ys n) f c in absurd (omega (arith, d.1)),
+)
 read_end p text s xs (Some a) e each f =
-    let first = first_kept (agrees p s) xs a [] f in
-    (
+    let first = first_kept (agrees p s) xs a [] f in (
       ((each a).0 first.0, subst (λ (o : Option Spelling). AgreesText p o a) (sym e) first.1),
-      λ n h. only_one a n (subst (λ (ys : List Move). Contains ys n) f (passes_stay (agrees p s) xs n ((each n).1 h.0) (subst (λ (o : Option Spelling). AgreesText p o n) e h.1)))
+      λ n h. only_one a n (subst (λ (ys : List Move). Contains ys n) f (passes_stay (agrees p s) xs n ((each n).1 h.0) (subst (λ (o : Option Spelling). AgreesText p o n) e h.1))),
     )
 
 -- two that fit

@@ -13,3 +13,6 @@ mod writing;
 pub use fault::SanFault;
 pub use reading::read_san;
 pub use writing::write_san;
+
+#[cfg(test)]
+mod tests;

@@ -121,13 +121,7 @@ fn mark(after: &Position) -> &'static [u8]
     match after.state() {
         State::Mate => b"#",
         State::Stale => b"",
-        State::Open | State::Dead => {
-            if after.in_check() {
-                b"+"
-            } else {
-                b""
-            }
-        }
+        State::Open | State::Dead => { if after.in_check() { b"+" } else { b"" } }
     }
 }
 
