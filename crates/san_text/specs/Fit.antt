@@ -1,0 +1,50 @@
+-- Which legal moves fit a text.
+use Rattle.std.specs.Prelude.{◌≡◌, ◌≢◌, ℕ, List, Bool, true, not, ◌&&◌, ◌||◌, ◌==◌, Option, Some, None, IsTrue, Result, Ok, Err}
+use Rattle.std.specs.Option.{option_eq}
+use Rattle.chess_board.specs.declared.board.Kind.{Kind}
+use Rattle.chess_board.specs.declared.board.Move.{Move}
+use Rattle.chess_board.specs.Board.{file_of, rank_of}
+use Rattle.chess_board.specs.Placement.{Placement}
+use Rattle.chess_board.specs.Laws.{IsLegal}
+use Rattle.san_text.specs.Writing.{same_kind, kind_at, castles_short, castles_long, IsSan}
+use Rattle.san_text.specs.Spelling.{Spelling, Short, Long, Goes, Target, spelled}
+use Rattle.san_text.specs.declared.fault.SanFault.{SanFault}
+use Rattle.san_text.specs.declared.fault.SanFault.TheVariants.{BadSan, NoFit, Ambiguous}
+
+-- a file or rank that is given agrees, and one that is not given agrees with each
+abbrev pub allows : Option ℕ → ℕ → Bool
+allows None n = true
+allows (Some k) n = k == n
+
+abbrev pub castles : Placement → Move → Bool
+castles p m = castles_short p m || castles_long p m
+
+-- Whether a move agrees with a spelling: castling with its spellings alone, another move in its man's kind, in the file
+-- and rank that are given, in the square reached and in the promotion.
+abbrev pub agrees : Placement → Spelling → Move → Bool
+agrees p Short m = castles_short p m
+agrees p Long m = castles_long p m
+agrees p (Goes kind file rank target) m =
+    (not (castles p m) && same_kind (kind_at p m.from.index) kind)
+    && ((allows file (file_of m.from.index) && allows rank (rank_of m.from.index))
+    && ((m.to.index == target.to) && option_eq same_kind m.promo target.promo))
+
+abbrev pub AgreesText : Placement → Option Spelling → Move → Type 0
+AgreesText p None m = ⊥
+AgreesText p (Some s) m = IsTrue (agrees p s m)
+
+-- a legal move that agrees with what the text spells
+abbrev pub Fits : Placement → List ℕ → Move → Type 0
+Fits p text m = IsLegal p m.from.index m.to.index m.promo × AgreesText p (spelled text) m
+
+abbrev pub IsSpelled : Option Spelling → Type 0
+IsSpelled None = ⊥
+IsSpelled (Some s) = Unit {0}
+
+-- What a text is read as: a move that is the one that fits, or BadSan where the text has no spelling, NoFit where it has
+-- one and no legal move fits, Ambiguous where two or more fit.
+abbrev pub IsRead : Placement → List ℕ → Result Move SanFault → Type 0
+IsRead p text (Ok m) = Fits p text m × ((n : Move) → Fits p text n → n ≡ m)
+IsRead p text (Err BadSan) = spelled text ≡ None
+IsRead p text (Err NoFit) = IsSpelled (spelled text) × ((n : Move) → Fits p text n → ⊥)
+IsRead p text (Err Ambiguous) = (a : Move) × ((b : Move) × (Fits p text a × Fits p text b × (a ≢ b)))

@@ -1,0 +1,141 @@
+-- How a text in standard algebraic notation is read, whatever stands on the board.
+use Rattle.std.specs.Prelude.{ℕ, ◌+◌, ◌*◌, ◌-◌, List, [], ◌∷◌, Bool, true, false, ◌&&◌, ◌||◌, if◌then◌else◌, ◌==◌, nat_le, Option, Some, None, codes}
+use Rattle.std.specs.List.{list_all}
+use Rattle.std.specs.Str.{bytes_eq}
+use Rattle.chess_board.specs.declared.board.Kind.{Kind}
+use Rattle.chess_board.specs.declared.board.Kind.TheVariants.{Pawn, Knight, Bishop, Rook, Queen, King}
+use Rattle.chess_board.specs.Board.{square_at}
+use Rattle.san_text.specs.declared.spelling.Spelling as code
+use Rattle.san_text.specs.declared.spelling.Spelling.TheVariants as spellings
+use Rattle.san_text.specs.declared.spelling.Target as arrival
+
+-- the square reached, and what a pawn becomes there
+pub record Target : Type 0 where
+  pub to : ℕ
+  pub promo : Option Kind
+
+-- what a text says: castling, or a man's kind, its file and rank where they are given, and the square reached
+pub data Spelling : Type 0 where
+  Short : Spelling
+  Long : Spelling
+  Goes : (kind : Kind) (file rank : Option ℕ) (target : Target) → Spelling
+
+abbrev pub is_mark : ℕ → Bool
+is_mark b = (b == 43 || b == 35) || (b == 33 || b == 63)
+
+-- without the signs `+`, `#`, `!` and `?` at the end
+abbrev pub unmarked : List ℕ → List ℕ
+unmarked [] = []
+unmarked (b ∷ bs) = if list_all is_mark (b ∷ bs) then [] else b ∷ unmarked bs
+
+abbrev pub file_named : ℕ → Option ℕ
+file_named b = if nat_le 97 b && nat_le b 104 then Some (b - 97) else None
+
+abbrev pub rank_named : ℕ → Option ℕ
+rank_named b = if nat_le 49 b && nat_le b 56 then Some (b - 49) else None
+
+-- the man that a capital letter names
+abbrev pub kind_named : ℕ → Option Kind
+kind_named b =
+    if b == 75 then Some King
+    else (if b == 81 then Some Queen
+    else (if b == 82 then Some Rook
+    else (if b == 66 then Some Bishop
+    else (if b == 78 then Some Knight else None))))
+
+-- one that a pawn may become
+abbrev pub promoted : Option Kind → Option (Option Kind)
+promoted (Some Queen) = Some (Some Queen)
+promoted (Some Rook) = Some (Some Rook)
+promoted (Some Bishop) = Some (Some Bishop)
+promoted (Some Knight) = Some (Some Knight)
+promoted _ = None
+
+-- nothing, or a letter, with or without `=` before it
+abbrev pub promotion_read : List ℕ → Option (Option Kind)
+promotion_read [] = Some None
+promotion_read (b ∷ []) = promoted (kind_named b)
+promotion_read (sign ∷ b ∷ []) = if sign == 61 then promoted (kind_named b) else None
+promotion_read _ = None
+
+abbrev pub target_of : Option ℕ → Option ℕ → Option (Option Kind) → Option Target
+target_of (Some file) (Some rank) (Some promo) = Some (record { to = square_at file rank; promo = promo })
+target_of None rank promo = None
+target_of (Some file) None promo = None
+target_of (Some file) (Some rank) None = None
+
+-- a square, and perhaps a promotion
+abbrev pub square_read : List ℕ → Option Target
+square_read (f ∷ r ∷ rest) = target_of (file_named f) (rank_named r) (promotion_read rest)
+square_read _ = None
+
+-- the same behind an optional `x`
+abbrev pub target_read : List ℕ → Option Target
+target_read [] = None
+target_read (b ∷ bs) = if b == 120 then square_read bs else square_read (b ∷ bs)
+
+abbrev pub goes : Kind → Option ℕ → Option ℕ → Option Target → Option Spelling
+goes man file rank None = None
+goes man file rank (Some target) = Some (Goes man file rank target)
+
+-- the first reading, else the second
+abbrev pub first_of : Option Spelling → Option Spelling → Option Spelling
+first_of (Some s) other = Some s
+first_of None other = other
+
+-- a rank that is given, and the target behind it
+abbrev pub rank_read : Kind → Option ℕ → List ℕ → Option Spelling
+rank_read man file [] = None
+rank_read man file (r ∷ rest) = given (rank_named r) where
+  given : Option ℕ → Option Spelling
+  given None = None
+  given (Some rank) = goes man file (Some rank) (target_read rest)
+
+-- a file that is given, and perhaps a rank, and the target behind them
+abbrev pub file_read : Kind → List ℕ → Option Spelling
+file_read man [] = None
+file_read man (f ∷ rest) = given (file_named f) where
+  given : Option ℕ → Option Spelling
+  given None = None
+  given (Some file) = first_of (goes man (Some file) None (target_read rest)) (rank_read man (Some file) rest)
+
+-- the target alone, or behind a file, a rank, or both
+abbrev pub places_read : Kind → List ℕ → Option Spelling
+places_read man text = first_of (goes man None None (target_read text)) (first_of (file_read man text) (rank_read man None text))
+
+-- an officer behind its letter, or a pawn
+abbrev pub man_read : List ℕ → Option Spelling
+man_read [] = None
+man_read (b ∷ bs) = named (kind_named b) where
+  named : Option Kind → Option Spelling
+  named (Some kind) = places_read kind bs
+  named None = places_read Pawn (b ∷ bs)
+
+abbrev pub is_short : List ℕ → Bool
+is_short text = bytes_eq text (codes "O-O") || bytes_eq text (codes "0-0")
+
+abbrev pub is_long : List ℕ → Bool
+is_long text = bytes_eq text (codes "O-O-O") || bytes_eq text (codes "0-0-0")
+
+abbrev pub read_unmarked : List ℕ → Option Spelling
+read_unmarked text = if is_short text then Some Short else (if is_long text then Some Long else man_read text)
+
+-- what the text spells
+abbrev pub spelled : List ℕ → Option Spelling
+spelled text = read_unmarked (unmarked text)
+
+abbrev pub plain_target : arrival.Target → Target
+plain_target t = record { to = t.to.index; promo = t.promo }
+
+abbrev pub plain : code.Spelling → Spelling
+plain spellings.Short = Short
+plain spellings.Long = Long
+plain (spellings.Goes kind file rank target) = Goes kind file rank (plain_target target)
+
+abbrev pub plain_targets : Option arrival.Target → Option Target
+plain_targets None = None
+plain_targets (Some t) = Some (plain_target t)
+
+abbrev pub plains : Option code.Spelling → Option Spelling
+plains None = None
+plains (Some s) = Some (plain s)

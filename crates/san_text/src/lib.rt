@@ -1,0 +1,18 @@
+//! Moves in standard algebraic notation: `Nf3`, `exd6`, `e8=Q+`, `O-O`.
+//!
+//! The spelling is that of appendix C of the FIDE Laws of Chess, with the distinctions of the export
+//! format of the PGN standard (8.2.3). No call takes memory.
+#![tactic(auto)]
+
+mod fault;
+mod men;
+mod reading;
+mod spelling;
+mod writing;
+
+pub use fault::SanFault;
+pub use reading::read_san;
+pub use writing::write_san;
+
+#[cfg(test)]
+mod tests;

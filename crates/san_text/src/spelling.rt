@@ -1,0 +1,216 @@
+// How a text is read, whatever stands on the board.
+ghost use Rattle.std.specs.Prelude.{◌≡◌, IfSome, ◌<◌};
+ghost use Rattle.san_text.specs.Spelling.{unmarked, is_mark, file_named, rank_named, kind_named, promoted, promotion_read, square_read, target_read, rank_read, file_read, places_read, man_read, spelled, plain_targets, plains, goes};
+
+use chess_board::{Kind, Square};
+
+/// The square reached, and what a pawn becomes there.
+#[derive(Clone, Copy, Debug, PartialEq, Eq)]
+pub struct Target {
+    pub to: Square,
+    pub promo: Option<Kind>,
+}
+
+/// What a text says: castling, or a man's kind, its file and rank, counted from 0, where they are
+/// given, and the square reached.
+#[derive(Clone, Copy, Debug, PartialEq, Eq)]
+pub enum Spelling {
+    Short,
+    Long,
+    Goes {
+        kind: Kind,
+        file: Option<u8>,
+        rank: Option<u8>,
+        target: Target,
+    },
+}
+
+fn is_mark(byte: u8) -> bool
+    ensures { result ≡ is_mark byte }
+{
+    byte == b'+' || byte == b'#' || byte == b'!' || byte == b'?'
+}
+
+// The text without the signs at its end.
+fn unmarked(text: &[u8]) -> &[u8]
+    ensures { result.now ≡ unmarked text.now }
+{
+    let mut rest = text;
+    while let [others @ .., last] = rest {
+        if !is_mark(*last) {
+            break;
+        }
+        rest = others;
+    }
+    rest
+}
+
+fn file_named(byte: u8) -> Option<u8>
+    ensures value { result ≡ file_named byte }
+    ensures below { IfSome result (λ file. file < 8) }
+{
+    if (b'a'..=b'h').contains(&byte) {
+        Some(byte - b'a')
+    } else {
+        None
+    }
+}
+
+fn rank_named(byte: u8) -> Option<u8>
+    ensures value { result ≡ rank_named byte }
+    ensures below { IfSome result (λ rank. rank < 8) }
+{
+    if (b'1'..=b'8').contains(&byte) {
+        Some(byte - b'1')
+    } else {
+        None
+    }
+}
+
+// The man that a capital letter names.
+fn kind_named(byte: u8) -> Option<Kind>
+    ensures { result ≡ kind_named byte }
+{
+    match byte {
+        b'K' => Some(Kind::King),
+        b'Q' => Some(Kind::Queen),
+        b'R' => Some(Kind::Rook),
+        b'B' => Some(Kind::Bishop),
+        b'N' => Some(Kind::Knight),
+        _ => None,
+    }
+}
+
+// One that a pawn may become.
+fn promoted(kind: Option<Kind>) -> Option<Option<Kind>>
+    ensures { result ≡ promoted kind }
+{
+    match kind {
+        Some(Kind::Queen) | Some(Kind::Rook) | Some(Kind::Bishop) | Some(Kind::Knight) => {
+            Some(kind)
+        }
+        _ => None,
+    }
+}
+
+// Nothing, or a letter with or without `=` before it.
+fn read_promotion(text: &[u8]) -> Option<Option<Kind>>
+    ensures { result ≡ promotion_read text.now }
+{
+    match text {
+        [] => Some(None),
+        [letter] => promoted(kind_named(*letter)),
+        [b'=', letter] => promoted(kind_named(*letter)),
+        _ => None,
+    }
+}
+
+// A square, and perhaps a promotion.
+fn read_square(text: &[u8]) -> Option<Target>
+    ensures { plain_targets result ≡ square_read text.now }
+{
+    let [file, rank, rest @ ..] = text else {
+        return None;
+    };
+    let file = file_named(*file)?;
+    let rank = rank_named(*rank)?;
+    let promo = read_promotion(rest)?;
+    Some(Target {
+        to: Square::at(file, rank)?,
+        promo,
+    })
+}
+
+// The same behind an optional `x`.
+fn read_target(text: &[u8]) -> Option<Target>
+    ensures { plain_targets result ≡ target_read text.now }
+{
+    match text {
+        [b'x', rest @ ..] => read_square(rest),
+        _ => read_square(text),
+    }
+}
+
+// What a target behind such a man, file and rank spells.
+fn goes(kind: Kind, file: Option<u8>, rank: Option<u8>, target: Option<Target>) -> Option<Spelling>
+    ensures { plains result ≡ goes kind file rank (plain_targets target) }
+{
+    match target {
+        Some(target) => Some(Spelling::Goes {
+            kind,
+            file,
+            rank,
+            target,
+        }),
+        None => None,
+    }
+}
+
+// A rank that is given, and the target behind it.
+fn read_rank(kind: Kind, file: Option<u8>, text: &[u8]) -> Option<Spelling>
+    ensures { plains result ≡ rank_read kind file text.now }
+{
+    let [rank, rest @ ..] = text else {
+        return None;
+    };
+    let rank = rank_named(*rank)?;
+    goes(kind, file, Some(rank), read_target(rest))
+}
+
+// A file that is given, and perhaps a rank, and the target behind them.
+fn read_file(kind: Kind, text: &[u8]) -> Option<Spelling>
+    ensures { plains result ≡ file_read kind text.now }
+{
+    let [file, rest @ ..] = text else {
+        return None;
+    };
+    let file = file_named(*file)?;
+    match goes(kind, Some(file), None, read_target(rest)) {
+        Some(spelling) => Some(spelling),
+        None => read_rank(kind, Some(file), rest),
+    }
+}
+
+// The target alone, or behind a file, a rank, or both.
+fn read_places(kind: Kind, text: &[u8]) -> Option<Spelling>
+    ensures { plains result ≡ places_read kind text.now }
+{
+    if let Some(spelling) = goes(kind, None, None, read_target(text)) {
+        return Some(spelling);
+    }
+    match read_file(kind, text) {
+        Some(spelling) => Some(spelling),
+        None => read_rank(kind, None, text),
+    }
+}
+
+// An officer behind its letter, or a pawn.
+fn read_man(text: &[u8]) -> Option<Spelling>
+    ensures { plains result ≡ man_read text.now }
+{
+    let [letter, rest @ ..] = text else {
+        return None;
+    };
+    match kind_named(*letter) {
+        Some(kind) => read_places(kind, rest),
+        None => read_places(Kind::Pawn, text),
+    }
+}
+
+/// What a text spells.
+///
+/// Signs `+`, `#`, `!` and `?` at the end are dropped. The rest is `O-O`, `O-O-O`, `0-0` or
+/// `0-0-0`; or an optional letter of `KQRBN`, an optional file, an optional rank, an optional `x`,
+/// a square, and optionally one of `QRBN`, with or without `=` before it.
+pub fn read_spelling(text: &[u8]) -> Option<Spelling>
+    ensures { plains result ≡ spelled text.now }
+{
+    let text = unmarked(text);
+    if text == b"O-O".as_slice() || text == b"0-0".as_slice() {
+        return Some(Spelling::Short);
+    }
+    if text == b"O-O-O".as_slice() || text == b"0-0-0".as_slice() {
+        return Some(Spelling::Long);
+    }
+    read_man(text)
+}

@@ -1,0 +1,142 @@
+//! Moves whose texts were worked out by hand.
+use crate::{SanFault, read_san, write_san};
+use chess_board::{Kind, Position, Rights, Side, Square, equal_moves, read_move};
+use std::process::Abort;
+use std::test::Fail;
+
+/// The man of a FEN's letter.
+fn man_of(letter: u8) -> Option<(Side, Kind)> {
+    let side = if letter.is_ascii_uppercase() {
+        Side::White
+    } else {
+        Side::Black
+    };
+    let kind = match letter.to_ascii_lowercase() {
+        b'p' => Kind::Pawn,
+        b'n' => Kind::Knight,
+        b'b' => Kind::Bishop,
+        b'r' => Kind::Rook,
+        b'q' => Kind::Queen,
+        b'k' => Kind::King,
+        _ => return None,
+    };
+    Some((side, kind))
+}
+
+/// The men of a FEN's first field.
+fn board_of(field: &str) -> [Option<(Side, Kind)>; 64] {
+    let mut board = [None; 64];
+    let mut file = 0u8;
+    let mut rank = 7u8;
+    for letter in field.as_bytes() {
+        match *letter {
+            b'/' => {
+                file = 0;
+                rank = rank.saturating_sub(1);
+            }
+            b'1'..=b'8' => file = file.saturating_add(*letter - b'0'),
+            _ => {
+                if let Some(at) = Square::at(file, rank) {
+                    board[at.index as usize] = man_of(*letter);
+                }
+                file = file.saturating_add(1);
+            }
+        }
+    }
+    board
+}
+
+/// The position of a FEN's board with all rights, of which `build` drops those that cannot stand.
+fn position_of(field: &str, side: Side, passant: Option<Square>) -> Result<Position, Fail> {
+    let rights = Rights {
+        wk: true,
+        wq: true,
+        bk: true,
+        bq: true,
+    };
+    Ok(Position::build(&board_of(field), side, rights, passant, 0, 1)?)
+}
+
+/// Writes a move, and reads what was written.
+fn writes(rt: &impl Abort, at: &Position, m: &[u8], text: &[u8]) -> Result<(), Fail> {
+    let m = read_move(m).ok_or("no move")?;
+    assert!(rt; at.legal(m));
+    assert_eq!(rt; write_san(at, m).as_slice(), text);
+    assert!(rt; read_san(at, text).is_ok_and(|n| equal_moves(m, n)));
+    Ok(())
+}
+
+#[test]
+fn moves_are_written(rt: HostRuntime) -> Result<(), Fail> {
+    let table: [(&str, &[u8], &[u8]); 19] = [
+        ("4k3/8/8/8/8/8/4K3/R6R", b"a1d1", b"Rad1"),
+        ("4k3/8/8/8/8/8/4K3/R6R", b"a1a8", b"Ra8+"),
+        ("4k3/8/8/8/8/8/8/R3K2R", b"a1d1", b"Rd1"),
+        ("4k3/8/8/8/8/8/8/R3K2R", b"e1g1", b"O-O"),
+        ("4k3/8/8/8/8/8/8/R3K2R", b"e1c1", b"O-O-O"),
+        ("4k3/8/8/8/8/5N2/8/1N2K3", b"b1d2", b"Nbd2"),
+        ("7k/8/8/R7/8/8/8/R6K", b"a1a3", b"R1a3"),
+        ("7k/8/8/R7/8/8/8/R6K", b"a5a3", b"R5a3"),
+        ("8/8/k7/8/4Q2Q/8/8/K6Q", b"h4e1", b"Qh4e1"),
+        ("8/8/k7/8/4Q2Q/8/8/K6Q", b"e4e1", b"Qee1"),
+        ("8/8/k7/8/4Q2Q/8/8/K6Q", b"h1e1", b"Q1e1"),
+        ("k3r3/8/8/8/8/2N1N3/8/4K3", b"c3d5", b"Nd5"),
+        ("k7/8/8/8/8/2N1N3/8/4K3", b"c3d5", b"Ncd5"),
+        ("4k3/8/8/3p4/8/2N5/8/4K3", b"c3d5", b"Nxd5"),
+        ("4k3/8/8/3p4/4P3/8/8/4K3", b"e4d5", b"exd5"),
+        ("4k3/8/8/3p4/4P3/8/8/4K3", b"e1e2", b"Ke2"),
+        ("7k/P7/8/8/8/8/8/K7", b"a7a8q", b"a8=Q+"),
+        ("7k/P7/8/8/8/8/8/K7", b"a7a8n", b"a8=N"),
+        ("1r5k/P7/8/8/8/8/8/K7", b"a7b8r", b"axb8=R+"),
+    ];
+    for (board, m, text) in table {
+        writes(&rt, &position_of(board, Side::White, None)?, m, text)?;
+    }
+    let mated = position_of(
+        "rnbqkbnr/pppp1ppp/8/4p3/6P1/5P2/PPPPP2P/RNBQKBNR",
+        Side::Black,
+        None,
+    )?;
+    writes(&rt, &mated, b"d8h4", b"Qh4#")?;
+    writes(&rt, &mated, b"e5e4", b"e4")?;
+    let passant = position_of("4k3/8/8/3pP3/8/8/8/4K3", Side::White, Square::at(3, 5))?;
+    writes(&rt, &passant, b"e5d6", b"exd6")?;
+    let castling = position_of("r3k3/8/8/8/8/8/8/4K3", Side::Black, None)?;
+    writes(&rt, &castling, b"e8c8", b"O-O-O")
+}
+
+#[test]
+fn texts_are_read(rt: HostRuntime) -> Result<(), Fail> {
+    let rooks = position_of("4k3/8/8/8/8/8/4K3/R6R", Side::White, None)?;
+    let castling = position_of("4k3/8/8/8/8/8/8/R3K2R", Side::White, None)?;
+    let refused: [(&Position, &[u8], SanFault); 9] = [
+        (&rooks, b"Rd1", SanFault::Ambiguous),
+        (&rooks, b"Nf3", SanFault::NoFit),
+        (&rooks, b"Rz9", SanFault::BadSan),
+        (&rooks, b"", SanFault::BadSan),
+        (&rooks, b"+", SanFault::BadSan),
+        (&rooks, b"O-O", SanFault::NoFit),
+        (&rooks, b"Rad1=K", SanFault::BadSan),
+        (&castling, b"Kg1", SanFault::NoFit),
+        (&castling, b"O-O-O-O", SanFault::BadSan),
+    ];
+    for (at, text, fault) in refused {
+        assert!(rt; read_san(at, text).is_err_and(|e| e == fault));
+    }
+    let read: [(&[u8], &[u8]); 6] = [
+        (b"0-0", b"e1g1"),
+        (b"0-0-0!?", b"e1c1"),
+        (b"Ra1d1", b"a1d1"),
+        (b"Raxd1#", b"a1d1"),
+        (b"R1d1", b"a1d1"),
+        (b"Rd1", b"a1d1"),
+    ];
+    for (text, m) in read {
+        let m = read_move(m).ok_or("no move")?;
+        assert!(rt; read_san(&castling, text).is_ok_and(|n| equal_moves(m, n)));
+    }
+    let pawn = position_of("7k/P7/8/8/8/8/8/K7", Side::White, None)?;
+    let queen = read_move(b"a7a8q").ok_or("no move")?;
+    assert!(rt; read_san(&pawn, b"a8Q").is_ok_and(|n| equal_moves(queen, n)));
+    Ok(())
+}
