@@ -9,7 +9,7 @@ use Rattle.line_io.specs.Lines.{Piece, Whole, TooLong, Held, Given, Gave as Give
 use Rattle.line_io.specs.Lending.{outcome, GoesOn, AnswersWhen}
 use Rattle.line_io.specs.Source.{TakesPrefix}
 use Rattle.line_io.specs.Runs.{Runs, begins, goes, Call, goes_on, pieces_of, whole}
-use Rattle.line_io.proofs.Runs.{so_far, at_end, at_fault, few_calls}
+use Rattle.line_io.proofs.Runs.{so_far, at_end, at_fault, at_wait, few_calls}
 use Rattle.line_io.specs.declared.lines.Item.{Item}
 use Rattle.line_io.specs.declared.lines.Item.TheVariants as answers
 use Rattle.line_io.specs.declared.faults.ReadFault.{ReadFault}
@@ -260,22 +260,10 @@ reached_first blocks turns input output stands = record {
   no_quit = refl;
 }
 
--- a call that reads, and whose read fails, where no line is whole
-would_fail : (held : Held) → IsWaiting held → Call held held [] (Err (record {}))
-would_fail held waits = record {
-  advances = record { limit = refl; next = λ left live. refl; ended = λ e. e; idle = λ i. refl };
-  answers = record {
-    more = ((λ e. cc), λ h. absurd (omega (arith, h.0)));
-    end = ((λ e. cc), λ h. cc (waits.1, h.0));
-    fault = (refl, waits, refl);
-    goes_on = tt;
-  };
-}
-
 -- after so many calls
 pub endless : (blocks : List Block) (turns : List Turn) (held : Held) (input0 input : Giver) (output0 output : Taker) (calls : ℕ) → 8589934593 ≤ calls → IsWaiting held → Reached blocks turns held input0 input output0 output calls → Answered Endless blocks input0 input output0 output
 endless blocks turns held input0 input output0 output calls many waits h =
-    let pieces = at_fault 65536 calls held held h.heard [] h.pieces (Err (record {})) h.runs (would_fail held waits) refl ∙ ap (whole 65536) (append-nil h.heard) in
+    let pieces = at_wait 65536 calls held h.heard h.pieces h.runs waits in
     let open_still : flag held.ended ≡ 0 = ap flag waits.1 in
     let few = few_calls 65536 calls held h.heard h.pieces h.runs in
     record {
