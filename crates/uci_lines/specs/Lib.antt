@@ -9,3 +9,4 @@ pub mod Orders
 pub mod Behind
 pub mod Written
 pub mod Asked
+pub mod Scores
