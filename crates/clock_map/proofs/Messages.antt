@@ -12,7 +12,8 @@ use Rattle.cecp_lines.specs.Messages.{Message, message_of}
 use Rattle.cecp_lines.specs.Reading.{CanBeRead}
 use Rattle.clock_map.specs.declared.clocks.Clocks.{Clocks}
 use Rattle.clock_map.specs.Clocks.{AreShort, IsShort, IsShortLimit, after_message, at_least_one, of_centis, StayShort}
-use Rattle.clock_map.proofs.Numbers.{digits_small, seconds_small, base_small, centis_small}
+use Rattle.peer_words.proofs.Sizes.{digits_small, seconds_small, centis_small}
+use Rattle.clock_map.proofs.Numbers.{base_small}
 
 max_small : (n : ℕ) → n < 10 ^ 10 → max n 1 < 10 ^ 10
 max_small n h = let a : n ≤ 9999999999 = omega arith in let b : 1 ≤ 9999999999 = lit≤ tt in let m : max n 1 ≤ 9999999999 = max-le a b in omega arith

@@ -14,3 +14,4 @@ pub mod Searches
 pub mod Positions
 pub mod Settings
 pub mod Spelling
+pub mod Scores

@@ -1,0 +1,15 @@
+-- What is left of the moves completes the text.
+use Rattle.std.proofs.Common.{◌≡◌, ◌++◌, length}
+use Rattle.peer_words.specs.Tokens.{tokens}
+use Rattle.uci_lines.specs.Moves.{run}
+use Rattle.think_text.specs.Line.{legal_run, spaced}
+use Rattle.think_text.proofs.line.write_moves.Given as goal
+
+abbrev pub invariant-loop-m : goal.invariant-loop-m
+invariant-loop-m l = record {
+  text : l.out.text ++ spaced (legal_run l.position (run (tokens l.others))) ≡ l.initial.out.text ++ spaced (legal_run l.initial.position (run (tokens l.initial.others)));
+  room : l.out.room ≡ l.initial.out.room;
+}
+
+abbrev pub decreases-loop-m : goal.decreases-loop-m
+decreases-loop-m l = length (legal_run l.position (run (tokens l.others)))

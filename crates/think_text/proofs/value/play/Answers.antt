@@ -1,0 +1,5 @@
+use Rattle.think_text.proofs.Legal.{is_legal}
+use Rattle.think_text.proofs.value.play.Goals as goal
+
+pub play-requires : goal.play-requires
+play-requires c = is_legal c.args.at.now c.args.m c.requires

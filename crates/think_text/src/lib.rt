@@ -1,0 +1,11 @@
+//! What an engine tells of its search, and what the interface is told of it.
+#![tactic(auto)]
+
+mod laws;
+mod line;
+mod seen;
+mod value;
+
+pub use laws::current_stays_writable;
+pub use line::thinking;
+pub use seen::{Seen, stat01};

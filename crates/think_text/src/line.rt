@@ -1,0 +1,98 @@
+// The thinking line.
+ghost use Rattle.std.specs.Option.{unwrap_or};
+ghost use Rattle.std.specs.Prelude.{◌≡◌, ◌+◌, ◌≤◌, ◌∷◌, ◌/◌, [], true, length, is_some, IfSome, MatchOption};
+ghost use Rattle.line_io.specs.Out.{with};
+ghost use Rattle.peer_words.specs.Tokens.{tokens};
+ghost use Rattle.chess_board.specs.Place.{legal};
+ghost use Rattle.chess_board.specs.Text.{text_of};
+ghost use Rattle.cecp_lines.specs.Replies.{IsWritable, Thinking, told_of, told_text};
+ghost use Rattle.uci_lines.specs.Moves.{run};
+ghost use Rattle.uci_lines.specs.Says.{facts_of};
+ghost use Rattle.uci_lines.specs.Scores.{IsCentis};
+ghost use Rattle.think_text.specs.Line.{IsHeard, HasRoom, legal_run, played, value_of, spaced, thinking_line, with_line};
+
+use crate::value::{is_legal, play, value_of};
+use cecp_lines::{Reply, write_reply};
+use chess_board::{Move, Position, write_move};
+use line_io::Out;
+use uci_lines::{Info, Score, next_move};
+
+/// The first move of a text of moves, where it is legal, and the text after it.
+fn next_legal<'a>(moves: &'a [u8], at: &Position) -> Option<(Move, &'a [u8])>
+    ensures { MatchOption result
+        (legal_run at.now (run (tokens moves.now)) ≡ [])
+        (λ p. (legal at.now p.0 ≡ true) × (legal_run at.now (run (tokens moves.now)) ≡ p.0 ∷ legal_run (played at.now p.0) (run (tokens p.1.now)))) }
+{
+    let (m, others) = next_move(moves)?;
+    if is_legal(at, m) { Some((m, others)) } else { None }
+}
+
+/// Writes a move behind a blank.
+fn write_spaced(m: Move, out: &mut Out)
+    requires writable { IsWritable m }
+    requires room { length out.old.text + length (32 ∷ text_of m) ≤ out.old.room }
+    ensures { out.new ≡ with out.old (32 ∷ text_of m) }
+{
+    out.put(b" ");
+    out.put(write_move(m).as_slice());
+}
+
+/// Writes each move behind a blank, as long as each is legal in its turn.
+fn write_moves(moves: &[u8], at: &Position, out: &mut Out)
+    requires { length out.old.text + length (spaced (legal_run at.now (run (tokens moves.now)))) ≤ out.old.room }
+    ensures { out.new ≡ with out.old (spaced (legal_run at.now (run (tokens moves.now)))) }
+{
+    let mut position = *at;
+    let mut others = moves;
+    while let Some((m, after)) = next_legal(others, &position) {
+        write_spaced(m, out);
+        position = play(&position, m);
+        others = after;
+    }
+}
+
+/// The line with these moves.
+fn front_of<'a>(
+    info: &Info,
+    depth: u64,
+    score: Score,
+    hint: Option<Move>,
+    pv: &'a [u8],
+) -> Reply<'a>
+    requires { IsCentis score }
+    ensures { told_of result ≡ Thinking depth (value_of score) (unwrap_or info.now.time 0 / 10) (unwrap_or info.now.nodes 0) hint pv.now }
+{
+    Reply::Thinking {
+        depth,
+        score: value_of(score),
+        time: info.time.unwrap_or(0) / 10,
+        nodes: info.nodes.unwrap_or(0),
+        hint,
+        pv,
+    }
+}
+
+/// Writes the thinking line of a search: depth in plies, score in hundredths of a pawn, time in hundredths of a
+/// second, nodes, and the moves of the engine's line as long as each is legal in its turn (Chess Engine
+/// Communication Protocol, version 2, section "Thinking Output"). A hint is the move that the engine ponders on; it
+/// stands in parentheses before the moves. There is no line, and false is returned, where depth, score or a first
+/// legal move is missing.
+pub fn thinking(info: &Info, at: &Position, hint: Option<Move>, out: &mut Out) -> bool
+    requires heard { IsHeard (facts_of info.now) }
+    requires hint { IfSome hint IsWritable }
+    requires room { HasRoom out.old (thinking_line (facts_of info.now) at.now hint) }
+    ensures there { result ≡ is_some (thinking_line (facts_of info.now) at.now hint) }
+    ensures text { out.new ≡ with_line out.old (thinking_line (facts_of info.now) at.now hint) }
+{
+    let (Some(depth), Some(score)) = (info.depth, info.score) else {
+        return false;
+    };
+    let Some((first, others)) = next_legal(info.pv, at) else {
+        return false;
+    };
+    let text = write_move(first);
+    let front = front_of(info, depth, score, hint, text.as_slice());
+    write_reply(&front, out);
+    write_moves(others, &play(at, first), out);
+    true
+}

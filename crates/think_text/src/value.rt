@@ -1,0 +1,41 @@
+// The value of a score, and moves in a position.
+ghost use Rattle.std.specs.Prelude.{◌≡◌, true};
+ghost use Rattle.chess_board.specs.Place.{legal};
+ghost use Rattle.uci_lines.specs.Scores.{IsCentis};
+ghost use Rattle.think_text.specs.Line.{value_of, played};
+
+use chess_board::{Move, Position};
+use uci_lines::Score;
+
+/// How much a mate counts, in hundredths of a pawn.
+const MATE: i64 = 100000;
+
+/// A score in hundredths of a pawn.
+pub(crate) fn value_of(score: Score) -> i64
+    requires { IsCentis score }
+    ensures { result ≡ value_of score }
+{
+    match score {
+        Score::Cp(score) => score,
+        Score::Mate(moves) => {
+            if moves > 0 {
+                MATE + moves
+            } else {
+                -(MATE - moves)
+            }
+        }
+    }
+}
+
+pub(crate) fn is_legal(at: &Position, m: Move) -> bool
+    ensures { result ≡ legal at.now m }
+{
+    at.legal(m)
+}
+
+pub(crate) fn play(at: &Position, m: Move) -> Position
+    requires { legal at.now m ≡ true }
+    ensures { result ≡ played at.now m }
+{
+    at.play(m)
+}
