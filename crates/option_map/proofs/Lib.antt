@@ -1,0 +1,4 @@
+pub mod Pieces
+pub mod Kept
+pub mod Measured
+pub mod Rooms
