@@ -142,3 +142,12 @@ copied_some r s h = rw h refl
 pub when_ok : {T E : Type 0} (r : Result T E) (P : Type 0) → OnOk r P → IsOk r → P
 when_ok (Ok x) P h k = h
 when_ok (Err e) P h k = absurd (true≢false (sym k))
+
+-- the values of the table, in order
+pub values_seen : (texts : List ℕ) (es : List (ArrayVec ℕ × Stored)) → map (setting_in texts) (map (λ e. e.1) es) ≡ settings_in texts es
+values_seen texts [] = refl
+values_seen texts (e ∷ es) = ap (λ (rest : List Setting). setting_in texts e.1 ∷ rest) (values_seen texts es)
+
+pub values_within : (n : ℕ) (es : List (ArrayVec ℕ × Stored)) → AreStored n es → AllByRecursion (λ (o : Stored). IsKindIn n o.kind) (map (λ e. e.1) es)
+values_within n [] h = tt
+values_within n (e ∷ es) h = (h.0.within, values_within n es h.1)

@@ -4,3 +4,6 @@ pub mod Settings
 pub mod Shown
 pub mod Stored
 pub mod Asked
+pub mod Held
+pub mod Queue
+pub mod Slots

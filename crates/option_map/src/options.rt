@@ -4,12 +4,13 @@ ghost use Rattle.std.specs.Option.{option_map};
 ghost use Rattle.uci_lines.specs.Says.{shape_of};
 ghost use Rattle.indexmap.specs.IndexMap.{spare};
 ghost use Rattle.line_io.specs.Out.{with};
-ghost use Rattle.option_map.specs.Settings.{found, kept, is_unshowable, is_bad_shape, shown_length, text_size};
+ghost use Rattle.option_map.specs.Settings.{found, kept, is_unshowable, is_bad_shape, shown_length, text_size, features};
 ghost use Rattle.option_map.specs.Shown.{has_kind, is_spin, is_text};
 ghost use Rattle.option_map.specs.Stored.{settings_in, setting_seen, kind_kept, AreStored};
 
 use crate::declared::Declared;
 use crate::declaring::is_unshowable;
+use crate::features::put_feature;
 use crate::measure::shown_length;
 use crate::names::{Name, folded, spelled};
 use crate::setting::{Kind, Setting};
@@ -74,6 +75,16 @@ fn keep(table: &mut Table, texts: &mut Out, msg: &OptionMsg)
     let kind = store(msg, texts);
     let name = spelled(msg.name);
     let _ = table.insert(folded(msg.name), Stored { name, kind });
+}
+
+fn put_features(table: &Table, texts: &[u8], out: &mut Out)
+    requires stored { AreStored (length texts.now) table.now.entries }
+    requires room { length out.old.text + length (features (settings_in texts.now table.now.entries)) ≤ out.old.room }
+    ensures { out.new ≡ with out.old (features (settings_in texts.now table.now.entries)) }
+{
+    for stored in table.values() {
+        put_feature(setting_in(texts, stored), out);
+    }
 }
 
 fn is_spin(found: Option<Setting>) -> bool
@@ -152,6 +163,14 @@ impl Options {
         ensures { result ≡ text_size self.now }
     {
         self.size
+    }
+
+    /// Writes the feature line of each option that is not hidden, with a line feed each.
+    pub fn write_features(&self, out: &mut Out)
+        requires { length out.old.text + length (features self.now) ≤ out.old.room }
+        ensures { out.new ≡ with out.old (features self.now) }
+    {
+        put_features(&self.table, self.texts.bytes(), out);
     }
 
     /// The declared spelling of a check option of this name. None where there is none.
