@@ -1,0 +1,9 @@
+pub mod Names
+pub mod Choices
+pub mod Settings
+pub mod Shown
+pub mod Stored
+pub mod Asked
+pub mod Held
+pub mod Queue
+pub mod Slots

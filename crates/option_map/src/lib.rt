@@ -1,0 +1,24 @@
+//! The options of a chess engine, as an interface sees and sets them, and the orders that wait for it.
+#![tactic(auto)]
+
+mod choices;
+mod declared;
+mod declaring;
+mod fault;
+mod features;
+mod held;
+mod laws;
+mod measure;
+mod names;
+mod options;
+mod setting;
+mod slots;
+mod stored;
+mod storing;
+mod translate;
+
+pub use declared::Declared;
+pub use fault::OptFault;
+pub use held::Held;
+pub use laws::last_orders_are_held;
+pub use options::Options;
