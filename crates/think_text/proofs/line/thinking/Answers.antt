@@ -8,7 +8,7 @@ use Rattle.uci_lines.specs.Says.{facts_of}
 use Rattle.chess_board.specs.declared.board.Move.{Move}
 use Rattle.chess_board.specs.Placement.{Placement}
 use Rattle.chess_board.specs.Text.{text_of}
-use Rattle.cecp_lines.specs.Replies.{Told, Thinking, told_of, told_text, IsReply}
+use Rattle.cecp_lines.specs.Replies.{Told, Thinking, told_of, told_text, HasWritableMoves}
 use Rattle.think_text.specs.Line.{legal_run, played, spaced, value_of}
 use Rattle.think_text.proofs.Legal.{legal_writable}
 use Rattle.think_text.proofs.Heard.{score_small}
@@ -21,13 +21,12 @@ write_move-text-requires c = legal_writable c.args.at.now c.in-Some.first c.in-S
 pub front_of-front-requires : goal.front_of-front-requires
 front_of-front-requires c = score_small (facts_of c.args.info.now) c.in-Some-Some.score c.requires.heard c.in-Some-Some.is-1
 
-pub write_reply-requires-clause-form : goal.write_reply-requires-clause-form
-write_reply-requires-clause-form c =
+pub write_reply-requires-clause-moves : goal.write_reply-requires-clause-moves
+write_reply-requires-clause-moves c =
     let first : Move = c.in-Some.first in
     let text : c.as_slice.result.now ≡ text_of first = c.as_slice.ensures.value ∙ c.write_move-text.ensures in
     let told = c.front_of-front.ensures ∙ ap (λ (t : List ℕ). Thinking c.in-Some-Some.depth (value_of c.in-Some-Some.score) (unwrap_or c.args.info.now.time 0 / 10) (unwrap_or c.args.info.now.nodes 0) c.args.hint t) text in
-    let officer = legal_writable c.args.at.now first c.in-Some.ensures.0 in
-    subst (λ (x : Told). IsReply x) (sym told) (c.requires.hint, record { moves = first ∷ []; some = lit< tt; writable = (officer, tt); text = refl })
+    subst (λ (x : Told). HasWritableMoves x) (sym told) c.requires.hint
 
 pub write_reply-requires-clause-room : goal.write_reply-requires-clause-room
 write_reply-requires-clause-room c =
