@@ -153,14 +153,16 @@ impl Options {
 
     /// How many options are declared.
     pub fn count(&self) -> usize
-        ensures { result ≡ length self.now }
+        ensures count { result ≡ length self.now }
+        ensures few { length self.now ≤ 256 }
     {
         self.table.len()
     }
 
     /// The bytes of all feature lines, without line feeds.
     pub fn text(&self) -> usize
-        ensures { result ≡ text_size self.now }
+        ensures size { result ≡ text_size self.now }
+        ensures short { text_size self.now ≤ 65536 }
     {
         self.size
     }
