@@ -9,17 +9,17 @@ pub put_starred-requires : goal.put_starred-requires
 put_starred-requires c =
     let d = c.args.default.now in
     room_here c.loop-value.out c.args.out.now ((42 ∷ c.in-Some.value.now) ++ 34 ∷ []) (quoted (values c.in-Some.after.now)) (quoted (starred d (values c.loop-value.others.now))) (quoted (starred d (values c.args.text.now)))
-    (star_here d c.in-Some.value.now (values c.loop-value.others.now) (values c.in-Some.after.now) c.in-Some.ensures (sym c.same_text.ensures ∙ c.if-same_text.true)) c.loop-value.invariant c.requires
+    (star_here d c.in-Some.value.now (values c.loop-value.others.now) (values c.in-Some.after.now) c.in-Some.ensures.first (sym c.same_text.ensures ∙ c.if-same_text.true)) c.loop-value.invariant c.requires
 
 pub put_plain-requires : goal.put_plain-requires
 put_plain-requires c =
     let d = c.args.default.now in
     let more = quoted (values c.in-Some.after.now) in
     subst (λ (t : Text). length t.text + length more ≤ t.room) (sym c.put_starred.ensures) (room_behind c.loop-value.out c.args.out.now ((42 ∷ c.in-Some.value.now) ++ 34 ∷ []) (quoted (values c.in-Some.after.now)) (quoted (starred d (values c.loop-value.others.now))) (quoted (starred d (values c.args.text.now)))
-    (star_here d c.in-Some.value.now (values c.loop-value.others.now) (values c.in-Some.after.now) c.in-Some.ensures (sym c.same_text.ensures ∙ c.if-same_text.true)) c.loop-value.invariant c.requires)
+    (star_here d c.in-Some.value.now (values c.loop-value.others.now) (values c.in-Some.after.now) c.in-Some.ensures.first (sym c.same_text.ensures ∙ c.if-same_text.true)) c.loop-value.invariant c.requires)
 
 pub put_quoted-requires : goal.put_quoted-requires
 put_quoted-requires c =
     let d = c.args.default.now in
     room_here c.loop-value.out c.args.out.now (c.in-Some.value.now ++ 34 ∷ []) (quoted (starred d (values c.in-Some.after.now))) (quoted (starred d (values c.loop-value.others.now))) (quoted (starred d (values c.args.text.now)))
-    (star_later d c.in-Some.value.now (values c.loop-value.others.now) (values c.in-Some.after.now) c.in-Some.ensures (sym c.same_text.ensures ∙ c.if-same_text.false)) c.loop-value.invariant c.requires
+    (star_later d c.in-Some.value.now (values c.loop-value.others.now) (values c.in-Some.after.now) c.in-Some.ensures.first (sym c.same_text.ensures ∙ c.if-same_text.false)) c.loop-value.invariant c.requires
