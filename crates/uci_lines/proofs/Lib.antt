@@ -14,3 +14,8 @@ pub mod Searches
 pub mod Positions
 pub mod Settings
 pub mod Spelling
+pub mod FirstTokens
+pub mod Listings
+pub mod Ranges
+pub mod Tellings
+pub mod Rows

@@ -10,3 +10,4 @@ pub mod Said
 pub mod Behind
 pub mod Written
 pub mod Asked
+pub mod Spells
