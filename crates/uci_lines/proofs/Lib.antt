@@ -15,3 +15,8 @@ pub mod Positions
 pub mod Settings
 pub mod Spelling
 pub mod Scores
+pub mod FirstTokens
+pub mod Listings
+pub mod Ranges
+pub mod Tellings
+pub mod Rows

@@ -11,3 +11,4 @@ pub mod Behind
 pub mod Written
 pub mod Asked
 pub mod Scores
+pub mod Spells

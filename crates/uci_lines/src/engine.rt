@@ -1,8 +1,9 @@
 // Reads what an engine says.
-ghost use Rattle.std.specs.Prelude.{◌≡◌};
+ghost use Rattle.std.specs.Prelude.{◌≡◌, ◌↔◌};
 ghost use Rattle.uci_lines.specs.Engine.{name_said, best_said, said_after, engine_message};
 ghost use Rattle.uci_lines.specs.Said.{CanWrite};
-ghost use Rattle.uci_lines.specs.Says.{says_of};
+ghost use Rattle.uci_lines.specs.Says.{Says, says_of};
+ghost use Rattle.uci_lines.specs.Spells.{SpellsMessage};
 
 use crate::cut::{Stop, find_word};
 use crate::info::read_info;
@@ -55,9 +56,8 @@ fn read_after<'a>(word: &[u8], text: &'a [u8]) -> EngineMsg<'a>
     }
 }
 
-/// What a line of the engine says (UCI, "Engine to GUI"). It may end with a CR, and has no LF.
 #[tactic(auto, unfolding(crate::specs::Engine::engine_message))]
-pub fn read_engine(line: &[u8]) -> EngineMsg<'_>
+fn read_message(line: &[u8]) -> EngineMsg<'_>
     ensures value { says_of result ≡ engine_message line.now }
     ensures writable { CanWrite (says_of result) }
 {
@@ -65,4 +65,15 @@ pub fn read_engine(line: &[u8]) -> EngineMsg<'_>
         Some(found) => read_after(found.word, found.after),
         None => EngineMsg::Nothing,
     }
+}
+
+/// What a line of the engine says (UCI, "Engine to GUI"). It may end with a CR, and has no LF.
+/// `lines_say_one_message` says that each line spells exactly one message.
+pub fn read_engine(line: &[u8]) -> EngineMsg<'_>
+    ensures value { says_of result ≡ engine_message line.now }
+    // A message is read exactly where the line spells it.
+    ensures spelled { (m : Says) → (says_of result ≡ m) ↔ SpellsMessage line.now m }
+    ensures writable { CanWrite (says_of result) }
+{
+    read_message(line)
 }

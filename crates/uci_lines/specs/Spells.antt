@@ -1,0 +1,158 @@
+-- The message that a line of the engine spells: the grammar as a relation, row by row.
+use Rattle.std.specs.Prelude.{◌≡◌, ◌≢◌, ◌⊎◌, ℕ, ℤ, int_lt, List, [], ◌∷◌, ◌++◌, codes, Bool, true, false, not, Option, Some, None}
+use Rattle.std.specs.Int.{int_min, int_max}
+use Rattle.std.specs.List.{list_all}
+use Rattle.peer_words.specs.Tokens.{is_white, is_token, tokens, trimmed, first_token, rest}
+use Rattle.peer_words.specs.Numbers.{count, centis, signed}
+use Rattle.chess_board.specs.declared.board.Move.{Move}
+use Rattle.chess_board.specs.Text.{Spells as MoveSpells}
+use Rattle.uci_lines.specs.declared.says.Score.TheVariants.{Cp, Mate}
+use Rattle.uci_lines.specs.Cuts.{Part, is_word, is_known, is_choice}
+use Rattle.uci_lines.specs.Options.{shown_text}
+use Rattle.uci_lines.specs.Infos.{no_facts}
+use Rattle.uci_lines.specs.Says.{Facts, Shape, Check, Spin, Combo, Button, Text, Says, Name, UciOk, ReadyOk, Best, OptionLine, Info, Nothing}
+
+-- WORDS IN A TEXT
+
+abbrev pub begins_white : List ℕ → Bool
+begins_white [] = true
+begins_white (b ∷ bs) = is_white b
+
+-- whether a text ends with white space; of an empty text it is said
+abbrev pub ends_white : Bool → List ℕ → Bool
+ends_white fresh [] = fresh
+ends_white fresh (b ∷ bs) = ends_white (is_white b) bs
+
+-- none of some tokens passes
+abbrev pub IsNoneOf : (List ℕ → Bool) → List (List ℕ) → Type 0
+IsNoneOf p ts = list_all (λ t. not (p t)) ts ≡ true
+
+-- The first token of a text that passes, between the bytes before and behind it.
+pub record IsFirst (p : List ℕ → Bool) (text : List ℕ) (part : Part) : Type 0 where
+  pub whole : text ≡ part.before ++ (part.word ++ part.after)
+  pub token : is_token part.word ≡ true
+  pub passes : p part.word ≡ true
+  pub stands_apart : ends_white true part.before ≡ true
+  pub ends_there : begins_white part.after ≡ true
+  pub none_before : IsNoneOf p (tokens part.before)
+
+-- what stands behind the first such word of a text; nothing where there is none
+abbrev pub Behind : List ℕ → List ℕ → List ℕ → Type 0
+Behind word text others =
+    (IsNoneOf (is_word word) (tokens text) × (others ≡ []))
+    ⊎ ((part : Part) × IsFirst (is_word word) text part × (others ≡ part.after))
+
+-- the move that a text spells, or none where it spells none
+abbrev pub PerhapsMove : List ℕ → Option Move → Type 0
+PerhapsMove text (Some m) = MoveSpells text m
+PerhapsMove text None = (m : Move) → MoveSpells text m → ⊥
+
+-- OPTIONS
+
+-- the last number that stands behind a word
+pub record IsLast (word : List ℕ) (ts : List (List ℕ)) (n : ℤ) : Type 0 where
+  pub before : List (List ℕ)
+  pub digits : List ℕ
+  pub others : List (List ℕ)
+  pub whole : ts ≡ before ++ (word ∷ digits ∷ others)
+  pub reads : signed digits ≡ Some n
+  pub last : (bs : List (List ℕ)) (t : List ℕ) (cs : List (List ℕ)) → others ≡ bs ++ (word ∷ t ∷ cs) → signed t ≡ None
+
+-- what stands before the first `default` or `var`, trimmed
+abbrev pub UpToChoice : List ℕ → List ℕ → Type 0
+UpToChoice text value =
+    (IsNoneOf is_choice (tokens text) × (value ≡ trimmed text))
+    ⊎ ((part : Part) × IsFirst is_choice text part × (value ≡ trimmed part.before))
+
+-- The values of a combo: each `var` takes the bytes up to the next `default` or `var`.
+pub data HasValues : List ℕ → List (List ℕ) → Type 0 where
+  Ended : {text : List ℕ} → IsNoneOf is_choice (tokens text) → HasValues text []
+  Var : {text value : List ℕ} → {values : List (List ℕ)} → (part : Part)
+      → IsFirst is_choice text part → part.word ≡ codes "var" → UpToChoice part.after value → HasValues part.after values
+      → HasValues text (value ∷ values)
+  Default : {text : List ℕ} → {values : List (List ℕ)} → (part : Part)
+      → IsFirst is_choice text part → part.word ≡ codes "default" → HasValues part.after values
+      → HasValues text values
+
+-- the kind of an option, by the word behind `type` and what follows it
+abbrev pub HasShape : List ℕ → List ℕ → Shape → Type 0
+HasShape word text (Check on) =
+    (word ≡ codes "check") × (others : List ℕ) × Behind (codes "default") text others × (on ≡ is_word (codes "true") (first_token others))
+HasShape word text (Spin default min max) =
+    (word ≡ codes "spin") × (n : ℤ) × IsLast (codes "default") (tokens text) n × IsLast (codes "min") (tokens text) min
+    × IsLast (codes "max") (tokens text) max × (int_lt max min ≡ false) × (default ≡ int_max min (int_min n max))
+HasShape word text (Combo default values) =
+    (word ≡ codes "combo") × ((others : List ℕ) × Behind (codes "default") text others × UpToChoice others default) × HasValues text values
+HasShape word text Button = word ≡ codes "button"
+HasShape word text (Text default) =
+    (word ≡ codes "string") × (others : List ℕ) × Behind (codes "default") text others × (default ≡ shown_text (trimmed others))
+
+-- what stands behind `option`: `name`, the name up to the first `type`, and the kind
+abbrev pub Declares : List ℕ → List ℕ → Shape → Type 0
+Declares text name shape =
+    (first_token text ≡ codes "name")
+    × (part : Part) × IsFirst (is_word (codes "type")) (rest text) part × (name ≡ trimmed part.before)
+    × HasShape (first_token part.after) (rest part.after) shape
+
+-- WHAT IS TOLD OF A SEARCH
+
+-- no move text stands first
+abbrev pub NoMoveFirst : List (List ℕ) → Type 0
+NoMoveFirst [] = Unit {0}
+NoMoveFirst (t ∷ ts) = (m : Move) → MoveSpells t m → ⊥
+
+-- the longest run of move texts at the front, and the tokens behind it
+pub data IsRun : List (List ℕ) → List Move → List (List ℕ) → Type 0 where
+  Ends : {ts : List (List ℕ)} → NoMoveFirst ts → IsRun ts [] ts
+  Goes : {t : List ℕ} → {m : Move} → {ts others : List (List ℕ)} → {moves : List Move}
+      → MoveSpells t m → IsRun ts moves others → IsRun (t ∷ ts) (m ∷ moves) others
+
+-- A field at the front of the tokens takes its value: what is told then, and the tokens that are left.
+pub data Takes (f : Facts) : List (List ℕ) → Facts → List (List ℕ) → Type 0 where
+  Depth : {t : List ℕ} → {ts : List (List ℕ)} → {n : ℕ} → count t ≡ Some n → Takes f (codes "depth" ∷ t ∷ ts) (record f { depth = Some n }) ts
+  Time : {t : List ℕ} → {ts : List (List ℕ)} → {n : ℕ} → count t ≡ Some n → Takes f (codes "time" ∷ t ∷ ts) (record f { time = Some n }) ts
+  Nodes : {t : List ℕ} → {ts : List (List ℕ)} → {n : ℕ} → count t ≡ Some n → Takes f (codes "nodes" ∷ t ∷ ts) (record f { nodes = Some n }) ts
+  MultiPv : {t : List ℕ} → {ts : List (List ℕ)} → {n : ℕ} → count t ≡ Some n → Takes f (codes "multipv" ∷ t ∷ ts) (record f { multipv = Some n }) ts
+  Number : {t : List ℕ} → {ts : List (List ℕ)} → {n : ℕ} → count t ≡ Some n → Takes f (codes "currmovenumber" ∷ t ∷ ts) (record f { number = Some n }) ts
+  Centipawns : {t : List ℕ} → {ts : List (List ℕ)} → {n : ℤ} → centis t ≡ Some n → Takes f (codes "score" ∷ codes "cp" ∷ t ∷ ts) (record f { score = Some (Cp n) }) ts
+  ToMate : {t : List ℕ} → {ts : List (List ℕ)} → {n : ℤ} → centis t ≡ Some n → Takes f (codes "score" ∷ codes "mate" ∷ t ∷ ts) (record f { score = Some (Mate n) }) ts
+  LowerBound : {ts : List (List ℕ)} → Takes f (codes "lowerbound" ∷ ts) (record f { bound = true }) ts
+  UpperBound : {ts : List (List ℕ)} → Takes f (codes "upperbound" ∷ ts) (record f { bound = true }) ts
+  Current : {t : List ℕ} → {ts : List (List ℕ)} → {m : Move} → MoveSpells t m → Takes f (codes "currmove" ∷ t ∷ ts) (record f { current = Some m }) ts
+  Pv : {ts others : List (List ℕ)} → {m : Move} → {moves : List Move} → IsRun ts (m ∷ moves) others → Takes f (codes "pv" ∷ ts) (record f { pv = m ∷ moves }) others
+
+-- What is told in the end, by the tokens from left to right: a later value replaces an earlier one, and a
+-- token that takes nothing is skipped.
+pub data Tells : Facts → List (List ℕ) → Facts → Type 0 where
+  End : {f : Facts} → Tells f [] f
+  Rest : {f : Facts} → {ts : List (List ℕ)} → Tells f (codes "string" ∷ ts) f
+  Taken : {f g h : Facts} → {ts others : List (List ℕ)} → Takes f ts g others → Tells g others h → Tells f ts h
+  Skipped : {f h : Facts} → {t : List ℕ} → {ts : List (List ℕ)} → t ≢ codes "string" → ((g : Facts) (others : List (List ℕ)) → Takes f (t ∷ ts) g others → ⊥)
+      → Tells f ts h → Tells f (t ∷ ts) h
+
+-- MESSAGES
+
+-- the first known word of a line, and what stands behind it
+abbrev pub Begins : List ℕ → List ℕ → List ℕ → Type 0
+Begins line word text = (part : Part) × IsFirst is_known line part × (part.word ≡ word) × (part.after ≡ text)
+
+-- a line has the form of a message
+abbrev pub HasForm : List ℕ → Says → Type 0
+HasForm line (Name name) = (text : List ℕ) × Begins line (codes "id") text × (first_token text ≡ codes "name") × (name ≡ rest text)
+HasForm line UciOk = (text : List ℕ) × Begins line (codes "uciok") text
+HasForm line ReadyOk = (text : List ℕ) × Begins line (codes "readyok") text
+HasForm line (Best best hint) =
+    (text : List ℕ) × Begins line (codes "bestmove") text × PerhapsMove (first_token text) best
+    × (others : List ℕ) × Behind (codes "ponder") (rest text) others × PerhapsMove (first_token others) hint
+HasForm line (OptionLine name shape) = (text : List ℕ) × Begins line (codes "option") text × Declares text name shape
+HasForm line (Info facts) = (text : List ℕ) × Begins line (codes "info") text × Tells no_facts (tokens text) facts
+HasForm line Nothing = ⊥
+
+-- A line spells a message: the one whose form it has, and Nothing where it has none.
+abbrev pub SpellsMessage : List ℕ → Says → Type 0
+SpellsMessage line Nothing = (m : Says) → HasForm line m → ⊥
+SpellsMessage line m = HasForm line m
+
+-- A line spells exactly one message.
+abbrev pub SpellsOneMessage : Type 0
+SpellsOneMessage = (line : List ℕ) → (m : Says) × SpellsMessage line m × ((k : Says) → SpellsMessage line k → k ≡ m)
