@@ -15,7 +15,7 @@ kept true true w none some e = rw e refl
 kept true false w none some e = refl
 kept false b w none some e = refl
 
-drops_mark : (front : List ℕ) (c : ℕ) → is_mark c ≡ true → unmarked (front ++ (c ∷ [])) ≡ unmarked front
+pub drops_mark : (front : List ℕ) (c : ℕ) → is_mark c ≡ true → unmarked (front ++ (c ∷ [])) ≡ unmarked front
 drops_mark [] c e = rw e refl
 drops_mark (x ∷ front) c e = ap (λ t. cond (is_mark x && list_all is_mark (front ++ (c ∷ []))) [] (x ∷ t)) (drops_mark front c e) ∙ rw list_all-append (chosen (is_mark x) (list_all is_mark front) (is_mark c) x (unmarked front) e)
 

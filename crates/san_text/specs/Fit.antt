@@ -41,10 +41,24 @@ abbrev pub IsSpelled : Option Spelling → Type 0
 IsSpelled None = ⊥
 IsSpelled (Some s) = Unit {0}
 
+-- the text fits this move and no other
+abbrev pub FitsAlone : Placement → List ℕ → Move → Type 0
+FitsAlone p text m = Fits p text m × ((n : Move) → Fits p text n → n ≡ m)
+
 -- What a text is read as: a move that is the one that fits, or BadSan where the text has no spelling, NoFit where it has
 -- one and no legal move fits, Ambiguous where two or more fit.
 abbrev pub IsRead : Placement → List ℕ → Result Move SanFault → Type 0
-IsRead p text (Ok m) = Fits p text m × ((n : Move) → Fits p text n → n ≡ m)
+IsRead p text (Ok m) = FitsAlone p text m
 IsRead p text (Err BadSan) = spelled text ≡ None
 IsRead p text (Err NoFit) = IsSpelled (spelled text) × ((n : Move) → Fits p text n → ⊥)
 IsRead p text (Err Ambiguous) = (a : Move) × ((b : Move) × (Fits p text a × Fits p text b × (a ≢ b)))
+
+-- what is written of a legal move fits it alone, so reading it gives the move back
+abbrev pub IsReadBack : Type 0
+IsReadBack = (p : Placement) (m : Move) (text : List ℕ) → IsLegal p m.from.index m.to.index m.promo → IsSan p m text → FitsAlone p text m
+
+-- different legal moves of a position have different texts
+abbrev pub TextsDiffer : Type 0
+TextsDiffer =
+    (p : Placement) (a b : Move) (text : List ℕ) → IsLegal p a.from.index a.to.index a.promo → IsLegal p b.from.index b.to.index b.promo
+    → IsSan p a text → IsSan p b text → a ≡ b

@@ -5,12 +5,14 @@
 #![tactic(auto)]
 
 mod fault;
+mod laws;
 mod men;
 mod reading;
 mod spelling;
 mod writing;
 
 pub use fault::SanFault;
+pub use laws::texts_tell_moves_apart;
 pub use reading::read_san;
 pub use writing::write_san;
 

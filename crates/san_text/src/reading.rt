@@ -1,6 +1,9 @@
 // Texts as moves of a position.
 ghost use Rattle.std.specs.Prelude.{◌≡◌, ℕ};
+ghost use Rattle.chess_board.specs.declared.board.Move.{Move as AnyMove};
+ghost use Rattle.chess_board.specs.Laws.{IsLegal};
 ghost use Rattle.san_text.specs.Fit.{agrees, allows, IsRead};
+ghost use Rattle.san_text.specs.Writing.{IsSan};
 ghost use Rattle.san_text.specs.Spelling.{Goes, plain, plain_target};
 
 use crate::SanFault;
@@ -58,7 +61,8 @@ fn agrees(at: &Position, spelling: &Spelling, m: Move) -> bool
 /// promotion agree with the text. Castling fits its own texts alone. Whether `x` stands, or a sign of
 /// check or mate, is not compared.
 pub fn read_san(at: &Position, text: &[u8]) -> Result<Move, SanFault>
-    ensures { IsRead at.now text.now result }
+    ensures read { IsRead at.now text.now result }
+    ensures written { (m : AnyMove) → IsLegal at.now m.from.index m.to.index m.promo → IsSan at.now m text.now → result ≡ Ok m }
 {
     let Some(spelling) = read_spelling(text) else {
         return Err(SanFault::BadSan);
@@ -74,3 +78,4 @@ pub fn read_san(at: &Position, text: &[u8]) -> Result<Move, SanFault>
     }
     found.ok_or(SanFault::NoFit)
 }
+

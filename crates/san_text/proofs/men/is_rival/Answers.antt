@@ -1,4 +1,4 @@
-use Rattle.std.proofs.Common.{◌≡◌, ◌∙◌, ◌==◌, ap, sym}
+use Rattle.std.proofs.Common.{◌∙◌, ◌==◌, ap, sym}
 use Rattle.chess_board.specs.Rules.{is_legal}
 use Rattle.chess_board.specs.Laws.{IsLegal}
 use Rattle.chess_board.proofs.Legal.{legal-law}

@@ -1,11 +1,15 @@
-use Rattle.std.proofs.Common.{◌≡◌, ◌∙◌, ◌++◌, ap, sym, subst}
+use Rattle.std.proofs.Common.{◌∙◌, ◌++◌, ap, subst}
 use Rattle.chess_board.specs.Placement.{Placement}
 use Rattle.san_text.specs.Writing.{IsMark}
+use Rattle.san_text.proofs.Written.{read_back}
 use Rattle.san_text.proofs.writing.write_san.Goals as goal
 
-pub returns : goal.returns
-returns c = record {
+pub returns-clause-written : goal.returns-clause-written
+returns-clause-written c = record {
   mark = c.mark.result.now;
   fits = subst (λ (p : Placement). IsMark p c.mark.result.now) c.play.ensures c.mark.ensures.fits;
   whole = c.put.ensures.items ∙ ap (λ t. t ++ c.mark.result.now) c.body-text.ensures.items;
 }
+
+pub returns-clause-alone : goal.returns-clause-alone
+returns-clause-alone c = read_back c.args.at.now c.args.m c.put.new.text.items c.requires (returns-clause-written c)

@@ -1,0 +1,9 @@
+// Laws of what is written and read.
+ghost use Rattle.san_text.specs.Fit.{IsReadBack, TextsDiffer};
+
+/// The text of a legal move fits it and no other legal move, and different legal moves of a position
+/// have different texts.
+pub fn texts_tell_moves_apart()
+    ensures read_back { IsReadBack }
+    ensures differ { TextsDiffer }
+{}
