@@ -1,0 +1,92 @@
+// The list of features.
+ghost use Rattle.std.specs.Prelude.{◌≡◌, ◌≤◌, ◌+◌, ◌∷◌, [], length, codes};
+ghost use Rattle.line_io.specs.Out.{with};
+ghost use Rattle.cecp_lines.specs.Replies.{Feature};
+ghost use Rattle.feature_talk.specs.Features.{shown_name, in_quotes, bit, fixed, tables, by_options, feature_list, told_line, told_lines};
+
+use line_io::Out;
+use option_map::Options;
+
+/// The name that is shown of an engine: what it said last, or `UCI engine` where it said nothing or a name
+/// that is empty, has more than 256 bytes or holds a quote.
+pub fn shown_name(said: &[u8]) -> &[u8]
+    ensures name { result.now ≡ shown_name said.now }
+    ensures short { length result.now ≤ 256 }
+{
+    if said.is_empty() || said.len() > 256 || said.contains(&b'"') {
+        b"UCI engine"
+    } else {
+        said
+    }
+}
+
+fn put_name(name: &[u8], out: &mut Out)
+    requires { length out.old.text + length (told_line (Feature (codes "myname") (in_quotes name.now))) ≤ out.old.room }
+    ensures { out.new ≡ with out.old (told_line (Feature (codes "myname") (in_quotes name.now))) }
+{
+    out.put(b"feature myname=\"");
+    out.put(name);
+    out.put(b"\"\n");
+}
+
+fn put_fixed(out: &mut Out)
+    requires { length out.old.text + length (told_lines fixed) ≤ out.old.room }
+    ensures { out.new ≡ with out.old (told_lines fixed) }
+{
+    out.put(
+        b"feature ping=1\nfeature setboard=1\nfeature playother=1\nfeature san=0\nfeature usermove=1\nfeature time=1\nfeature draw=1\nfeature sigint=0\nfeature sigterm=0\nfeature reuse=1\nfeature analyze=1\nfeature variants=\"normal\"\nfeature colors=0\n",
+    );
+}
+
+fn put_memory(can: bool, out: &mut Out)
+    requires { length out.old.text + length (told_line (Feature (codes "memory") (bit can))) ≤ out.old.room }
+    ensures { out.new ≡ with out.old (told_line (Feature (codes "memory") (bit can))) }
+{
+    if can {
+        out.put(b"feature memory=1\n");
+    } else {
+        out.put(b"feature memory=0\n");
+    }
+}
+
+fn put_cores(can: bool, out: &mut Out)
+    requires { length out.old.text + length (told_line (Feature (codes "smp") (bit can))) ≤ out.old.room }
+    ensures { out.new ≡ with out.old (told_line (Feature (codes "smp") (bit can))) }
+{
+    if can {
+        out.put(b"feature smp=1\n");
+    } else {
+        out.put(b"feature smp=0\n");
+    }
+}
+
+fn put_tables(can: bool, out: &mut Out)
+    requires { length out.old.text + length (told_lines (tables can)) ≤ out.old.room }
+    ensures { out.new ≡ with out.old (told_lines (tables can)) }
+{
+    if can {
+        out.put(b"feature egt=\"nalimov\"\n");
+    }
+}
+
+fn put_by_options(options: &Options, out: &mut Out)
+    requires { length out.old.text + length (told_lines (by_options options.now)) ≤ out.old.room }
+    ensures { out.new ≡ with out.old (told_lines (by_options options.now)) }
+{
+    put_memory(options.can_memory(), out);
+    put_cores(options.can_cores(), out);
+    put_tables(options.can_egt(), out);
+}
+
+/// Writes the list of features, a line each with its line feed. The name is the last that the engine said, or
+/// empty.
+pub fn write_list(options: &Options, name: &[u8], out: &mut Out)
+    requires { length out.old.text + length (told_lines (feature_list options.now name.now)) ≤ out.old.room }
+    ensures { out.new ≡ with out.old (told_lines (feature_list options.now name.now)) }
+{
+    put_name(shown_name(name), out);
+    put_fixed(out);
+    put_by_options(options, out);
+    options.write_features(out);
+    out.put(b"feature done=1\n");
+}

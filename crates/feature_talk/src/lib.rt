@@ -1,0 +1,11 @@
+//! The features that are told to a chess interface, and when (Chess Engine Communication Protocol, version 2,
+//! `feature`).
+#![tactic(auto)]
+
+mod features;
+mod laws;
+mod talk;
+
+pub use features::{shown_name, write_list};
+pub use laws::feature_lists_are_short;
+pub use talk::{Say, Talk};
