@@ -81,10 +81,10 @@ only_after held (y ∷ later) x only h =
 pub last_held : HoldsLast
 last_held held later asked own none =
     only_after (joined held asked) later asked
-        (filter-append (gives_way asked) (staying held asked) (asked ∷ [])
-            ∙ ap (λ (ls : List (List ℕ)). ls ++ filter (gives_way asked) (asked ∷ [])) (filter_none (gives_way asked) held)
-            ∙ ap (λ w. cond w (asked ∷ []) []) own)
-        none
+    (filter-append (gives_way asked) (staying held asked) (asked ∷ [])
+    ∙ ap (λ (ls : List (List ℕ)). ls ++ filter (gives_way asked) (asked ∷ [])) (filter_none (gives_way asked) held)
+    ∙ ap (λ w. cond w (asked ∷ []) []) own)
+    none
 
 -- WHAT JOINS
 

@@ -108,10 +108,9 @@ spelled_is p m text h w =
 
 pub read_back : IsReadBack
 read_back p m text h w =
-    let e = spelled_is p m text h w in
-    (
+    let e = spelled_is p m text h w in (
       (h, subst (λ (o : Option Spelling). AgreesText p o m) (sym e) (agrees_self p m)),
-      λ n f. alone p m n h f.0 (subst (λ (o : Option Spelling). AgreesText p o n) e f.1)
+      λ n f. alone p m n h f.0 (subst (λ (o : Option Spelling). AgreesText p o n) e f.1),
     )
 
 pub texts_differ : TextsDiffer

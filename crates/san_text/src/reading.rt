@@ -78,4 +78,3 @@ pub fn read_san(at: &Position, text: &[u8]) -> Result<Move, SanFault>
     }
     found.ok_or(SanFault::NoFit)
 }
-

@@ -24,7 +24,11 @@ fn next_legal<'a>(moves: &'a [u8], at: &Position) -> Option<(Move, &'a [u8])>
         (λ p. (legal at.now p.0 ≡ true) × (legal_run at.now (run (tokens moves.now)) ≡ p.0 ∷ legal_run (played at.now p.0) (run (tokens p.1.now)))) }
 {
     let (m, others) = next_move(moves)?;
-    if is_legal(at, m) { Some((m, others)) } else { None }
+    if is_legal(at, m) {
+        Some((m, others))
+    } else {
+        None
+    }
 }
 
 /// Writes a move behind a blank.

@@ -60,10 +60,10 @@ shape_is word text (Check on) h =
 shape_is word text (Spin default min max) h =
     ap (λ w. shape_named w text) h.0
     ∙ spin_is (tokens text) h.1 min max default
-      (default_is no_range (tokens text) ∙ last_is (codes "default") (tokens text) h.1 refl h.2)
-      (min_is no_range (tokens text) ∙ last_is (codes "min") (tokens text) min refl h.3)
-      (max_is no_range (tokens text) ∙ last_is (codes "max") (tokens text) max refl h.4)
-      h.5 h.6
+    (default_is no_range (tokens text) ∙ last_is (codes "default") (tokens text) h.1 refl h.2)
+    (min_is no_range (tokens text) ∙ last_is (codes "min") (tokens text) min refl h.3)
+    (max_is no_range (tokens text) ∙ last_is (codes "max") (tokens text) max refl h.4)
+    h.5 h.6
 shape_is word text (Combo default vs) h =
     let d = h.1 in
     ap (λ w. shape_named w text) h.0
@@ -116,12 +116,15 @@ Fits word text (Some shape) = HasShape word text shape
 spin_by : (word text : List ℕ) (n min max : ℤ) (t : Bool) → word ≡ codes "spin" → int_lt max min ≡ t → (range_from no_range (tokens text)).default ≡ Some n → (range_from no_range (tokens text)).min ≡ Some min → (range_from no_range (tokens text)).max ≡ Some max → Fits word text (cond t None (Some (Spin (int_max min (int_min n max)) min max)))
 unfolding Fits
 spin_by word text n min max true w l e f g = tt
-spin_by word text n min max false w l e f g =
-    (w, n,
-     is_last (codes "default") (tokens text) n (sym (default_is no_range (tokens text)) ∙ e),
-     is_last (codes "min") (tokens text) min (sym (min_is no_range (tokens text)) ∙ f),
-     is_last (codes "max") (tokens text) max (sym (max_is no_range (tokens text)) ∙ g),
-     l, refl)
+spin_by word text n min max false w l e f g = (
+  w,
+  n,
+  is_last (codes "default") (tokens text) n (sym (default_is no_range (tokens text)) ∙ e),
+  is_last (codes "min") (tokens text) min (sym (min_is no_range (tokens text)) ∙ f),
+  is_last (codes "max") (tokens text) max (sym (max_is no_range (tokens text)) ∙ g),
+  l,
+  refl,
+)
 
 spin_fits : (word text : List ℕ) (a b c : Option ℤ) → word ≡ codes "spin" → (range_from no_range (tokens text)).default ≡ a → (range_from no_range (tokens text)).min ≡ b → (range_from no_range (tokens text)).max ≡ c → Fits word text (spin a b c)
 unfolding Fits
@@ -138,15 +141,15 @@ shape_fits : (word text : List ℕ) → Fits word text (shape_named word text)
 unfolding Fits up_from default_cut
 shape_fits word text =
     kind_or (is_word (codes "check") word) word (codes "check") text _ _ refl
-      (λ w. (w, after_cut (default_cut text), cut_behind (codes "default") text refl, on_by (default_cut text)))
+    (λ w. (w, after_cut (default_cut text), cut_behind (codes "default") text refl, on_by (default_cut text)))
     (kind_or (is_word (codes "spin") word) word (codes "spin") text _ _ refl
-      (λ w. spin_fits word text (range_from no_range (tokens text)).default (range_from no_range (tokens text)).min (range_from no_range (tokens text)).max w refl refl refl)
+    (λ w. spin_fits word text (range_from no_range (tokens text)).default (range_from no_range (tokens text)).min (range_from no_range (tokens text)).max w refl refl refl)
     (kind_or (is_word (codes "combo") word) word (codes "combo") text _ _ refl
-      (λ w. (w, (after_cut (default_cut text), cut_behind (codes "default") text refl, subst (λ (t : List ℕ). UpToChoice (after_cut (default_cut text)) t) (sym (chosen_by (default_cut text))) (is_up (after_cut (default_cut text)))), has_values text))
+    (λ w. (w, (after_cut (default_cut text), cut_behind (codes "default") text refl, subst (λ (t : List ℕ). UpToChoice (after_cut (default_cut text)) t) (sym (chosen_by (default_cut text))) (is_up (after_cut (default_cut text)))), has_values text))
     (kind_or (is_word (codes "button") word) word (codes "button") text _ _ refl (λ w. w)
     (kind_or (is_word (codes "string") word) word (codes "string") text _ None refl
-      (λ w. (w, after_cut (default_cut text), cut_behind (codes "default") text refl, text_by (default_cut text)))
-      tt))))
+    (λ w. (w, after_cut (default_cut text), cut_behind (codes "default") text refl, text_by (default_cut text)))
+    tt))))
 
 -- a message that is read has its form
 Holds : List ℕ → Says → Type 0
@@ -166,9 +169,14 @@ name_holds false line text e b = tt
 best_holds : (line text : List ℕ) → Begins line (codes "bestmove") text → Holds line (best_said text)
 unfolding Holds
 best_holds line text b =
-    let o = cut (is_word (codes "ponder")) true (rest text) in
-    (text, b, is_perhaps (first_token text), after_cut o, cut_behind (codes "ponder") (rest text) refl,
-     subst (λ (m : Option Move). PerhapsMove (first_token (after_cut o)) m) (sym (hint_by o)) (is_perhaps (first_token (after_cut o))))
+    let o = cut (is_word (codes "ponder")) true (rest text) in (
+      text,
+      b,
+      is_perhaps (first_token text),
+      after_cut o,
+      cut_behind (codes "ponder") (rest text) refl,
+      subst (λ (m : Option Move). PerhapsMove (first_token (after_cut o)) m) (sym (hint_by o)) (is_perhaps (first_token (after_cut o))),
+    )
 
 shape_holds : (line text : List ℕ) (part : Part) (o : Option Shape) → Begins line (codes "option") text → first_token text ≡ codes "name" → IsFirst (is_word (codes "type")) (rest text) part → Fits (first_token part.after) (rest part.after) o → Holds line (option_line (trimmed part.before) o)
 unfolding Holds Fits

@@ -7,4 +7,4 @@ use Rattle.option_map.proofs.features.put_barred.Goals as goal
 pub put_bars_before-requires : goal.put_bars_before-requires
 put_bars_before-requires c =
     room_here c.loop-choice.out c.args.out.now (barred c.in-Some.choice.now) (flat_map barred (choices_in c.in-Some.after.now)) (flat_map barred (choices_in c.loop-choice.others.now)) (flat_map barred (choices_in c.args.choices.now))
-        (ap (λ (cs : List (List ℕ)). flat_map barred cs) c.in-Some.ensures.first) c.loop-choice.invariant c.requires
+    (ap (λ (cs : List (List ℕ)). flat_map barred cs) c.in-Some.ensures.first) c.loop-choice.invariant c.requires

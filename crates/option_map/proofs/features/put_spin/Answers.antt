@@ -12,6 +12,12 @@ pub put_number-requires-3 : goal.put_number-requires-3
 put_number-requires-3 c =
     let text : ℤ → List ℕ = λ z. signed_decimal (to_z w64 (of_z w64 z)) in
     spin_room c.args.out.now c.put.new.self c.put_number.new.out c.put-2.new.self c.put_number-2.new.out c.put-3.new.self (codes " -spin ") (text c.args.default) (text c.args.min) (text c.args.max)
-        c.put.ensures c.put_number.ensures c.put-2.ensures c.put_number-2.ensures c.put-3.ensures
-        (omega (arith, c.requires, spin_text (signed_decimal c.args.default) (signed_decimal c.args.min) (signed_decimal c.args.max),
-            same c.args.default (to_z-of_z w64 c.args.default c.ranges.default), same c.args.min (to_z-of_z w64 c.args.min c.ranges.min), same c.args.max (to_z-of_z w64 c.args.max c.ranges.max)))
+    c.put.ensures c.put_number.ensures c.put-2.ensures c.put_number-2.ensures c.put-3.ensures
+    (omega (
+      arith,
+      c.requires,
+      spin_text (signed_decimal c.args.default) (signed_decimal c.args.min) (signed_decimal c.args.max),
+      same c.args.default (to_z-of_z w64 c.args.default c.ranges.default),
+      same c.args.min (to_z-of_z w64 c.args.min c.ranges.min),
+      same c.args.max (to_z-of_z w64 c.args.max c.ranges.max),
+    ))

@@ -35,7 +35,7 @@ write_reply-requires-clause-room c =
     let text : c.as_slice.result.now ≡ text_of first = c.as_slice.ensures.value ∙ c.write_move-text.ensures in
     let told = c.front_of-front.ensures ∙ ap (λ (t : List ℕ). Thinking c.in-Some-Some.depth (value_of c.in-Some-Some.score) (unwrap_or c.args.info.now.time 0 / 10) (unwrap_or c.args.info.now.nodes 0) c.args.hint t) text in
     let fits = front_fits c.args.out.now (facts_of c.args.info.now) c.args.at.now c.args.hint c.in-Some-Some.depth c.in-Some-Some.score first later
-        (told_of c.front_of-front.result) c.in-Some-Some.is-0 c.in-Some-Some.is-1 c.in-Some.ensures.1 told c.requires.room in
+    (told_of c.front_of-front.result) c.in-Some-Some.is-0 c.in-Some-Some.is-1 c.in-Some.ensures.1 told c.requires.room in
     omega arith
 
 pub write_moves-requires : goal.write_moves-requires
@@ -46,9 +46,9 @@ write_moves-requires c =
     let text : c.as_slice.result.now ≡ text_of first = c.as_slice.ensures.value ∙ c.write_move-text.ensures in
     let told = c.front_of-front.ensures ∙ ap (λ (t : List ℕ). Thinking c.in-Some-Some.depth (value_of c.in-Some-Some.score) (unwrap_or c.args.info.now.time 0 / 10) (unwrap_or c.args.info.now.nodes 0) c.args.hint t) text in
     let fits = front_fits c.args.out.now (facts_of c.args.info.now) c.args.at.now c.args.hint c.in-Some-Some.depth c.in-Some-Some.score first later
-        front c.in-Some-Some.is-0 c.in-Some-Some.is-1 c.in-Some.ensures.1 told c.requires.room in
+    front c.in-Some-Some.is-0 c.in-Some-Some.is-1 c.in-Some.ensures.1 told c.requires.room in
     let left : length (spaced (legal_run c.play.result (run (tokens c.in-Some.others.now)))) ≡ length (spaced later) =
-        ap (λ (q : Placement). length (spaced (legal_run q (run (tokens c.in-Some.others.now))))) c.play.ensures in
+    ap (λ (q : Placement). length (spaced (legal_run q (run (tokens c.in-Some.others.now))))) c.play.ensures in
     rw c.write_reply.ensures (omega (arith, fits, left, length-append c.args.out.now.text (told_text front)))
 
 pub returns-clause-text : goal.returns-clause-text
@@ -59,8 +59,8 @@ returns-clause-text c =
     let text : c.as_slice.result.now ≡ text_of first = c.as_slice.ensures.value ∙ c.write_move-text.ensures in
     let told = c.front_of-front.ensures ∙ ap (λ (t : List ℕ). Thinking c.in-Some-Some.depth (value_of c.in-Some-Some.score) (unwrap_or c.args.info.now.time 0 / 10) (unwrap_or c.args.info.now.nodes 0) c.args.hint t) text in
     let left : spaced (legal_run c.play.result (run (tokens c.in-Some.others.now))) ≡ spaced later =
-        ap (λ (q : Placement). spaced (legal_run q (run (tokens c.in-Some.others.now)))) c.play.ensures in
+    ap (λ (q : Placement). spaced (legal_run q (run (tokens c.in-Some.others.now)))) c.play.ensures in
     c.write_moves.ensures ∙ ap (λ (out : Text). with out (spaced (legal_run c.play.result (run (tokens c.in-Some.others.now))))) c.write_reply.ensures
     ∙ ap (λ (t : List ℕ). with (with c.args.out.now (told_text front)) t) left
     ∙ line_done c.args.out.now (facts_of c.args.info.now) c.args.at.now c.args.hint c.in-Some-Some.depth c.in-Some-Some.score first later
-        front c.in-Some-Some.is-0 c.in-Some-Some.is-1 c.in-Some.ensures.1 told
+    front c.in-Some-Some.is-0 c.in-Some-Some.is-1 c.in-Some.ensures.1 told

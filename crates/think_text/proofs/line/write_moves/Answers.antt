@@ -17,5 +17,13 @@ write_spaced-requires-clause-room c =
     let later : List Move = legal_run (played c.loop-m.position c.in-Some.m) (run (tokens c.in-Some.after.now)) in
     let first : length (spaced left) ≡ length (spaced (c.in-Some.m ∷ later)) = ap (λ (moves : List Move). length (spaced moves)) c.in-Some.ensures.1 in
     let whole = ap length c.loop-m.invariant.text in
-    omega (arith, first, whole, c.loop-m.invariant.room, c.requires, length-append c.loop-m.out.text (spaced left), length-append (32 ∷ text_of c.in-Some.m) (spaced later),
-        length-append c.args.out.now.text (spaced (legal_run c.args.at.now (run (tokens c.args.moves.now)))))
+    omega (
+      arith,
+      first,
+      whole,
+      c.loop-m.invariant.room,
+      c.requires,
+      length-append c.loop-m.out.text (spaced left),
+      length-append (32 ∷ text_of c.in-Some.m) (spaced later),
+      length-append c.args.out.now.text (spaced (legal_run c.args.at.now (run (tokens c.args.moves.now)))),
+    )
