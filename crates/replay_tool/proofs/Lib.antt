@@ -5,3 +5,6 @@ mod Turns
 mod Written
 mod Opens
 mod Answers
+mod Listing
+mod Commands
+mod Words

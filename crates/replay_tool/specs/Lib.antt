@@ -1,4 +1,6 @@
+pub mod Commands
 pub mod Diagnostics
+pub mod Moves
 pub mod Program
 pub mod Reading
 pub mod Replay

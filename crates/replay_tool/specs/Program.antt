@@ -1,25 +1,20 @@
 -- What the program answers.
-use Rattle.std.specs.Prelude.{◌≡◌, ◌⊎◌, ℕ, ◌^◌, ◌<◌, List, [], ◌∷◌, length, Bool, true, false, if◌then◌else◌, codes, Option, Some, None, Vec, vec_items, map}
-use Rattle.std.specs.Str.{bytes_eq}
+use Rattle.std.specs.Prelude.{◌≡◌, ◌⊎◌, ℕ, ◌^◌, ◌<◌, List, [], length, Bool, true, false, if◌then◌else◌, Option, Some, None, Result, Err, IsOk}
 use Rattle.std.specs.Io.KnownBytes.{Appends}
 use Rattle.line_io.specs.Causes.{Rose}
 use Rattle.line_io.specs.Lines.{items}
 use Rattle.line_io.specs.Source.{TakesPrefix}
 use Rattle.policy_rules.specs.Policy.{usual}
+use Rattle.chess_board.specs.Placement.{Placement}
+use Rattle.fen_text.specs.declared.fault.FenFault.{FenFault}
+use Rattle.replay_tool.specs.declared.command.Command.{Command}
+use Rattle.replay_tool.specs.declared.command.Command.TheVariants as commands
 use Rattle.replay_tool.specs.declared.ending.Ending.{Ending}
 use Rattle.replay_tool.specs.declared.ending.Ending.TheVariants as endings
 use Rattle.replay_tool.specs.Diagnostics.{code_of, diagnostic}
 use Rattle.replay_tool.specs.Reading.{first_fault, opened}
-use Rattle.replay_tool.specs.Replay.{Streams, Stopped, ReplaysTo}
-
--- the bytes of words
-abbrev pub texts : {Z : Type 0} → List (Vec ℕ Z) → List (List ℕ)
-texts words = map vec_items words
-
--- the words command a replay
-abbrev pub is_replay : List (List ℕ) → Bool
-is_replay (word ∷ []) = bytes_eq word (codes "replay")
-is_replay words = false
+use Rattle.replay_tool.specs.Moves.{Listed, ListsFront, position_fault}
+use Rattle.replay_tool.specs.Replay.{Streams, Stopped, ReplaysTo, CutShort}
 
 -- the counts of faults of the input, the output and the diagnostic
 pub record Counts : Type 0 where
@@ -53,6 +48,13 @@ pub record Ran (fits : Bool) (untouched : Type 0) (code : ℕ) (start now : Stre
   pub reading : ending ≡ endings.ReadingFailed → Rose old.read new.read
   pub writing : ending ≡ endings.WritingFailed → Rose old.written new.written
 
+-- What the command came to. A list of moves reads nothing; `spelled` is what the words behind the command spell as a position.
+abbrev pub Does : Option Command → Result Placement FenFault → Type 0 → Type 0 → Type 0 → ℕ → Streams → Streams → Option (List ℕ) → Option (List ℕ) → Counts → Counts → Type 0
+Does (Some commands.Moves) spelled unread kept silent code start now diag_old diag_new old new =
+    unread × Listed spelled kept silent code start.taken now.taken diag_old diag_new old.written new.written old.told new.told
+Does (Some commands.Replay) spelled unread kept silent code start now diag_old diag_new old new = Ran true (unread × kept) code start now diag_old diag_new old new
+Does None spelled unread kept silent code start now diag_old diag_new old new = Ran false (unread × kept) code start now diag_old diag_new old new
+
 -- the words that fit no command are told, and nothing else happens
 abbrev pub IsUsage : Bool → Type 0 → ℕ → Type 0
 IsUsage fits untouched code = fits ≡ false → ((code ≡ 2) ⊎ (code ≡ 5)) × untouched
@@ -77,3 +79,18 @@ Completes code left old new = (x : List ℕ) → left ≡ Some x → length x < 
 abbrev pub TellsFault : ℕ → Option (List ℕ) → Option (List ℕ) → Option (List ℕ) → Counts → Counts → Type 0
 TellsFault code left diag_old diag_new old new = (x : List ℕ) (fault : Ending) → left ≡ Some x → length x < 2 ^ 32 → first_fault 1 opened (items 131072 x) ≡ Some fault → IsSteady old new
     → ((code ≡ 2) × Appends diag_old diag_new (diagnostic fault)) ⊎ (code ≡ 3)
+
+-- The output is untouched, or took a front of what was due.
+abbrev pub WritesFront : Option Command → Result Placement FenFault → Type 0 → Type 0 → Streams → Streams → Type 0
+WritesFront (Some commands.Moves) spelled unread kept start now = unread × (kept ⊎ ListsFront spelled start.taken now.taken)
+WritesFront (Some commands.Replay) spelled unread kept start now = (unread × kept) ⊎ CutShort usual start now
+WritesFront None spelled unread kept start now = unread × kept
+
+-- the moves of a position that is spelled are written, or there was no memory
+abbrev pub CompletesList : Result Placement FenFault → ℕ → Counts → Counts → Type 0
+CompletesList spelled code old new = IsOk spelled → IsSteady old new → (code ≡ 0) ⊎ (code ≡ 3)
+
+-- the fault of a text that spells no position is told, or there was no memory
+abbrev pub RefusesPosition : Result Placement FenFault → ℕ → Option (List ℕ) → Option (List ℕ) → Counts → Counts → Type 0
+RefusesPosition spelled code diag_old diag_new old new = (fault : FenFault) → spelled ≡ Err fault → IsSteady old new
+    → ((code ≡ 2) × Appends diag_old diag_new (position_fault fault)) ⊎ (code ≡ 3)

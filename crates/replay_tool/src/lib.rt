@@ -1,7 +1,9 @@
-//! Replays recorded sessions.
+//! Replays recorded sessions, and lists legal moves.
 #![tactic(auto)]
 
+mod command;
 mod ending;
+mod moves;
 mod replay;
 mod run;
 #[cfg(test)]

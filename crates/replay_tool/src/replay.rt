@@ -1,25 +1,22 @@
 // The program.
-ghost use Rattle.std.specs.Prelude.{◌≡◌, ◌⊎◌, ◌^◌, [], true};
+ghost use Rattle.std.specs.Prelude.{◌≡◌, ◌⊎◌, ℕ, ◌^◌, [], true, Some, is_some};
 ghost use Rattle.line_io.specs.Causes.{Rose};
 ghost use Rattle.policy_rules.specs.Policy.{usual};
-ghost use Rattle.replay_tool.specs.Program.{is_replay, texts, counts, Ran, status_of, IsUsage, FindsFault, Completes, TellsFault};
-ghost use Rattle.replay_tool.specs.Replay.{streams, ReplaysAll, ReplaysWhole, CutShort};
+ghost use Rattle.fen_text.specs.Fen.{position_of};
+ghost use Rattle.replay_tool.specs.declared.command.Command.TheVariants as commands;
+ghost use Rattle.replay_tool.specs.declared.ending.Ending.TheVariants as endings;
+ghost use Rattle.replay_tool.specs.Commands.{command_of, texts};
+ghost use Rattle.replay_tool.specs.Moves.{fen_of, FindsNoPosition, ListsAll};
+ghost use Rattle.replay_tool.specs.Program.{counts, Completes, CompletesList, Does, FindsFault, IsUsage, Ran, RefusesPosition, status_of, Tells, TellsFault, WritesFront};
+ghost use Rattle.replay_tool.specs.Replay.{streams, ReplaysAll, ReplaysWhole};
 
+use crate::command::{Command, read_command};
 use crate::ending::Ending;
+use crate::moves::list_moves;
 use crate::run::Run;
 use line_io::{Sink, Source, Status, write_all};
 use policy_rules::Settings;
 use std::alloc::Global;
-
-// The words command a replay.
-fn is_replay(words: &[Vec<u8>]) -> bool
-    ensures { result ≡ is_replay (texts words.now) }
-{
-    match words {
-        [word] => word.as_slice() == b"replay".as_slice(),
-        _ => false,
-    }
-}
 
 fn status(ending: Ending, failed: bool) -> Status
     ensures { result.code ≡ status_of ending failed }
@@ -29,23 +26,27 @@ fn status(ending: Ending, failed: bool) -> Status
     }
 }
 
-// Runs the program, told as one ending.
-fn run_words<I: Source, O: Sink, D: Sink>(
+// Tells that the words fit no command.
+fn refuse_words<D: Sink>(diag: &mut D) -> Status
+    ensures { (old_read new_read old_written new_written : ℕ)
+        → Tells result.code endings.Usage (D.taken diag.old) (D.taken diag.new) (counts old_read old_written (D.faults diag.old)) (counts new_read new_written (D.faults diag.new)) }
+{
+    let failed = write_all(diag, Ending::Usage.tail()).is_err();
+    status(Ending::Usage, failed)
+}
+
+// Replays the input, told as one ending.
+fn run_replay<I: Source, O: Sink, D: Sink>(
     alloc: Global,
-    words: &[Vec<u8>],
     input: &mut I,
     output: &mut O,
     diag: &mut D,
 ) -> Status
-    ensures { Ran (is_replay (texts words.now)) ((input.new ≡ input.old) × (output.new ≡ output.old)) result.code
+    ensures { Ran true ((input.new ≡ input.old) × (output.new ≡ output.old)) result.code
         (streams (I.given input.old) (I.left input.old) (O.taken output.old)) (streams (I.given input.new) (I.left input.new) (O.taken output.new))
         (D.taken diag.old) (D.taken diag.new)
         (counts (I.faults input.old) (O.faults output.old) (D.faults diag.old)) (counts (I.faults input.new) (O.faults output.new) (D.faults diag.new)) }
 {
-    if !is_replay(words) {
-        let failed = write_all(diag, Ending::Usage.tail()).is_err();
-        return status(Ending::Usage, failed);
-    }
     let Ok(mut run) = Run::make(alloc, &Settings::usual()) else {
         let failed = write_all(diag, Ending::NoMemory.tail()).is_err();
         return status(Ending::NoMemory, failed);
@@ -55,12 +56,32 @@ fn run_words<I: Source, O: Sink, D: Sink>(
     status(ending, failed)
 }
 
+// Runs the command of the words.
+fn run_words<I: Source, O: Sink, D: Sink>(
+    alloc: Global,
+    words: &[Vec<u8>],
+    input: &mut I,
+    output: &mut O,
+    diag: &mut D,
+) -> Status
+    ensures { Does (command_of (texts words.now)) (position_of (fen_of (texts words.now))) (input.new ≡ input.old) (output.new ≡ output.old) (diag.new ≡ diag.old) result.code (streams (I.given input.old) (I.left input.old) (O.taken output.old)) (streams (I.given input.new) (I.left input.new) (O.taken output.new)) (D.taken diag.old) (D.taken diag.new) (counts (I.faults input.old) (O.faults output.old) (D.faults diag.old)) (counts (I.faults input.new) (O.faults output.new) (D.faults diag.new)) }
+{
+    match read_command(words) {
+        Some(Command::Replay) => run_replay(alloc, input, output, diag),
+        Some(Command::Moves) => list_moves(alloc, words, output, diag),
+        None => refuse_words(diag),
+    }
+}
+
 /// Runs the program `replay` on its words, which do not include its name.
 ///
 /// The word `replay` reads marks from the input, passes over those of lines that were written, and
-/// writes the script of the session. The statuses are 0; 2 where the words are others, or where a
-/// line of the input has no mark or its event may not come; 3 where there is no memory at the
-/// beginning; 4 and 5 where reading and writing failed; and 6 where the input is too long.
+/// writes the script of the session. The word `moves` joins the words behind it by blanks, as the
+/// text of a position (PGN standard, section 16.1), and writes its legal moves, one a line, in the
+/// byte order of their texts; it reads no input. The statuses are 0; 2 where the words are others,
+/// where a line of the input has no mark or its event may not come, or where the text spells no
+/// position; 3 where there is no memory at the beginning; 4 and 5 where reading and writing
+/// failed; and 6 where the input is too long.
 pub fn replay_main<I: Source, O: Sink, D: Sink>(
     alloc: Global,
     words: &[Vec<u8>],
@@ -68,18 +89,21 @@ pub fn replay_main<I: Source, O: Sink, D: Sink>(
     output: &mut O,
     diag: &mut D,
 ) -> Status
-    ensures ran { Ran (is_replay (texts words.now)) ((input.new ≡ input.old) × (output.new ≡ output.old)) result.code
-        (streams (I.given input.old) (I.left input.old) (O.taken output.old)) (streams (I.given input.new) (I.left input.new) (O.taken output.new))
-        (D.taken diag.old) (D.taken diag.new) (counts (I.faults input.old) (O.faults output.old) (D.faults diag.old)) (counts (I.faults input.new) (O.faults output.new) (D.faults diag.new)) }
-    ensures usage { IsUsage (is_replay (texts words.now)) ((input.new ≡ input.old) × (output.new ≡ output.old)) result.code }
-    ensures done { result.code ≡ 0 → ReplaysAll usual [] (streams (I.given input.old) (I.left input.old) (O.taken output.old)) (streams (I.given input.new) (I.left input.new) (O.taken output.new)) }
-    ensures script { result.code ≡ 2 → (is_replay (texts words.now)) ≡ true → FindsFault (streams (I.given input.old) (I.left input.old) (O.taken output.old)) (streams (I.given input.new) (I.left input.new) (O.taken output.new)) (D.taken diag.old) (D.taken diag.new) }
+    ensures does { Does (command_of (texts words.now)) (position_of (fen_of (texts words.now))) (input.new ≡ input.old) (output.new ≡ output.old) (diag.new ≡ diag.old) result.code (streams (I.given input.old) (I.left input.old) (O.taken output.old)) (streams (I.given input.new) (I.left input.new) (O.taken output.new)) (D.taken diag.old) (D.taken diag.new) (counts (I.faults input.old) (O.faults output.old) (D.faults diag.old)) (counts (I.faults input.new) (O.faults output.new) (D.faults diag.new)) }
+    ensures usage { IsUsage (is_some (command_of (texts words.now))) ((input.new ≡ input.old) × (output.new ≡ output.old)) result.code }
+    ensures done { command_of (texts words.now) ≡ Some commands.Replay → result.code ≡ 0 → ReplaysAll usual [] (streams (I.given input.old) (I.left input.old) (O.taken output.old)) (streams (I.given input.new) (I.left input.new) (O.taken output.new)) }
+    ensures script { command_of (texts words.now) ≡ Some commands.Replay → result.code ≡ 2 → FindsFault (streams (I.given input.old) (I.left input.old) (O.taken output.old)) (streams (I.given input.new) (I.left input.new) (O.taken output.new)) (D.taken diag.old) (D.taken diag.new) }
     ensures memory { result.code ≡ 3 → ((input.new ≡ input.old) × (output.new ≡ output.old)) }
     ensures reading { result.code ≡ 4 → Rose (I.faults input.old) (I.faults input.new) × ReplaysWhole usual 0 [] (streams (I.given input.old) (I.left input.old) (O.taken output.old)) (streams (I.given input.new) (I.left input.new) (O.taken output.new)) }
-    ensures writing { result.code ≡ 5 → (Rose (O.faults output.old) (O.faults output.new) ⊎ Rose (D.faults diag.old) (D.faults diag.new)) × (((input.new ≡ input.old) × (output.new ≡ output.old)) ⊎ CutShort usual (streams (I.given input.old) (I.left input.old) (O.taken output.old)) (streams (I.given input.new) (I.left input.new) (O.taken output.new))) }
+    ensures writing { result.code ≡ 5 → (Rose (O.faults output.old) (O.faults output.new) ⊎ Rose (D.faults diag.old) (D.faults diag.new)) × WritesFront (command_of (texts words.now)) (position_of (fen_of (texts words.now))) (input.new ≡ input.old) (output.new ≡ output.old) (streams (I.given input.old) (I.left input.old) (O.taken output.old)) (streams (I.given input.new) (I.left input.new) (O.taken output.new)) }
     ensures too_long { result.code ≡ 6 → ReplaysWhole usual (2 ^ 32) [] (streams (I.given input.old) (I.left input.old) (O.taken output.old)) (streams (I.given input.new) (I.left input.new) (O.taken output.new)) }
-    ensures complete { (is_replay (texts words.now)) ≡ true → Completes result.code (I.left input.old) (counts (I.faults input.old) (O.faults output.old) (D.faults diag.old)) (counts (I.faults input.new) (O.faults output.new) (D.faults diag.new)) }
-    ensures faulty { (is_replay (texts words.now)) ≡ true → TellsFault result.code (I.left input.old) (D.taken diag.old) (D.taken diag.new) (counts (I.faults input.old) (O.faults output.old) (D.faults diag.old)) (counts (I.faults input.new) (O.faults output.new) (D.faults diag.new)) }
+    ensures complete { command_of (texts words.now) ≡ Some commands.Replay → Completes result.code (I.left input.old) (counts (I.faults input.old) (O.faults output.old) (D.faults diag.old)) (counts (I.faults input.new) (O.faults output.new) (D.faults diag.new)) }
+    ensures faulty { command_of (texts words.now) ≡ Some commands.Replay → TellsFault result.code (I.left input.old) (D.taken diag.old) (D.taken diag.new) (counts (I.faults input.old) (O.faults output.old) (D.faults diag.old)) (counts (I.faults input.new) (O.faults output.new) (D.faults diag.new)) }
+    ensures moves_done { command_of (texts words.now) ≡ Some commands.Moves → result.code ≡ 0 → (input.new ≡ input.old) × (diag.new ≡ diag.old) × ListsAll (position_of (fen_of (texts words.now))) (O.taken output.old) (O.taken output.new) }
+    ensures position { command_of (texts words.now) ≡ Some commands.Moves → result.code ≡ 2 → ((input.new ≡ input.old) × (output.new ≡ output.old)) × FindsNoPosition (position_of (fen_of (texts words.now))) (D.taken diag.old) (D.taken diag.new) }
+    ensures moves_complete { command_of (texts words.now) ≡ Some commands.Moves → CompletesList (position_of (fen_of (texts words.now))) result.code (counts (I.faults input.old) (O.faults output.old) (D.faults diag.old)) (counts (I.faults input.new) (O.faults output.new) (D.faults diag.new)) }
+    ensures moves_refused { command_of (texts words.now) ≡ Some commands.Moves → RefusesPosition (position_of (fen_of (texts words.now))) result.code (D.taken diag.old) (D.taken diag.new) (counts (I.faults input.old) (O.faults output.old) (D.faults diag.old)) (counts (I.faults input.new) (O.faults output.new) (D.faults diag.new)) }
+    ensures moves_read_nothing { command_of (texts words.now) ≡ Some commands.Moves → input.new ≡ input.old }
 {
     run_words(alloc, words, input, output, diag)
 }

@@ -109,3 +109,53 @@ fn long_lines_have_no_mark(rt: HostRuntime) -> Result<(), Fail> {
     assert_eq!(rt; told.as_slice(), b"replay: line 1 has no mark\n".as_slice());
     Ok(())
 }
+
+// Runs the program on words between bars, with an output some writes to which fail. It gives the
+// status and what was written to the output and to the diagnostic.
+fn answered(alloc: Global, words: &str, fails: &[u64]) -> Result<(u8, Vec<u8>, Vec<u8>), Fail> {
+    let mut source = MemSource::make(alloc, b"x quit\n", 7, &[])?;
+    let mut output = MemSink::make(alloc, 1_000, fails)?;
+    let mut diag = MemSink::make(alloc, 100, &[])?;
+    let mut split = Vec::new(alloc);
+    for word in words.split('|') {
+        split.push(Vec::from_slice(alloc, word.as_bytes())?)?;
+    }
+    let status = replay_main(alloc, split.as_slice(), &mut source, &mut output, &mut diag);
+    let written = Vec::from_slice(alloc, output.taken())?;
+    let told = Vec::from_slice(alloc, diag.taken())?;
+    Ok((status.code, written, told))
+}
+
+const PROMOTIONS: &str = "e1d1\ne1d2\ne1e2\ne1f1\ne1f2\ne7e8b\ne7e8n\ne7e8q\ne7e8r\n";
+
+// Words, the status, the output and the diagnostic.
+const ANSWERS: [(&str, u8, &str, &str); 7] = [
+    ("moves|7k/4P3/8/8/8/8/8/4K3|w|-|-|0|1", 0, PROMOTIONS, ""),
+    ("moves|7k/4P3/8/8/8/8/8/4K3 w - - 0 1", 0, PROMOTIONS, ""),
+    // Mate.
+    ("moves|7k/6Q1/6K1/8/8/8/8/8|b|-|-", 0, "", ""),
+    ("moves|8/8|w|-|-|0|1", 2, "", "replay: position: board\n"),
+    (
+        "moves|4k3/8/8/8/8/8/8/4K3|w|-",
+        2,
+        "",
+        "replay: position: en passant\n",
+    ),
+    ("moves", 2, "", "replay: usage\n"),
+    ("move|4k3/8/8/8/8/8/8/4K3|w|-|-", 2, "", "replay: usage\n"),
+];
+
+#[test]
+fn moves_are_listed(rt: HostRuntime) -> Result<(), Fail> {
+    let alloc = rt.alloc();
+    for (words, code, lines, fault) in ANSWERS {
+        let (status, written, told) = answered(alloc, words, &[])?;
+        assert_eq!(rt; status, code, "of {words}");
+        assert_eq!(rt; written.as_slice(), lines.as_bytes(), "of {words}");
+        assert_eq!(rt; told.as_slice(), fault.as_bytes(), "of {words}");
+    }
+    let (status, _, told) = answered(alloc, "moves|4k3/8/8/8/8/8/8/4K3|w|-|-", &[1])?;
+    assert_eq!(rt; status, 5);
+    assert_eq!(rt; told.as_slice(), b"replay: writing failed\n".as_slice());
+    Ok(())
+}

@@ -1,11 +1,44 @@
-use Rattle.replay_tool.proofs.Answers.{writing, complete, faulty}
+use Rattle.replay_tool.proofs.Commands as does
 use Rattle.replay_tool.proofs.replay.replay_main.Goals as goal
 
+pub returns-clause-usage : goal.returns-clause-usage
+returns-clause-usage g c = does.usage _ _ _ _ _ _ _ _ _ _ _ _ c.run_words.ensures
+
+pub returns-clause-done : goal.returns-clause-done
+returns-clause-done g c = does.done _ _ _ _ _ _ _ _ _ _ _ _ c.run_words.ensures
+
+pub returns-clause-script : goal.returns-clause-script
+returns-clause-script g c = does.script _ _ _ _ _ _ _ _ _ _ _ _ c.run_words.ensures
+
+pub returns-clause-memory : goal.returns-clause-memory
+returns-clause-memory g c = does.memory _ _ _ _ _ _ _ _ _ _ _ _ c.run_words.ensures
+
+pub returns-clause-reading : goal.returns-clause-reading
+returns-clause-reading g c = does.reading _ _ _ _ _ _ _ _ _ _ _ _ c.run_words.ensures
+
 pub returns-clause-writing : goal.returns-clause-writing
-returns-clause-writing g c = writing _ _ _ _ _ _ _ _ _ c.run_words.ensures
+returns-clause-writing g c = does.writing _ _ _ _ _ _ _ _ _ _ _ _ c.run_words.ensures
+
+pub returns-clause-too_long : goal.returns-clause-too_long
+returns-clause-too_long g c = does.too_long _ _ _ _ _ _ _ _ _ _ _ _ c.run_words.ensures
 
 pub returns-clause-complete : goal.returns-clause-complete
-returns-clause-complete g c = complete _ _ _ _ _ _ _ _ _ c.run_words.ensures
+returns-clause-complete g c = does.complete _ _ _ _ _ _ _ _ _ _ _ _ c.run_words.ensures
 
 pub returns-clause-faulty : goal.returns-clause-faulty
-returns-clause-faulty g c = faulty _ _ _ _ _ _ _ _ _ c.run_words.ensures
+returns-clause-faulty g c = does.faulty _ _ _ _ _ _ _ _ _ _ _ _ c.run_words.ensures
+
+pub returns-clause-moves_done : goal.returns-clause-moves_done
+returns-clause-moves_done g c = does.moves_done _ _ _ _ _ _ _ _ _ _ _ _ c.run_words.ensures
+
+pub returns-clause-position : goal.returns-clause-position
+returns-clause-position g c = does.position _ _ _ _ _ _ _ _ _ _ _ _ c.run_words.ensures
+
+pub returns-clause-moves_complete : goal.returns-clause-moves_complete
+returns-clause-moves_complete g c = does.moves_complete _ _ _ _ _ _ _ _ _ _ _ _ c.run_words.ensures
+
+pub returns-clause-moves_refused : goal.returns-clause-moves_refused
+returns-clause-moves_refused g c = does.moves_refused _ _ _ _ _ _ _ _ _ _ _ _ c.run_words.ensures
+
+pub returns-clause-moves_read_nothing : goal.returns-clause-moves_read_nothing
+returns-clause-moves_read_nothing g c = does.moves_unread _ _ _ _ _ _ _ _ _ _ _ _ c.run_words.ensures

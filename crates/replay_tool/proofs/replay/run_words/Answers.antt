@@ -1,27 +1,18 @@
-use Rattle.std.proofs.Common.{◌∙◌, sym, refl}
+use Rattle.std.proofs.Common.{◌≡◌, Option, Some, None, ◌∙◌, sym, ap, refl}
 use Rattle.replay_tool.specs.declared.ending.Ending.TheVariants as endings
-use Rattle.replay_tool.specs.Program.{counts}
-use Rattle.replay_tool.proofs.Answers.{tells}
+use Rattle.replay_tool.specs.declared.command.Command.{Command}
+use Rattle.replay_tool.proofs.Commands.{is_done}
 use Rattle.replay_tool.proofs.replay.run_words.Goals as goal
 
-pub returns-then-not-is_replay : goal.returns-then-not-is_replay
-returns-then-not-is_replay g c = record {
-  ending = endings.Usage;
-  ends = (sym c.is_replay.ensures ∙ c.if-not-is_replay.true, (refl, refl));
-  tells = tells c.status.result.code endings.Usage c.write_all.result c.is_err-failed.result c.tail.result.now (g.D.Sink.taken c.args.diag.now) (g.D.Sink.taken c.write_all.new.sink)
-      (counts (g.I.Source.faults c.args.input.now) (g.O.Sink.faults c.args.output.now) (g.D.Sink.faults c.args.diag.now)) (counts (g.I.Source.faults c.args.input.now) (g.O.Sink.faults c.args.output.now) (g.D.Sink.faults c.write_all.new.sink))
-      c.is_err-failed.ensures.value c.status.ensures c.tail.ensures c.write_all.ensures.ok c.write_all.ensures.err c.write_all.ensures.cause;
-  reading = λ e. cc;
-  writing = λ e. cc;
-}
+pub returns-in-Some-Replay : goal.returns-in-Some-Replay
+returns-in-Some-Replay g c =
+    is_done _ _ _ _ _ _ _ _ _ _ _ _ _ (sym c.read_command.ensures ∙ c.in-Some-Replay.is ∙ ap (λ (k : Command). Some k) c.in-Some-Replay.field-0-is) c.run_replay.ensures
 
-pub returns-in_default : goal.returns-in_default
-returns-in_default g c = record {
-  ending = endings.NoMemory;
-  ends = (sym c.is_replay.ensures ∙ c.if-not-is_replay.false, (refl, refl));
-  tells = tells c.status-in_default.result.code endings.NoMemory c.write_all-in_default.result c.is_err-failed-in_default.result c.tail-in_default.result.now (g.D.Sink.taken c.args.diag.now) (g.D.Sink.taken c.write_all-in_default.new.sink)
-      (counts (g.I.Source.faults c.args.input.now) (g.O.Sink.faults c.args.output.now) (g.D.Sink.faults c.args.diag.now)) (counts (g.I.Source.faults c.args.input.now) (g.O.Sink.faults c.args.output.now) (g.D.Sink.faults c.write_all-in_default.new.sink))
-      c.is_err-failed-in_default.ensures.value c.status-in_default.ensures c.tail-in_default.ensures c.write_all-in_default.ensures.ok c.write_all-in_default.ensures.err c.write_all-in_default.ensures.cause;
-  reading = λ e. cc;
-  writing = λ e. cc;
-}
+pub returns-in-Some-Moves : goal.returns-in-Some-Moves
+returns-in-Some-Moves g c =
+    is_done _ _ _ _ _ _ _ _ _ _ _ _ _ (sym c.read_command.ensures ∙ c.in-Some-Moves.is ∙ ap (λ (k : Command). Some k) c.in-Some-Moves.field-0-is) (refl, c.list_moves.ensures)
+
+pub returns-in-None : goal.returns-in-None
+returns-in-None g c =
+    is_done _ _ _ _ _ _ _ _ _ _ _ _ _ (sym c.read_command.ensures ∙ c.in-None.is)
+    (record { ending = endings.Usage; ends = (refl, (refl, refl)); tells = c.refuse_words.ensures (g.I.Source.faults c.args.input.now) (g.I.Source.faults c.args.input.now) (g.O.Sink.faults c.args.output.now) (g.O.Sink.faults c.args.output.now); reading = λ e. cc; writing = λ e. cc })
