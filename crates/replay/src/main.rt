@@ -6,11 +6,22 @@ use replay_tool::replay_main;
 use std::process::ExitCode;
 use std::{env, io};
 
-fn main(rt: HostRuntime) -> io::Result<ExitCode> {
+/// The words behind the program's name.
+fn words_of(rt: &HostRuntime) -> io::Result<Vec<Vec<u8>>> {
     let mut words: Vec<Vec<u8>> = Vec::new(rt.alloc());
-    for word in env::args(&rt)?.skip(1) {
+    for word in env::args(rt)?.skip(1) {
         words.push(word.into_bytes())?;
     }
+    Ok(words)
+}
+
+fn main(rt: HostRuntime) -> ExitCode {
+    let words = match words_of(&rt) {
+        Ok(words) => words,
+        Err(error) if error.kind() == io::ErrorKind::OutOfMemory => return ExitCode::from(3),
+        // a word that is not UTF-8 fits no command
+        Err(_) => Vec::new(rt.alloc()),
+    };
     let mut input = ReadAdapter::new(rt.stdin());
     let mut output = WriteAdapter::new(rt.stdout());
     let mut diag = WriteAdapter::new(rt.stderr());
@@ -21,5 +32,5 @@ fn main(rt: HostRuntime) -> io::Result<ExitCode> {
         &mut output,
         &mut diag,
     );
-    Ok(ExitCode::from(status.code))
+    ExitCode::from(status.code)
 }
