@@ -31,7 +31,7 @@ fn put_lines(letter: u8, text: &[u8], out: &mut Out)
 }
 
 /// Puts the marks of a step: that of its event, and those of the lines in the texts that it wrote
-/// to the interface and to the engine. They take at most 2,097,152 bytes.
+/// to the interface and to the engine.
 pub fn put_step(event: &Event, iface: &[u8], engine: &[u8], out: &mut Out)
     requires mark { length (event_marked (event_of event.now)) ≤ 65539 }
     requires iface { length iface.now ≤ 131072 }

@@ -21,7 +21,7 @@ pub struct Seen {
     pub nodes: u64,
     /// The move that is searched.
     pub current: Option<Move>,
-    /// The number of that move, from 1.
+    /// The number of a searched move as it was told last, from 1.
     pub number: u64,
     pub score: Option<i64>,
 }
