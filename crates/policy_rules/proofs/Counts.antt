@@ -7,7 +7,7 @@ use Rattle.std.proofs.lemmas.Float.{T_from_true}
 use Rattle.policy_rules.specs.declared.settings.Settings.{Settings}
 use Rattle.policy_rules.specs.declared.scores.Scores.{Scores}
 use Rattle.policy_rules.specs.Policy.{IsProper}
-use Rattle.policy_rules.specs.Scores.{Score, AtMost, LastAtMost, Resigns, AcceptsDraw, lost_bound, is_at_most, run_after, counted}
+use Rattle.policy_rules.specs.Scores.{Score, AtMost, LastAtMost, Resigns, AcceptsDraw, lost_bound, is_at_most, run_after, counted, last_at_most, CountsTell, TestsTell}
 
 pub settings_kept : (o : Settings) (xs : List Score) → (counted o xs).settings ≡ o
 settings_kept o [] = refl
@@ -86,3 +86,30 @@ resigns_on o xs s p e on = both_are s.settings.resign (leb s.settings.resign_mov
 
 pub resigns_off : (o : Settings) (xs : List Score) (s : Scores) → IsProper o → s ≡ counted o xs → s.settings.resign ≡ false → IsTrue s.settings.resign ↔ Resigns o xs
 resigns_off o xs s p e off = one_fails s.settings.resign (leb s.settings.resign_moves s.lost) (lost_tells o xs s p e) off
+
+-- THE TESTS
+
+list_tells : (bound : ℤ) (n : ℕ) (xs : List Score) → Decides (last_at_most n bound xs) (LastAtMost n bound xs)
+list_tells bound zero xs = (λ e. tt, λ u. refl)
+list_tells bound (suc n) [] = grind arith
+list_tells bound (suc n) (x ∷ xs) = Decides-and _ _ (at_most bound x) (list_tells bound n xs)
+
+pub tests_tell : TestsTell
+tests_tell o xs = (Decides-and _ _ (λ q. q, λ q. q) (list_tells (lost_bound o) o.resign_moves xs), list_tells (pos 0) o.resign_moves xs)
+
+-- a run is long enough exactly where the last scores pass
+run_tells : (bound : ℤ) (n : ℕ) (xs : List Score) → n ≤ 1000 → leb n (run_of (is_at_most bound) xs) ≡ last_at_most n bound xs
+run_tells bound zero xs l = none_needed _
+run_tells bound (suc n) [] l = never n
+run_tells bound (suc n) (x ∷ xs) l =
+    step n (run_of (is_at_most bound) xs) (is_at_most bound x) l ∙ ap (λ b. is_at_most bound x && b) (run_tells bound n xs (omega arith))
+
+pub counts_tell : CountsTell
+counts_tell o xs p = (
+  ap (λ (v : Settings). v.resign && leb v.resign_moves (counted o xs).lost) (settings_kept o xs)
+      ∙ ap (λ n. o.resign && leb o.resign_moves n) (lost_is o xs)
+      ∙ ap (λ b. o.resign && b) (run_tells (lost_bound o) o.resign_moves xs p.few_moves),
+  ap (λ (v : Settings). leb v.resign_moves (counted o xs).level) (settings_kept o xs)
+      ∙ ap (λ n. leb o.resign_moves n) (level_is o xs)
+      ∙ run_tells (pos 0) o.resign_moves xs p.few_moves,
+)

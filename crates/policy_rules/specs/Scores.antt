@@ -1,7 +1,8 @@
 -- What the policy says of the scores of the moves that the engine showed.
-use Rattle.std.specs.Prelude.{◌≡◌, ◌+◌, ℕ, zero, suc, ℤ, ◌≤ℤ◌, int_le, pos, neg_ℤ, List, [], ◌∷◌, Bool, true, false, if◌then◌else◌, nat_lt, Option, Some, None}
+use Rattle.std.specs.Prelude.{◌≡◌, ◌↔◌, IsTrue, ◌+◌, ℕ, zero, suc, ℤ, ◌≤ℤ◌, int_le, pos, neg_ℤ, List, [], ◌∷◌, Bool, true, false, ◌&&◌, if◌then◌else◌, nat_lt, nat_le, Option, Some, None}
 use Rattle.policy_rules.specs.declared.settings.Settings.{Settings}
 use Rattle.policy_rules.specs.declared.scores.Scores.{Scores}
+use Rattle.policy_rules.specs.Policy.{IsProper}
 
 -- a score in hundredths of a pawn, or none: a move may be shown without one
 abbrev pub Score : Type 0
@@ -54,3 +55,39 @@ after_shown counts score = record {
 abbrev pub counted : Settings → List Score → Scores
 counted settings [] = no_scores settings
 counted settings (score ∷ scores) = after_shown (counted settings scores) score
+
+-- THE SAME AS TESTS
+
+-- the last n scores are there and at most the bound
+abbrev pub last_at_most : ℕ → ℤ → List Score → Bool
+last_at_most zero bound scores = true
+last_at_most (suc n) bound [] = false
+last_at_most (suc n) bound (score ∷ scores) = is_at_most bound score && last_at_most n bound scores
+
+-- whether the game is resigned after these scores
+abbrev pub does_resign : Settings → List Score → Bool
+does_resign settings scores = settings.resign && last_at_most settings.resign_moves (lost_bound settings) scores
+
+-- whether a draw is accepted after them
+abbrev pub does_accept : Settings → List Score → Bool
+does_accept settings scores = last_at_most settings.resign_moves (pos 0) scores
+
+-- whether the counts say to resign
+abbrev pub resigns_by : Scores → Bool
+resigns_by counts = counts.settings.resign && nat_le counts.settings.resign_moves counts.lost
+
+-- whether they say to accept a draw
+abbrev pub accepts_by : Scores → Bool
+accepts_by counts = nat_le counts.settings.resign_moves counts.level
+
+-- What the counts say is what the scores say, where the settings are proper.
+abbrev pub CountsTell : Type 0
+CountsTell =
+    (settings : Settings) (scores : List Score) → IsProper settings
+    → (resigns_by (counted settings scores) ≡ does_resign settings scores) × (accepts_by (counted settings scores) ≡ does_accept settings scores)
+
+-- The tests on scores hold exactly where the policy says so.
+abbrev pub TestsTell : Type 0
+TestsTell =
+    (settings : Settings) (scores : List Score)
+    → (IsTrue (does_resign settings scores) ↔ Resigns settings scores) × (IsTrue (does_accept settings scores) ↔ AcceptsDraw settings scores)

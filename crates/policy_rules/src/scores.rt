@@ -2,7 +2,7 @@
 ghost use Rattle.std.specs.Prelude.{◌≡◌, ◌↔◌, IsTrue, List, [], ◌∷◌};
 ghost use Rattle.policy_rules.specs.declared.settings.Settings.{Settings as SomeSettings};
 ghost use Rattle.policy_rules.specs.Policy.{IsProper};
-ghost use Rattle.policy_rules.specs.Scores.{Score, Resigns, AcceptsDraw, lost_bound, is_at_most, run_after, no_scores, after_shown, counted};
+ghost use Rattle.policy_rules.specs.Scores.{Score, Resigns, AcceptsDraw, lost_bound, is_at_most, run_after, no_scores, after_shown, counted, resigns_by, accepts_by};
 
 use crate::Settings;
 
@@ -73,6 +73,7 @@ impl Scores {
 
     /// Whether the game is resigned after the move that was shown last.
     pub fn resigns(&self) -> bool
+        ensures value { result ≡ resigns_by self.now }
         ensures exact { (settings : SomeSettings) (scores : List Score) → IsProper settings → self.now ≡ counted settings scores → IsTrue result ↔ Resigns settings scores }
     {
         self.settings.resign && self.lost >= self.settings.resign_moves
@@ -80,6 +81,7 @@ impl Scores {
 
     /// Whether a draw that the opponent offers is accepted.
     pub fn accepts_draw(&self) -> bool
+        ensures value { result ≡ accepts_by self.now }
         ensures exact { (settings : SomeSettings) (scores : List Score) → IsProper settings → self.now ≡ counted settings scores → IsTrue result ↔ AcceptsDraw settings scores }
     {
         self.level >= self.settings.resign_moves
