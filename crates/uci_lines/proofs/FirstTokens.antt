@@ -1,15 +1,15 @@
 -- The cut of a text as a relation: its first token that passes, or none.
-use Rattle.std.proofs.Common.{◌≡◌, ℕ, suc, List, [], ◌∷◌, ◌++◌, Bool, true, false, not, ◌&&◌, Option, Some, None, length, drop, ltb, refl, sym, ap, ◌∙◌, subst, arith}
+use Rattle.std.proofs.Common.{◌≡◌, ℕ, suc, List, [], ◌∷◌, ◌++◌, Bool, true, false, not, ◌&&◌, Option, Some, None, length, ltb, refl, sym, ap, ◌∙◌, subst, arith}
 use Rattle.std.proofs.lemmas.Bool.Decides.{nat_tests}
-use Rattle.std.specs.List.{before_first, list_all}
+use Rattle.std.specs.List.{list_all}
 use Rattle.std.specs.Option.{option_map}
-use Rattle.peer_words.specs.Tokens.{is_white, is_token, tokens, token_end}
+use Rattle.peer_words.specs.Tokens.{is_white, is_token, tokens}
 use Rattle.peer_words.proofs.TokenLists.{tokens_white}
 use Rattle.peer_words.proofs.Trims.{and_true}
 use Rattle.uci_lines.specs.Cuts.{Part, onto_part, cut}
 use Rattle.uci_lines.specs.Spells.{begins_white, ends_white, IsNoneOf, IsFirst}
-use Rattle.uci_lines.proofs.Fronts.{BeginsWhite, front, behind, front-white, behind-white, front-byte, behind-byte, front_append, front_is, behind_is, bytes_of}
-use Rattle.uci_lines.proofs.Cutting.{Cuts, part_at, step, here, cut_is, front_kept}
+use Rattle.uci_lines.proofs.Fronts.{BeginsWhite, front, behind, front-white, behind-white, front-byte, behind-byte, front_is, behind_is, bytes_of}
+use Rattle.uci_lines.proofs.Cutting.{part_at, step, here, cut_is, front_kept}
 use Rattle.uci_lines.proofs.CutTokens.{tokens_byte}
 
 -- the tokens of a text that is not fresh at its front begin behind its first one

@@ -20,3 +20,13 @@ pub mod Listings
 pub mod Ranges
 pub mod Tellings
 pub mod Rows
+pub mod Kept
+pub mod Again
+pub mod ValuesAgain
+pub mod SpinsAgain
+pub mod OptionsAgain
+pub mod InfosAgain
+pub mod MessagesAgain
+pub mod RunLengths
+pub mod ValueLengths
+pub mod SaidLengths

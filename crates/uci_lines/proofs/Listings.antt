@@ -1,15 +1,14 @@
 -- Parts of a line as relations, and as functions: what stands behind a word, moves, the values of a combo.
-use Rattle.std.proofs.Common.{◌≡◌, ℕ, zero, suc, ◌<◌, arith, length-append, ◌⊎◌, inl, inr, List, [], ◌∷◌, ◌++◌, Bool, true, false, ◌||◌, Option, Some, None, codes, cond, length, drop, refl, sym, ap, ◌∙◌, subst}
+use Rattle.std.proofs.Common.{◌≡◌, ℕ, zero, suc, ◌<◌, arith, length-append, inl, inr, List, [], ◌∷◌, ◌++◌, Bool, true, false, ◌||◌, Option, Some, None, codes, cond, length, drop, refl, sym, ap, ◌∙◌, subst}
 use Rattle.std.proofs.Math.Seq.{drop-append_seam}
 use Rattle.chess_board.specs.declared.board.Move.{Move}
-use Rattle.chess_board.specs.Text.{Spells as MoveSpells}
-use Rattle.peer_words.specs.Tokens.{is_token, tokens, trimmed}
+use Rattle.peer_words.specs.Tokens.{is_token, trimmed}
 use Rattle.uci_lines.specs.Cuts.{Part, cut, is_word, is_choice}
 use Rattle.uci_lines.specs.Choices.{values, before_choice, from_choice}
 use Rattle.uci_lines.specs.Moves.{move_of}
-use Rattle.uci_lines.specs.Spells.{IsNoneOf, IsFirst, Behind, PerhapsMove, UpToChoice, HasValues}
+use Rattle.uci_lines.specs.Spells.{IsFirst, Behind, PerhapsMove, UpToChoice, HasValues}
 use Rattle.uci_lines.proofs.Counts.{same_text, text_same}
-use Rattle.uci_lines.proofs.Cutting.{Cuts, cut_is, cut_token}
+use Rattle.uci_lines.proofs.Cutting.{cut_token}
 use Rattle.uci_lines.proofs.FirstTokens.{first_cut, none_cut, cut_first, cut_none, white_as}
 use Rattle.uci_lines.proofs.Pieces.{values_none, values_some}
 use Rattle.uci_lines.proofs.Spelled.{move_spelled, spells_back, read_is}

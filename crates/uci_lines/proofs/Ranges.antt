@@ -3,7 +3,7 @@ use Rattle.std.proofs.Common.{◌≡◌, ℕ, ℤ, List, [], ◌∷◌, ◌++◌
 use Rattle.std.specs.Option.{option_or}
 use Rattle.peer_words.specs.Numbers.{signed}
 use Rattle.uci_lines.specs.Cuts.{is_word}
-use Rattle.uci_lines.specs.Options.{Range, first_signed, limited, range_from, no_range}
+use Rattle.uci_lines.specs.Options.{Range, first_signed, limited, range_from}
 use Rattle.uci_lines.specs.Spells.{IsLast}
 use Rattle.uci_lines.proofs.Counts.{same_text, text_same}
 
@@ -66,7 +66,7 @@ kept word old (t ∷ ts) h =
     kept word (newer word old t ts) ts (behind_first word t ts h) ∙ none_here word t ts (is_word word t) old refl h
 
 -- the value at the last such word
-passes_by : (word t : List ℕ) (n : ℤ) (b : Bool) → is_word word t ≡ b → signed word ≡ None → signed t ≡ Some n → b ≡ false
+pub passes_by : (word t : List ℕ) (n : ℤ) (b : Bool) → is_word word t ≡ b → signed word ≡ None → signed t ≡ Some n → b ≡ false
 passes_by word t n false e z h = refl
 passes_by word t n true e z h = absurd (clash (sym z ∙ ap signed (sym (same_text t word e)) ∙ h))
   where
@@ -92,12 +92,12 @@ data Found (word : List ℕ) (old : Option ℤ) (ts : List (List ℕ)) : Type 0 
   Nowhere : last_from word old ts ≡ old → HasNone word ts → Found word old ts
   At : (n : ℤ) → last_from word old ts ≡ Some n → IsLast word ts n → Found word old ts
 
-none_empty : (word : List ℕ) → HasNone word []
+pub none_empty : (word : List ℕ) → HasNone word []
 none_empty word [] t cs e = absurd (cc)
 none_empty word (b ∷ bs) t cs e = absurd (cc)
 
 -- no number behind a further token in front
-none_more : (word t : List ℕ) (ts : List (List ℕ)) (b : Bool) → is_word word t ≡ b → (b ≡ true → first_signed ts ≡ None) → HasNone word ts → HasNone word (t ∷ ts)
+pub none_more : (word t : List ℕ) (ts : List (List ℕ)) (b : Bool) → is_word word t ≡ b → (b ≡ true → first_signed ts ≡ None) → HasNone word ts → HasNone word (t ∷ ts)
 none_more word t ts true e f h [] u cs k =
     let behind : ts ≡ u ∷ cs = cc in
     sym (ap first_signed behind) ∙ f refl
@@ -111,7 +111,7 @@ none_more word t ts b e f h (c ∷ bs) u cs k =
     let behind : ts ≡ bs ++ (word ∷ u ∷ cs) = cc in
     h bs u cs behind
 
-one_further : (word t : List ℕ) (ts : List (List ℕ)) (n : ℤ) → IsLast word ts n → IsLast word (t ∷ ts) n
+pub one_further : (word t : List ℕ) (ts : List (List ℕ)) (n : ℤ) → IsLast word ts n → IsLast word (t ∷ ts) n
 one_further word t ts n l = record {
   before = t ∷ l.before;
   digits = l.digits;

@@ -1,20 +1,20 @@
 -- The message that is read of a line is the one that the line spells.
-use Rattle.std.proofs.Common.{◌≡◌, ℕ, ℤ, int_lt, ◌⊎◌, inl, inr, ◌↔◌, List, [], ◌∷◌, Bool, true, false, ◌||◌, Option, Some, None, codes, cond, refl, sym, ap, ◌∙◌, subst}
+use Rattle.std.proofs.Common.{◌≡◌, ℕ, ℤ, int_lt, ◌↔◌, List, Bool, true, false, ◌||◌, Option, Some, None, codes, cond, refl, sym, ap, ◌∙◌, subst}
 use Rattle.std.specs.Int.{int_min, int_max}
 use Rattle.chess_board.specs.declared.board.Move.{Move}
 use Rattle.peer_words.specs.Tokens.{tokens, trimmed, first_token, rest}
 use Rattle.uci_lines.specs.Cuts.{Part, cut, is_word, is_known, is_choice}
-use Rattle.uci_lines.specs.Choices.{values, before_choice, chosen, default_value}
+use Rattle.uci_lines.specs.Choices.{values, before_choice, chosen}
 use Rattle.uci_lines.specs.Moves.{move_of}
-use Rattle.uci_lines.specs.Options.{is_on, Range, range_from, no_range, spin, spin_in, shown_text, text_after, shape_named, option_line, option_with, option_said}
-use Rattle.uci_lines.specs.Infos.{no_facts, facts_from, facts_in}
+use Rattle.uci_lines.specs.Options.{is_on, range_from, no_range, spin, spin_in, shown_text, text_after, shape_named, option_line, option_with, option_said}
+use Rattle.uci_lines.specs.Infos.{no_facts, facts_in}
 use Rattle.uci_lines.specs.Engine.{name_said, hint_in, best_said, said_after, said_by, engine_message}
-use Rattle.uci_lines.specs.Says.{Facts, Shape, Check, Spin, Combo, Button, Text, Says, Name, UciOk, ReadyOk, Best, OptionLine, Info, Nothing}
+use Rattle.uci_lines.specs.Says.{Shape, Check, Spin, Combo, Button, Text, Says, Name, UciOk, ReadyOk, Best, OptionLine, Info, Nothing}
 use Rattle.uci_lines.specs.Spells.{IsFirst, PerhapsMove, UpToChoice, HasShape, Declares, Begins, HasForm, SpellsMessage, SpellsOneMessage}
 use Rattle.uci_lines.proofs.Counts.{same_text}
 use Rattle.uci_lines.proofs.FirstTokens.{first_cut, cut_first}
 use Rattle.uci_lines.proofs.Listings.{after_cut, behind_cut, cut_behind, perhaps_is, is_perhaps, up_to, is_up, values_are, has_values}
-use Rattle.uci_lines.proofs.Ranges.{last_from, default_is, min_is, max_is, last_is, is_last}
+use Rattle.uci_lines.proofs.Ranges.{default_is, min_is, max_is, last_is, is_last}
 use Rattle.uci_lines.proofs.Tellings.{tells_is, tells}
 
 -- what is read behind a word, by what stands behind it

@@ -10,7 +10,7 @@ use Rattle.uci_lines.specs.declared.says.Score.TheVariants.{Cp, Mate}
 use Rattle.uci_lines.specs.declared.info.Field.{Field}
 use Rattle.uci_lines.specs.declared.info.Field.TheVariants as fields
 use Rattle.uci_lines.specs.Cuts.{Part, cut, is_word, is_known}
-use Rattle.uci_lines.specs.Infos.{field_named, score_of, first_score, hear, ends_info, facts_from, facts_in, no_facts}
+use Rattle.uci_lines.specs.Infos.{field_named, first_score, hear, ends_info, facts_from, facts_in, no_facts}
 use Rattle.uci_lines.specs.Says as says
 use Rattle.uci_lines.specs.Says.{Says, Facts}
 use Rattle.uci_lines.specs.Engine.{engine_message, said_by, said_after, name_said, best_said}

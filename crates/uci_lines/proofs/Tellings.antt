@@ -1,17 +1,15 @@
 -- What is told of a search, as a relation and as a function.
-use Rattle.std.proofs.Common.{◌≡◌, ◌≢◌, ℕ, zero, suc, ◌<◌, ◌≤◌, ℤ, ◌⊎◌, inl, inr, List, [], ◌∷◌, ◌++◌, Bool, true, false, Option, Some, None, is_some, codes, cond, length, refl, sym, ap, ◌∙◌, subst, arith}
+use Rattle.std.proofs.Common.{◌≡◌, ◌≢◌, ℕ, zero, suc, ◌<◌, ◌≤◌, ℤ, ◌⊎◌, inl, inr, List, [], ◌∷◌, Bool, true, false, Option, Some, None, is_some, codes, cond, length, refl, sym, ap, ◌∙◌, subst, arith}
 use Rattle.std.specs.Option.{option_or, option_map}
 use Rattle.chess_board.specs.declared.board.Move.{Move}
-use Rattle.chess_board.specs.Text.{Spells as MoveSpells}
 use Rattle.peer_words.specs.Numbers.{count, centis}
-use Rattle.uci_lines.specs.declared.says.Score.{Score}
 use Rattle.uci_lines.specs.declared.says.Score.TheVariants.{Cp, Mate}
 use Rattle.uci_lines.specs.declared.info.Field.{Field}
 use Rattle.uci_lines.specs.declared.info.Field.TheVariants as fields
 use Rattle.uci_lines.specs.Cuts.{is_word}
 use Rattle.uci_lines.specs.Moves.{move_of, add_move, run}
 use Rattle.uci_lines.specs.Says.{Facts}
-use Rattle.uci_lines.specs.Infos.{field_named, first_count, score_of, first_score, first_move, newer_run, hear, ends_info, facts_from}
+use Rattle.uci_lines.specs.Infos.{field_named, first_count, first_score, first_move, newer_run, hear, ends_info, facts_from}
 use Rattle.uci_lines.specs.Spells.{PerhapsMove, NoMoveFirst, IsRun, Takes, Tells}
 use Rattle.uci_lines.proofs.Counts.{same_text, text_same}
 use Rattle.uci_lines.proofs.Listings.{perhaps_is, is_perhaps}

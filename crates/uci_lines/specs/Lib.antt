@@ -12,3 +12,4 @@ pub mod Written
 pub mod Asked
 pub mod Scores
 pub mod Spells
+pub mod Again

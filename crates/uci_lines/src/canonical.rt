@@ -239,7 +239,8 @@ fn put_best(best: Option<Move>, out: &mut Out)
     }
 }
 
-/// Writes a message in its canonical spelling, with no line feed.
+/// Writes a message in its canonical spelling, with no line feed. `written_messages_are_read_again` says that
+/// `read_engine` reads it again, and `written_messages_fit_the_line` how long it is.
 #[tactic(auto, unfolding(crate::specs::Said::said_text))]
 pub fn write_engine(msg: &EngineMsg, out: &mut Out)
     requires writable { CanWrite (says_of msg.now) }

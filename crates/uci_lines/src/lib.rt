@@ -21,7 +21,9 @@ mod written;
 pub use asked::{BadOrder, positions_may_stand, read_order};
 pub use canonical::write_engine;
 pub use engine::read_engine;
-pub use laws::lines_say_one_message;
+pub use laws::{
+    lines_say_one_message, written_messages_are_read_again, written_messages_fit_the_line,
+};
 pub use moves::next_move;
 pub use option::next_value;
 pub use orders::{GoControl, Order, write_order};

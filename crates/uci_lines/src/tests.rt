@@ -1,7 +1,8 @@
 // Lines as engines print them and lines spelled out by hand, with what each means.
 use crate::{
-    BadOrder, EngineMsg, GoControl, Info, OptionKind, OptionMsg, Order, Score, next_move,
-    next_value, positions_may_stand, read_engine, read_order, write_engine, write_order,
+    BadOrder, EngineMsg, GoControl, Info, OptionKind, OptionMsg, Order, Score,
+    lines_say_one_message, next_move, next_value, positions_may_stand, read_engine, read_order,
+    write_engine, write_order, written_messages_are_read_again, written_messages_fit_the_line,
 };
 use chess_board::read_move;
 use line_io::Out;
@@ -348,6 +349,9 @@ fn orders(rt: HostRuntime) {
 #[tactic(auto, unfolding(crate::specs::Orders::command_text, crate::specs::Said::said_text))]
 fn lists_and_texts(rt: HostRuntime) -> Result<(), Fail> {
     positions_may_stand();
+    lines_say_one_message();
+    written_messages_are_read_again();
+    written_messages_fit_the_line();
     let combo = b"default Always var Always var Fail  High default x var";
     let (first, others) = next_value(combo).ok_or("a value")?;
     assert!(rt; first == b"Always".as_slice());
