@@ -2,7 +2,7 @@
 use Rattle.std.proofs.Common.{◌≡◌, ℕ, ◌+◌, ◌<◌, ◌≤◌, List, [], ◌∷◌, ◌++◌, Bool, true, false, cond, length, take, drop, map, Option, Some, None, refl, sym, ap, ◌∙◌, arith, length-append, subst, true≢false, Result, Ok, Err}
 use Rattle.std.specs.Result.{OnOk, IsOk}
 use Rattle.std.proofs.lemmas.List.{take-append-le, drop-append-le, map-append, length-drop, length-map}
-use Rattle.std.proofs.Math.Seq.{drop-append_seam, take-append_seam}
+use Rattle.std.proofs.Math.Seq.{drop-append_seam}
 use Rattle.std.proofs.lemmas.Slice.Eq.{bytes_eq-Decides}
 use Rattle.std.specs.Char.{to_ascii_lowercase}
 use Rattle.std.specs.List.{AllByRecursion}
@@ -17,7 +17,7 @@ use Rattle.option_map.specs.declared.stored.StoredKind.TheVariants as stored
 use Rattle.option_map.specs.declared.stored.Stored.{Stored}
 use Rattle.option_map.specs.Names.{folded, same_text}
 use Rattle.option_map.specs.Choices.{choices_in}
-use Rattle.option_map.specs.Settings.{Setting, Kind, Check, Spin, Combo, Button, Text, found}
+use Rattle.option_map.specs.Settings.{Setting, Kind, Combo, Text, found}
 use Rattle.option_map.specs.declared.setting.Setting.{Setting as Seen}
 use Rattle.option_map.specs.Stored.{setting_seen, setting_in, settings_in, kind_in, text_at, IsEntry, IsKindIn, AreStored}
 

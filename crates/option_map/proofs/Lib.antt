@@ -4,3 +4,10 @@ pub mod Measured
 pub mod Rooms
 pub mod Lines
 pub mod Joins
+pub mod Orders
+pub mod Values
+pub mod ValueTokens
+pub mod HeardOptions
+pub mod Usable
+pub mod Asking
+pub mod Short

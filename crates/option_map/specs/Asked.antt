@@ -1,7 +1,9 @@
 -- The orders that lines of the interface ask for.
-use Rattle.std.specs.Prelude.{ℕ, ℤ, pos, int_lt, List, [], ◌∷◌, codes, length, Bool, true, false, ◌||◌, if◌then◌else◌, Option, Some, None, Result as Answer, Ok, Err}
+use Rattle.std.specs.Prelude.{ℕ, ℤ, pos, int_lt, ◌+◌, ◌≤◌, List, [], ◌∷◌, codes, length, Bool, true, false, ◌||◌, if◌then◌else◌, Option, Some, None, Result as Answer, Ok, Err}
 use Rattle.std.specs.Fmt.{signed_decimal}
 use Rattle.std.specs.Int.{int_min, int_max}
+use Rattle.std.specs.Int.RustNames.{FitsSigned}
+use mir.Syntax.{w64}
 use Rattle.std.specs.Option.{option_map, option_and_then}
 use Rattle.std.specs.Str.{bytes_eq}
 use Rattle.line_io.specs.Out.{Text as Buffer, with}
@@ -99,3 +101,25 @@ abbrev pub with_asked : Buffer → Answer (Option Command) OptFault → Buffer
 with_asked out (Ok (Some order)) = with out (command_text order)
 with_asked out (Ok None) = out
 with_asked out (Err fault) = out
+
+-- HOW LONG THE TEXTS ARE
+
+-- how many bytes of an order are those of the message
+abbrev pub repeated : Message → ℕ
+repeated (says.SetOption name None) = length name
+repeated (says.SetOption name (Some value)) = length name + length value
+repeated (says.EgtPath kind path) = length path
+repeated _ = 0
+
+-- The text of an order that a message asks for has at most 64 bytes beside those of the message.
+abbrev pub AreShort : List Setting → Type 0
+AreShort os = (m : Message) → length (asked_text (asked os m)) ≤ 64 + repeated m
+
+-- the limits of a spin are 64-bit numbers
+abbrev pub IsRange : Kind → Type 0
+IsRange (Spin default min max) = FitsSigned w64 min × FitsSigned w64 max
+IsRange _ = Unit {0}
+
+abbrev pub HasRange : Option Setting → Type 0
+HasRange None = Unit {0}
+HasRange (Some o) = IsRange o.kind

@@ -4,6 +4,7 @@ pub mod Settings
 pub mod Shown
 pub mod Stored
 pub mod Asked
+pub mod Spelled
 pub mod Held
 pub mod Queue
 pub mod Slots

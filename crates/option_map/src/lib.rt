@@ -15,10 +15,12 @@ mod setting;
 mod slots;
 mod stored;
 mod storing;
+#[cfg(test)]
+mod tests;
 mod translate;
 
 pub use declared::Declared;
 pub use fault::OptFault;
 pub use held::Held;
-pub use laws::last_orders_are_held;
+pub use laws::{asked_orders_are_spelled, last_orders_are_held};
 pub use options::Options;
