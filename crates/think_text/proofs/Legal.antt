@@ -5,7 +5,6 @@ use Rattle.chess_board.specs.declared.board.Move.{Move}
 use Rattle.chess_board.specs.Placement.{Placement}
 use Rattle.chess_board.specs.Laws.{IsLegal}
 use Rattle.chess_board.specs.Place.{legal}
-use Rattle.chess_board.specs.Text.{IsOfficer}
 use Rattle.chess_board.proofs.Legal.{legal-law}
 use Rattle.chess_board.proofs.Texts.{legal-written}
 use Rattle.cecp_lines.specs.Replies.{IsWritable}

@@ -1,3 +1,4 @@
 pub mod Legal
 pub mod Heard
 pub mod Lines
+pub mod Short

@@ -1,5 +1,5 @@
 -- What is kept of a search.
-use Rattle.std.specs.Prelude.{◌≡◌, ℕ, ◌-◌, ◌/◌, ◌==◌, ◌&&◌, ℤ, Bool, true, false, not, if◌then◌else◌, Option, Some, None, IfSome}
+use Rattle.std.specs.Prelude.{ℕ, ◌-◌, ◌/◌, ◌==◌, ◌&&◌, ℤ, Bool, true, not, if◌then◌else◌, Option, Some, None, IfSome}
 use Rattle.std.specs.Option.{unwrap_or, option_map, option_or}
 use Rattle.chess_board.specs.declared.board.Move.{Move}
 use Rattle.chess_board.specs.Placement.{Placement}

@@ -11,7 +11,7 @@ use Rattle.chess_board.specs.Text.{text_of}
 use Rattle.cecp_lines.specs.Replies.{Told, Thinking, told_text}
 use Rattle.uci_lines.specs.declared.says.Score.{Score}
 use Rattle.uci_lines.specs.declared.says.Score.TheVariants.{Cp, Mate}
-use Rattle.uci_lines.specs.Says.{Says, Info, Facts}
+use Rattle.uci_lines.specs.Says.{Info, Facts}
 use Rattle.uci_lines.specs.Engine.{engine_message}
 
 -- some line of the engine tells this

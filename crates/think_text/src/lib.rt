@@ -6,6 +6,6 @@ mod line;
 mod seen;
 mod value;
 
-pub use laws::current_stays_writable;
+pub use laws::{current_stays_writable, thinking_lines_are_short};
 pub use line::thinking;
 pub use seen::{Seen, stat01};
