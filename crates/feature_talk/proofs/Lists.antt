@@ -1,16 +1,14 @@
 -- The list of features, part by part.
-use Rattle.std.proofs.Common.{◌≡◌, ℕ, ◌+◌, ◌≤◌, List, [], ◌∷◌, ◌++◌, codes, length, map, filter, Bool, true, false, not, cond, if◌then◌else◌, refl, sym, ap, ◌∙◌, arith, length-append, append_assoc, ◌||◌, nat_lt, suc}
+use Rattle.std.proofs.Common.{◌≡◌, ℕ, ◌+◌, ◌≤◌, List, [], ◌∷◌, ◌++◌, codes, length, map, Bool, true, false, not, cond, if◌then◌else◌, refl, sym, ap, ◌∙◌, arith, length-append, append_assoc, ◌||◌, nat_lt, suc}
 use Rattle.std.proofs.lemmas.Bool.{leb-false}
 use Rattle.std.proofs.lemmas.Grind.{flat_map-append}
-use Rattle.std.proofs.lemmas.List.{append-nil}
 use Rattle.std.proofs.lemmas.List.Sums.{sum_by-cons}
-use Rattle.std.specs.List.{flat_map, sum_by}
 use Rattle.line_io.specs.Out.{Text, with}
-use Rattle.cecp_lines.specs.Replies.{Told, Feature}
+use Rattle.cecp_lines.specs.Replies.{Feature}
 use Rattle.option_map.specs.Names.{is_hidden, holds}
-use Rattle.option_map.specs.Settings.{Setting, features, feature_text, feature_line, shown_length, text_size, kind_text}
+use Rattle.option_map.specs.Settings.{Setting, features, feature_text, feature_line, shown_length, text_size}
 use Rattle.option_map.specs.Shown.{takes_memory, takes_cores, takes_tables}
-use Rattle.feature_talk.specs.Features.{shown_name, in_quotes, bit, fixed, by_options, option_feature, shown_options, feature_list, told_line, told_lines, IsShort, ShowsAgain, is_unfit, tables}
+use Rattle.feature_talk.specs.Features.{shown_name, in_quotes, bit, fixed, by_options, option_feature, shown_options, feature_list, told_line, told_lines, IsShort, is_unfit, tables}
 
 shown_step : (w : Bool) (o : Setting) (rest : List Setting) (text : List ℕ) → text ≡ told_lines (map option_feature rest) → (if w then [] else feature_line o ++ 10 ∷ []) ++ text ≡ told_lines (map option_feature (cond (not w) (o ∷ rest) rest))
 shown_step true o rest text h = h

@@ -90,3 +90,15 @@ pub fn write_list(options: &Options, name: &[u8], out: &mut Out)
     options.write_features(out);
     out.put(b"feature done=1\n");
 }
+
+/// Writes the list of features where no options count as declared.
+pub fn write_bare_list(name: &[u8], out: &mut Out)
+    requires { length out.old.text + length (told_lines (feature_list [] name.now)) ≤ out.old.room }
+    ensures { out.new ≡ with out.old (told_lines (feature_list [] name.now)) }
+{
+    put_name(shown_name(name), out);
+    put_fixed(out);
+    put_memory(false, out);
+    put_cores(false, out);
+    out.put(b"feature done=1\n");
+}

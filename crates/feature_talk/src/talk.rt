@@ -37,6 +37,13 @@ impl Talk {
         Talk { due: false }
     }
 
+    /// Whether the list is due.
+    pub fn is_due(&self) -> bool
+        ensures { result ≡ self.now }
+    {
+        self.due
+    }
+
     /// The interface sent `protover`; `boot` tells whether the engine has not told its options yet.
     pub fn protover(&mut self, boot: bool) -> Say
         ensures answer { result ≡ answer boot }

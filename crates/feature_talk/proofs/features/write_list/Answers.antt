@@ -1,6 +1,6 @@
 use Rattle.std.proofs.Common.{◌≡◌, ap, sym, ◌∙◌, ◌++◌, codes, [], List, ℕ}
 use Rattle.std.proofs.lemmas.List.{append-nil}
-use Rattle.line_io.specs.Out.{Text, with}
+use Rattle.line_io.specs.Out.{with}
 use Rattle.cecp_lines.specs.Replies.{Feature}
 use Rattle.option_map.specs.Settings.{features}
 use Rattle.feature_talk.specs.Features.{in_quotes, fixed, by_options, feature_list, told_line, told_lines}
