@@ -1,122 +1,185 @@
--- What a deed tells of the event that it came of.
-use Rattle.std.proofs.Common.{◌≡◌, ℕ, ◌≤◌, List, [], ◌∷◌, length, Bool, true, false, cond, Option, Some, None, Result, Ok, Err, refl, arith, length-append}
-use Rattle.line_io.specs.Event.{Event}
+-- What each deed tells of the event and of what stood when it came.
+use Rattle.std.proofs.Common.{◌≡◌, ℕ, List, Bool, true, false, cond, ◌&&◌, Option, Some, None, IfSome, Result, Ok, Err, refl, sym, ap, subst}
+use Rattle.line_io.specs.Event.{Event, is_line}
 use Rattle.line_io.specs.Event as events
+use Rattle.chess_board.specs.declared.board.Move.{Move}
+use Rattle.chess_board.specs.Place.{legal}
+use Rattle.chess_board.specs.Placement.{Placement}
+use Rattle.fen_text.specs.declared.fault.FenFault.{FenFault}
+use Rattle.fen_text.specs.Fen.{position_of}
+use Rattle.peer_words.specs.declared.kinds.GoKind.{GoKind}
+use Rattle.peer_words.specs.declared.kinds.GoKind.TheVariants as kinds
 use Rattle.cecp_lines.specs.Messages.{Message}
 use Rattle.cecp_lines.specs.Messages as says
 use Rattle.cecp_lines.specs.Reading.{reading}
+use Rattle.cecp_lines.specs.Replies.{IsWritable}
 use Rattle.cecp_lines.specs.declared.iface.IfaceFault.{IfaceFault}
 use Rattle.cecp_lines.specs.declared.iface.IfaceFault.TheVariants as faults
 use Rattle.cecp_lines.specs.declared.reply.Reason.{Reason}
-use Rattle.uci_lines.specs.Says.{Says}
+use Rattle.cecp_lines.specs.declared.reply.Reason.TheVariants as reasons
+use Rattle.cecp_lines.proofs.Spellings.{reading_spells}
+use Rattle.cecp_lines.proofs.Officers.{move_writable}
+use Rattle.uci_lines.specs.Orders.{Command}
+use Rattle.uci_lines.specs.Says.{Says, Facts}
 use Rattle.uci_lines.specs.Says as hears
 use Rattle.uci_lines.specs.Engine.{engine_message}
-use Rattle.uci_lines.specs.Orders.{Command}
+use Rattle.option_map.specs.declared.fault.OptFault.{OptFault}
+use Rattle.option_map.specs.declared.fault.OptFault.TheVariants.{UnknownOption, BadValue}
+use Rattle.option_map.specs.Asked.{asked}
+use Rattle.game_record.specs.Course.{Course, now_of}
 use Rattle.search_epochs.specs.declared.words.EngineState.{EngineState}
-use Rattle.desk_rules.specs.declared.desk.Desk.{Desk}
-use Rattle.desk_rules.specs.Desk.{Here, is_gone, is_boot, is_getting}
-use Rattle.desk_rules.specs.Lines.{Verdict, Refused, Accepted, judged, refusal, verdict, change, HasRoom}
-use Rattle.desk_rules.specs.Steps.{Deed, Nothing, LongLine, Accepts, Boots, Readies, Dies, line_deed, engine_says, comes, desk_after_deed, HasRoomFor}
-use Rattle.desk_rules.specs.Texts.{IsShort}
+use Rattle.search_epochs.specs.declared.words.EngineState.TheVariants as states
+use Rattle.desk_rules.specs.declared.deed.Refusal.{Refusal}
+use Rattle.desk_rules.specs.declared.deed.Refusal.TheVariants as refusals
+use Rattle.desk_rules.specs.Desk.{Here, table, is_full, is_boot, is_getting, is_gone, current}
+use Rattle.desk_rules.specs.Lines.{verdict, judged, refusal, or_else, where_true, illegal_move, move_too_many, no_position, illegal_position, refused_option, needs_engine, lacks_moves, does_not_fit, asks, pings_too_often}
+use Rattle.desk_rules.specs.Steps.{Deed, Nothing, LongLine, Names, Declares, Boots, Readies, Shows, Forfeits, Dies, comes, line_deed, engine_says, answers, shows, thinks}
+use Rattle.desk_rules.specs.Fits.{Fits, IsTellable, IsOther, IsCurrentMove, IsSaid, IsLineEvent}
 
--- what holds where an event had this deed
-abbrev pub Fits : Here → List Command → Deed → Type 0
-Fits h held (Accepts m) = (h.closed ≡ false) × (refusal h held m ≡ None)
-Fits h held Boots = (h.closed ≡ false) × (is_boot h.engine ≡ true)
-Fits h held Readies = (h.closed ≡ false) × (is_getting h.engine ≡ true)
-Fits h held Dies = is_gone h.engine ≡ false
-Fits h held d = Unit {0}
+-- THE MOVE OF A REFUSED LINE
 
-unclosed : (h : Here) (held : List Command) (b : Bool) (d : Deed) → h.closed ≡ b → (h.closed ≡ false → Fits h held d) → Fits h held (cond b Nothing d)
-unclosed h held true d e f = tt
-unclosed h held false d e f = f e
+-- a move that a message names can be written
+abbrev IsWritten : Message → Type 0
+IsWritten (says.UserMove m) = IsWritable m
+IsWritten m = Unit {0}
 
-judged_fits : (h : Here) (held : List Command) (line : List ℕ) (m : Message) (r : Option Reason) → refusal h held m ≡ r → h.closed ≡ false → Fits h held (line_deed (judged m r) line)
-judged_fits h held line m None e c = (c, e)
-judged_fits h held line m (Some r) e c = tt
+-- a move that a line spells can be written
+written : (line : List ℕ) (m : Message) → reading line ≡ Ok m → IsWritten m
+written line (says.UserMove m) r = move_writable line m (reading_spells line (says.UserMove m) r)
+written line m r = tt
 
-line_fits : (h : Here) (held : List Command) (line : List ℕ) (r : Result Message IfaceFault) → h.closed ≡ false → Fits h held (line_deed (verdict h held r) line)
+first_tells : (a b : Option Refusal) → IfSome a IsTellable → IfSome b IsTellable → IfSome (or_else a b) IsTellable
+first_tells None b f g = g
+first_tells (Some r) b f g = f
+
+reason_tells : (b : Bool) (r : Reason) → IfSome (where_true b r) IsTellable
+reason_tells true r = tt
+reason_tells false r = tt
+
+illegal_tells : (b : Bool) (m : Move) → IsWritable m → IfSome (cond b None (Some (refusals.IllegalMove m))) IsTellable
+illegal_tells true m w = tt
+illegal_tells false m w = w
+
+long_tells : (b : Bool) (m : Move) → IsWritable m → IfSome (cond b (Some (refusals.GameTooLong m)) None) IsTellable
+long_tells true m w = w
+long_tells false m w = tt
+
+move_tells : (g : Course) (m : Message) → IsWritten m → IfSome (illegal_move g m) IsTellable
+move_tells g (says.UserMove m) w = illegal_tells (legal (now_of g) m) m w
+move_tells g m w = tt
+
+many_tells : (g : Course) (m : Message) → IsWritten m → IfSome (move_too_many g m) IsTellable
+many_tells g (says.UserMove m) w = long_tells (is_full g) m w
+many_tells g m w = tt
+
+no_position_tells : (r : Result Placement FenFault) → IfSome (no_position r) IsTellable
+no_position_tells (Ok p) = tt
+no_position_tells (Err fault) = tt
+
+position_tells : (m : Message) → IfSome (illegal_position m) IsTellable
+position_tells (says.SetBoard text) = no_position_tells (position_of text)
+position_tells m = tt
+
+option_tells : (r : Result (Option Command) OptFault) → IfSome (refused_option r) IsTellable
+option_tells (Ok order) = tt
+option_tells (Err UnknownOption) = tt
+option_tells (Err BadValue) = tt
+
+refusal_tells : (h : Here) (held : List (List ℕ)) (m : Message) → IsWritten m → IfSome (refusal h held m) IsTellable
+unfolding refusal
+refusal_tells h held m w =
+    first_tells _ _ (reason_tells (needs_engine m && is_gone h.engine) reasons.EngineEnded)
+    (first_tells _ _ (reason_tells _ reasons.NotAnalyzing)
+    (first_tells _ _ (reason_tells (lacks_moves h.desk.game m) reasons.NoMoveToUndo)
+    (first_tells _ _ (move_tells h.desk.game m w)
+    (first_tells _ _ (many_tells h.desk.game m w)
+    (first_tells _ _ (position_tells m)
+    (first_tells _ _ (option_tells (asked (table h.desk) m))
+    (first_tells _ _ (reason_tells (does_not_fit held (asks (is_gone h.engine) h.desk m)) reasons.TooManySettings)
+    (reason_tells (pings_too_often h m) reasons.TooManyPings))))))))
+
+-- LINES OF THE INTERFACE
+
+some_tells : (o : Option Refusal) (r : Refusal) → o ≡ Some r → IfSome o IsTellable → IsTellable r
+some_tells o r e f = let g : IfSome (Some r) IsTellable = subst (λ (x : Option Refusal). IfSome x IsTellable) e f in g
+
+judged_fits : (h : Here) (held : List (List ℕ)) (line : List ℕ) (m : Message) (r : Option Refusal) → h.closed ≡ false → is_line line ≡ true → reading line ≡ Ok m
+    → refusal h held m ≡ r → Fits h held (line_deed (judged m r) line)
+judged_fits h held line m None c l reads e = record { line = line; is_line = l; reads = reads; is_open = c; passes = e }
+judged_fits h held line m (Some r) c l reads e = record { is_open = c; tellable = some_tells (refusal h held m) r e (refusal_tells h held m (written line m reads)); is_line = l }
+
+line_fits : (h : Here) (held : List (List ℕ)) (line : List ℕ) (r : Result Message IfaceFault) → h.closed ≡ false → is_line line ≡ true → reading line ≡ r
+    → Fits h held (line_deed (verdict h held r) line)
 unfolding verdict
-line_fits h held line (Err faults.UnknownCommand) c = tt
-line_fits h held line (Err faults.BadArgument) c = tt
-line_fits h held line (Ok m) c = judged_fits h held line m (refusal h held m) refl c
+line_fits h held line (Err faults.UnknownCommand) c l e = record { is_open = c; tellable = tt; is_line = l }
+line_fits h held line (Err faults.BadArgument) c l e = record { is_open = c; tellable = tt; is_line = l }
+line_fits h held line (Ok m) c l e = judged_fits h held line m (refusal h held m) c l e refl
 
-boots_fit : (h : Here) (held : List Command) (b : Bool) → is_boot h.engine ≡ b → h.closed ≡ false → Fits h held (cond b Boots Nothing)
-boots_fit h held true e c = (c, e)
-boots_fit h held false e c = tt
+-- LINES OF THE ENGINE
 
-readies_fit : (h : Here) (held : List Command) (b : Bool) → is_getting h.engine ≡ b → h.closed ≡ false → Fits h held (cond b Readies Nothing)
-readies_fit h held true e c = (c, e)
-readies_fit h held false e c = tt
+thinks_fits : (h : Here) (held : List (List ℕ)) (facts : Facts) (k : Option GoKind) → h.closed ≡ false → current h.engine ≡ k → IsSaid (hears.Info facts) → Fits h held (thinks k facts)
+thinks_fits h held facts None c e s = tt
+thinks_fits h held facts (Some k) c e s = (c, e, s)
 
-said_fits : (h : Here) (held : List Command) (m : Says) → h.closed ≡ false → Fits h held (engine_says h.engine m)
-said_fits h held hears.UciOk c = boots_fit h held (is_boot h.engine) refl c
-said_fits h held hears.ReadyOk c = readies_fit h held (is_getting h.engine) refl c
-said_fits h held m c = tt
+shown_fits : (h : Here) (held : List (List ℕ)) (m : Move) (hint : Option Move) (b : Bool) → h.closed ≡ false → IsCurrentMove h.engine → legal (now_of h.desk.game) m ≡ b
+    → Fits h held (cond b (Shows m hint) Forfeits)
+shown_fits h held m hint true c e l = (c, e, l)
+shown_fits h held m hint false c e l = (c, e)
 
-death_fits : (h : Here) (held : List Command) (b : Bool) → is_gone h.engine ≡ b → Fits h held (cond b Nothing Dies)
-death_fits h held true e = tt
-death_fits h held false e = e
+shows_fits : (h : Here) (held : List (List ℕ)) (best hint : Option Move) → h.closed ≡ false → IsCurrentMove h.engine → Fits h held (shows h.desk.game best hint)
+shows_fits h held None hint c e = (c, e)
+shows_fits h held (Some m) hint c e = shown_fits h held m hint (legal (now_of h.desk.game) m) c e refl
 
-pub comes_fits : (h : Here) (held : List Command) (e : Event) → Fits h held (comes h held e)
+other_search : (e f : EngineState) → e ≡ f → IsOther f → IsOther e
+other_search e f p i = subst IsOther (sym p) i
+
+answers_fits : (h : Here) (held : List (List ℕ)) (e : EngineState) (best hint : Option Move) → h.closed ≡ false → h.engine ≡ e → Fits h held (answers e h.desk.game best hint)
+answers_fits h held states.Boot best hint c e = tt
+answers_fits h held states.Getting best hint c e = tt
+answers_fits h held states.Idle best hint c e = tt
+answers_fits h held states.Gone best hint c e = tt
+answers_fits h held (states.Search kinds.Move false stopped) best hint c e = shows_fits h held best hint c (ap current e)
+answers_fits h held (states.Search kinds.Move true stopped) best hint c e = (c, other_search h.engine _ e tt)
+answers_fits h held (states.Search kinds.Ponder true stopped) best hint c e = (c, other_search h.engine _ e tt)
+answers_fits h held (states.Search kinds.Ponder false stopped) best hint c e = (c, other_search h.engine _ e tt)
+answers_fits h held (states.Search kinds.Analyse true stopped) best hint c e = (c, other_search h.engine _ e tt)
+answers_fits h held (states.Search kinds.Analyse false stopped) best hint c e = (c, other_search h.engine _ e tt)
+
+-- a deed that comes only in one state
+only_in : (h : Here) (held : List (List ℕ)) (b : Bool) (d : Deed) (x : Bool) → x ≡ b → (x ≡ true → Fits h held d) → Fits h held (cond b d Nothing)
+only_in h held true d x e f = f e
+only_in h held false d x e f = tt
+
+says_fits : (h : Here) (held : List (List ℕ)) (line : List ℕ) (m : Says) → h.closed ≡ false → is_line line ≡ true → engine_message line ≡ m → Fits h held (engine_says h m)
+says_fits h held line hears.Nothing c l e = tt
+says_fits h held line (hears.Name text) c l e = only_in h held (is_boot h.engine) (Names text) (is_boot h.engine) refl (λ b. (c, b))
+says_fits h held line (hears.OptionLine name shape) c l e =
+    only_in h held (is_boot h.engine) (Declares name shape) (is_boot h.engine) refl (λ b. (c, b, record { line = line; is_line = l; says = e }))
+says_fits h held line hears.UciOk c l e = only_in h held (is_boot h.engine) Boots (is_boot h.engine) refl (λ b. (c, b))
+says_fits h held line hears.ReadyOk c l e = only_in h held (is_getting h.engine) Readies (is_getting h.engine) refl (λ b. (c, b))
+says_fits h held line (hears.Info facts) c l e = thinks_fits h held facts (current h.engine) c refl (record { line = line; is_line = l; says = e })
+says_fits h held line (hears.Best best hint) c l e = answers_fits h held h.engine best hint c refl
+
+-- EVENTS
+
+unless_closed : (h : Here) (held : List (List ℕ)) (b : Bool) (d : Deed) → h.closed ≡ b → (h.closed ≡ false → Fits h held d) → Fits h held (cond b Nothing d)
+unless_closed h held true d e f = tt
+unless_closed h held false d e f = f e
+
+dies_fits : (h : Here) (held : List (List ℕ)) (b : Bool) → is_gone h.engine ≡ b → Fits h held (cond b Nothing Dies)
+dies_fits h held true e = tt
+dies_fits h held false e = e
+
+pub comes_fits : (h : Here) (held : List (List ℕ)) (e : Event) → IsLineEvent e → Fits h held (comes h held e)
 unfolding comes
-comes_fits h held events.Open = tt
-comes_fits h held (events.Iface line) = unclosed h held h.closed (line_deed (verdict h held (reading line)) line) refl (line_fits h held line (reading line))
-comes_fits h held events.IfaceLong = unclosed h held h.closed LongLine refl (λ c. tt)
-comes_fits h held events.IfaceEnd = tt
-comes_fits h held events.IfaceLost = tt
-comes_fits h held (events.Engine line) = unclosed h held h.closed (engine_says h.engine (engine_message line)) refl (said_fits h held (engine_message line))
-comes_fits h held events.EngineLong = tt
-comes_fits h held events.EngineEnd = death_fits h held (is_gone h.engine) refl
-comes_fits h held events.EngineLost = death_fits h held (is_gone h.engine) refl
-
--- SHORT LINES
-
-abbrev pub IsShortEvent : Event → Type 0
-IsShortEvent (events.Iface line) = length line ≤ 65536
-IsShortEvent e = Unit {0}
-
-short_verdict : (v : Verdict) (line : List ℕ) → length line ≤ 65536 → IsShort (line_deed v line)
-short_verdict (Refused r) line l = l
-short_verdict (Accepted m) line l = tt
-
-short_cond : (b : Bool) (d : Deed) → IsShort d → IsShort (cond b Nothing d)
-short_cond true d s = tt
-short_cond false d s = s
-
-short_said : (e : EngineState) (m : Says) → IsShort (engine_says e m)
-short_said e hears.UciOk = elim (is_boot e) as (λ b. IsShort (cond b Boots Nothing)) [ true ↦ tt | false ↦ tt ]
-short_said e hears.ReadyOk = elim (is_getting e) as (λ b. IsShort (cond b Readies Nothing)) [ true ↦ tt | false ↦ tt ]
-short_said e m = tt
-
-pub comes_short : (h : Here) (held : List Command) (e : Event) → IsShortEvent e → IsShort (comes h held e)
-unfolding comes
-comes_short h held events.Open s = tt
-comes_short h held (events.Iface line) s = short_cond h.closed (line_deed (verdict h held (reading line)) line) (short_verdict (verdict h held (reading line)) line s)
-comes_short h held events.IfaceLong s = short_cond h.closed LongLine tt
-comes_short h held events.IfaceEnd s = tt
-comes_short h held events.IfaceLost s = tt
-comes_short h held (events.Engine line) s = short_cond h.closed (engine_says h.engine (engine_message line)) (short_said h.engine (engine_message line))
-comes_short h held events.EngineLong s = tt
-comes_short h held events.EngineEnd s = elim (is_gone h.engine) as (λ b. IsShort (cond b Nothing Dies)) [ true ↦ tt | false ↦ tt ]
-comes_short h held events.EngineLost s = elim (is_gone h.engine) as (λ b. IsShort (cond b Nothing Dies)) [ true ↦ tt | false ↦ tt ]
-
--- ROOM FOR PINGS
-
-line_room : (d : Desk) (m : Message) → length d.pings ≤ 64 → HasRoom d m
-line_room d (says.Ping n) l = omega arith
-line_room d m l = tt
-
-pub deed_room : (d : Desk) (x : Deed) → length d.pings ≤ 64 → HasRoomFor d x
-deed_room d (Accepts m) l = line_room d m l
-deed_room d x l = tt
-
-line_pings : (d : Desk) (m : Message) → length d.pings ≤ 64 → length (change d m).pings ≤ 65
-unfolding change
-line_pings d (says.Ping n) l = omega (arith, length-append d.pings (n ∷ []))
-line_pings d m l = omega arith
-
-pub deed_pings : (h : Here) (x : Deed) → length h.desk.pings ≤ 64 → length (desk_after_deed h x).pings ≤ 65
-unfolding desk_after_deed
-deed_pings h (Accepts m) l = line_pings h.desk m l
-deed_pings h x l = omega arith
+comes_fits h held events.Open l = tt
+comes_fits h held (events.Iface line) l =
+    unless_closed h held h.closed (line_deed (verdict h held (reading line)) line) refl (λ c. line_fits h held line (reading line) c l refl)
+comes_fits h held events.IfaceLong l = unless_closed h held h.closed LongLine refl (λ c. tt)
+comes_fits h held events.IfaceEnd l = tt
+comes_fits h held events.IfaceLost l = tt
+comes_fits h held (events.Engine line) l =
+    unless_closed h held h.closed (engine_says h (engine_message line)) refl (λ c. says_fits h held line (engine_message line) c l refl)
+comes_fits h held events.EngineLong l = tt
+comes_fits h held events.EngineEnd l = dies_fits h held (is_gone h.engine) refl
+comes_fits h held events.EngineLost l = dies_fits h held (is_gone h.engine) refl

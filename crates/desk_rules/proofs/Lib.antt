@@ -1,2 +1,13 @@
 pub mod Deeds
+pub mod Passes
+pub mod Asks
+pub mod Waits
+pub mod Hints
+pub mod Searches
 pub mod Rooms
+pub mod Calls
+pub mod Plays
+pub mod Serves
+pub mod Sound
+pub mod Quiet
+pub mod Firsts

@@ -1,12 +1,23 @@
 -- How long the texts of lines are.
-use Rattle.std.proofs.Common.{◌≡◌, ℕ, suc, ◌+◌, ◌^◌, ◌<◌, ◌≤◌, List, [], ◌∷◌, ◌++◌, length, map, take, get_or, true, false, cond, decimal, arith, length-append, append_assoc, append-nil, lit<, refl, ap, sym, ◌∙◌}
+use Rattle.std.proofs.Common.{◌≡◌, ℕ, suc, ◌+◌, ◌^◌, ◌<◌, ◌≤◌, List, [], ◌∷◌, ◌++◌, length, map, take, get_or, Bool, true, false, not, cond, ◌&&◌, nat_le, Option, Some, None, decimal, arith, length-append, append_assoc, append-nil, lit<, refl, ap, sym, ◌∙◌}
+use Rattle.std.specs.Option.{option_to_list, is_some}
 use Rattle.std.proofs.lemmas.List.{take_more}
 use Rattle.std.proofs.lemmas.Fmt.{length-decimal-le}
-use Rattle.cecp_lines.specs.Replies.{Told, Pong, Error}
-use Rattle.cecp_lines.specs.declared.reply.Reason.{Reason}
-use Rattle.cecp_lines.specs.declared.reply.Reason.TheVariants as reasons
+use Rattle.std.proofs.lemmas.Bool.Decides.{nat_tests}
+use Rattle.line_io.specs.Event.{is_line, has_feed}
+use Rattle.line_io.specs.Out.{Text, with}
+use Rattle.chess_board.specs.declared.board.Move.{Move}
+use Rattle.chess_board.specs.Placement.{Placement}
 use Rattle.peer_words.specs.Tokens.{is_white, is_blank, trim_left, trim_right, trimmed}
-use Rattle.desk_rules.specs.Texts.{told_line, told_lines}
+use Rattle.cecp_lines.specs.Replies.{Told, Pong, Fits, borrowed, told_text}
+use Rattle.cecp_lines.proofs.Lengths.{told_short}
+use Rattle.uci_lines.specs.Says.{Facts, Info}
+use Rattle.think_text.specs.Line.{thinking_line, with_line, HasRoom}
+use Rattle.option_map.specs.Settings.{Setting, text_size}
+use Rattle.feature_talk.specs.Features.{feature_list, told_line, told_lines}
+use Rattle.feature_talk.proofs.Lists.{short_list}
+use Rattle.desk_rules.specs.Fits.{IsSaid}
+use Rattle.think_text.proofs.Short.{lines_short}
 
 left_le : (xs : List ℕ) → length (trim_left xs) ≤ length xs
 left_le [] = omega arith
@@ -19,27 +30,75 @@ right_le (x ∷ xs) = elim (is_blank (x ∷ xs)) as (λ b. length (cond b [] (x 
 pub trimmed_le : (xs : List ℕ) → length (trimmed xs) ≤ length xs
 trimmed_le xs = omega (arith, left_le xs, right_le (trim_left xs))
 
--- a refusal is little longer than its line
-pub error_le : (reason : Reason) (line : List ℕ) → length (told_line (Error reason line)) ≤ length line + 28
-error_le reasons.UnknownCommand line = omega (arith, length-append line (10 ∷ []))
-error_le reasons.BadArgument line = omega (arith, length-append line (10 ∷ []))
-error_le reasons.EngineEnded line = omega (arith, length-append line (10 ∷ []))
-error_le reasons.NotAnalyzing line = omega (arith, length-append line (10 ∷ []))
-error_le reasons.NoMoveToUndo line = omega (arith, length-append line (10 ∷ []))
-error_le reasons.UnknownOption line = omega (arith, length-append line (10 ∷ []))
-error_le reasons.BadValue line = omega (arith, length-append line (10 ∷ []))
-error_le reasons.TooManySettings line = omega (arith, length-append line (10 ∷ []))
-error_le reasons.TooManyPings line = omega (arith, length-append line (10 ∷ []))
-error_le reasons.LineTooLong line = omega (arith, length-append line (10 ∷ []))
-
 pub pong_le : (n : ℕ) → n < 2 ^ 32 → length (told_line (Pong n)) ≤ 16
 pong_le n h =
     let short = length-decimal-le 10 n (lit< tt) (omega arith) (omega arith) in
     omega (arith, length-append (decimal n) (10 ∷ []))
 
+-- LINES ONE BY ONE
+
+pub lines-one : (t : Told) → told_lines (t ∷ []) ≡ told_line t
+lines-one t = append-nil (told_line t)
+
 pub lines-append : (ts us : List Told) → told_lines (ts ++ us) ≡ told_lines ts ++ told_lines us
 lines-append [] us = refl
 lines-append (t ∷ ts) us = ap (λ l. told_line t ++ l) (lines-append ts us) ∙ sym (append_assoc (told_line t) (told_lines ts) (told_lines us))
+
+-- a reply that borrows nothing
+pub brief_le : (t : Told) → Fits t → borrowed t ≡ 0 → length (told_line t) ≤ 129
+brief_le t f b = omega (arith, told_short t f, b, length-append (told_text t) (10 ∷ []))
+
+-- as much as a line, and as its list
+pub one_line : (old new : Text) (t : Told) → new ≡ with old (told_line t) → new ≡ with old (told_lines (t ∷ []))
+one_line old new t e = e ∙ ap (λ (l : List ℕ). with old l) (sym (lines-one t))
+
+pub one_le : (n : ℕ) (t : Told) → length (told_line t) ≤ n → length (told_lines (t ∷ [])) ≤ n
+one_le n t h = omega (arith, h, ap length (lines-one t))
+
+-- a reply and its line feed
+pub line_put : (old mid new : Text) (t : Told) → mid ≡ with old (told_text t) → new ≡ with mid (10 ∷ []) → new ≡ with old (told_line t)
+line_put old mid new t e f = f ∙ ap (λ (x : Text). with x (10 ∷ [])) e ∙ ap (λ (l : List ℕ). let x : Text = record { text = l; room = old.room } in x) (append_assoc old.text (told_text t) (10 ∷ []))
+
+-- two puts in a row
+pub two_lines : (old mid new : Text) (ts us : List Told) → mid ≡ with old (told_lines ts) → new ≡ with mid (told_lines us) → new ≡ with old (told_lines (ts ++ us))
+two_lines old mid new ts us e f =
+    f ∙ ap (λ (t : Text). with t (told_lines us)) e
+    ∙ ap (λ (l : List ℕ). let t : Text = record { text = l; room = old.room } in t) (append_assoc old.text (told_lines ts) (told_lines us) ∙ ap (λ l. old.text ++ l) (sym (lines-append ts us)))
+
+-- how much was put
+pub put_le : (old new : Text) (piece : List ℕ) (n : ℕ) → new ≡ with old piece → length piece ≤ n → (length new.text ≤ length old.text + n) × (new.room ≡ old.room)
+put_le old new piece n e h = (omega (arith, h, ap (λ (t : Text). length t.text) e, length-append old.text piece), ap (λ (t : Text). t.room) e)
+
+-- LISTS AND THINKING
+
+pub list_le : (os : List Setting) (said : List ℕ) → text_size os ≤ 65536 → length os ≤ 256 → length (told_lines (feature_list os said)) ≤ 67000
+list_le os said h k = omega (arith, h, k, short_list os said)
+
+pub line_le : (line : List ℕ) → is_line line ≡ true → length line ≤ 65536
+line_le line h = first (length line) (not (has_feed line)) h where
+  first : (n : ℕ) (b : Bool) → (nat_le n 65536 && b) ≡ true → n ≤ 65536
+  first n true h = grind (arith, nat_tests)
+  first n false h = grind (arith, nat_tests)
+
+thought_le : (o : Option Told) → ((t : Told) → o ≡ Some t → length (told_text t) ≤ 128 + 65536) → length (told_lines (option_to_list o)) ≤ 65700
+thought_le None h = omega arith
+thought_le (Some t) h = omega (arith, h t refl, ap length (lines-one t), length-append (told_text t) (10 ∷ []))
+
+-- the room for a thinking line
+pub thought_room : (out : Text) (o : Option Told) → length (told_lines (option_to_list o)) ≤ 65700 → length out.text + 65700 ≤ out.room → HasRoom out o
+thought_room out None h r = tt
+thought_room out (Some t) h r = omega (arith, h, r, ap length (lines-one t), length-append (told_text t) (10 ∷ []))
+
+-- and for its line feed
+pub feed_room : (old new : Text) (o : Option Told) → new ≡ with_line old o → is_some o ≡ true → length (told_lines (option_to_list o)) ≤ 65700 → length old.text + 65700 ≤ old.room → length new.text + 1 ≤ new.room
+feed_room old new None e s h r = absurd (cc)
+feed_room old new (Some t) e s h r =
+    omega (arith, h, r, ap (λ (x : Text). length x.text) e, ap (λ (x : Text). x.room) e, length-append old.text (told_text t), ap length (lines-one t), length-append (told_text t) (10 ∷ []))
+
+pub thinking_le : (facts : Facts) (p : Placement) (hint : Option Move) → IsSaid (Info facts) → length (told_lines (option_to_list (thinking_line facts p hint))) ≤ 65700
+thinking_le facts p hint s = thought_le (thinking_line facts p hint) (λ t e. let l = line_le s.line s.is_line in omega (arith, lines_short s.line facts p hint t s.says e))
+
+-- PONGS
 
 map-append : (ns ms : List ℕ) → map Pong (ns ++ ms) ≡ map Pong ns ++ map Pong ms
 map-append [] ms = refl

@@ -1,30 +1,130 @@
 -- The desk: what the interface commanded and the engine answered, and what it calls for.
-use Rattle.std.specs.Prelude.{[], Bool, true, false, if◌then◌else◌}
+use Rattle.std.specs.Prelude.{ℕ, List, [], codes, length, Bool, true, false, if◌then◌else◌, ◌&&◌, ◌||◌, nat_le, Option, Some, None}
+use Rattle.std.specs.Option.{is_some}
+use Rattle.chess_board.specs.declared.board.Move.{Move}
+use Rattle.chess_board.specs.declared.board.Side.{Side}
+use Rattle.chess_board.specs.declared.board.Side.TheVariants.{White, Black}
+use Rattle.chess_board.specs.Board.{same_side}
+use Rattle.chess_board.specs.Play.{start_position}
+use Rattle.peer_words.specs.declared.kinds.GoKind.{GoKind}
+use Rattle.game_record.specs.declared.ending.End.{End}
+use Rattle.game_record.specs.declared.ending.End.TheVariants as ends
+use Rattle.game_record.specs.Course.{Course, ply_of, begun, with_ply, now_of}
+use Rattle.game_record.specs.Ending.{has_legal, ended_of}
+use Rattle.clock_map.specs.Clocks.{first_clocks}
+use Rattle.think_text.specs.Kept.{nothing_seen}
+use Rattle.option_map.specs.Settings.{Setting}
+use Rattle.option_map.specs.Shown.{check_named}
+use Rattle.feature_talk.specs.Features.{shown_name}
 use Rattle.search_epochs.specs.declared.words.Call.{Call}
 use Rattle.search_epochs.specs.declared.words.Call.TheVariants as calls
 use Rattle.search_epochs.specs.declared.words.EngineState.{EngineState}
 use Rattle.search_epochs.specs.declared.words.EngineState.TheVariants as states
 use Rattle.search_epochs.specs.Talk.{is_move}
+use Rattle.desk_rules.specs.declared.mode.Mode.{Mode}
+use Rattle.desk_rules.specs.declared.mode.Mode.TheVariants as modes
 use Rattle.desk_rules.specs.declared.desk.Desk.{Desk}
 use Rattle.desk_rules.specs.declared.deed.Sight.{Sight}
 
+-- the standard start, the engine plays Black, no pondering, five minutes for the game
 abbrev pub opening_desk : Desk
-opening_desk = record { pings = [] }
+opening_desk = record {
+  game = begun start_position;
+  mode = modes.Plays Black;
+  post = false;
+  pondering = false;
+  clocks = first_clocks;
+  hint = None;
+  pings = [];
+  options = [];
+  booted = false;
+  name = shown_name [];
+  due = false;
+  seen = nothing_seen;
+}
 
--- What the desk calls for, where the session is closed or not and the engine is Gone or not. No message of a game is built yet, so it is nothing.
-abbrev pub call_of : Bool → Bool → Desk → Call
-call_of closed gone d = calls.Nothing
+-- the options that count as declared: none before `uciok`
+abbrev pub table : Desk → List Setting
+table d = if d.booted then d.options else []
 
--- What stands when an event comes: the desk, the engine (a search is stale where its ticket is not the epoch), whether the call is spent.
+abbrev pub analyses : Mode → Bool
+analyses modes.Analyse = true
+analyses m = false
+
+abbrev pub plays : Mode → Bool
+plays (modes.Plays s) = true
+plays m = false
+
+-- THE GAME
+
+abbrev pub other : Side → Side
+other White = Black
+other Black = White
+
+abbrev pub on_move : Course → Side
+on_move g = (now_of g).side
+
+abbrev pub plies : Course → ℕ
+plies g = length g.moves
+
+-- no further move can be kept
+abbrev pub is_full : Course → Bool
+is_full g = nat_le 12000 (plies g)
+
+abbrev pub played : Course → Move → Course
+played g m = with_ply g (ply_of m)
+
+abbrev pub has_ended : Course → Bool
+has_ended g = is_some (ended_of g)
+
+-- it has ended since the side on move has no legal move
+abbrev pub is_moveless : Option End → Bool
+is_moveless (Some ends.Mate) = true
+is_moveless (Some ends.Stale) = true
+is_moveless end = false
+
+-- CALL
+
+abbrev pub ponder_name : List ℕ
+ponder_name = codes "Ponder"
+
+abbrev pub analyse_name : List ℕ
+analyse_name = codes "UCI_AnalyseMode"
+
+-- the hint is pondered on, where the game after it has not ended
+abbrev pub call_for_hint : Course → Option Move → Call
+call_for_hint g None = calls.Nothing
+call_for_hint g (Some h) = if has_ended (played g h) then calls.Nothing else calls.Ponder h
+
+abbrev pub call_while_waiting : Desk → Call
+call_while_waiting d = if d.pondering && is_some (check_named ponder_name (table d)) then call_for_hint d.game d.hint else calls.Nothing
+
+abbrev pub call_in : Desk → Mode → Call
+call_in d modes.Analyse = if has_legal (now_of d.game) then calls.Analyse else calls.Nothing
+call_in d (modes.Plays s) = if has_ended d.game then calls.Nothing else (if same_side s (on_move d.game) then calls.Move else call_while_waiting d)
+call_in d m = calls.Nothing
+
+-- what the desk calls for, where the session is closed or not and the engine is Gone or not
+unfoldable pub call_of : Bool → Bool → Desk → Call
+call_of closed gone d = if closed || gone || is_full d.game then calls.Nothing else call_in d d.mode
+
+-- HERE
+
+-- What stands when an event comes: the desk, the engine (a search is stale where its ticket is not the epoch), whether the call is
+-- spent, what the policy says of the scores, and whether thinking lines are shown while pondering.
 pub record Here : Type 0 where
   pub closed : Bool
   pub engine : EngineState
   pub spent : Bool
   pub desk : Desk
+  -- whether the policy resigns once a move with the kept score is shown, and whether it accepts a draw
+  pub resigns : Bool
+  pub accepts : Bool
+  pub show_ponder : Bool
 
 -- the same, of what is seen beside the desk
 abbrev pub at : Sight → Desk → Here
-at s d = record { closed = s.closed; engine = s.engine; spent = s.spent; desk = d }
+at s d = record { closed = s.closed; engine = s.engine; spent = s.spent; desk = d; resigns = s.resigns; accepts = s.accepts; show_ponder = s.show_ponder }
 
 abbrev pub is_gone : EngineState → Bool
 is_gone states.Gone = true
@@ -37,6 +137,11 @@ is_boot e = false
 abbrev pub is_getting : EngineState → Bool
 is_getting states.Getting = true
 is_getting e = false
+
+-- the kind of the open search, where it is current
+abbrev pub current : EngineState → Option GoKind
+current (states.Search k false stopped) = Some k
+current e = None
 
 abbrev pub call_before : Here → Call
 call_before h = call_of h.closed (is_gone h.engine) h.desk

@@ -1,74 +1,229 @@
 -- Interface lines: which are refused, what they change, what they ask of the engine, which begin an epoch.
-use Rattle.std.specs.Prelude.{List, [], ◌∷◌, ◌++◌, Bool, true, false, not, if◌then◌else◌, ◌&&◌, nat_le, ◌<◌, length, Option, Some, None, Result, Ok, Err}
+use Rattle.std.specs.Prelude.{ℕ, List, [], ◌∷◌, ◌++◌, codes, Bool, true, false, not, if◌then◌else◌, ◌&&◌, nat_le, nat_lt, length, Option, Some, None, Result as Answer, Ok, Err}
+use Rattle.std.specs.Option.{is_some, option_map}
+use Rattle.chess_board.specs.declared.board.Side.TheVariants.{Black}
+use Rattle.chess_board.specs.Place.{legal}
+use Rattle.chess_board.specs.Placement.{Placement}
+use Rattle.chess_board.specs.Play.{start_position}
+use Rattle.fen_text.specs.declared.fault.FenFault.{FenFault}
+use Rattle.fen_text.specs.Fen.{position_of}
 use Rattle.cecp_lines.specs.Messages.{Message}
 use Rattle.cecp_lines.specs.Messages as says
 use Rattle.cecp_lines.specs.declared.iface.IfaceFault.{IfaceFault}
 use Rattle.cecp_lines.specs.declared.iface.IfaceFault.TheVariants as faults
 use Rattle.cecp_lines.specs.declared.reply.Reason.{Reason}
 use Rattle.cecp_lines.specs.declared.reply.Reason.TheVariants as reasons
-use Rattle.uci_lines.specs.Orders.{Command}
+use Rattle.uci_lines.specs.Orders.{Command, command_text}
+use Rattle.uci_lines.specs.Orders as orders
+use Rattle.game_record.specs.Course.{Course, begun, now_of, without_last}
+use Rattle.clock_map.specs.Clocks.{after_message, after_new}
+use Rattle.option_map.specs.declared.fault.OptFault.{OptFault}
+use Rattle.option_map.specs.declared.fault.OptFault.TheVariants.{UnknownOption, BadValue}
+use Rattle.option_map.specs.Settings.{Setting}
+use Rattle.option_map.specs.Shown.{check_named}
+use Rattle.option_map.specs.Asked.{asked}
+use Rattle.option_map.specs.Held.{can_join}
+use Rattle.feature_talk.specs.Due.{due_after}
+use Rattle.desk_rules.specs.declared.mode.Mode.{Mode}
+use Rattle.desk_rules.specs.declared.mode.Mode.TheVariants as modes
+use Rattle.desk_rules.specs.declared.deed.Refusal.{Refusal}
+use Rattle.desk_rules.specs.declared.deed.Refusal.TheVariants as refusals
 use Rattle.desk_rules.specs.declared.desk.Desk.{Desk}
-use Rattle.desk_rules.specs.Desk.{Here, owes_move}
+use Rattle.desk_rules.specs.Desk.{Here, table, analyses, is_full, is_gone, on_move, other, played, plies, owes_move, ponder_name, analyse_name}
 
--- what a line asks of the engine: no line asks yet
-abbrev pub asks : Bool → Desk → Message → Option Command
-asks gone d m = None
+-- WHAT A LINE ASKS
+
+abbrev pub switch_text : Bool → List ℕ
+switch_text true = codes "true"
+switch_text false = codes "false"
+
+abbrev pub switches : Bool → List ℕ → Command
+switches on name = orders.SetOption name (Some (switch_text on))
+
+-- the order that tells a check option, where it is declared
+abbrev pub tells : List Setting → List ℕ → Bool → Option Command
+tells os name on = option_map (switches on) (check_named name os)
+
+-- a line by which the mode enters or leaves Analyse asks for UCI_AnalyseMode
+abbrev pub asks_for_mode : List Setting → Bool → Bool → Option Command
+asks_for_mode os false true = tells os analyse_name true
+asks_for_mode os true false = tells os analyse_name false
+asks_for_mode os before after = None
+
+abbrev pub asked_by : Answer (Option Command) OptFault → Option Command
+asked_by (Ok order) = order
+asked_by (Err fault) = None
+
+abbrev pub asks_of : Desk → Message → Option Command
+asks_of d says.New = Some orders.NewGame
+asks_of d says.Force = asks_for_mode (table d) (analyses d.mode) false
+asks_of d says.Go = asks_for_mode (table d) (analyses d.mode) false
+asks_of d says.PlayOther = asks_for_mode (table d) (analyses d.mode) false
+asks_of d says.Analyze = asks_for_mode (table d) (analyses d.mode) true
+asks_of d says.Exit = asks_for_mode (table d) (analyses d.mode) false
+asks_of d says.Result = asks_for_mode (table d) (analyses d.mode) false
+asks_of d says.Hard = tells (table d) ponder_name true
+asks_of d says.Easy = tells (table d) ponder_name false
+asks_of d m = asked_by (asked (table d) m)
+
+-- while the engine is Gone no line asks for anything
+unfoldable pub asks : Bool → Desk → Message → Option Command
+asks gone d m = if gone then None else asks_of d m
 
 -- REFUSALS
 
--- a message whose behaviour is built: every other one is an unknown command
-abbrev pub is_built : Message → Bool
-is_built says.Blank = true
-is_built (says.Ignored line) = true
-is_built (says.Ping n) = true
-is_built says.Quit = true
-is_built m = false
+abbrev pub because : Reason → Option Refusal
+because r = Some (refusals.Because r)
+
+-- the first that is there
+abbrev pub or_else : Option Refusal → Option Refusal → Option Refusal
+or_else None b = b
+or_else (Some r) b = Some r
+
+abbrev pub where_true : Bool → Reason → Option Refusal
+where_true b r = if b then because r else None
+
+abbrev pub needs_engine : Message → Bool
+needs_engine says.Go = true
+needs_engine says.PlayOther = true
+needs_engine says.Analyze = true
+needs_engine m = false
+
+abbrev pub needs_analysis : Message → Bool
+needs_analysis says.Exit = true
+needs_analysis says.Dot = true
+needs_analysis m = false
+
+abbrev pub lacks_moves : Course → Message → Bool
+lacks_moves g says.Undo = nat_lt (plies g) 1
+lacks_moves g says.Remove = nat_lt (plies g) 2
+lacks_moves g m = false
+
+abbrev pub illegal_move : Course → Message → Option Refusal
+illegal_move g (says.UserMove m) = if legal (now_of g) m then None else Some (refusals.IllegalMove m)
+illegal_move g m = None
+
+abbrev pub move_too_many : Course → Message → Option Refusal
+move_too_many g (says.UserMove m) = if is_full g then Some (refusals.GameTooLong m) else None
+move_too_many g m = None
+
+abbrev pub no_position : Answer Placement FenFault → Option Refusal
+no_position (Ok p) = None
+no_position (Err fault) = Some refusals.IllegalPosition
+
+abbrev pub illegal_position : Message → Option Refusal
+illegal_position (says.SetBoard text) = no_position (position_of text)
+illegal_position m = None
+
+abbrev pub refused_option : Answer (Option Command) OptFault → Option Refusal
+refused_option (Ok order) = None
+refused_option (Err UnknownOption) = because reasons.UnknownOption
+refused_option (Err BadValue) = because reasons.BadValue
+
+-- beside the held lines
+abbrev pub does_not_fit : List (List ℕ) → Option Command → Bool
+does_not_fit held None = false
+does_not_fit held (Some order) = not (can_join held (command_text order))
 
 abbrev pub pings_too_often : Here → Message → Bool
 pings_too_often h (says.Ping n) = owes_move h && nat_le 64 (length h.desk.pings)
 pings_too_often h m = false
 
--- the first that is there
-abbrev pub or_else : Option Reason → Option Reason → Option Reason
-or_else None b = b
-or_else (Some r) b = Some r
-
-abbrev pub where_true : Bool → Reason → Option Reason
-where_true b r = if b then Some r else None
-
 -- why a message is refused, if it is: the first that applies
-unfoldable pub refusal : Here → List Command → Message → Option Reason
+unfoldable pub refusal : Here → List (List ℕ) → Message → Option Refusal
 refusal h held m =
-    or_else (where_true (not (is_built m)) reasons.UnknownCommand)
-    (where_true (pings_too_often h m) reasons.TooManyPings)
+    or_else (where_true (needs_engine m && is_gone h.engine) reasons.EngineEnded)
+    (or_else (where_true (needs_analysis m && not (analyses h.desk.mode)) reasons.NotAnalyzing)
+    (or_else (where_true (lacks_moves h.desk.game m) reasons.NoMoveToUndo)
+    (or_else (illegal_move h.desk.game m)
+    (or_else (move_too_many h.desk.game m)
+    (or_else (illegal_position m)
+    (or_else (refused_option (asked (table h.desk) m))
+    (or_else (where_true (does_not_fit held (asks (is_gone h.engine) h.desk m)) reasons.TooManySettings)
+    (where_true (pings_too_often h m) reasons.TooManyPings))))))))
 
 -- what is read of a line is refused or accepted
 pub data Verdict : Type 0 where
-  Refused : Reason → Verdict
+  Refused : Refusal → Verdict
   Accepted : Message → Verdict
 
-abbrev pub judged : Message → Option Reason → Verdict
+abbrev pub judged : Message → Option Refusal → Verdict
 judged m None = Accepted m
 judged m (Some r) = Refused r
 
-unfoldable pub verdict : Here → List Command → Result Message IfaceFault → Verdict
-verdict h held (Err faults.UnknownCommand) = Refused reasons.UnknownCommand
-verdict h held (Err faults.BadArgument) = Refused reasons.BadArgument
+unfoldable pub verdict : Here → List (List ℕ) → Answer Message IfaceFault → Verdict
+verdict h held (Err faults.UnknownCommand) = Refused (refusals.Because reasons.UnknownCommand)
+verdict h held (Err faults.BadArgument) = Refused (refusals.Because reasons.BadArgument)
 verdict h held (Ok m) = judged m (refusal h held m)
 
 -- EPOCH LINES
 
--- where a Move is owed or not before the line, and it asks this: no line that is built begins an epoch
+-- where a Move is owed or not before the line, and it asks this
 unfoldable pub is_epoch_line : Bool → Option Command → Message → Bool
+is_epoch_line owes asked says.New = true
+is_epoch_line owes asked says.Force = true
+is_epoch_line owes asked says.Go = true
+is_epoch_line owes asked says.PlayOther = true
+is_epoch_line owes asked (says.UserMove m) = true
+is_epoch_line owes asked says.Undo = true
+is_epoch_line owes asked says.Remove = true
+is_epoch_line owes asked (says.SetBoard text) = true
+is_epoch_line owes asked says.Analyze = true
+is_epoch_line owes asked says.Exit = true
+is_epoch_line owes asked says.Result = true
+is_epoch_line owes asked says.Hard = not owes
+is_epoch_line owes asked says.Easy = not owes
+is_epoch_line owes asked (says.SetOption name value) = is_some asked && not owes
+is_epoch_line owes asked (says.Memory n) = is_some asked && not owes
+is_epoch_line owes asked (says.Cores n) = is_some asked && not owes
+is_epoch_line owes asked (says.EgtPath kind path) = is_some asked && not owes
 is_epoch_line owes asked m = false
 
 -- CHANGES
 
-unfoldable pub change : Desk → Message → Desk
-change d (says.Ping n) = record d { pings = d.pings ++ n ∷ [] }
-change d m = d
+abbrev pub new_mode : Mode → Mode
+new_mode modes.Analyse = modes.Analyse
+new_mode m = modes.Plays Black
 
--- the desk has room for what an accepted line adds
-abbrev pub HasRoom : Desk → Message → Type 0
-HasRoom d (says.Ping n) = length d.pings < 65
-HasRoom d m = Unit {0}
+-- the game changes, and the hint is lost
+abbrev pub with_game : Desk → Course → Desk
+with_game d g = record d { game = g; hint = None }
+
+abbrev pub at_position : Desk → Answer Placement FenFault → Desk
+at_position d (Ok p) = with_game d (begun p)
+at_position d (Err fault) = d
+
+unfoldable pub change : Bool → Desk → Message → Desk
+change boot d (says.Protover n) = record d { due = due_after boot d.due }
+change boot d says.New = record d { game = begun start_position; hint = None; mode = new_mode d.mode; clocks = after_new d.clocks }
+change boot d says.Force = record d { mode = modes.Force }
+change boot d says.Go = record d { mode = modes.Plays (on_move d.game) }
+change boot d says.PlayOther = record d { mode = modes.Plays (other (on_move d.game)) }
+change boot d (says.UserMove m) = with_game d (played d.game m)
+change boot d says.Undo = with_game d (without_last d.game 1)
+change boot d says.Remove = with_game d (without_last d.game 2)
+change boot d (says.SetBoard text) = at_position d (position_of text)
+change boot d says.Analyze = record d { mode = modes.Analyse }
+change boot d says.Exit = record d { mode = modes.Force }
+change boot d says.Result = record d { mode = modes.Over }
+change boot d says.Hard = record d { pondering = true }
+change boot d says.Easy = record d { pondering = false }
+change boot d (says.Level mps base_ms inc_ms) = record d { clocks = after_message d.clocks (says.Level mps base_ms inc_ms) }
+change boot d (says.St ms) = record d { clocks = after_message d.clocks (says.St ms) }
+change boot d (says.Sd n) = record d { clocks = after_message d.clocks (says.Sd n) }
+change boot d (says.Time n) = record d { clocks = after_message d.clocks (says.Time n) }
+change boot d (says.Otim n) = record d { clocks = after_message d.clocks (says.Otim n) }
+change boot d says.Post = record d { post = true }
+change boot d says.NoPost = record d { post = false }
+change boot d (says.Ping n) = record d { pings = d.pings ++ n ∷ [] }
+change boot d m = d
+
+-- the scores of shown moves are cleared
+abbrev pub clears_scores : Message → Bool
+clears_scores says.New = true
+clears_scores says.Go = true
+clears_scores says.PlayOther = true
+clears_scores says.Undo = true
+clears_scores says.Remove = true
+clears_scores (says.SetBoard text) = true
+clears_scores m = false

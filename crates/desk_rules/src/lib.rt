@@ -1,12 +1,26 @@
-//! The desk: what comes of an event, what it changes, and what the interface is told.
+//! The desk: what comes of an event, what it changes, what it asks of the engine, and what the interface is told.
 #![tactic(auto)]
 
+mod after;
 mod answers;
+mod ask;
+mod call;
+mod change;
 mod deed;
 mod desk;
+mod events;
+mod mode;
+mod name;
+mod orders;
 mod pings;
+mod refuse;
 
 pub use answers::put_pongs;
-pub use deed::{Deed, Sight};
-pub use desk::{Desk, is_gone};
+pub use call::is_gone;
+pub use change::clears_scores;
+pub use deed::{Deed, Refusal, Sight};
+pub use desk::Desk;
+pub use mode::Mode;
+pub use name::EngineName;
+pub use orders::put_chosen;
 pub use pings::Pings;

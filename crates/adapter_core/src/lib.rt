@@ -1,9 +1,0 @@
-//! The core of the adapter: one event in, lines to both peers out.
-#![tactic(auto)]
-
-mod ends;
-mod session;
-mod steps;
-
-pub use ends::Ends;
-pub use session::{Core, Step, ended_sides_get_nothing, one_dialogue};

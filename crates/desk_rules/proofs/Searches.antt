@@ -1,0 +1,53 @@
+-- The text of a position is the line that a game writes.
+use Rattle.std.proofs.Common.{◌≡◌, ℕ, List, [], ◌∷◌, ◌++◌, map, Bool, true, false, cond, Some, None, refl, sym, ap, ◌∙◌, arith, append-nil}
+use Rattle.std.specs.Prelude.{codes, IfSome}
+use Rattle.std.specs.List.{join_with_byte}
+use Rattle.std.specs.Option.{option_map}
+use Rattle.chess_board.specs.Placement.{Placement}
+use Rattle.fen_text.specs.Written.{written}
+use Rattle.uci_lines.specs.Orders.{command_text}
+use Rattle.uci_lines.specs.Orders as orders
+use Rattle.game_record.specs.Course.{Ply, Course, ply_of, now_of, with_ply, IsPlayable}
+use Rattle.game_record.specs.Line.{ply_text, spaced, is_standard, start_text, moves_text, position_text}
+use Rattle.game_record.proofs.Lines.{told_none}
+use Rattle.search_epochs.specs.declared.words.Call.{Call}
+use Rattle.search_epochs.specs.declared.words.Call.TheVariants as calls
+use Rattle.desk_rules.specs.Orders.{position_order, pondered, searched}
+use Rattle.desk_rules.specs.Fits.{CanSearch}
+
+joined_moves : (m : Ply) (ms : List Ply) → join_with_byte 32 (map ply_text (m ∷ ms)) ≡ ply_text m ++ spaced ms
+joined_moves m [] = sym (append-nil (ply_text m))
+joined_moves m (n ∷ ms) = ap (λ (t : List ℕ). ply_text m ++ (32 ∷ t)) (joined_moves n ms)
+
+moves_same : (ms : List Ply) → orders.moves_text (join_with_byte 32 (map ply_text ms)) ≡ moves_text ms
+moves_same [] = refl
+moves_same (m ∷ ms) = ap orders.moves_text (joined_moves m ms) ∙ sym (told_none (m ∷ ms) (omega arith)) ∙ ap moves_text (append-nil (m ∷ ms))
+
+start_same : (p : Placement) (b : Bool) → orders.start_text (cond b None (Some (written p))) ≡ cond b (codes "startpos") (codes "fen " ++ written p)
+start_same p true = refl
+start_same p false = refl
+
+pub position_told : (g : Course) → command_text (position_order g) ≡ position_text g None
+unfolding command_text position_text
+position_told g =
+    ap (λ (t : List ℕ). codes "position " ++ (t ++ orders.moves_text (join_with_byte 32 (map ply_text g.moves)))) (start_same g.start (is_standard g.start))
+    ∙ ap (λ (t : List ℕ). codes "position " ++ (start_text g.start ++ t)) (moves_same g.moves ∙ ap moves_text (sym (append-nil g.moves)))
+
+pub position_played : (g : Course) (m : Ply) → command_text (position_order (with_ply g m)) ≡ position_text g (Some m)
+unfolding command_text position_text
+position_played g m =
+    ap (λ (t : List ℕ). codes "position " ++ (t ++ orders.moves_text (join_with_byte 32 (map ply_text (g.moves ++ m ∷ []))))) (start_same g.start (is_standard g.start))
+    ∙ ap (λ (t : List ℕ). codes "position " ++ (start_text g.start ++ t)) (moves_same (g.moves ++ m ∷ []))
+
+-- what a call searches
+pub searched_text : (g : Course) (c : Call) → position_text g (option_map ply_of (pondered c)) ≡ command_text (position_order (searched g c))
+searched_text g calls.Nothing = sym (position_told g)
+searched_text g calls.Move = sym (position_told g)
+searched_text g (calls.Ponder h) = sym (position_played g (ply_of h))
+searched_text g calls.Analyse = sym (position_told g)
+
+pub can_ponder : (g : Course) (c : Call) → CanSearch g c → IfSome (pondered c) (λ m. IsPlayable (now_of g) (ply_of m))
+can_ponder g calls.Nothing h = tt
+can_ponder g calls.Move h = tt
+can_ponder g (calls.Ponder m) h = h
+can_ponder g calls.Analyse h = tt

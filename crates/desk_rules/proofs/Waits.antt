@@ -1,0 +1,243 @@
+-- What waits for the engine: orders that may be held, and their lines.
+use Rattle.std.proofs.Common.{◌≡◌, ℕ, ◌≤◌, List, [], ◌∷◌, ◌++◌, length, map, filter, codes, Bool, true, false, not, cond, Option, Some, None, IfSome, Result, Ok, Err, refl, ap, ◌∙◌, arith}
+use Rattle.std.specs.List.{AllByRecursion}
+use Rattle.std.specs.Option.{option_to_list, option_map}
+use Rattle.line_io.specs.Event.{is_line}
+use Rattle.cecp_lines.specs.Messages.{Message}
+use Rattle.cecp_lines.specs.Messages as says
+use Rattle.cecp_lines.specs.Reading.{reading}
+use Rattle.uci_lines.specs.Written.{is_text}
+use Rattle.uci_lines.specs.Orders.{Command, command_text}
+use Rattle.uci_lines.specs.Orders as orders
+use Rattle.uci_lines.specs.Asked.{is_order}
+use Rattle.option_map.specs.declared.fault.OptFault.{OptFault}
+use Rattle.option_map.specs.declared.fault.OptFault.TheVariants.{UnknownOption, BadValue}
+use Rattle.option_map.specs.Names.{same_text, is_hidden}
+use Rattle.option_map.specs.Shown.{check_named}
+use Rattle.option_map.specs.Asked.{asked}
+use Rattle.option_map.specs.Held.{IsLine, held_after, are_for_same, with_order, with_orders, AreOrders}
+use Rattle.option_map.specs.Spelled.{AreDeclared}
+use Rattle.option_map.specs.Settings.{Setting, Kind, Spin, Text, found}
+use Rattle.option_map.specs.Asked.{set_found, set_by, set_to, value_by, is_button, clamped, clamped_by, path_for, path_by}
+use Rattle.option_map.proofs.Orders.{joins}
+use Rattle.option_map.proofs.Asking.{asked_spelled, switches_spelled}
+use Rattle.search_epochs.specs.Talk.{AllSetup, Word}
+use Rattle.desk_rules.specs.declared.desk.Desk.{Desk}
+use Rattle.desk_rules.specs.Desk.{Here, table, analyses, is_gone, ponder_name, analyse_name}
+use Rattle.desk_rules.specs.Lines.{switch_text, switches, tells, asks_for_mode, asked_by, asks_of, asks}
+use Rattle.desk_rules.specs.Steps.{Deed, Accepts, Boots}
+use Rattle.desk_rules.specs.Orders.{ponder_at_boot, analysis_at_boot, asked_by_deed, waiting, word_of, IsHeld, AreHeld, AreHeldLines}
+use Rattle.desk_rules.specs.Fits.{Fits, IsSound}
+
+-- WHAT HOLDS OF EACH ORDER STAYS
+
+left_step : (P : Command → Type 0) (b : Bool) (o : Command) (os : List Command) → P o → AllByRecursion P os → AllByRecursion P (cond b (o ∷ os) os)
+left_step P true o os p a = (p, a)
+left_step P false o os p a = a
+
+left : (P : Command → Type 0) (test : Command → Bool) (os : List Command) → AllByRecursion P os → AllByRecursion P (filter test os)
+left P test [] a = tt
+left P test (o ∷ os) a = left_step P (test o) o (filter test os) a.0 (left P test os a.1)
+
+one_more : (P : Command → Type 0) (os : List Command) (o : Command) → AllByRecursion P os → P o → AllByRecursion P (os ++ o ∷ [])
+one_more P [] o a p = (p, tt)
+one_more P (x ∷ os) o a p = (a.0, one_more P os o a.1 p)
+
+stay : (P : Command → Type 0) (held later : List Command) → AllByRecursion P held → AllByRecursion P later → AllByRecursion P (with_orders held later)
+stay P held [] a b = a
+stay P held (o ∷ later) a b = stay P (with_order held o) later (one_more P (filter (λ x. not (are_for_same o x)) held) o (left P (λ x. not (are_for_same o x)) held a) b.0) b.1
+
+-- SETTINGS
+
+-- a new game, or the value of an option
+abbrev IsSetting : Command → Type 0
+IsSetting orders.NewGame = Unit {0}
+IsSetting (orders.SetOption name value) = Unit {0}
+IsSetting order = ⊥
+
+set_value : (name : List ℕ) (value : Option (List ℕ)) → IfSome (asked_by (set_to name value)) IsSetting
+set_value name None = tt
+set_value name (Some value) = tt
+
+set_button : (name : List ℕ) (b : Bool) → IfSome (asked_by (cond b (Ok (Some (orders.SetOption name None))) (Err BadValue))) IsSetting
+set_button name true = tt
+set_button name false = tt
+
+set_option : (o : Setting) (value : Option (List ℕ)) → IfSome (asked_by (set_by o value)) IsSetting
+set_option o None = set_button o.name (is_button o.kind)
+set_option o (Some value) = set_value o.name (value_by o.kind value)
+
+unless_hidden : (b : Bool) (r : Result (Option Command) OptFault) → IfSome (asked_by r) IsSetting → IfSome (asked_by (cond b (Err UnknownOption) r)) IsSetting
+unless_hidden true r i = tt
+unless_hidden false r i = i
+
+set_named : (o : Option Setting) (value : Option (List ℕ)) → IfSome (asked_by (set_found o value)) IsSetting
+set_named None value = tt
+set_named (Some o) value = unless_hidden (is_hidden o.name) (set_by o value) (set_option o value)
+
+set_spin : (name : List ℕ) (k : Kind) (n : ℕ) → IfSome (clamped_by name k n) IsSetting
+set_spin name (Spin default min max) n = tt
+set_spin name k n = tt
+
+set_number : (o : Option Setting) (n : ℕ) → IfSome (clamped o n) IsSetting
+set_number None n = tt
+set_number (Some o) n = set_spin o.name o.kind n
+
+set_text : (name : List ℕ) (k : Kind) (path : List ℕ) → IfSome (path_by name k path) IsSetting
+set_text name (Text default) path = tt
+set_text name k path = tt
+
+set_path : (o : Option Setting) (path : List ℕ) → IfSome (path_for o path) IsSetting
+set_path None path = tt
+set_path (Some o) path = set_text o.name o.kind path
+
+where_some : (P : Command → Type 0) (b : Bool) (o : Option Command) → IfSome o P → IfSome (cond b o None) P
+where_some P true o h = h
+where_some P false o h = tt
+
+asked_sets : (os : List Setting) (m : Message) → IfSome (asked_by (asked os m)) IsSetting
+asked_sets os (says.SetOption name value) = set_named (found name os) value
+asked_sets os (says.Memory n) = set_number (found (codes "Hash") os) n
+asked_sets os (says.Cores n) = set_number (found (codes "Threads") os) n
+asked_sets os (says.EgtPath kind path) = where_some IsSetting (same_text (codes "nalimov") kind) (path_for (found (codes "NalimovPath") os) path) (set_path (found (codes "NalimovPath") os) path)
+asked_sets os m = tt
+
+setting_held : (o : Command) → IsSetting o → is_order o ≡ true → IsHeld o
+setting_held orders.NewGame s e = tt
+setting_held (orders.SetOption name value) s e = e
+setting_held orders.Uci s e = absurd s
+setting_held orders.IsReady s e = absurd s
+setting_held (orders.Position fen moves) s e = absurd s
+setting_held (orders.Go ponder control depth) s e = absurd s
+setting_held orders.Stop s e = absurd s
+setting_held orders.PonderHit s e = absurd s
+setting_held orders.Quit s e = absurd s
+
+-- WHAT A LINE ASKS
+
+switch_is_text : (on : Bool) → is_text (switch_text on) ≡ true
+switch_is_text true = refl
+switch_is_text false = refl
+
+switch_is_line : (on : Bool) → IsLine (switch_text on)
+switch_is_line true = refl
+switch_is_line false = refl
+
+switch_is_short : (on : Bool) → length (switch_text on) ≤ 5
+switch_is_short true = omega arith
+switch_is_short false = omega arith
+
+-- what is told may be held
+told_held : (os : List Setting) (name : List ℕ) (on : Bool) → AreDeclared os → IfSome (tells os name on) IsHeld
+told_held os name on d = named (check_named name os) refl where
+  named : (o : Option (List ℕ)) → check_named name os ≡ o → IfSome (option_map (switches on) o) IsHeld
+  named None e = tt
+  named (Some spelled) e = (switches_spelled os name spelled (switch_text on) d e (switch_is_text on) (switch_is_line on) (switch_is_short on)).fits
+
+mode_held : (os : List Setting) (before after : Bool) → AreDeclared os → IfSome (asks_for_mode os before after) IsHeld
+mode_held os false true d = told_held os analyse_name true d
+mode_held os true false d = told_held os analyse_name false d
+mode_held os true true d = tt
+mode_held os false false d = tt
+
+set_held : (os : List Setting) (line : List ℕ) (m : Message) → AreDeclared os → is_line line ≡ true → reading line ≡ Ok m → IfSome (asked_by (asked os m)) IsHeld
+set_held os line m d l r = by_answer (asked os m) refl (asked_sets os m) where
+  by_answer : (a : Result (Option Command) OptFault) → asked os m ≡ a → IfSome (asked_by a) IsSetting → IfSome (asked_by a) IsHeld
+  by_answer (Ok None) e s = tt
+  by_answer (Ok (Some order)) e s = setting_held order s (asked_spelled os line m order d l r e).fits
+  by_answer (Err fault) e s = tt
+
+desk_held : (d : Desk) (line : List ℕ) (m : Message) → AreDeclared (table d) → is_line line ≡ true → reading line ≡ Ok m → IfSome (asks_of d m) IsHeld
+desk_held d line says.New o l r = tt
+desk_held d line says.Force o l r = mode_held (table d) (analyses d.mode) false o
+desk_held d line says.Go o l r = mode_held (table d) (analyses d.mode) false o
+desk_held d line says.PlayOther o l r = mode_held (table d) (analyses d.mode) false o
+desk_held d line says.Analyze o l r = mode_held (table d) (analyses d.mode) true o
+desk_held d line says.Exit o l r = mode_held (table d) (analyses d.mode) false o
+desk_held d line says.Result o l r = mode_held (table d) (analyses d.mode) false o
+desk_held d line says.Hard o l r = told_held (table d) ponder_name true o
+desk_held d line says.Easy o l r = told_held (table d) ponder_name false o
+desk_held d line m o l r = set_held (table d) line m o l r
+
+table_declared : (b : Bool) (os : List Setting) → AreDeclared os → AreDeclared (cond b os [])
+table_declared true os d = d
+table_declared false os d = tt
+
+gone_held : (gone : Bool) (o : Option Command) → IfSome o IsHeld → IfSome (cond gone None o) IsHeld
+gone_held true o h = tt
+gone_held false o h = h
+
+asks_held : (gone : Bool) (d : Desk) (line : List ℕ) (m : Message) → AreDeclared d.options → is_line line ≡ true → reading line ≡ Ok m → IfSome (asks gone d m) IsHeld
+unfolding asks
+asks_held gone d line m o l r = gone_held gone (asks_of d m) (desk_held d line m (table_declared d.booted d.options o) l r)
+
+-- WHAT WAITS
+
+one_held : (o : Option Command) → IfSome o IsHeld → AreHeld (option_to_list o)
+one_held None h = tt
+one_held (Some order) h = (h, tt)
+
+two_held : (a b : Option Command) → IfSome a IsHeld → IfSome b IsHeld → AreHeld (option_to_list a ++ option_to_list b)
+two_held None None f g = tt
+two_held None (Some y) f g = (g, tt)
+two_held (Some x) None f g = (f, tt)
+two_held (Some x) (Some y) f g = (f, (g, tt))
+
+-- what a deed asks may be held
+pub asked_held : (h : Here) (held : List (List ℕ)) (d : Deed) → IsSound h.desk → Fits h held d → AreHeld (asked_by_deed h d)
+unfolding asked_by_deed
+asked_held h held (Accepts m) s f = one_held (asks (is_gone h.engine) h.desk m) (asks_held (is_gone h.engine) h.desk f.line m s.options f.is_line f.reads)
+asked_held h held Boots s f =
+    two_held (ponder_at_boot h.desk) (analysis_at_boot h.desk) (told_held h.desk.options ponder_name h.desk.pondering s.options)
+    (where_some IsHeld (analyses h.desk.mode) (tells h.desk.options analyse_name true) (told_held h.desk.options analyse_name true s.options))
+asked_held h held d s f = tt
+
+-- what waits after a deed may be held
+pub all_held : (h : Here) (lines : List (List ℕ)) (held : List Command) (d : Deed) → IsSound h.desk → Fits h lines d → AreHeld held → AreHeld (waiting h held d)
+all_held h lines held d s f a = stay IsHeld held (asked_by_deed h d) a (asked_held h lines d s f)
+
+held_word : (o : Command) (ws : List Word) → IsHeld o → AllSetup ws → AllSetup (word_of o ∷ ws)
+held_word orders.NewGame ws h a = a
+held_word (orders.SetOption name value) ws h a = a
+held_word orders.Uci ws h a = absurd h
+held_word orders.IsReady ws h a = absurd h
+held_word (orders.Position fen moves) ws h a = absurd h
+held_word (orders.Go ponder control depth) ws h a = absurd h
+held_word orders.Stop ws h a = absurd h
+held_word orders.PonderHit ws h a = absurd h
+held_word orders.Quit ws h a = absurd h
+
+-- to the dialogue it is what is set up
+pub all_setup : (os : List Command) → AreHeld os → AllSetup (map word_of os)
+all_setup [] a = tt
+all_setup (o ∷ os) a = held_word o (map word_of os) a.0 (all_setup os a.1)
+
+-- LINES
+
+pub held_order : (o : Command) → IsHeld o → is_order o ≡ true
+held_order orders.NewGame h = refl
+held_order (orders.SetOption name value) h = h
+held_order orders.Uci h = absurd h
+held_order orders.IsReady h = absurd h
+held_order (orders.Position fen moves) h = absurd h
+held_order (orders.Go ponder control depth) h = absurd h
+held_order orders.Stop h = absurd h
+held_order orders.PonderHit h = absurd h
+held_order orders.Quit h = absurd h
+
+pub held_orders : (os : List Command) → AreHeld os → AreOrders os
+held_orders [] a = tt
+held_orders (o ∷ os) a = (held_order o a.0, held_orders os a.1)
+
+-- the lines that are held after a deed are those of what waits
+pub lines_wait : (h : Here) (lines : List (List ℕ)) (held : List Command) (d : Deed) → IsSound h.desk → Fits h lines d → AreHeld held
+    → held_after (map command_text held) (map command_text (asked_by_deed h d)) ≡ map command_text (waiting h held d)
+lines_wait h lines held d s f a = joins held (asked_by_deed h d) (held_orders held a) (held_orders (asked_by_deed h d) (asked_held h lines d s f))
+
+-- lines of orders that may be held stay such lines
+pub lines_held : (h : Here) (held : List (List ℕ)) (d : Deed) → IsSound h.desk → Fits h held d → AreHeldLines held → AreHeldLines (held_after held (map command_text (asked_by_deed h d)))
+lines_held h held d s f a = record {
+  orders = waiting h a.orders d;
+  lines_are = ap (λ (ls : List (List ℕ)). held_after ls (map command_text (asked_by_deed h d))) a.lines_are ∙ lines_wait h held a.orders d s f a.held;
+  held = all_held h held a.orders d s f a.held;
+}

@@ -1,0 +1,149 @@
+-- What holds of the desk between steps, and what a deed tells.
+use Rattle.std.specs.Prelude.{◌≡◌, ◌⊎◌, ℕ, List, [], ◌∷◌, ◌*◌, ◌<◌, ◌≤◌, length, codes, true, false, Some, None, IfSome, Ok}
+use Rattle.line_io.specs.Event.{Event, is_line}
+use Rattle.line_io.specs.Event as events
+use Rattle.chess_board.specs.Place.{legal}
+use Rattle.peer_words.specs.declared.kinds.GoKind.{GoKind}
+use Rattle.peer_words.specs.declared.kinds.GoKind.TheVariants as kinds
+use Rattle.cecp_lines.specs.Messages.{Message}
+use Rattle.cecp_lines.specs.Messages as says
+use Rattle.cecp_lines.specs.Reading.{reading}
+use Rattle.cecp_lines.specs.Replies.{IsWritable}
+use Rattle.uci_lines.specs.Says.{Says, Facts, Shape}
+use Rattle.uci_lines.specs.Says as hears
+use Rattle.uci_lines.specs.Engine.{engine_message}
+use Rattle.game_record.specs.Course.{Course, ply_of, now_of, IsPlayable}
+use Rattle.clock_map.specs.Clocks.{AreShort}
+use Rattle.option_map.specs.Held.{lines_text}
+use Rattle.option_map.specs.Spelled.{AreDeclared}
+use Rattle.search_epochs.specs.declared.words.Call.{Call}
+use Rattle.search_epochs.specs.declared.words.Call.TheVariants as calls
+use Rattle.search_epochs.specs.declared.words.EngineState.{EngineState}
+use Rattle.search_epochs.specs.declared.words.EngineState.TheVariants as states
+use Rattle.search_epochs.specs.declared.words.Orders.{Orders}
+use Rattle.search_epochs.specs.declared.words.Orders.TheVariants as chosen
+use Rattle.search_epochs.specs.Talk.{Serves}
+use Rattle.desk_rules.specs.declared.deed.Refusal.{Refusal}
+use Rattle.desk_rules.specs.declared.deed.Refusal.TheVariants as refusals
+use Rattle.desk_rules.specs.declared.desk.Desk.{Desk}
+use Rattle.desk_rules.specs.Desk.{Here, is_boot, is_getting, is_gone, current, call_before, plies}
+use Rattle.desk_rules.specs.Lines.{refusal}
+use Rattle.desk_rules.specs.Steps.{Deed, Refuses, Accepts, Names, Declares, Boots, Readies, Thinks, Shows, Forfeits, Answers, Dies}
+
+-- the line of an event is a line that a peer may send
+abbrev pub IsLineEvent : Event → Type 0
+IsLineEvent (events.Iface line) = is_line line ≡ true
+IsLineEvent (events.Engine line) = is_line line ≡ true
+IsLineEvent e = Unit {0}
+
+-- The hint, if there is one, can be played.
+abbrev pub IsHintPlayable : Desk → Type 0
+IsHintPlayable d = IfSome d.hint (λ m. IsPlayable (now_of d.game) (ply_of m))
+
+-- What holds of the desk between steps.
+pub record IsSound (d : Desk) : Type 0 where
+  pub hint : IsHintPlayable d
+  pub clocks : AreShort d.clocks
+  pub current : IfSome d.seen.current IsWritable
+  pub options : AreDeclared d.options
+
+-- A move of a refused line can be written.
+abbrev pub IsTellable : Refusal → Type 0
+IsTellable (refusals.Because reason) = Unit {0}
+IsTellable (refusals.IllegalMove m) = IsWritable m
+IsTellable (refusals.GameTooLong m) = IsWritable m
+IsTellable refusals.IllegalPosition = Unit {0}
+
+-- some line of the interface says this
+pub record IsRead (m : Message) : Type 0 where
+  pub line : List ℕ
+  pub is_line : is_line line ≡ true
+  pub reads : reading line ≡ Ok m
+
+-- the line of an accepted message
+pub record IsAccepted (h : Here) (held : List (List ℕ)) (m : Message) : Type 0 where
+  pub line : List ℕ
+  pub is_line : is_line line ≡ true
+  pub reads : reading line ≡ Ok m
+  pub is_open : h.closed ≡ false
+  pub passes : refusal h held m ≡ None
+
+-- some line of the engine says this
+pub record IsSaid (m : Says) : Type 0 where
+  pub line : List ℕ
+  pub is_line : is_line line ≡ true
+  pub says : engine_message line ≡ m
+
+pub record IsRefused (h : Here) (r : Refusal) (line : List ℕ) : Type 0 where
+  pub is_open : h.closed ≡ false
+  pub tellable : IsTellable r
+  pub is_line : is_line line ≡ true
+
+-- the open search is current and for a Move
+abbrev pub IsCurrentMove : EngineState → Type 0
+IsCurrentMove e = current e ≡ Some kinds.Move
+
+-- a search is open, and is not a current one for a Move
+abbrev pub IsOther : EngineState → Type 0
+IsOther (states.Search kinds.Move false stopped) = ⊥
+IsOther (states.Search k stale stopped) = Unit {0}
+IsOther e = ⊥
+
+-- what a deed tells of what stood when the event came
+abbrev pub Fits : Here → List (List ℕ) → Deed → Type 0
+Fits h held (Refuses r line) = IsRefused h r line
+Fits h held (Accepts m) = IsAccepted h held m
+Fits h held (Names text) = (h.closed ≡ false) × (is_boot h.engine ≡ true)
+Fits h held (Declares name shape) = (h.closed ≡ false) × (is_boot h.engine ≡ true) × IsSaid (hears.OptionLine name shape)
+Fits h held Boots = (h.closed ≡ false) × (is_boot h.engine ≡ true)
+Fits h held Readies = (h.closed ≡ false) × (is_getting h.engine ≡ true)
+Fits h held (Thinks k facts) = (h.closed ≡ false) × (current h.engine ≡ Some k) × IsSaid (hears.Info facts)
+Fits h held (Shows best hint) = (h.closed ≡ false) × IsCurrentMove h.engine × (legal (now_of h.desk.game) best ≡ true)
+Fits h held Forfeits = (h.closed ≡ false) × IsCurrentMove h.engine
+Fits h held Answers = (h.closed ≡ false) × IsOther h.engine
+Fits h held Dies = is_gone h.engine ≡ false
+Fits h held d = Unit {0}
+
+-- the same, whatever is held
+abbrev pub IsFit : Here → Deed → Type 0
+IsFit h d = (held : List (List ℕ)) × Fits h held d
+
+-- a current search serves the call
+abbrev pub IsServed : Here → Type 0
+IsServed h = h.closed ≡ false → (k : GoKind) → current h.engine ≡ Some k → Serves k (call_before h)
+
+-- what the desk needs to change as a message wants
+abbrev pub CanChange : Desk → Message → Type 0
+CanChange d (says.UserMove m) = IsPlayable (now_of d.game) (ply_of m) × (plies d.game < 12000)
+CanChange d says.Undo = 1 ≤ plies d.game
+CanChange d says.Remove = 2 ≤ plies d.game
+CanChange d (says.Ping n) = length d.pings < 65
+CanChange d m = Unit {0}
+
+-- before `uciok` no more than a new game is held
+abbrev pub IsFirst : List (List ℕ) → Type 0
+IsFirst held = (held ≡ []) ⊎ (held ≡ codes "ucinewgame" ∷ [])
+
+-- what is held leaves room for the orders of a deed
+abbrev pub CanHold : List (List ℕ) → Deed → Type 0
+CanHold held Boots = IsFirst held
+CanHold held d = Unit {0}
+
+-- at most so many lines, and 300 bytes for each
+abbrev pub AreFew : ℕ → List (List ℕ) → Type 0
+AreFew n held = (length held ≤ n) × (length (lines_text held) ≤ 300 * n)
+
+-- a move that is entered can be played
+abbrev pub CanEnter : Course → Message → Type 0
+CanEnter g (says.UserMove m) = IsPlayable (now_of g) (ply_of m)
+CanEnter g m = Unit {0}
+
+-- a move that is to be pondered on can be played
+abbrev pub CanSearch : Course → Call → Type 0
+CanSearch g (calls.Ponder h) = IsPlayable (now_of g) (ply_of h)
+CanSearch g c = Unit {0}
+
+-- the same of the orders that were chosen
+abbrev pub CanWrite : Course → Orders → Type 0
+CanWrite g (chosen.Begin c) = CanSearch g c
+CanWrite g o = Unit {0}

@@ -1,0 +1,185 @@
+// What the desk calls for.
+ghost use Rattle.std.specs.Prelude.{◌≡◌};
+ghost use Rattle.std.specs.Option.{is_some};
+ghost use Rattle.chess_board.specs.Board.{same_side};
+ghost use Rattle.game_record.specs.Course.{now_of};
+ghost use Rattle.game_record.specs.Ending.{has_legal, ended_of};
+ghost use Rattle.option_map.specs.Shown.{check_named};
+ghost use Rattle.uci_lines.specs.Orders.{optional_now};
+ghost use Rattle.search_epochs.specs.Talk.{is_move};
+ghost use Rattle.desk_rules.specs.Desk.{at, table, analyses, plays, is_full, has_ended, is_moveless, on_move, is_gone, is_boot, call_for_hint, call_while_waiting, call_in, call_of, owes_move};
+ghost use Rattle.desk_rules.specs.Fits.{IsHintPlayable};
+
+use crate::{Desk, Mode, Sight};
+use chess_board::Side;
+use game_record::{End, Game, MOST_PLIES};
+use search_epochs::{Call, EngineState};
+
+/// Whether the engine is Gone.
+pub fn is_gone(engine: EngineState) -> bool
+    ensures { result ≡ is_gone engine }
+{
+    matches!(engine, EngineState::Gone)
+}
+
+pub(crate) fn is_boot(engine: EngineState) -> bool
+    ensures { result ≡ is_boot engine }
+{
+    matches!(engine, EngineState::Boot)
+}
+
+pub(crate) fn analyses(mode: Mode) -> bool
+    ensures { result ≡ analyses mode }
+{
+    matches!(mode, Mode::Analyse)
+}
+
+pub(crate) fn plays(mode: Mode) -> bool
+    ensures { result ≡ plays mode }
+{
+    matches!(mode, Mode::Plays(_))
+}
+
+fn same_side(a: Side, b: Side) -> bool
+    ensures { result ≡ same_side a b }
+{
+    match (a, b) {
+        (Side::White, Side::White) | (Side::Black, Side::Black) => true,
+        _ => false,
+    }
+}
+
+fn is_move(call: Call) -> bool
+    ensures { result ≡ is_move call }
+{
+    matches!(call, Call::Move)
+}
+
+fn is_there(text: Option<&[u8]>) -> bool
+    ensures { result ≡ is_some (optional_now text.entry) }
+{
+    match text {
+        Some(_) => true,
+        None => false,
+    }
+}
+
+/// The side on move.
+pub(crate) fn on_move(game: &Game) -> Side
+    ensures { result ≡ on_move game.now }
+{
+    game.now().side()
+}
+
+pub(crate) fn is_full(game: &Game) -> bool
+    ensures { result ≡ is_full game.now }
+{
+    game.plies() as usize >= MOST_PLIES
+}
+
+pub(crate) fn has_ended(end: Option<End>) -> bool
+    ensures { result ≡ is_some end }
+{
+    end.is_some()
+}
+
+fn is_moveless(end: Option<End>) -> bool
+    ensures { result ≡ is_moveless end }
+{
+    match end {
+        Some(End::Mate) | Some(End::Stale) => true,
+        _ => false,
+    }
+}
+
+// Whether the side on move has a legal move: the game has not ended for want of one.
+fn has_legal(game: &Game) -> bool
+    ensures { result ≡ has_legal (now_of game.now) }
+{
+    !is_moveless(game.ended())
+}
+
+impl Desk {
+    // The declared spelling of a check option, where the options count as declared.
+    pub(crate) fn spelled(&self, name: &[u8]) -> Option<&[u8]>
+        ensures { optional_now result ≡ check_named name.now (table self.now) }
+    {
+        if self.booted {
+            self.options.check_name(name)
+        } else {
+            None
+        }
+    }
+
+    fn call_for_hint(&self) -> Call
+        requires { IsHintPlayable self.now }
+        ensures { result ≡ call_for_hint self.now.game self.now.hint }
+    {
+        let Some(hint) = self.hint else {
+            return Call::Nothing;
+        };
+        if has_ended(self.game.ended_after(hint)) {
+            Call::Nothing
+        } else {
+            Call::Ponder(hint)
+        }
+    }
+
+    fn call_while_waiting(&self) -> Call
+        requires { IsHintPlayable self.now }
+        ensures { result ≡ call_while_waiting self.now }
+    {
+        if self.pondering && is_there(self.spelled(b"Ponder")) {
+            self.call_for_hint()
+        } else {
+            Call::Nothing
+        }
+    }
+
+    fn call_in(&self, mode: Mode) -> Call
+        requires { IsHintPlayable self.now }
+        ensures { result ≡ call_in self.now mode }
+    {
+        match mode {
+            Mode::Analyse => {
+                if has_legal(&self.game) {
+                    Call::Analyse
+                } else {
+                    Call::Nothing
+                }
+            }
+            Mode::Plays(side) => {
+                if has_ended(self.game.ended()) {
+                    return Call::Nothing;
+                }
+                if same_side(side, on_move(&self.game)) {
+                    Call::Move
+                } else {
+                    self.call_while_waiting()
+                }
+            }
+            Mode::Force | Mode::Over => Call::Nothing,
+        }
+    }
+
+    /// What the desk calls for, where the session is closed or not and the engine is Gone or not.
+    #[tactic(auto, unfolding(crate::specs::Desk::call_of))]
+    pub fn call(&self, closed: bool, gone: bool) -> Call
+        requires { IsHintPlayable self.now }
+        ensures { result ≡ call_of closed gone self.now }
+    {
+        if closed || gone || is_full(&self.game) {
+            Call::Nothing
+        } else {
+            self.call_in(self.mode)
+        }
+    }
+
+    /// Whether a Move is owed when an event comes.
+    pub fn owes_move(&self, sight: Sight) -> bool
+        requires { IsHintPlayable self.now }
+        ensures { result ≡ owes_move (at sight self.now) }
+    {
+        !sight.spent && is_move(self.call(sight.closed, is_gone(sight.engine)))
+    }
+}

@@ -1,0 +1,168 @@
+// What accepted lines of the interface change.
+ghost use Rattle.std.specs.Prelude.{◌≡◌, ◌<◌, ◌≤◌, length, Option, None};
+ghost use Rattle.std.specs.Option.{is_some};
+ghost use Rattle.chess_board.specs.Play.{start_position};
+ghost use Rattle.fen_text.specs.Fen.{position_of};
+ghost use Rattle.cecp_lines.specs.Messages.{message_of};
+ghost use Rattle.cecp_lines.specs.Reading.{CanBeRead};
+ghost use Rattle.uci_lines.specs.Orders.{Command};
+ghost use Rattle.game_record.specs.Course.{ply_of, begun, with_ply, without_last, now_of, IsPlayable};
+ghost use Rattle.clock_map.specs.Clocks.{after_new};
+ghost use Rattle.desk_rules.specs.Desk.{other};
+ghost use Rattle.desk_rules.specs.Lines.{is_epoch_line, new_mode, with_game, at_position, change, clears_scores};
+ghost use Rattle.desk_rules.specs.Fits.{CanChange};
+
+use crate::call::on_move;
+use crate::{Desk, Mode};
+use cecp_lines::IfaceMsg;
+use chess_board::{Move, Position, Side};
+use fen_text::read_fen;
+use game_record::Game;
+
+/// Whether an accepted line clears the scores of shown moves.
+pub fn clears_scores(message: &IfaceMsg) -> bool
+    ensures { result ≡ clears_scores (message_of message.now) }
+{
+    matches!(
+        message,
+        IfaceMsg::New
+            | IfaceMsg::Go
+            | IfaceMsg::PlayOther
+            | IfaceMsg::Undo
+            | IfaceMsg::Remove
+            | IfaceMsg::SetBoard(_)
+    )
+}
+
+// Whether an accepted line begins an epoch, where a Move is owed or not before it, and it asks for an order or not.
+#[tactic(auto, unfolding(crate::specs::Lines::is_epoch_line))]
+pub(crate) fn is_epoch_line(owes: bool, asks: bool, message: &IfaceMsg) -> bool
+    ensures { (asked : Option Command) → asks ≡ is_some asked → result ≡ is_epoch_line owes asked (message_of message.now) }
+{
+    match message {
+        IfaceMsg::New
+        | IfaceMsg::Force
+        | IfaceMsg::Go
+        | IfaceMsg::PlayOther
+        | IfaceMsg::UserMove(_)
+        | IfaceMsg::Undo
+        | IfaceMsg::Remove
+        | IfaceMsg::SetBoard(_)
+        | IfaceMsg::Analyze
+        | IfaceMsg::Exit
+        | IfaceMsg::Result => true,
+        IfaceMsg::Hard | IfaceMsg::Easy => !owes,
+        IfaceMsg::SetOption { name: _, value: _ }
+        | IfaceMsg::Memory(_)
+        | IfaceMsg::Cores(_)
+        | IfaceMsg::EgtPath { kind: _, path: _ } => asks && !owes,
+        _ => false,
+    }
+}
+
+fn other(side: Side) -> Side
+    ensures { result ≡ other side }
+{
+    match side {
+        Side::White => Side::Black,
+        Side::Black => Side::White,
+    }
+}
+
+fn new_mode(mode: Mode) -> Mode
+    ensures { result ≡ new_mode mode }
+{
+    match mode {
+        Mode::Analyse => Mode::Analyse,
+        _ => Mode::Plays(Side::Black),
+    }
+}
+
+/// Plays a move for which there is room.
+pub(crate) fn play(game: &mut Game, m: Move)
+    requires legal { IsPlayable (now_of game.old) (ply_of m) }
+    requires room { length game.old.moves < 12000 }
+    ensures { game.new ≡ with_ply game.old (ply_of m) }
+{
+    let _ = game.push(m);
+}
+
+// Takes moves back that were played.
+fn take_back(game: &mut Game, n: u32)
+    requires { n ≤ length game.old.moves }
+    ensures { game.new ≡ without_last game.old n }
+{
+    let _ = game.undo(n);
+}
+
+impl Desk {
+    fn enter(&mut self, m: Move)
+        requires legal { IsPlayable (now_of self.old.game) (ply_of m) }
+        requires room { length self.old.game.moves < 12000 }
+        ensures { self.new ≡ with_game self.old (with_ply self.old.game (ply_of m)) }
+    {
+        play(&mut self.game, m);
+        self.hint = None;
+    }
+
+    fn undo(&mut self, n: u32)
+        requires { n ≤ length self.old.game.moves }
+        ensures { self.new ≡ with_game self.old (without_last self.old.game n) }
+    {
+        take_back(&mut self.game, n);
+        self.hint = None;
+    }
+
+    fn set_board(&mut self, text: &[u8])
+        ensures { self.new ≡ at_position self.old (position_of text.now) }
+    {
+        if let Ok(start) = read_fen(text) {
+            self.game.reset(start);
+            self.hint = None;
+        }
+    }
+
+    fn begin_game(&mut self)
+        ensures { self.new ≡ record self.old { game = begun start_position; hint = None; mode = new_mode self.old.mode; clocks = after_new self.old.clocks } }
+    {
+        self.game.reset(Position::start());
+        self.hint = None;
+        self.mode = new_mode(self.mode);
+        self.clocks.reset();
+    }
+
+    // Changes the desk as an accepted line commands.
+    #[tactic(auto, unfolding(crate::specs::Lines::change))]
+    pub(crate) fn change(&mut self, boot: bool, message: &IfaceMsg)
+        requires change { CanChange self.old (message_of message.now) }
+        requires read { CanBeRead (message_of message.now) }
+        ensures { self.new ≡ change boot self.old (message_of message.now) }
+    {
+        match message {
+            IfaceMsg::Protover(_) => {
+                self.due.protover(boot);
+            }
+            IfaceMsg::New => self.begin_game(),
+            IfaceMsg::Force | IfaceMsg::Exit => self.mode = Mode::Force,
+            IfaceMsg::Go => self.mode = Mode::Plays(on_move(&self.game)),
+            IfaceMsg::PlayOther => self.mode = Mode::Plays(other(on_move(&self.game))),
+            IfaceMsg::UserMove(m) => self.enter(*m),
+            IfaceMsg::Undo => self.undo(1),
+            IfaceMsg::Remove => self.undo(2),
+            IfaceMsg::SetBoard(text) => self.set_board(text),
+            IfaceMsg::Analyze => self.mode = Mode::Analyse,
+            IfaceMsg::Result => self.mode = Mode::Over,
+            IfaceMsg::Hard => self.pondering = true,
+            IfaceMsg::Easy => self.pondering = false,
+            IfaceMsg::Level { .. }
+            | IfaceMsg::St(_)
+            | IfaceMsg::Sd(_)
+            | IfaceMsg::Time(_)
+            | IfaceMsg::Otim(_) => self.clocks.set(message),
+            IfaceMsg::Post => self.post = true,
+            IfaceMsg::NoPost => self.post = false,
+            IfaceMsg::Ping(n) => self.pings.add(*n),
+            _ => {}
+        }
+    }
+}

@@ -1,0 +1,14 @@
+// What the interface has the engine do.
+use chess_board::Side;
+
+/// What the interface has the engine do (CECP version 2: `force`, `go`, `playother`, `analyze`, `result`).
+#[derive(Clone, Copy, Debug, PartialEq, Eq)]
+pub enum Mode {
+    /// Moves are only entered.
+    Force,
+    /// The engine plays this side.
+    Plays(Side),
+    Analyse,
+    /// The game is over: nothing is played until the next command.
+    Over,
+}

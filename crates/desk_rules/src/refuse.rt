@@ -1,0 +1,179 @@
+// Which lines of the interface are refused.
+ghost use Rattle.std.specs.Prelude.{◌≡◌};
+ghost use Rattle.chess_board.specs.Place.{legal};
+ghost use Rattle.cecp_lines.specs.Messages.{message_of};
+ghost use Rattle.game_record.specs.Course.{now_of};
+ghost use Rattle.option_map.specs.Asked.{asked};
+ghost use Rattle.desk_rules.specs.Desk.{at, table};
+ghost use Rattle.desk_rules.specs.Lines.{because, needs_engine, needs_analysis, lacks_moves, illegal_move, move_too_many, illegal_position, refused_option, does_not_fit, asks, pings_too_often, refusal};
+ghost use Rattle.desk_rules.specs.Fits.{IsHintPlayable, IsSound, IsRead};
+
+use crate::call::{analyses, is_full, is_gone};
+use crate::{Desk, Refusal, Sight};
+use cecp_lines::{IfaceMsg, Reason};
+use chess_board::Move;
+use fen_text::read_fen;
+use game_record::Game;
+use line_io::Out;
+use option_map::{Held, OptFault};
+
+/// Whether a move is legal now.
+pub(crate) fn is_legal(game: &Game, m: Move) -> bool
+    ensures { result ≡ legal (now_of game.now) m }
+{
+    game.now().legal(m)
+}
+
+fn because(reason: Reason) -> Option<Refusal>
+    ensures { result ≡ because reason }
+{
+    Some(Refusal::Because(reason))
+}
+
+fn needs_engine(message: &IfaceMsg) -> bool
+    ensures { result ≡ needs_engine (message_of message.now) }
+{
+    matches!(
+        message,
+        IfaceMsg::Go | IfaceMsg::PlayOther | IfaceMsg::Analyze
+    )
+}
+
+fn needs_analysis(message: &IfaceMsg) -> bool
+    ensures { result ≡ needs_analysis (message_of message.now) }
+{
+    matches!(message, IfaceMsg::Exit | IfaceMsg::Dot)
+}
+
+fn lacks_moves(game: &Game, message: &IfaceMsg) -> bool
+    ensures { result ≡ lacks_moves game.now (message_of message.now) }
+{
+    match message {
+        IfaceMsg::Undo => game.plies() < 1,
+        IfaceMsg::Remove => game.plies() < 2,
+        _ => false,
+    }
+}
+
+fn illegal_move(game: &Game, message: &IfaceMsg) -> Option<Refusal>
+    ensures { result ≡ illegal_move game.now (message_of message.now) }
+{
+    match message {
+        IfaceMsg::UserMove(m) => {
+            if is_legal(game, *m) {
+                None
+            } else {
+                Some(Refusal::IllegalMove(*m))
+            }
+        }
+        _ => None,
+    }
+}
+
+fn move_too_many(game: &Game, message: &IfaceMsg) -> Option<Refusal>
+    ensures { result ≡ move_too_many game.now (message_of message.now) }
+{
+    match message {
+        IfaceMsg::UserMove(m) => {
+            if is_full(game) {
+                Some(Refusal::GameTooLong(*m))
+            } else {
+                None
+            }
+        }
+        _ => None,
+    }
+}
+
+fn illegal_position(message: &IfaceMsg) -> Option<Refusal>
+    ensures { result ≡ illegal_position (message_of message.now) }
+{
+    match message {
+        IfaceMsg::SetBoard(text) => match read_fen(text) {
+            Ok(_) => None,
+            Err(_) => Some(Refusal::IllegalPosition),
+        },
+        _ => None,
+    }
+}
+
+impl Desk {
+    fn refused_option(&self, message: &IfaceMsg, scratch: &mut Out) -> Option<Refusal>
+        requires sound { IsSound self.now }
+        requires read { IsRead (message_of message.now) }
+        requires room { scratch.old.room ≡ 131072 }
+        ensures refusal { result ≡ refused_option (asked (table self.now) (message_of message.now)) }
+        ensures room { scratch.new.room ≡ scratch.old.room }
+    {
+        match self.translate(message, scratch) {
+            Ok(_) => None,
+            Err(OptFault::UnknownOption) => because(Reason::UnknownOption),
+            Err(OptFault::BadValue) => because(Reason::BadValue),
+        }
+    }
+
+    fn does_not_fit(&self, gone: bool, held: &Held, message: &IfaceMsg, scratch: &mut Out) -> bool
+        requires sound { IsSound self.now }
+        requires read { IsRead (message_of message.now) }
+        requires room { scratch.old.room ≡ 131072 }
+        ensures value { result ≡ does_not_fit held.now (asks gone self.now (message_of message.now)) }
+        ensures room { scratch.new.room ≡ scratch.old.room }
+    {
+        self.asks(gone, message, scratch) && !held.fits(scratch.bytes())
+    }
+
+    fn pings_too_often(&self, sight: Sight, message: &IfaceMsg) -> bool
+        requires { IsHintPlayable self.now }
+        ensures { result ≡ pings_too_often (at sight self.now) (message_of message.now) }
+    {
+        match message {
+            IfaceMsg::Ping(_) => self.owes_move(sight) && self.pings.len() >= 64,
+            _ => false,
+        }
+    }
+
+    // Why a message is refused, if it is: the first that applies.
+    #[tactic(auto, unfolding(crate::specs::Lines::refusal))]
+    pub(crate) fn refusal(
+        &self,
+        sight: Sight,
+        held: &Held,
+        message: &IfaceMsg,
+        scratch: &mut Out,
+    ) -> Option<Refusal>
+        requires sound { IsSound self.now }
+        requires read { IsRead (message_of message.now) }
+        requires room { scratch.old.room ≡ 131072 }
+        ensures refusal { result ≡ refusal (at sight self.now) held.now (message_of message.now) }
+        ensures room { scratch.new.room ≡ scratch.old.room }
+    {
+        if needs_engine(message) && is_gone(sight.engine) {
+            return because(Reason::EngineEnded);
+        }
+        if needs_analysis(message) && !analyses(self.mode) {
+            return because(Reason::NotAnalyzing);
+        }
+        if lacks_moves(&self.game, message) {
+            return because(Reason::NoMoveToUndo);
+        }
+        if let Some(refusal) = illegal_move(&self.game, message) {
+            return Some(refusal);
+        }
+        if let Some(refusal) = move_too_many(&self.game, message) {
+            return Some(refusal);
+        }
+        if let Some(refusal) = illegal_position(message) {
+            return Some(refusal);
+        }
+        if let Some(refusal) = self.refused_option(message, scratch) {
+            return Some(refusal);
+        }
+        if self.does_not_fit(is_gone(sight.engine), held, message, scratch) {
+            return because(Reason::TooManySettings);
+        }
+        if self.pings_too_often(sight, message) {
+            return because(Reason::TooManyPings);
+        }
+        None
+    }
+}
