@@ -1,0 +1,167 @@
+-- How sessions open and close.
+use Rattle.std.proofs.Common.{◌≡◌, ℕ, List, Bool, true, false, not, cond, ◌&&◌, ◌||◌, Option, Some, None, Result, Ok, Err, refl, ◌∙◌}
+use Rattle.line_io.specs.Event.{Event, is_line}
+use Rattle.line_io.specs.Event as events
+use Rattle.cecp_lines.specs.Messages.{Message}
+use Rattle.cecp_lines.specs.Messages as says
+use Rattle.cecp_lines.specs.Reading.{reading}
+use Rattle.cecp_lines.specs.declared.iface.IfaceFault.{IfaceFault}
+use Rattle.cecp_lines.specs.declared.iface.IfaceFault.TheVariants as faults
+use Rattle.uci_lines.specs.Engine.{engine_message}
+use Rattle.desk_rules.specs.declared.deed.Refusal.{Refusal}
+use Rattle.desk_rules.specs.Desk.{Here, is_gone}
+use Rattle.desk_rules.specs.Lines.{verdict, judged, refusal, is_epoch_line}
+use Rattle.desk_rules.specs.Steps.{Deed, Nothing, LongLine, Accepts, Boots, Dies, comes, line_deed, engine_says, rises}
+use Rattle.desk_rules.specs.Fits.{IsLineEvent}
+use Rattle.adapter_core.specs.declared.ends.Ends.{Ends}
+use Rattle.adapter_core.specs.Ends.{may, ends_after, is_open, is_quit, is_quit_message}
+
+pub first_true : (a b : Bool) → (a && b) ≡ true → a ≡ true
+first_true true b e = refl
+first_true false b e = cc
+
+pub second_true : (a b : Bool) → (a && b) ≡ true → b ≡ true
+second_true true b e = e
+second_true false b e = cc
+
+pub opened_before : (a b : Bool) (c : Bool) → (a && b && c) ≡ true → a ≡ true
+opened_before true b c e = refl
+opened_before false b c e = cc
+
+pub opened_later : (ends : Ends) (e : Event) → may ends e ≡ true → (ends_after ends e).opened ≡ true
+opened_later ends events.Open m = refl
+opened_later ends (events.Iface line) m = opened_before ends.opened (not ends.iface) (is_line line) m
+opened_later ends events.IfaceLong m = first_true ends.opened (not ends.iface) m
+opened_later ends events.IfaceEnd m = first_true ends.opened (not ends.iface) m
+opened_later ends events.IfaceLost m = opened_before ends.opened (not ends.iface) (not ends.iface_lost) m
+opened_later ends (events.Engine line) m = opened_before ends.opened (not ends.engine) (is_line line) m
+opened_later ends events.EngineLong m = first_true ends.opened (not ends.engine) m
+opened_later ends events.EngineEnd m = first_true ends.opened (not ends.engine) m
+opened_later ends events.EngineLost m = opened_before ends.opened (not ends.engine) (not ends.engine_lost) m
+
+-- LINES
+
+-- the line of an event that may come is a line
+pub line_event : (ends : Ends) (e : Event) → may ends e ≡ true → IsLineEvent e
+line_event ends (events.Iface line) m = second_true (ends.opened && not ends.iface) (is_line line) m
+line_event ends (events.Engine line) m = second_true (ends.opened && not ends.engine) (is_line line) m
+line_event ends e m = tt
+
+-- CLOSED
+
+or_true : (b c : Bool) → b ≡ true → (b || c) ≡ true
+or_true true c e = refl
+or_true false c e = cc
+
+pub closed_stays : (ends : Ends) (e : Event) → ends.closed ≡ true → (ends_after ends e).closed ≡ true
+closed_stays ends events.Open c = c
+closed_stays ends (events.Iface line) c = or_true ends.closed (is_quit line) c
+closed_stays ends events.IfaceEnd c = refl
+closed_stays ends events.IfaceLost c = refl
+closed_stays ends e c = c
+
+pub closes_later : (ends : Ends) (e : Event) → ends.closed ≡ false → (ends_after ends e).closed ≡ true → is_open e ≡ false
+closes_later ends events.Open a b = cc
+closes_later ends e a b = refl
+
+pub open_before : (ends : Ends) (e : Event) → (ends_after ends e).closed ≡ false → ends.closed ≡ false
+open_before ends e n = elim (ends.closed) as (λ b. ends.closed ≡ b → b ≡ false) [ true ↦ λ c. (let x = closed_stays ends e c in cc) | false ↦ λ c. refl ] refl
+
+-- NOTHING RISES
+
+-- nothing rises in a step after which the session is closed
+nothing_rises : (h : Here) (b : Bool) (d : Deed) → b ≡ true → rises h (cond b Nothing d) ≡ false
+nothing_rises h true d e = refl
+nothing_rises h false d e = cc
+
+quit_rises : (h : Here) (line : List ℕ) (r : Option Refusal) → rises h (line_deed (judged says.Quit r) line) ≡ false
+unfolding is_epoch_line
+quit_rises h line None = refl
+quit_rises h line (Some r) = refl
+
+line_rises : (h : Here) (held : List (List ℕ)) (line : List ℕ) (r : Result Message IfaceFault) → is_quit_message r ≡ true → rises h (line_deed (verdict h held r) line) ≡ false
+unfolding verdict
+line_rises h held line (Err faults.UnknownCommand) q = cc
+line_rises h held line (Err faults.BadArgument) q = cc
+line_rises h held line (Ok says.Quit) q = quit_rises h line (refusal h held says.Quit)
+line_rises h held line (Ok m) q = cc
+
+either_rises : (h : Here) (held : List (List ℕ)) (b q : Bool) (line : List ℕ) (r : Result Message IfaceFault) → is_quit_message r ≡ q → (b || q) ≡ true
+    → rises h (cond b Nothing (line_deed (verdict h held r) line)) ≡ false
+either_rises h held true q line r e c = refl
+either_rises h held false true line r e c = line_rises h held line r e
+either_rises h held false false line r e c = cc
+
+dead_rises : (h : Here) (b : Bool) → rises h (cond b Nothing Dies) ≡ false
+dead_rises h true = refl
+dead_rises h false = refl
+
+pub closed_rises : (ends : Ends) (h : Here) (held : List (List ℕ)) (e : Event) → h.closed ≡ ends.closed → (ends_after ends e).closed ≡ true → rises h (comes h held e) ≡ false
+unfolding comes
+closed_rises ends h held events.Open same c = refl
+closed_rises ends h held (events.Iface line) same c = either_rises h held h.closed (is_quit line) line (reading line) refl (rw same c)
+closed_rises ends h held events.IfaceLong same c = nothing_rises h h.closed LongLine (same ∙ c)
+closed_rises ends h held events.IfaceEnd same c = refl
+closed_rises ends h held events.IfaceLost same c = refl
+closed_rises ends h held (events.Engine line) same c = nothing_rises h h.closed (engine_says h (engine_message line)) (same ∙ c)
+closed_rises ends h held events.EngineLong same c = refl
+closed_rises ends h held events.EngineEnd same c = dead_rises h (is_gone h.engine)
+closed_rises ends h held events.EngineLost same c = dead_rises h (is_gone h.engine)
+
+-- nor at Open
+pub open_rises : (h : Here) (held : List (List ℕ)) (e : Event) → is_open e ≡ true → rises h (comes h held e) ≡ false
+unfolding comes
+open_rises h held events.Open o = refl
+open_rises h held (events.Iface line) o = cc
+open_rises h held events.IfaceLong o = cc
+open_rises h held events.IfaceEnd o = cc
+open_rises h held events.IfaceLost o = cc
+open_rises h held (events.Engine line) o = cc
+open_rises h held events.EngineLong o = cc
+open_rises h held events.EngineEnd o = cc
+open_rises h held events.EngineLost o = cc
+
+-- WHAT CLOSES
+
+-- what can come in a step after which the session is closed
+abbrev pub Closes : Deed → Type 0
+Closes (Accepts says.Quit) = Unit {0}
+Closes (Accepts m) = ⊥
+Closes Boots = ⊥
+Closes d = Unit {0}
+
+quit_closes : (line : List ℕ) (r : Option Refusal) → Closes (line_deed (judged says.Quit r) line)
+quit_closes line None = tt
+quit_closes line (Some r) = tt
+
+line_closes : (h : Here) (held : List (List ℕ)) (line : List ℕ) (r : Result Message IfaceFault) → is_quit_message r ≡ true → Closes (line_deed (verdict h held r) line)
+unfolding verdict
+line_closes h held line (Err faults.UnknownCommand) q = cc
+line_closes h held line (Err faults.BadArgument) q = cc
+line_closes h held line (Ok says.Quit) q = quit_closes line (refusal h held says.Quit)
+line_closes h held line (Ok m) q = cc
+
+cond_closes : (b : Bool) (d : Deed) → b ≡ true → Closes (cond b Nothing d)
+cond_closes true d e = tt
+cond_closes false d e = cc
+
+either_closes : (h : Here) (held : List (List ℕ)) (b q : Bool) (line : List ℕ) (r : Result Message IfaceFault) → is_quit_message r ≡ q → (b || q) ≡ true → Closes (cond b Nothing (line_deed (verdict h held r) line))
+either_closes h held true q line r e c = tt
+either_closes h held false true line r e c = line_closes h held line r e
+either_closes h held false false line r e c = cc
+
+dead_closes : (b : Bool) → Closes (cond b Nothing Dies)
+dead_closes true = tt
+dead_closes false = tt
+
+pub closing : (ends : Ends) (h : Here) (held : List (List ℕ)) (e : Event) → h.closed ≡ ends.closed → (ends_after ends e).closed ≡ true → Closes (comes h held e)
+unfolding comes
+closing ends h held events.Open same c = tt
+closing ends h held (events.Iface line) same c = either_closes h held h.closed (is_quit line) line (reading line) refl (rw same c)
+closing ends h held events.IfaceLong same c = cond_closes h.closed LongLine (same ∙ c)
+closing ends h held events.IfaceEnd same c = tt
+closing ends h held events.IfaceLost same c = tt
+closing ends h held (events.Engine line) same c = cond_closes h.closed (engine_says h (engine_message line)) (same ∙ c)
+closing ends h held events.EngineLong same c = tt
+closing ends h held events.EngineEnd same c = dead_closes (is_gone h.engine)
+closing ends h held events.EngineLost same c = dead_closes (is_gone h.engine)

@@ -1,0 +1,163 @@
+-- What a message commands and why it is refused, by the parts of the desk that the interface commands.
+use Rattle.std.proofs.Common.{◌≡◌, ℕ, List, [], ◌∷◌, length, Bool, true, false, not, ◌&&◌, nat_le, Option, Some, None, Ok, Err, refl, sym, ap, ◌∙◌}
+use Rattle.cecp_lines.specs.Messages.{Message}
+use Rattle.cecp_lines.specs.Messages as says
+use Rattle.cecp_lines.specs.declared.reply.Reason.TheVariants as reasons
+use Rattle.uci_lines.specs.Orders.{command_text}
+use Rattle.game_record.specs.Course.{Course, begun}
+use Rattle.option_map.specs.Settings.{Setting}
+use Rattle.option_map.specs.Asked.{asked}
+use Rattle.desk_rules.specs.declared.mode.Mode.{Mode}
+use Rattle.desk_rules.specs.declared.deed.Refusal.{Refusal}
+use Rattle.desk_rules.specs.declared.deed.Refusal.TheVariants as refusals
+use Rattle.desk_rules.specs.declared.desk.Desk.{Desk}
+use Rattle.desk_rules.specs.Desk.{Here, opening_desk, table, analyses, is_gone, owes_move, ponder_name, analyse_name}
+use Rattle.desk_rules.specs.Lines.{asks, asks_for_mode, tells, or_else, where_true, needs_engine, needs_analysis, lacks_moves, illegal_move, move_too_many, illegal_position, refused_option, does_not_fit, pings_too_often, refusal, at_position, change}
+use Rattle.adapter_core.specs.Alone.{Commanded, commanded}
+
+-- WHAT A MESSAGE COMMANDS
+
+-- a desk with these parts
+as_desk : Commanded → Desk
+as_desk c = record opening_desk { game = c.game; mode = c.mode; post = c.post; pondering = c.pondering; clocks = c.clocks; pings = c.pings }
+
+set_position : (d d' : Desk) (r : _) → commanded d ≡ commanded d' → commanded (at_position d r) ≡ commanded (at_position d' r)
+set_position d d' (Ok p) e = ap (λ (c : Commanded). let x : Commanded = record c { game = begun p } in x) e
+set_position d d' (Err fault) e = e
+
+changed : (boot : Bool) (d : Desk) (m : Message) → commanded (change boot d m) ≡ commanded (change false (as_desk (commanded d)) m)
+unfolding change as_desk
+changed boot d (says.SetBoard text) = set_position d (as_desk (commanded d)) _ refl
+changed boot d m = refl
+
+-- the same message changes the same
+pub alike_changed : (boot boot' : Bool) (d d' : Desk) (m : Message) → commanded d ≡ commanded d' → commanded (change boot d m) ≡ commanded (change boot' d' m)
+alike_changed boot boot' d d' m e = changed boot d m ∙ ap (λ (c : Commanded). commanded (change false (as_desk c) m)) e ∙ sym (changed boot' d' m)
+
+-- SETTINGS
+
+-- the messages that set options
+abbrev pub is_setting : Message → Bool
+is_setting (says.SetOption name value) = true
+is_setting (says.Memory n) = true
+is_setting (says.Cores n) = true
+is_setting (says.EgtPath kind path) = true
+is_setting m = false
+
+-- change nothing
+pub setting_changes : (boot : Bool) (d : Desk) (m : Message) → is_setting m ≡ true → change boot d m ≡ d
+unfolding change
+setting_changes boot d (says.SetOption name value) e = refl
+setting_changes boot d (says.Memory n) e = refl
+setting_changes boot d (says.Cores n) e = refl
+setting_changes boot d (says.EgtPath kind path) e = refl
+setting_changes boot d m e = cc
+
+-- other messages set none
+pub plain_option : (os : List Setting) (m : Message) → is_setting m ≡ false → refused_option (asked os m) ≡ None
+plain_option os (says.SetOption name value) e = cc
+plain_option os (says.Memory n) e = cc
+plain_option os (says.Cores n) e = cc
+plain_option os (says.EgtPath kind path) e = cc
+plain_option os m e = refl
+
+-- REFUSALS
+
+abbrev pings_by : Bool → List ℕ → Message → Bool
+pings_by owes pings (says.Ping n) = owes && nat_le 64 (length pings)
+pings_by owes pings m = false
+
+pings_are : (h : Here) (m : Message) → pings_too_often h m ≡ pings_by (owes_move h) h.desk.pings m
+pings_are h (says.Ping n) = refl
+pings_are h m = refl
+
+-- why a message is refused, by the parts that the interface commands, whether the engine is Gone and a Move is owed, and what is said of options
+pub refused_by : Bool → Course → Mode → List ℕ → Bool → Option Refusal → Option Refusal → Message → Option Refusal
+refused_by gone g mode pings owes option fit m =
+    or_else (where_true (needs_engine m && gone) reasons.EngineEnded)
+    (or_else (where_true (needs_analysis m && not (analyses mode)) reasons.NotAnalyzing)
+    (or_else (where_true (lacks_moves g m) reasons.NoMoveToUndo)
+    (or_else (illegal_move g m)
+    (or_else (move_too_many g m)
+    (or_else (illegal_position m)
+    (or_else option
+    (or_else fit
+    (where_true (pings_by owes pings m) reasons.TooManyPings))))))))
+
+abbrev pub option_refusal : Here → Message → Option Refusal
+option_refusal h m = refused_option (asked (table h.desk) m)
+
+abbrev pub fit_refusal : Here → List (List ℕ) → Message → Option Refusal
+fit_refusal h held m = where_true (does_not_fit held (asks (is_gone h.engine) h.desk m)) reasons.TooManySettings
+
+pub refusal_is : (h : Here) (held : List (List ℕ)) (m : Message)
+    → refusal h held m ≡ refused_by (is_gone h.engine) h.desk.game h.desk.mode h.desk.pings (owes_move h) (option_refusal h m) (fit_refusal h held m) m
+unfolding refusal refused_by
+refusal_is h held m =
+    ap (λ (b : Bool). or_else (where_true (needs_engine m && is_gone h.engine) reasons.EngineEnded)
+    (or_else (where_true (needs_analysis m && not (analyses h.desk.mode)) reasons.NotAnalyzing)
+    (or_else (where_true (lacks_moves h.desk.game m) reasons.NoMoveToUndo)
+    (or_else (illegal_move h.desk.game m)
+    (or_else (move_too_many h.desk.game m)
+    (or_else (illegal_position m)
+    (or_else (option_refusal h m)
+    (or_else (fit_refusal h held m)
+    (where_true b reasons.TooManyPings))))))))) (pings_are h m)
+
+-- refused for too many settings
+abbrev pub is_full_refusal : Option Refusal → Bool
+is_full_refusal (Some (refusals.Because reasons.TooManySettings)) = true
+is_full_refusal o = false
+
+behind : (a x y : Option Refusal) → (is_full_refusal x ≡ false → x ≡ y) → is_full_refusal (or_else a x) ≡ false → or_else a x ≡ or_else a y
+behind None x y f n = f n
+behind (Some r) x y f n = refl
+
+fits_last : (b : Bool) (x : Option Refusal) → is_full_refusal (or_else (where_true b reasons.TooManySettings) x) ≡ false → or_else (where_true b reasons.TooManySettings) x ≡ or_else None x
+fits_last true x n = cc
+fits_last false x n = refl
+
+-- where that is not so, the settings do not matter
+pub unfilled : (gone : Bool) (g : Course) (mode : Mode) (pings : List ℕ) (owes : Bool) (option : Option Refusal) (b : Bool) (m : Message)
+    → is_full_refusal (refused_by gone g mode pings owes option (where_true b reasons.TooManySettings) m) ≡ false
+    → refused_by gone g mode pings owes option (where_true b reasons.TooManySettings) m ≡ refused_by gone g mode pings owes option None m
+unfolding refused_by
+unfilled gone g mode pings owes option b m n =
+    behind (where_true (needs_engine m && gone) reasons.EngineEnded) _ _
+    (behind (where_true (needs_analysis m && not (analyses mode)) reasons.NotAnalyzing) _ _
+    (behind (where_true (lacks_moves g m) reasons.NoMoveToUndo) _ _
+    (behind (illegal_move g m) _ _
+    (behind (move_too_many g m) _ _
+    (behind (illegal_position m) _ _
+    (behind option _ _
+    (fits_last b (where_true (pings_by owes pings m) reasons.TooManyPings)))))))) n
+
+-- WITH NO OPTIONS
+
+none_told : (os : List Setting) (name : List ℕ) (on : Bool) → os ≡ [] → tells os name on ≡ None
+none_told [] name on e = refl
+none_told (o ∷ os) name on e = cc
+
+none_for_mode : (os : List Setting) (before after : Bool) → os ≡ [] → asks_for_mode os before after ≡ None
+none_for_mode os false true e = none_told os analyse_name true e
+none_for_mode os true false e = none_told os analyse_name false e
+none_for_mode os true true e = refl
+none_for_mode os false false e = refl
+
+-- every order fits where none is held and no option is declared
+pub lone_fits : (d : Desk) (m : Message) → table d ≡ [] → is_setting m ≡ false → does_not_fit [] (asks false d m) ≡ false
+unfolding asks command_text
+lone_fits d says.New e p = refl
+lone_fits d says.Force e p = ap (does_not_fit []) (none_for_mode (table d) (analyses d.mode) false e)
+lone_fits d says.Go e p = ap (does_not_fit []) (none_for_mode (table d) (analyses d.mode) false e)
+lone_fits d says.PlayOther e p = ap (does_not_fit []) (none_for_mode (table d) (analyses d.mode) false e)
+lone_fits d says.Analyze e p = ap (does_not_fit []) (none_for_mode (table d) (analyses d.mode) true e)
+lone_fits d says.Exit e p = ap (does_not_fit []) (none_for_mode (table d) (analyses d.mode) false e)
+lone_fits d says.Result e p = ap (does_not_fit []) (none_for_mode (table d) (analyses d.mode) false e)
+lone_fits d says.Hard e p = ap (does_not_fit []) (none_told (table d) ponder_name true e)
+lone_fits d says.Easy e p = ap (does_not_fit []) (none_told (table d) ponder_name false e)
+lone_fits d (says.SetOption name value) e p = cc
+lone_fits d (says.Memory n) e p = cc
+lone_fits d (says.Cores n) e p = cc
+lone_fits d (says.EgtPath kind path) e p = cc
+lone_fits d m e p = refl

@@ -1,0 +1,237 @@
+-- Nothing is written to a side that has ended.
+use Rattle.std.proofs.Common.{◌≡◌, ℕ, List, [], ◌∷◌, map, Bool, true, false, cond, not, ◌||◌, Option, Some, None, refl, sym, ap, subst, ◌∙◌}
+use Rattle.line_io.specs.Event.{Event, is_line}
+use Rattle.line_io.specs.Event as events
+use Rattle.uci_lines.specs.Orders.{Command}
+use Rattle.cecp_lines.specs.Replies.{Told}
+use Rattle.policy_rules.specs.declared.settings.Settings.{Settings}
+use Rattle.search_epochs.specs.Talk.{Engine, Boot, Getting, Idle, Search, Gone, Word, MaySendAll, sent_all, heard, said_of}
+use Rattle.search_epochs.specs.View.{forget}
+use Rattle.desk_rules.specs.Desk.{is_gone}
+use Rattle.cecp_lines.specs.Messages.{Message}
+use Rattle.cecp_lines.specs.Messages as says
+use Rattle.desk_rules.specs.Steps.{Deed, Nothing, Opens, LongLine, Refuses, Accepts, Names, Declares, Boots, Readies, Thinks, Shows, Forfeits, Answers, Dies, comes, what_of, what_accepted, is_death, dies}
+use Rattle.desk_rules.specs.Orders.{word_of}
+use Rattle.search_epochs.specs.declared.words.Said.{Said}
+use Rattle.search_epochs.specs.declared.words.Said.TheVariants as said
+use Rattle.uci_lines.specs.Orders as orders
+use Rattle.adapter_core.specs.declared.ends.Ends.{Ends}
+use Rattle.adapter_core.specs.Ends.{may, ends_after, is_open, is_quit}
+use Rattle.adapter_core.specs.Trace.{State, Step, Lawful, state, deed, turn, mid, closed_after, gone_after, last_orders}
+use Rattle.adapter_core.specs.Stands.{IsSilentToIface, IsSilentToEngine}
+use Rattle.adapter_core.proofs.Closing.{opened_later}
+
+-- THE INTERFACE
+
+abbrev iface_gone : Ends → Bool
+iface_gone ends = ends.iface || ends.iface_lost
+
+or_true : (b c : Bool) → b ≡ true → (b || c) ≡ true
+or_true true c e = refl
+or_true false c e = cc
+
+by_line : (i l c q : Bool) → ((i || l) ≡ true → c ≡ true) → ((i || q) || l) ≡ true → (c || q) ≡ true
+by_line true l c q h e = or_true c q (h refl)
+by_line false true c q h e = or_true c q (h refl)
+by_line false false true q h e = refl
+by_line false false false true h e = refl
+by_line false false false false h e = cc
+
+-- once the interface has ended, the session is closed
+ended_closed : (ends : Ends) (e : Event) → (iface_gone ends ≡ true → ends.closed ≡ true) → iface_gone (ends_after ends e) ≡ true → (ends_after ends e).closed ≡ true
+ended_closed ends (events.Iface line) h g = by_line ends.iface ends.iface_lost ends.closed (is_quit line) h g
+ended_closed ends events.IfaceEnd h g = refl
+ended_closed ends events.IfaceLost h g = refl
+ended_closed ends events.Open h g = h g
+ended_closed ends events.IfaceLong h g = h g
+ended_closed ends (events.Engine line) h g = h g
+ended_closed ends events.EngineLong h g = h g
+ended_closed ends events.EngineEnd h g = h g
+ended_closed ends events.EngineLost h g = h g
+
+closed_by : (o : Settings) (t : List Step) → iface_gone (state o t).ends ≡ true → (state o t).ends.closed ≡ true
+closed_by o [] g = cc
+closed_by o (step ∷ t) g = ended_closed (state o t).ends step.event (closed_by o t) g
+
+no_replies : (b : Bool) (rs : List Told) → b ≡ true → cond b [] rs ≡ []
+no_replies true rs e = refl
+no_replies false rs e = cc
+
+pub silent_to_iface : (o : Settings) → IsSilentToIface o
+silent_to_iface o t step l g = l.1.replies ∙ no_replies (closed_after (state o t) step.event) _ (closed_by o (step ∷ t) g)
+
+-- THE ENGINE
+
+abbrev engine_gone : Ends → Bool
+engine_gone ends = ends.engine || ends.engine_lost
+
+gone_stays : (epoch : ℕ) (ws : List Word) → sent_all epoch Gone ws ≡ Gone
+gone_stays epoch [] = refl
+gone_stays epoch (w ∷ ws) = gone_stays epoch ws
+
+gone_hears : (w : Option Said) → heard Gone w ≡ Gone
+gone_hears None = refl
+gone_hears (Some said.UciOk) = refl
+gone_hears (Some said.ReadyOk) = refl
+gone_hears (Some said.Best) = refl
+gone_hears (Some said.Ended) = refl
+
+death : (epoch : ℕ) (e : Engine) → heard e (said_of (what_of (dies (forget epoch e)))) ≡ Gone
+death epoch Boot = refl
+death epoch Getting = refl
+death epoch Idle = refl
+death epoch (Search k t s) = refl
+death epoch Gone = refl
+
+stays_gone : (s : State) (e : Event) → s.talk.engine ≡ Gone → (mid s e).engine ≡ Gone
+stays_gone s e g = ap (λ (x : Engine). heard x (said_of (turn s e).what)) g ∙ gone_hears (said_of (turn s e).what)
+
+-- an engine that has ended is Gone before the orders of the step
+mid_gone : (s : State) (e : Event) → (engine_gone s.ends ≡ true → s.talk.engine ≡ Gone) → engine_gone (ends_after s.ends e) ≡ true → (mid s e).engine ≡ Gone
+unfolding comes
+mid_gone s events.EngineEnd h g = death s.talk.epoch s.talk.engine
+mid_gone s events.EngineLost h g = death s.talk.epoch s.talk.engine
+mid_gone s events.Open h g = stays_gone s events.Open (h g)
+mid_gone s (events.Iface line) h g = stays_gone s (events.Iface line) (h g)
+mid_gone s events.IfaceLong h g = stays_gone s events.IfaceLong (h g)
+mid_gone s events.IfaceEnd h g = stays_gone s events.IfaceEnd (h g)
+mid_gone s events.IfaceLost h g = stays_gone s events.IfaceLost (h g)
+mid_gone s (events.Engine line) h g = stays_gone s (events.Engine line) (h g)
+mid_gone s events.EngineLong h g = stays_gone s events.EngineLong (h g)
+
+gone_by : (o : Settings) (t : List Step) → engine_gone (state o t).ends ≡ true → (state o t).talk.engine ≡ Gone
+gone_by o [] g = cc
+gone_by o (step ∷ t) g =
+    let s = state o t in
+    ap (λ (x : Engine). sent_all (mid s step.event).epoch x (map word_of step.orders)) (mid_gone s step.event (gone_by o t) g) ∙ gone_stays (mid s step.event).epoch (map word_of step.orders)
+
+-- a line of the interface ends no engine
+not_gone : (e : Engine) (w : Option Said) → w ≡ None → heard e w ≡ Gone → e ≡ Gone
+not_gone e None n g = g
+not_gone e (Some said) n g = cc
+
+quiet_line : (m : Message) → said_of (what_accepted m) ≡ None
+quiet_line (says.UserMove m) = refl
+quiet_line says.MoveNow = refl
+quiet_line m = refl
+
+gone_known : (epoch : ℕ) (e : Engine) (b : Bool) → e ≡ Gone → (is_gone (forget epoch e) || b) ≡ true
+gone_known epoch Gone b g = refl
+gone_known epoch Boot b g = cc
+gone_known epoch Getting b g = cc
+gone_known epoch Idle b g = cc
+gone_known epoch (Search k t s) b g = cc
+
+gone_is : (epoch : ℕ) (e : Engine) (d : Deed) → heard e (said_of (what_of d)) ≡ Gone → (is_gone (forget epoch e) || is_death d) ≡ true
+gone_is epoch e (Accepts m) g = gone_known epoch e false (not_gone e (said_of (what_accepted m)) (quiet_line m) g)
+gone_is epoch Boot Nothing g = cc
+gone_is epoch Boot Opens g = cc
+gone_is epoch Boot LongLine g = cc
+gone_is epoch Boot (Refuses r line) g = cc
+gone_is epoch Boot (Names text) g = cc
+gone_is epoch Boot (Declares name shape) g = cc
+gone_is epoch Boot Boots g = cc
+gone_is epoch Boot Readies g = cc
+gone_is epoch Boot (Thinks kind facts) g = cc
+gone_is epoch Boot (Shows best hint) g = cc
+gone_is epoch Boot Forfeits g = cc
+gone_is epoch Boot Answers g = cc
+gone_is epoch Boot Dies g = refl
+gone_is epoch Getting Nothing g = cc
+gone_is epoch Getting Opens g = cc
+gone_is epoch Getting LongLine g = cc
+gone_is epoch Getting (Refuses r line) g = cc
+gone_is epoch Getting (Names text) g = cc
+gone_is epoch Getting (Declares name shape) g = cc
+gone_is epoch Getting Boots g = cc
+gone_is epoch Getting Readies g = cc
+gone_is epoch Getting (Thinks kind facts) g = cc
+gone_is epoch Getting (Shows best hint) g = cc
+gone_is epoch Getting Forfeits g = cc
+gone_is epoch Getting Answers g = cc
+gone_is epoch Getting Dies g = refl
+gone_is epoch Idle Nothing g = cc
+gone_is epoch Idle Opens g = cc
+gone_is epoch Idle LongLine g = cc
+gone_is epoch Idle (Refuses r line) g = cc
+gone_is epoch Idle (Names text) g = cc
+gone_is epoch Idle (Declares name shape) g = cc
+gone_is epoch Idle Boots g = cc
+gone_is epoch Idle Readies g = cc
+gone_is epoch Idle (Thinks kind facts) g = cc
+gone_is epoch Idle (Shows best hint) g = cc
+gone_is epoch Idle Forfeits g = cc
+gone_is epoch Idle Answers g = cc
+gone_is epoch Idle Dies g = refl
+gone_is epoch (Search k t s) Nothing g = cc
+gone_is epoch (Search k t s) Opens g = cc
+gone_is epoch (Search k t s) LongLine g = cc
+gone_is epoch (Search k t s) (Refuses r line) g = cc
+gone_is epoch (Search k t s) (Names text) g = cc
+gone_is epoch (Search k t s) (Declares name shape) g = cc
+gone_is epoch (Search k t s) Boots g = cc
+gone_is epoch (Search k t s) Readies g = cc
+gone_is epoch (Search k t s) (Thinks kind facts) g = cc
+gone_is epoch (Search k t s) (Shows best hint) g = cc
+gone_is epoch (Search k t s) Forfeits g = cc
+gone_is epoch (Search k t s) Answers g = cc
+gone_is epoch (Search k t s) Dies g = refl
+gone_is epoch Gone d g = refl
+
+no_order : (epoch : ℕ) (os : List Command) → MaySendAll epoch Gone (map word_of os) → os ≡ []
+no_order epoch [] m = refl
+no_order epoch (orders.Uci ∷ os) m = absurd (m.0)
+no_order epoch (orders.IsReady ∷ os) m = let e = m.0 in cc
+no_order epoch (orders.NewGame ∷ os) m = let e = m.0 in cc
+no_order epoch (orders.SetOption name value ∷ os) m = let e = m.0 in cc
+no_order epoch (orders.Position fen moves ∷ os) m = let e = m.0 in cc
+no_order epoch (orders.Go ponder control depth ∷ os) m = let e = m.0 in cc
+no_order epoch (orders.Stop ∷ os) m = absurd (m.0)
+no_order epoch (orders.PonderHit ∷ os) m = absurd (m.0)
+no_order epoch (orders.Quit ∷ os) m = absurd (m.0 refl)
+
+-- before the session is opened no engine has ended
+unopened : (o : Settings) (t : List Step) → Lawful o t → (state o t).ends.opened ≡ false → engine_gone (state o t).ends ≡ true → ⊥
+unopened o [] l c g = differ false refl g where
+  differ : (b : Bool) → b ≡ false → b ≡ true → ⊥
+  differ true u v = cc
+  differ false u v = cc
+unopened o (step ∷ t) l c g = differ _ c (opened_later (state o t).ends step.event l.1.may_come) where
+  differ : (b : Bool) → b ≡ false → b ≡ true → ⊥
+  differ true u v = cc
+  differ false u v = cc
+
+not_opened : (ends : Ends) (e : Event) → is_open e ≡ true → may ends e ≡ true → (ends.opened ≡ false) × (engine_gone (ends_after ends e) ≡ engine_gone ends)
+not_opened ends events.Open o m = (not_true ends.opened m, refl) where
+  not_true : (b : Bool) → not b ≡ true → b ≡ false
+  not_true true e = cc
+  not_true false e = refl
+not_opened ends (events.Iface line) o m = cc
+not_opened ends events.IfaceLong o m = cc
+not_opened ends events.IfaceEnd o m = cc
+not_opened ends events.IfaceLost o m = cc
+not_opened ends (events.Engine line) o m = cc
+not_opened ends events.EngineLong o m = cc
+not_opened ends events.EngineEnd o m = cc
+not_opened ends events.EngineLost o m = cc
+
+none_at_last : (gone : Bool) → gone ≡ true → last_orders gone ≡ []
+none_at_last true e = refl
+none_at_last false e = cc
+
+silent_step : (o : Settings) (t : List Step) (step : Step) → Lawful o (step ∷ t) → engine_gone (ends_after (state o t).ends step.event) ≡ true
+    → (opens before after : Bool) → is_open step.event ≡ opens → (state o t).ends.closed ≡ before → closed_after (state o t) step.event ≡ after → step.orders ≡ []
+silent_step o t step l g true before after op b a =
+    let n = not_opened (state o t).ends step.event op l.1.may_come in
+    absurd (unopened o t l.0 n.0 (sym n.1 ∙ g))
+silent_step o t step l g false true after op b a = l.1.closed op b
+silent_step o t step l g false false true op b a =
+    let s = state o t in
+    l.1.closes b a ∙ none_at_last (gone_after s step.event) (gone_is s.talk.epoch s.talk.engine (deed s step.event) (mid_gone s step.event (gone_by o t) g))
+silent_step o t step l g false false false op b a =
+    let s = state o t in
+    let settled = l.1.settled op a in
+    no_order (mid s step.event).epoch step.orders (subst (λ (x : Engine). MaySendAll (mid s step.event).epoch x (map word_of step.orders)) (mid_gone s step.event (gone_by o t) g) settled.words.may_send)
+
+pub silent_to_engine : (o : Settings) → IsSilentToEngine o
+silent_to_engine o t step l g = silent_step o t step l g (is_open step.event) (state o t).ends.closed (closed_after (state o t) step.event) refl refl refl

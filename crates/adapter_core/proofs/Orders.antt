@@ -1,0 +1,162 @@
+-- The words, the lines and the texts of the orders that are written.
+use Rattle.std.proofs.Common.{◌≡◌, ℕ, List, [], ◌∷◌, ◌++◌, map, codes, Bool, true, false, cond, ◌||◌, Option, refl, sym, ap, ◌∙◌}
+use Rattle.std.proofs.lemmas.List.{append_assoc}
+use Rattle.std.specs.Option.{option_to_list}
+use Rattle.chess_board.specs.declared.board.Side.{Side}
+use Rattle.chess_board.specs.declared.board.Side.TheVariants.{White, Black}
+use Rattle.peer_words.specs.declared.kinds.GoKind.{GoKind}
+use Rattle.peer_words.specs.declared.kinds.GoKind.TheVariants as kinds
+use Rattle.cecp_lines.specs.Messages.{Message}
+use Rattle.cecp_lines.specs.Messages as says
+use Rattle.uci_lines.specs.Orders.{Command, command_text}
+use Rattle.uci_lines.specs.Orders as orders
+use Rattle.clock_map.specs.declared.clocks.Clocks.{Clocks}
+use Rattle.clock_map.specs.declared.clocks.Control.{Control}
+use Rattle.clock_map.specs.declared.clocks.Control.TheVariants.{Session, Fixed}
+use Rattle.clock_map.specs.Search.{search_order, time_of}
+use Rattle.option_map.specs.Held.{lines_text, line_fed}
+use Rattle.search_epochs.specs.declared.words.Orders.{Orders}
+use Rattle.search_epochs.specs.declared.words.Orders.TheVariants as chosen
+use Rattle.search_epochs.specs.declared.words.Said.TheVariants as said
+use Rattle.search_epochs.specs.Talk.{Engine, Boot, Getting, Idle, Search, Gone, Word, Uci, Setup, IsReady, Position, Go, Stop, PonderHit, Quit, AllSetup, What, Says, Plays, Hurries, Quiet, kind_of, leaves_boot, is_empty}
+use Rattle.search_epochs.specs.View.{words, is_batch_order, forget}
+use Rattle.desk_rules.specs.declared.desk.Desk.{Desk}
+use Rattle.desk_rules.specs.Desk.{Here, is_boot, on_move, plies}
+use Rattle.desk_rules.specs.Steps.{Deed, Nothing, Opens, LongLine, Refuses, Accepts, Names, Declares, Boots, Readies, Thinks, Shows, Forfeits, Answers, Dies, what_of, what_accepted}
+use Rattle.desk_rules.specs.Orders.{order_list, searched, word_of, kind_named, AreHeld}
+use Rattle.desk_rules.specs.Texts.{command_lines, chosen_text}
+use Rattle.desk_rules.specs.Fits.{Fits}
+use Rattle.desk_rules.proofs.Waits.{held_order}
+use Rattle.option_map.proofs.Orders.{reads_back}
+use Rattle.adapter_core.specs.Trace.{has_ready}
+use Rattle.adapter_core.specs.View.{is_boots, no_lines, orders_in, orders_text}
+use Rattle.adapter_core.specs.Stands.{orders_of}
+
+-- WORDS
+
+times_named : (c : Clocks) (control : Control) (side : Side) (q : ℕ) → kind_named false (time_of control c side q) ≡ kinds.Move
+times_named c Session White q = refl
+times_named c Session Black q = refl
+times_named c (Fixed time) side q = refl
+
+search_word : (c : Clocks) (side : Side) (q : ℕ) (k : GoKind) → word_of (search_order c side q k) ≡ Go k
+search_word c side q kinds.Move = ap Go (times_named c c.control side q)
+search_word c side q kinds.Ponder = refl
+search_word c side q kinds.Analyse = refl
+
+batch_words : (ws : List Command) → map word_of (ws ++ orders.IsReady ∷ []) ≡ map word_of ws ++ IsReady ∷ []
+batch_words [] = refl
+batch_words (w ∷ ws) = ap (λ xs. word_of w ∷ xs) (batch_words ws)
+
+-- the words of the chosen orders
+pub words_are : (ws : List Command) (d : Desk) (o : Orders) → map word_of (order_list ws d o) ≡ words (map word_of ws) o
+words_are ws d chosen.None = refl
+words_are ws d chosen.Batch = batch_words ws
+words_are ws d (chosen.Begin c) = ap (λ w. Position ∷ w ∷ []) (search_word d.clocks (on_move (searched d.game c)) (plies (searched d.game c)) (kind_of c))
+words_are ws d chosen.Hit = refl
+words_are ws d chosen.Stop = refl
+
+batch_ready : (ws : List Word) → AllSetup ws → has_ready (ws ++ IsReady ∷ []) ≡ true
+batch_ready [] a = refl
+batch_ready (Setup ∷ ws) a = batch_ready ws a
+batch_ready (Uci ∷ ws) a = absurd a
+batch_ready (IsReady ∷ ws) a = absurd a
+batch_ready (Position ∷ ws) a = absurd a
+batch_ready (Go k ∷ ws) a = absurd a
+batch_ready (Stop ∷ ws) a = absurd a
+batch_ready (PonderHit ∷ ws) a = absurd a
+batch_ready (Quit ∷ ws) a = absurd a
+
+-- `isready` stands in the batch alone
+pub ready_words : (ws : List Word) (o : Orders) → AllSetup ws → has_ready (words ws o) ≡ is_batch_order o
+ready_words ws chosen.None a = refl
+ready_words ws chosen.Batch a = batch_ready ws a
+ready_words ws (chosen.Begin c) a = refl
+ready_words ws chosen.Hit a = refl
+ready_words ws chosen.Stop a = refl
+
+pub no_words : (ws : List Command) → no_lines (map command_text ws) ≡ is_empty (map word_of ws)
+no_words [] = refl
+no_words (w ∷ ws) = refl
+
+-- BOOT
+
+abbrev pub is_uciok : What → Bool
+is_uciok (Says said.UciOk) = true
+is_uciok w = false
+
+not_boots : (e : Engine) (w : What) → is_uciok w ≡ false → false ≡ leaves_boot e w
+not_boots Boot (Says said.UciOk) n = cc
+not_boots Boot (Says said.ReadyOk) n = refl
+not_boots Boot (Says said.Best) n = refl
+not_boots Boot (Says said.Ended) n = refl
+not_boots Boot (Plays m) n = refl
+not_boots Boot Hurries n = refl
+not_boots Boot Quiet n = refl
+not_boots Getting w n = refl
+not_boots Idle w n = refl
+not_boots (Search k t s) w n = refl
+not_boots Gone w n = refl
+
+line_boots : (m : Message) → is_uciok (what_accepted m) ≡ false
+line_boots (says.UserMove m) = refl
+line_boots says.MoveNow = refl
+line_boots m = refl
+
+in_boot : (epoch : ℕ) (e : Engine) → is_boot (forget epoch e) ≡ true → true ≡ leaves_boot e (Says said.UciOk)
+in_boot epoch Boot b = refl
+in_boot epoch Getting b = cc
+in_boot epoch Idle b = cc
+in_boot epoch Gone b = cc
+in_boot epoch (Search k t s) b = cc
+
+-- Boot is left exactly by its deed
+pub boots_are : (epoch : ℕ) (e : Engine) (h : Here) (held : List (List ℕ)) (d : Deed) → h.engine ≡ forget epoch e → Fits h held d → is_boots d ≡ leaves_boot e (what_of d)
+boots_are epoch e h held Boots same f = in_boot epoch e (rw (← same) (f.1))
+boots_are epoch e h held (Accepts m) same f = not_boots e (what_accepted m) (line_boots m)
+boots_are epoch e h held Nothing same f = not_boots e Quiet refl
+boots_are epoch e h held Opens same f = not_boots e Quiet refl
+boots_are epoch e h held LongLine same f = not_boots e Quiet refl
+boots_are epoch e h held (Refuses r line) same f = not_boots e Quiet refl
+boots_are epoch e h held (Names text) same f = not_boots e Quiet refl
+boots_are epoch e h held (Declares name shape) same f = not_boots e Quiet refl
+boots_are epoch e h held Readies same f = not_boots e (Says said.ReadyOk) refl
+boots_are epoch e h held (Thinks k facts) same f = not_boots e Quiet refl
+boots_are epoch e h held (Shows best hint) same f = not_boots e (Says said.Best) refl
+boots_are epoch e h held Forfeits same f = not_boots e (Says said.Best) refl
+boots_are epoch e h held Answers same f = not_boots e (Says said.Best) refl
+boots_are epoch e h held Dies same f = not_boots e (Says said.Ended) refl
+
+-- LINES
+
+-- the lines of orders that may be held are read back
+pub read_back : (ws : List Command) → AreHeld ws → orders_in (map command_text ws) ≡ ws
+read_back [] a = refl
+read_back (w ∷ ws) a = ap (λ (o : Option Command). option_to_list o ++ orders_in (map command_text ws)) ((reads_back w (held_order w a.0)).0) ∙ ap (λ xs. w ∷ xs) (read_back ws a.1)
+
+batch_text : (ws : List Command) → (lines_text (map command_text ws) ++ codes "isready" ++ 10 ∷ []) ≡ command_lines (ws ++ orders.IsReady ∷ [])
+unfolding command_text
+batch_text [] = refl
+batch_text (w ∷ ws) =
+    let line = line_fed (command_text w) in
+    let rest = lines_text (map command_text ws) in
+    ap (λ (t : List ℕ). t ++ 10 ∷ []) (append_assoc line rest (codes "isready")) ∙ append_assoc line (rest ++ codes "isready") (10 ∷ []) ∙ ap (λ (t : List ℕ). line ++ t) (batch_text ws)
+
+-- the text of the chosen orders
+pub text_of_chosen : (ws : List Command) (d : Desk) (o : Orders) → AreHeld ws → chosen_text (map command_text ws) d o ≡ command_lines (order_list (orders_in (map command_text ws)) d o)
+text_of_chosen ws d chosen.None a = refl
+text_of_chosen ws d chosen.Batch a = batch_text ws ∙ ap (λ (xs : List Command). command_lines (xs ++ orders.IsReady ∷ [])) (sym (read_back ws a))
+text_of_chosen ws d (chosen.Begin c) a = refl
+text_of_chosen ws d chosen.Hit a = refl
+text_of_chosen ws d chosen.Stop a = refl
+
+last_text : (b : Bool) → cond b [] (command_lines (orders.Quit ∷ [])) ≡ command_lines (cond b [] (orders.Quit ∷ []))
+last_text true = refl
+last_text false = refl
+
+-- the text to the engine is that of the orders
+pub orders_are_text : (opens closed closed_now gone : Bool) (ws : List Command) (d : Desk) (o : Orders) → AreHeld ws
+    → orders_text opens closed closed_now gone (map command_text ws) d o ≡ command_lines (orders_of opens closed closed_now gone (map command_text ws) d o)
+orders_are_text true closed closed_now gone ws d o a = refl
+orders_are_text false closed true gone ws d o a = last_text (closed || gone)
+orders_are_text false closed false gone ws d o a = text_of_chosen ws d o a

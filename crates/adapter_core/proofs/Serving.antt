@@ -1,0 +1,143 @@
+-- A current search goes on to serve the call.
+use Rattle.std.proofs.Common.{◌≡◌, ℕ, List, Bool, true, false, cond, ◌||◌, Some, refl, ap, subst, ◌∙◌}
+use Rattle.peer_words.specs.declared.kinds.GoKind.{GoKind}
+use Rattle.peer_words.specs.declared.kinds.GoKind.TheVariants as kinds
+use Rattle.search_epochs.specs.declared.words.Call.{Call}
+use Rattle.search_epochs.specs.declared.words.Call.TheVariants as calls
+use Rattle.search_epochs.specs.declared.words.Said.TheVariants as said
+use Rattle.search_epochs.specs.declared.words.EngineState.{EngineState}
+use Rattle.search_epochs.specs.declared.words.EngineState.TheVariants as states
+use Rattle.search_epochs.specs.Talk.{What, Says, Serves, is_move, kind_of}
+use Rattle.search_epochs.specs.View as dialogue
+use Rattle.search_epochs.specs.View.{after_what, mid_view, stale_state, heard_state, settled_state, choose}
+use Rattle.search_epochs.proofs.Current.{IfCurrent, settled_current}
+use Rattle.desk_rules.specs.declared.desk.Desk.{Desk}
+use Rattle.desk_rules.specs.Desk.{Here, current, call_of, call_before}
+use Rattle.desk_rules.specs.Steps.{Deed, Shows, Forfeits, Answers, Dies, what_of, rises, call_after, desk_after, desk_after_deed}
+use Rattle.desk_rules.specs.Fits.{Fits}
+use Rattle.desk_rules.proofs.Serves.{IsNoAnswer, still_serves}
+
+-- OF AN OPEN CURRENT SEARCH
+
+if_current : (P : GoKind → Type 0) (e : EngineState) → ((k : GoKind) → current e ≡ Some k → P k) → IfCurrent e P
+if_current P states.Boot f = tt
+if_current P states.Getting f = tt
+if_current P states.Idle f = tt
+if_current P states.Gone f = tt
+if_current P (states.Search k true s) f = tt
+if_current P (states.Search k false s) f = f k refl
+
+of_current : (P : GoKind → Type 0) (e : EngineState) → IfCurrent e P → (k : GoKind) → current e ≡ Some k → P k
+of_current P states.Boot h k c = absurd (cc)
+of_current P states.Getting h k c = absurd (cc)
+of_current P states.Idle h k c = absurd (cc)
+of_current P states.Gone h k c = absurd (cc)
+of_current P (states.Search g true s) h k c = absurd (cc)
+of_current P (states.Search g false s) h k c = let same : g ≡ k = cc in subst P same h
+
+-- THROUGH THE EVENT
+
+never_stale : (e : EngineState) (k : GoKind) → current (stale_state e) ≡ Some k → ⊥
+never_stale states.Boot k c = cc
+never_stale states.Getting k c = cc
+never_stale states.Idle k c = cc
+never_stale states.Gone k c = cc
+never_stale (states.Search g stale stopped) k c = cc
+
+no_best : (e : EngineState) (k : GoKind) → current (heard_state e said.Best) ≡ Some k → ⊥
+no_best states.Boot k c = cc
+no_best states.Getting k c = cc
+no_best states.Idle k c = cc
+no_best states.Gone k c = cc
+no_best (states.Search g stale stopped) k c = cc
+
+no_end : (e : EngineState) (k : GoKind) → current (heard_state e said.Ended) ≡ Some k → ⊥
+no_end states.Boot k c = cc
+no_end states.Getting k c = cc
+no_end states.Idle k c = cc
+no_end states.Gone k c = cc
+no_end (states.Search g stale stopped) k c = cc
+
+was_uciok : (e : EngineState) (k : GoKind) → current (heard_state e said.UciOk) ≡ Some k → current e ≡ Some k
+was_uciok states.Boot k c = cc
+was_uciok states.Getting k c = cc
+was_uciok states.Idle k c = cc
+was_uciok states.Gone k c = cc
+was_uciok (states.Search g stale stopped) k c = c
+
+was_readyok : (e : EngineState) (k : GoKind) → current (heard_state e said.ReadyOk) ≡ Some k → current e ≡ Some k
+was_readyok states.Boot k c = cc
+was_readyok states.Getting k c = cc
+was_readyok states.Idle k c = cc
+was_readyok states.Gone k c = cc
+was_readyok (states.Search g stale stopped) k c = c
+
+was_what : (v : dialogue.View) (w : What) (k : GoKind) → current (after_what v w).state ≡ Some k → current v.state ≡ Some k
+was_what v (Says said.UciOk) k c = was_uciok v.state k c
+was_what v (Says said.ReadyOk) k c = was_readyok v.state k c
+was_what v (Says said.Best) k c = absurd (no_best v.state k c)
+was_what v (Says said.Ended) k c = absurd (no_end v.state k c)
+was_what v w k c = c
+
+no_answer : (v : dialogue.View) (d : Deed) (k : GoKind) → current (after_what v (what_of d)).state ≡ Some k → IsNoAnswer d
+no_answer v (Shows m hint) k c = no_best v.state k c
+no_answer v Forfeits k c = no_best v.state k c
+no_answer v Answers k c = no_best v.state k c
+no_answer v Dies k c = no_end v.state k c
+no_answer v d k c = tt
+
+still_by : (h : Here) (held : List (List ℕ)) (d : Deed) (v : dialogue.View) (r : Bool) (k : GoKind) → h.engine ≡ v.state → rises h d ≡ r → Fits h held d → (current h.engine ≡ Some k → Serves k (call_before h))
+    → current (mid_view v (what_of d) r).state ≡ Some k → Serves k (call_after h.closed h d)
+still_by h held d v true k same r f s c = absurd (never_stale (after_what v (what_of d)).state k c)
+still_by h held d v false k same r f s c =
+    let b : current h.engine ≡ Some k = ap current same ∙ was_what v (what_of d) k c in
+    still_serves h held d k f (no_answer v d k c) r b (s b)
+
+-- a search that is current after the event was so before, and serves the call still
+pub still : (h : Here) (held : List (List ℕ)) (d : Deed) (v : dialogue.View) → h.engine ≡ v.state → Fits h held d → ((k : GoKind) → current h.engine ≡ Some k → Serves k (call_before h))
+    → (k : GoKind) → current (mid_view v (what_of d) (rises h d)).state ≡ Some k → Serves k (call_after h.closed h d)
+still h held d v same f s k c = still_by h held d v (rises h d) k same refl f (s k) c
+
+-- THROUGH THE ORDERS
+
+owed_serves : (spent : Bool) (c : Call) (k : GoKind) → Serves k (cond spent calls.Nothing c) → Serves k c
+owed_serves true c k s = cc (s.0)
+owed_serves false c k s = s
+
+move_serves : (c : Call) → is_move c ≡ true → Serves kinds.Move c
+move_serves calls.Nothing e = cc
+move_serves calls.Move e = (refl, refl)
+move_serves (calls.Ponder h) e = cc
+move_serves calls.Analyse e = cc
+
+-- a search that is current after the orders was begun or renewed for what is owed, or was current before them
+pub chosen_serves : (e : EngineState) (spent : Bool) (c : Call) (unsent matches hurry : Bool) → ((k : GoKind) → current e ≡ Some k → Serves k c)
+    → (k : GoKind) → current (settled_state e (choose e (cond spent calls.Nothing c) unsent matches hurry)) ≡ Some k → Serves k c
+chosen_serves e spent c unsent matches hurry s k x =
+    let owing = cond spent calls.Nothing c in
+    let before = if_current (λ g. Serves g c) e s in
+    of_current (λ g. Serves g c) (settled_state e (choose e owing unsent matches hurry))
+    (settled_current (λ o g. Serves g c) e owing unsent matches hurry before before
+    (λ n. owed_serves spent c (kind_of owing) (n, refl))
+    (λ m. owed_serves spent c kinds.Move (move_serves owing m))) k x
+
+-- THE CALL ITSELF
+
+out_serves : (b : Bool) (c : Call) (k : GoKind) → Serves k (cond b calls.Nothing c) → b ≡ false
+out_serves true c k s = cc (s.0)
+out_serves false c k s = refl
+
+middle : (a b c : Bool) → (a || b || c) ≡ false → b ≡ false
+middle true b c e = cc
+middle false true c e = cc
+middle false false c e = refl
+
+-- who is served calls, and so the engine is not Gone
+pub not_gone_served : (closed gone : Bool) (d : Desk) (k : GoKind) → Serves k (call_of closed gone d) → gone ≡ false
+unfolding call_of
+not_gone_served closed gone d k s = middle closed gone _ (out_serves _ _ k s)
+
+-- answered pings and cleared values change no call
+pub call_settled : (closed gone owes hits c : Bool) (h : Here) (d : Deed) → call_of closed gone (desk_after_deed h d) ≡ call_of closed gone (desk_after c owes hits h d)
+unfolding call_of
+call_settled closed gone owes hits c h d = refl

@@ -1,0 +1,340 @@
+-- A step of the core is a step of the trace that it stands for.
+use Rattle.std.proofs.Common.{◌≡◌, ℕ, List, [], ◌∷◌, map, Bool, true, false, not, cond, ◌&&◌, ◌||◌, Option, Some, None, refl, sym, ap, subst, ◌∙◌}
+use Rattle.line_io.specs.Event.{Event}
+use Rattle.line_io.specs.Event as events
+use Rattle.line_io.specs.Out.{Text, empty, with}
+use Rattle.chess_board.specs.declared.board.Move.{Move}
+use Rattle.uci_lines.specs.Orders.{Command, command_text}
+use Rattle.uci_lines.specs.Orders as orders
+use Rattle.policy_rules.specs.declared.scores.Scores.{Scores}
+use Rattle.policy_rules.specs.Scores.{counted}
+use Rattle.search_epochs.specs.declared.words.Call.{Call}
+use Rattle.search_epochs.specs.declared.words.Call.TheVariants as calls
+use Rattle.search_epochs.specs.declared.words.Orders.{Orders}
+use Rattle.search_epochs.specs.declared.words.Orders.TheVariants as chosen
+use Rattle.search_epochs.specs.Talk.{Talk, Turn, Engine, Boot, Getting, Idle, Search, Gone, Word, Uci, Quit, AllSetup, Settled, turned, after, ponders, ponders_at, sent, sent_all, is_due, is_hit, is_move, is_hurry, has_go, leaves_boot, spent}
+use Rattle.search_epochs.specs.View as dialogue
+use Rattle.search_epochs.specs.View.{forget, kept, words, settle, after_settled, is_pondered, played_of, is_hit_order, is_batch_order}
+use Rattle.search_epochs.proofs.Whole.{mid_kept, kept_mid, is_unsent, settled_by, whole_mid, ponders_before, triple, hit_kept}
+use Rattle.search_epochs.proofs.Turns.{TicketWithin}
+use Rattle.search_epochs.proofs.Rests.{rested, hit_chosen, batch_chosen, begun}
+use Rattle.feature_talk.specs.Features.{told_lines}
+use Rattle.think_text.specs.Kept.{nothing_seen}
+use Rattle.desk_rules.specs.declared.desk.Desk.{Desk}
+use Rattle.desk_rules.specs.Desk.{Here}
+use Rattle.desk_rules.specs.Steps.{comes, what_of, rises, desk_after_deed, answers_pings, scores_after}
+use Rattle.desk_rules.specs.Orders.{waiting, order_list, word_of}
+use Rattle.desk_rules.specs.Fits.{Fits, IsSound, IsLineEvent}
+use Rattle.desk_rules.proofs.Deeds.{comes_fits}
+use Rattle.desk_rules.proofs.Hints.{hint_kept, call_hint}
+use Rattle.desk_rules.proofs.Waits.{all_setup, all_held, lines_wait}
+use Rattle.desk_rules.specs.Orders.{AreHeld}
+use Rattle.adapter_core.specs.Ends.{may, ends_after, is_open}
+use Rattle.adapter_core.specs.Trace.{State, Step, IsLawful, AreSettled, state_after, here, deed, turn, mid, owing, closed_after, desk_of, gone_after, replies, still_held, has_ready, last_orders}
+use Rattle.adapter_core.specs.View as view
+use Rattle.adapter_core.specs.View.{View, advance, advance_at, advance_from, finish, choice, lines_after, desk_with, no_lines, orders_in, orders_text}
+use Rattle.adapter_core.specs.Stands.{view_of, Holds, TicketIsWithin, orders_of, step_from, step_at, step_by}
+use Rattle.adapter_core.proofs.Policy.{here_kept, counts_kept}
+use Rattle.adapter_core.proofs.Closing.{closed_stays, closes_later, closed_rises, open_rises}
+use Rattle.adapter_core.proofs.Orders.{words_are, ready_words, no_words, boots_are, read_back}
+
+pub within : (epoch : ℕ) (e : Engine) → TicketIsWithin epoch e → TicketWithin epoch e
+within epoch Boot w = tt
+within epoch Getting w = tt
+within epoch Idle w = tt
+within epoch (Search k t s) w = w
+within epoch Gone w = tt
+
+not_true : (b : Bool) → not b ≡ true → b ≡ false
+not_true true e = cc
+not_true false e = refl
+
+quit_keeps : (epoch : ℕ) (e : Engine) → sent epoch e Quit ≡ e
+quit_keeps epoch Boot = refl
+quit_keeps epoch Getting = refl
+quit_keeps epoch Idle = refl
+quit_keeps epoch (Search k t s) = refl
+quit_keeps epoch Gone = refl
+
+clears : (r a b : Bool) → (r ≡ true → a ≡ b) → (r && not a) ≡ (r && not b)
+clears true a b f = ap not (f refl)
+clears false a b f = refl
+
+false_if : (b : Bool) → (b ≡ true → ⊥) → b ≡ false
+false_if true f = absurd (f refl)
+false_if false f = refl
+
+differ : (r : Bool) → r ≡ false → r ≡ true → ⊥
+differ true a b = cc
+differ false a b = cc
+
+not_skipped : (o c : Bool) (x : Orders) → o ≡ false → c ≡ false → cond (o || c) chosen.None x ≡ x
+not_skipped true c x a b = cc
+not_skipped false true x a b = cc
+not_skipped false false x a b = refl
+
+for_owed : (b : Bool) (c : Call) (g : Move) → cond b calls.Nothing c ≡ calls.Ponder g → c ≡ calls.Ponder g
+for_owed true c g x = cc
+for_owed false c g x = x
+
+-- held orders and their lines are cleared together
+cleared_lines : (b : Bool) (ws : List Command) → cond b [] (map command_text ws) ≡ map command_text (cond b [] ws)
+cleared_lines true ws = refl
+cleared_lines false ws = refl
+
+-- the dialogue where no orders are chosen
+rest : (t : Talk) (u : Turn) (h' : Option Move) (ws : List Word) → TicketWithin t.epoch t.engine → (u.rises ≡ false → h' ≡ u.hint)
+    → sent_all (turned t u).epoch (turned t u).engine ws ≡ (turned t u).engine
+    → after_settled (kept_mid t u) chosen.None ≡ kept (after (turned t u) ws) h'
+rest t u h' ws w same e =
+    let m = turned t u in
+    let hints : ponders m ≡ true → cond (ponders t) u.hint None ≡ h' = λ p. (let b = ponders_before t u w p in ap (λ c. cond c u.hint None) b.1 ∙ sym (same b.0)) in
+    triple (ap (forget m.epoch) (sym e)) refl (rested m.epoch m.engine (cond (ponders t) u.hint None) h' hints ∙ ap (λ (x : Engine). cond (ponders_at m.epoch x) h' None) (sym e))
+
+open_engine : (s : State) (e : Event) → is_open e ≡ true → may s.ends e ≡ true → (s.ends.opened ≡ false → s.talk.engine ≡ Boot) → (mid s e).engine ≡ Boot
+unfolding comes
+open_engine s events.Open o m b = b (not_true s.ends.opened m)
+open_engine s (events.Iface line) o m b = cc
+open_engine s events.IfaceLong o m b = cc
+open_engine s events.IfaceEnd o m b = cc
+open_engine s events.IfaceLost o m b = cc
+open_engine s (events.Engine line) o m b = cc
+open_engine s events.EngineLong o m b = cc
+open_engine s events.EngineEnd o m b = cc
+open_engine s events.EngineLost o m b = cc
+
+module _ (s : State) (asked told ordered : Text) (e : Event) (holds : Holds s) (sound : IsSound s.desk) (line : IsLineEvent e) where
+  abbrev old : View
+  old = view_of s asked told ordered
+
+  abbrev dialogue_mid : dialogue.View
+  dialogue_mid = kept_mid s.talk (turn s e)
+
+  abbrev owes : Bool
+  owes = is_move (owing s e)
+
+  abbrev waits : List Command
+  waits = waiting (here s) s.held (deed s e)
+
+  abbrev lines : List (List ℕ)
+  lines = lines_after (here s) (map command_text s.held) (deed s e)
+
+  abbrev choice_here : Orders
+  choice_here = choice (is_open e) (closed_after s e) (here s) lines (deed s e) dialogue_mid
+
+  ticket : TicketWithin s.talk.epoch s.talk.engine
+  ticket = within s.talk.epoch s.talk.engine holds.ticket
+
+  fits : Fits (here s) (map command_text s.held) (deed s e)
+  fits = comes_fits (here s) (map command_text s.held) e line
+
+  pub held : AreHeld waits
+  held = all_held (here s) (map command_text s.held) s.held (deed s e) sound fits holds.held
+
+  setup : AllSetup (map word_of waits)
+  setup = all_setup waits held
+
+  lines_are : lines ≡ map command_text waits
+  lines_are = lines_wait (here s) (map command_text s.held) s.held (deed s e) sound fits holds.held
+
+  ordered_back : orders_in lines ≡ waits
+  ordered_back = ap orders_in lines_are ∙ read_back waits held
+
+  unsent_kept : view.is_unsent lines (deed s e) ≡ is_unsent s.talk (turn s e)
+  unsent_kept =
+      ap (λ b. b || not (no_lines lines)) (boots_are s.talk.epoch s.talk.engine (here s) (map command_text s.held) (deed s e) refl fits)
+      ∙ ap (λ b. leaves_boot s.talk.engine (what_of (deed s e)) || not b) (ap no_lines lines_are ∙ no_words waits)
+
+  -- in an open session the choice is the dialogue's
+  chosen_by : is_open e ≡ false → closed_after s e ≡ false → choice_here ≡ settled_by s.talk (turn s e)
+  chosen_by o c =
+      not_skipped (is_open e) (closed_after s e) (settle dialogue_mid (turn s e).call (view.is_unsent lines (deed s e)) (played_of (what_of (deed s e))) (is_hurry (what_of (deed s e)))) o c
+      ∙ ap (λ b. settle dialogue_mid (turn s e).call b (played_of (what_of (deed s e))) (is_hurry (what_of (deed s e)))) unsent_kept
+
+  hit_here : rises (here s) (deed s e) ≡ true → is_hit_order choice_here ≡ is_hit s.talk (turn s e)
+  hit_here r =
+      let o : is_open e ≡ false = false_if (is_open e) (λ x. differ (rises (here s) (deed s e)) (open_rises (here s) (map command_text s.held) e x) r) in
+      let c : closed_after s e ≡ false = false_if (closed_after s e) (λ x. differ (rises (here s) (deed s e)) (closed_rises s.ends (here s) (map command_text s.held) e refl x) r) in
+      let m = mid s e in
+      ap is_hit_order (chosen_by o c)
+      ∙ hit_chosen m.epoch m.engine (owing s e) (is_unsent s.talk (turn s e)) (is_pondered (cond (ponders s.talk) s.desk.hint None) (played_of (turn s e).what)) (is_hurry (turn s e).what)
+      ∙ hit_kept s.talk.epoch s.talk.engine s.desk.hint (turn s e).what (is_move (owing s e))
+
+  desk_kept : desk_with (here s) (deed s e) e old owes choice_here ≡ desk_of s e
+  desk_kept =
+      ap (λ (c : Bool). let d : Desk = record (desk_after_deed (here s) (deed s e)) {
+        pings = cond (answers_pings (closed_after s e) owes) [] (desk_after_deed (here s) (deed s e)).pings;
+        seen = cond c nothing_seen (desk_after_deed (here s) (deed s e)).seen;
+      } in d) (clears (rises (here s) (deed s e)) (is_hit_order choice_here) (is_hit s.talk (turn s e)) hit_here)
+
+  -- THE CORE AFTER THE EVENT
+
+  -- but for the desk
+  advanced : advance old e ≡ finish (here s) (deed s e) e old dialogue_mid owes choice_here (desk_with (here s) (deed s e) e old owes choice_here)
+  unfolding advance
+  advanced =
+      ap (λ (h : Here). advance_at h (comes h old.held e) old e) (here_kept s asked told ordered holds.proper)
+      ∙ ap (λ (m : dialogue.View). advance_from (here s) (deed s e) e old m) (mid_kept s.talk s.desk.hint (turn s e) ticket holds.last)
+
+  pub advanced_to : advance old e ≡ finish (here s) (deed s e) e old dialogue_mid owes choice_here (desk_of s e)
+  advanced_to = advanced ∙ ap (λ (d : Desk). finish (here s) (deed s e) e old dialogue_mid owes choice_here d) desk_kept
+
+  -- THE STEP
+
+  abbrev orders_here : List Command
+  orders_here = orders_of (is_open e) s.ends.closed (closed_after s e) (gone_after s e) lines (desk_of s e) choice_here
+
+  -- the step that the event gives
+  abbrev pub step_here : Step
+  step_here = record { event = e; replies = replies s e; orders = orders_here }
+
+  -- is the one that the core gives
+  pub step_is : step_by old e ≡ step_here
+  unfolding step_by
+  step_is =
+      ap (λ (h : Here). step_at h (comes h old.held e) old e) (here_kept s asked told ordered holds.proper)
+      ∙ ap (λ (m : dialogue.View). step_from (here s) (deed s e) old e m) (mid_kept s.talk s.desk.hint (turn s e) ticket holds.last)
+      ∙ ap (λ (d : Desk). let x : Step = record {
+        event = e;
+        replies = replies s e;
+        orders = orders_of (is_open e) s.ends.closed (closed_after s e) (gone_after s e) lines d choice_here;
+      } in x) desk_kept
+
+  same_hint : rises (here s) (deed s e) ≡ false → (desk_of s e).hint ≡ s.desk.hint
+  same_hint r = hint_kept (here s) (deed s e) r
+
+  owed_hint : (g : Move) → owing s e ≡ calls.Ponder g → (desk_of s e).hint ≡ Some g
+  owed_hint g x = call_hint (closed_after s e) (gone_after s e) (desk_after_deed (here s) (deed s e)) g (for_owed (spent (mid s e)) (turn s e).call g x)
+
+  abbrev IsWhole : Orders → Type 0
+  IsWhole o =
+      let m = mid s e in
+      let u = turn s e in
+      Settled m.engine m.epoch (owing s e) u.waiting (is_due s.talk u) (is_hit s.talk u) (is_hurry u.what) (words u.waiting o)
+      × (after_settled dialogue_mid o ≡ kept (after m (words u.waiting o)) (desk_of s e).hint)
+
+  whole : is_open e ≡ false → closed_after s e ≡ false → IsWhole choice_here
+  whole o c = subst IsWhole (sym (chosen_by o c)) (whole_mid s.talk (turn s e) (desk_of s e).hint ticket setup same_hint owed_hint)
+
+  -- the orders of a step that neither opens nor closes
+  orders_settled : is_open e ≡ false → closed_after s e ≡ false → orders_here ≡ order_list waits (desk_of s e) choice_here
+  orders_settled o c = skipped (is_open e) (closed_after s e) choice_here o c ∙ ap (λ (ws : List Command). order_list ws (desk_of s e) choice_here) ordered_back where
+    skipped : (o c : Bool) (x : Orders) → o ≡ false → c ≡ false → orders_of o s.ends.closed c (gone_after s e) lines (desk_of s e) x ≡ order_list (orders_in lines) (desk_of s e) x
+    skipped true c x a b = cc
+    skipped false true x a b = cc
+    skipped false false x a b = refl
+
+  words_settled : is_open e ≡ false → closed_after s e ≡ false → map word_of orders_here ≡ words (map word_of waits) choice_here
+  words_settled o c = ap (map word_of) (orders_settled o c) ∙ words_are waits (desk_of s e) choice_here
+
+  batched : is_open e ≡ false → closed_after s e ≡ false → is_due s.talk (turn s e) ≡ true → choice_here ≡ chosen.Batch
+  batched o c d =
+      let m = mid s e in
+      chosen_by o c ∙ batch_chosen m.epoch m.engine (owing s e) (is_unsent s.talk (turn s e)) (is_pondered (cond (ponders s.talk) s.desk.hint None) (played_of (turn s e).what)) (is_hurry (turn s e).what) d
+
+  begins : is_open e ≡ false → closed_after s e ≡ false → has_go (map word_of orders_here) ≡ true → choice_here ≡ chosen.Begin (owing s e)
+  begins o c g =
+      let m = mid s e in
+      let g' : has_go (words (map word_of waits) (settled_by s.talk (turn s e))) ≡ true = ap has_go (sym (words_settled o c ∙ ap (words (map word_of waits)) (chosen_by o c))) ∙ g in
+      chosen_by o c ∙ begun m.epoch m.engine (owing s e) (is_unsent s.talk (turn s e)) (is_pondered (cond (ponders s.talk) s.desk.hint None) (played_of (turn s e).what)) (is_hurry (turn s e).what) (map word_of waits) setup g'
+
+  settled : is_open e ≡ false → closed_after s e ≡ false → AreSettled s e orders_here
+  settled o c = record {
+    words = subst (λ (ws : List Word). Settled (mid s e).engine (mid s e).epoch (owing s e) (turn s e).waiting (is_due s.talk (turn s e)) (is_hit s.talk (turn s e)) (is_hurry (turn s e).what) ws) (sym (words_settled o c)) ((whole o c).0);
+    batch = λ d. orders_settled o c ∙ ap (order_list waits (desk_of s e)) (batched o c d);
+    search = λ g. orders_settled o c ∙ ap (order_list waits (desk_of s e)) (begins o c g);
+  }
+
+  abbrev orders_by : Bool → Bool → Bool → Orders → List Command
+  orders_by o before after x = orders_of o before after (gone_after s e) lines (desk_of s e) x
+
+  opens_with : (o before after : Bool) (x : Orders) → o ≡ true → orders_by o before after x ≡ orders.Uci ∷ []
+  opens_with true before after x p = refl
+  opens_with false before after x p = cc
+
+  closes_with : (o before after : Bool) (x : Orders) → o ≡ false → before ≡ false → after ≡ true → orders_by o before after x ≡ last_orders (gone_after s e)
+  closes_with true before after x p q r = cc
+  closes_with false true after x p q r = cc
+  closes_with false false false x p q r = cc
+  closes_with false false true x p q r = refl
+
+  closed_with : (o before after : Bool) (x : Orders) → o ≡ false → before ≡ true → after ≡ true → orders_by o before after x ≡ []
+  closed_with true before after x p q r = cc
+  closed_with false false after x p q r = cc
+  closed_with false true false x p q r = cc
+  closed_with false true true x p q r = refl
+
+  pub lawful : may s.ends e ≡ true → IsLawful s step_here
+  lawful m = record {
+    may_come = m;
+    replies = refl;
+    opens = opens_with (is_open e) s.ends.closed (closed_after s e) choice_here;
+    closes = λ a b. closes_with (is_open e) s.ends.closed (closed_after s e) choice_here (closes_later s.ends e a b) a b;
+    closed = λ o c. closed_with (is_open e) s.ends.closed (closed_after s e) choice_here o c (closed_stays s.ends e c);
+    settled = settled;
+  }
+
+  -- THE STATE AFTER THE STEP
+
+  -- the dialogue after the orders
+  abbrev GoesOn : List Word → Orders → Type 0
+  GoesOn ws o = after_settled dialogue_mid o ≡ kept (after (mid s e) ws) (desk_of s e).hint
+
+  abbrev choice_by : Bool → Bool → Orders
+  choice_by o after = choice o after (here s) lines (deed s e) dialogue_mid
+
+  opens_on : (opens closed : Bool) → opens ≡ true → may s.ends e ≡ true → is_open e ≡ true → GoesOn (map word_of (orders_by opens s.ends.closed closed (choice_by opens closed))) (choice_by opens closed)
+  opens_on true closed x m o =
+      let b = open_engine s e o m holds.begins in
+      rest s.talk (turn s e) (desk_of s e).hint (Uci ∷ []) ticket same_hint (ap (λ (g : Engine). sent (mid s e).epoch g Uci) b ∙ sym b)
+  opens_on false closed x m o = cc
+
+  ends_on : (before gone : Bool) → GoesOn (map word_of (cond (before || gone) [] (orders.Quit ∷ []))) chosen.None
+  ends_on before gone =
+      elim (before || gone) as (λ b. GoesOn (map word_of (cond b [] (orders.Quit ∷ []))) chosen.None) [
+        | true ↦ rest s.talk (turn s e) (desk_of s e).hint [] ticket same_hint refl
+        | false ↦ rest s.talk (turn s e) (desk_of s e).hint (Quit ∷ []) ticket same_hint (quit_keeps (mid s e).epoch (mid s e).engine)
+      ]
+
+  goes_on : (opens closed : Bool) → is_open e ≡ opens → closed_after s e ≡ closed → may s.ends e ≡ true → GoesOn (map word_of orders_here) choice_here
+  goes_on true closed o c m = rw o (opens_on true (closed_after s e) refl m o)
+  goes_on false true o c m = rw (o, c) (ends_on s.ends.closed (gone_after s e))
+  goes_on false false o c m = subst (λ (ws : List Word). GoesOn ws choice_here) (sym (words_settled o c)) ((whole o c).1)
+
+  ready_case : (opens closed : Bool) → is_open e ≡ opens → closed_after s e ≡ closed → is_batch_order choice_here ≡ has_ready (map word_of orders_here)
+  ready_case true closed o c = rw o refl
+  ready_case false true o c = rw (o, c) (elim (s.ends.closed || gone_after s e) as (λ b. false ≡ has_ready (map word_of (cond b [] (orders.Quit ∷ [])))) [ true ↦ refl | false ↦ refl ])
+  ready_case false false o c = sym (ready_words (map word_of waits) choice_here setup) ∙ ap has_ready (sym (words_settled o c))
+
+  abbrev part : Scores → List (List ℕ) → dialogue.View → View
+  part scores held talk = record {
+    settings = s.settings;
+    ends = ends_after s.ends e;
+    desk = desk_of s e;
+    scores = scores;
+    held = held;
+    talk = talk;
+    asked = empty asked.room;
+    told = with (empty told.room) (told_lines (replies s e));
+    ordered = with (empty ordered.room) (orders_text (is_open e) s.ends.closed (closed_after s e) (gone_after s e) lines (desk_of s e) choice_here);
+  }
+
+  abbrev StandsAfter : View → Type 0
+  StandsAfter v = v ≡ view_of (state_after s step_here) v.asked v.told v.ordered
+
+  held_kept : cond (is_batch_order choice_here) [] lines ≡ map command_text (still_held waits (map word_of orders_here))
+  held_kept =
+      ap (λ (ls : List (List ℕ)). cond (is_batch_order choice_here) [] ls) lines_are
+      ∙ cleared_lines (is_batch_order choice_here) waits
+      ∙ ap (λ b. map command_text (cond b [] waits)) (ready_case (is_open e) (closed_after s e) refl refl)
+
+  parts_stand : may s.ends e ≡ true → StandsAfter (finish (here s) (deed s e) e old dialogue_mid owes choice_here (desk_of s e))
+  parts_stand m =
+      ap (λ (c : Scores). part c (cond (is_batch_order choice_here) [] lines) (after_settled dialogue_mid choice_here)) (counts_kept s.settings (here s) (deed s e) s.scores)
+      ∙ ap (λ (ls : List (List ℕ)). part (counted s.settings (scores_after (here s) (deed s e) s.scores)) ls (after_settled dialogue_mid choice_here)) held_kept
+      ∙ ap (λ (t : dialogue.View). part (counted s.settings (scores_after (here s) (deed s e) s.scores)) (map command_text (still_held waits (map word_of orders_here))) t)
+      (goes_on (is_open e) (closed_after s e) refl refl m)
+
+  -- the core stands for the longer trace
+  pub stands : may s.ends e ≡ true → StandsAfter (advance old e)
+  stands m = subst StandsAfter (sym advanced_to) (parts_stand m)

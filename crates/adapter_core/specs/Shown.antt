@@ -1,0 +1,48 @@
+-- When a move is shown, and what a refused line changes.
+use Rattle.std.specs.Prelude.{◌≡◌, ◌↔◌, ◌≤◌, ℕ, List, [], ◌∷◌, length, Contains, Bool, true, false, Option, Some}
+use Rattle.chess_board.specs.declared.board.Move.{Move as AnyMove}
+use Rattle.chess_board.specs.Place.{legal}
+use Rattle.peer_words.specs.declared.kinds.GoKind.TheVariants as kinds
+use Rattle.line_io.specs.Event.{Event}
+use Rattle.line_io.specs.Event as events
+use Rattle.cecp_lines.specs.Replies.{Told, Move}
+use Rattle.uci_lines.specs.Says.{Best}
+use Rattle.uci_lines.specs.Engine.{engine_message}
+use Rattle.game_record.specs.Course.{now_of}
+use Rattle.policy_rules.specs.declared.settings.Settings.{Settings}
+use Rattle.search_epochs.specs.Talk.{Search}
+use Rattle.desk_rules.specs.declared.deed.Refusal.{Refusal}
+use Rattle.desk_rules.specs.Steps.{Refuses}
+use Rattle.adapter_core.specs.Trace.{State, Step, Lawful, state, deed}
+
+-- An event answers with a legal move: in a session that is not closed the engine's line is a `bestmove`, the open search is for a move
+-- and was begun or renewed for the present epoch, and the move is legal in the game.
+pub record Answers (s : State) (e : Event) (m : AnyMove) : Type 0 where
+  pub line : List ℕ
+  pub hint : Option AnyMove
+  pub stopped : Bool
+  pub event : e ≡ events.Engine line
+  pub best : engine_message line ≡ Best (Some m) hint
+  pub is_open : s.ends.closed ≡ false
+  pub current : s.talk.engine ≡ Search kinds.Move s.talk.epoch stopped
+  pub is_legal : legal (now_of s.desk.game) m ≡ true
+
+-- `move m` is told exactly in the step whose event answers with m.
+abbrev pub MovesAreShownInTime : Settings → Type 0
+MovesAreShownInTime o = (step : Step) (t : List Step) → Lawful o (step ∷ t) → (m : AnyMove) → Contains step.replies (Move m) ↔ Answers (state o t) step.event m
+
+-- the moves that are told in these lines
+abbrev pub moves_told : List Told → List AnyMove
+moves_told [] = []
+moves_told (Move m ∷ rest) = m ∷ moves_told rest
+moves_told (line ∷ rest) = moves_told rest
+
+-- It is told once.
+abbrev pub MovesAreShownOnce : Settings → Type 0
+MovesAreShownOnce o = (step : Step) (t : List Step) → Lawful o (step ∷ t) → length (moves_told step.replies) ≤ 1
+
+-- A refused line changes nothing, and the engine gets nothing.
+abbrev pub RefusedLinesChangeNothing : Settings → Type 0
+RefusedLinesChangeNothing o =
+    (step : Step) (t : List Step) → Lawful o (step ∷ t) → (r : Refusal) (line : List ℕ) → deed (state o t) step.event ≡ Refuses r line
+    → (state o (step ∷ t) ≡ state o t) × (step.orders ≡ [])

@@ -1,0 +1,117 @@
+-- When a core stands for a trace.
+use Rattle.std.specs.Prelude.{◌≡◌, ℕ, ◌≤◌, List, [], ◌∷◌, ◌++◌, map, length, Bool, true, false, ◌||◌, if◌then◌else◌, IfSome}
+use Rattle.std.specs.List.{flat_map}
+use Rattle.line_io.specs.Event.{Event}
+use Rattle.line_io.specs.Out.{Text}
+use Rattle.uci_lines.specs.Orders.{Command, command_text}
+use Rattle.uci_lines.specs.Orders as orders
+use Rattle.policy_rules.specs.declared.settings.Settings.{Settings}
+use Rattle.policy_rules.specs.Policy.{IsProper}
+use Rattle.policy_rules.specs.Scores.{counted}
+use Rattle.search_epochs.specs.declared.words.EngineState.TheVariants as states
+use Rattle.search_epochs.specs.declared.words.Orders.{Orders}
+use Rattle.search_epochs.specs.Talk.{Engine, Boot, Search, is_move}
+use Rattle.search_epochs.specs.View as dialogue
+use Rattle.search_epochs.specs.View.{kept, mid_view, owed_view}
+use Rattle.desk_rules.specs.declared.desk.Desk.{Desk}
+use Rattle.desk_rules.specs.Desk.{Here, is_gone}
+use Rattle.desk_rules.specs.Steps.{Deed, comes, what_of, rises, call_after, is_death}
+use Rattle.desk_rules.specs.Orders.{order_list, AreHeld, AreHeldLines}
+use Rattle.desk_rules.specs.Replies.{replies_of}
+use Rattle.desk_rules.specs.Fits.{IsSound, IsFirst, IsServed}
+use Rattle.adapter_core.specs.Ends.{ends_after, is_open}
+use Rattle.adapter_core.specs.View as view
+use Rattle.adapter_core.specs.View.{View, choice, lines_after, desk_with, orders_in}
+use Rattle.adapter_core.specs.Trace.{State, Step, Lawful, state, event_in, iface_text, engine_text}
+
+-- what the core keeps of a state, where these are its buffers
+abbrev pub view_of : State → Text → Text → Text → View
+view_of s asked told ordered = record {
+  settings = s.settings;
+  ends = s.ends;
+  desk = s.desk;
+  scores = counted s.settings s.scores;
+  held = map command_text s.held;
+  talk = kept s.talk s.desk.hint;
+  asked = asked;
+  told = told;
+  ordered = ordered;
+}
+
+abbrev pub TicketIsWithin : ℕ → Engine → Type 0
+TicketIsWithin epoch (Search k t s) = t ≤ epoch
+TicketIsWithin epoch e = Unit {0}
+
+-- what holds after each lawful trace
+pub record Holds (s : State) : Type 0 where
+  pub proper : IsProper s.settings
+  -- before Open nothing was written
+  pub begins : s.ends.opened ≡ false → s.talk.engine ≡ Boot
+  pub ticket : TicketIsWithin s.talk.epoch s.talk.engine
+  pub last : IfSome s.talk.last (λ t. t ≤ s.talk.epoch)
+  pub held : AreHeld s.held
+
+-- The core stands for the trace.
+abbrev pub Stands : Settings → View → List Step → Type 0
+Stands o core trace = (core ≡ view_of (state o trace) core.asked core.told core.ordered) × Holds (state o trace)
+
+-- What holds of the core itself, whatever it stands for.
+pub record Keeps (v : View) : Type 0 where
+  pub settings : IsProper v.settings
+  pub sound : IsSound v.desk
+  -- a current search serves the call
+  pub serves : IsServed (view.here v)
+  pub pings : length v.desk.pings ≤ 64
+  pub orders : AreHeldLines v.held
+  pub first : v.talk.state ≡ states.Boot → IsFirst v.held × (v.desk.booted ≡ false)
+  pub asked : v.asked.room ≡ 131072
+  pub told : v.told.room ≡ 131072
+  pub ordered : v.ordered.room ≡ 131072
+
+-- the orders of a step, where these lines are held
+abbrev pub orders_of : Bool → Bool → Bool → Bool → List (List ℕ) → Desk → Orders → List Command
+orders_of opens closed closed_now gone held desk choice =
+    if opens then orders.Uci ∷ []
+    else (if closed_now then (if closed || gone then [] else orders.Quit ∷ []) else order_list (orders_in held) desk choice)
+
+-- the step that an event gives, by what stood, what came of the event and what the dialogue is then
+abbrev pub step_from : Here → Deed → View → Event → dialogue.View → Step
+step_from h d v e m =
+    let owes = is_move (owed_view m (call_after (ends_after v.ends e).closed h d)) in
+    let o = choice (is_open e) (ends_after v.ends e).closed h (lines_after h v.held d) d m in
+    record {
+      event = e;
+      replies = replies_of (ends_after v.ends e).closed owes h d;
+      orders = orders_of (is_open e) v.ends.closed (ends_after v.ends e).closed (is_gone h.engine || is_death d) (lines_after h v.held d) (desk_with h d e v owes o) o;
+    }
+
+abbrev pub step_at : Here → Deed → View → Event → Step
+step_at h d v e = step_from h d v e (mid_view v.talk (what_of d) (rises h d))
+
+unfoldable pub step_by : View → Event → Step
+step_by v e = step_at (view.here v) (comes (view.here v) v.held e) v e
+
+-- two lawful traces with the same settings and the same events are equal
+abbrev pub IsOneDialogue : Settings → Type 0
+IsOneDialogue o = (t t' : List Step) → Lawful o t → Lawful o t' → map event_in t ≡ map event_in t' → t ≡ t'
+
+-- nothing is written to the interface once it has ended or was lost
+abbrev pub IsSilentToIface : Settings → Type 0
+IsSilentToIface o = (t : List Step) (step : Step) → Lawful o (step ∷ t) → ((state o (step ∷ t)).ends.iface || (state o (step ∷ t)).ends.iface_lost) ≡ true → step.replies ≡ []
+
+-- nothing is written to the engine once it has ended or was lost
+abbrev pub IsSilentToEngine : Settings → Type 0
+IsSilentToEngine o = (t : List Step) (step : Step) → Lawful o (step ∷ t) → ((state o (step ∷ t)).ends.engine || (state o (step ∷ t)).ends.engine_lost) ≡ true → step.orders ≡ []
+
+-- There is a step of this event with these lines. It extends each lawful trace that the core stood for, and then the core stands for that.
+pub record Extends (old new : View) (e : Event) (iface engine : List ℕ) : Type 0 where
+  pub step : Step
+  pub event : step.event ≡ e
+  pub iface_is : iface ≡ iface_text step
+  pub engine_is : engine ≡ engine_text step
+  pub extends : (o : Settings) (t : List Step) → Lawful o t → Stands o old t → Lawful o (step ∷ t) × Stands o new (step ∷ t)
+
+-- the text is whole lines, each ended by a line feed
+pub record AreLines (text : List ℕ) : Type 0 where
+  pub lines : List (List ℕ)
+  pub text_is : text ≡ flat_map (λ line. line ++ 10 ∷ []) lines

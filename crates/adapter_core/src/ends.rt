@@ -1,0 +1,75 @@
+// Which sides have begun and ended.
+ghost use Rattle.std.specs.Prelude.{◌≡◌};
+ghost use Rattle.line_io.specs.Event.{event_of, is_line};
+ghost use Rattle.adapter_core.specs.Ends.{may, is_quit, ends_after};
+
+use cecp_lines::{IfaceMsg, read_iface};
+use line_io::Event;
+
+/// Which sides have begun and ended.
+#[derive(Clone, Copy, Debug, PartialEq, Eq)]
+pub struct Ends {
+    pub opened: bool,
+    /// The interface sent `quit`, or its input ended.
+    pub iface: bool,
+    pub engine: bool,
+    pub iface_lost: bool,
+    pub engine_lost: bool,
+    /// Nothing more is written.
+    pub closed: bool,
+}
+
+fn is_quit(line: &[u8]) -> bool
+    ensures { result ≡ is_quit line.now }
+{
+    matches!(read_iface(line), Ok(IfaceMsg::Quit))
+}
+
+fn is_line(line: &[u8]) -> bool
+    ensures { result ≡ is_line line.now }
+{
+    line.len() <= 65_536 && !line.contains(&b'\n')
+}
+
+impl Ends {
+    /// Whether the event may come.
+    pub fn may(&self, event: &Event) -> bool
+        ensures { result ≡ may self.now (event_of event.now) }
+    {
+        match event {
+            Event::Open => !self.opened,
+            Event::Iface(line) => self.opened && !self.iface && is_line(line),
+            Event::IfaceLong | Event::IfaceEnd => self.opened && !self.iface,
+            Event::IfaceLost => self.opened && !self.iface && !self.iface_lost,
+            Event::Engine(line) => self.opened && !self.engine && is_line(line),
+            Event::EngineLong | Event::EngineEnd => self.opened && !self.engine,
+            Event::EngineLost => self.opened && !self.engine && !self.engine_lost,
+        }
+    }
+
+    /// After the event.
+    pub fn after(mut self, event: &Event) -> Ends
+        ensures { result ≡ ends_after self (event_of event.now) }
+    {
+        match event {
+            Event::Open => self.opened = true,
+            Event::Iface(line) => {
+                let quit = is_quit(line);
+                self.iface = self.iface || quit;
+                self.closed = self.closed || quit;
+            }
+            Event::IfaceEnd => {
+                self.iface = true;
+                self.closed = true;
+            }
+            Event::IfaceLost => {
+                self.iface_lost = true;
+                self.closed = true;
+            }
+            Event::EngineEnd => self.engine = true,
+            Event::EngineLost => self.engine_lost = true,
+            _ => {}
+        }
+        self
+    }
+}

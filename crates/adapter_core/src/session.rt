@@ -1,0 +1,252 @@
+// The core of a session.
+ghost use Rattle.std.specs.Prelude.{◌≡◌, ◌≤◌, ◌<◌, [], length, true, IfOk};
+ghost use Rattle.std.specs.Borrow.{sem};
+ghost use Rattle.line_io.specs.Event.{event_of};
+ghost use Rattle.line_io.specs.Out.{empty};
+ghost use Rattle.policy_rules.specs.Policy.{IsProper};
+ghost use Rattle.desk_rules.specs.Desk.{at};
+ghost use Rattle.desk_rules.specs.Steps.{deed_of, rises as epoch_rises, comes};
+ghost use Rattle.desk_rules.specs.Fits.{IsLineEvent};
+ghost use Rattle.adapter_core.specs.Ends.{may, is_over};
+ghost use Rattle.adapter_core.specs.View.{opening, here, IsReadyFor};
+
+use crate::Ends;
+use crate::steps::{
+    Stage, choose, clears_seen, count, hear, is_lost, is_move, is_open, is_unsent, put_orders,
+    release, settle_desk, tell,
+};
+use desk_rules::{Deed, Desk, Sight};
+use game_record::Game;
+use line_io::{Event, NoMemory, Out};
+use option_map::Held;
+use policy_rules::{Scores, Settings};
+use search_epochs::{Dialogue, EngineState};
+use std::alloc::Global;
+use std::marker::Model;
+
+const ROOM: usize = 131_072;
+
+// The parts of the core.
+#[derive(Drop)]
+pub(crate) struct Parts {
+    settings: Settings,
+    ends: Ends,
+    desk: Desk,
+    scores: Scores,
+    held: Held,
+    talk: Dialogue,
+    // the order that a line asks for, while the line is looked at
+    asked: Out,
+    told: Out,
+    ordered: Out,
+}
+
+impl Parts {
+    ghost use Rattle.adapter_core.specs.View.{advance, advance_from};
+
+    // What is seen beside the desk.
+    fn sight(&self) -> Sight
+        ensures { at result self.now.desk ≡ here self.now }
+    {
+        let mut next = self.scores;
+        next.shown(self.desk.seen.score);
+        Sight {
+            closed: self.ends.closed,
+            engine: self.talk.state(),
+            spent: self.talk.is_spent(),
+            resigns: next.resigns(),
+            accepts: self.scores.accepts_draw(),
+            show_ponder: self.settings.show_ponder,
+        }
+    }
+
+    // Takes an event.
+    #[tactic(auto, unfolding(crate::specs::View::advance))]
+    fn take(&mut self, event: &Event)
+        requires line { IsLineEvent (event_of event.now) }
+        requires ready { IsReadyFor (here self.old) self.old (comes (here self.old) self.old.held (event_of event.now)) }
+        ensures after { self.new ≡ advance self.old (event_of event.now) }
+        ensures iface { length self.new.told.text ≤ 72000 }
+        ensures engine { length self.new.ordered.text ≤ 72300 }
+    {
+        self.told.clear();
+        self.ordered.clear();
+        let sight = self.sight();
+        let deed = self.desk.comes(sight, &self.held, event, &mut self.asked);
+        let rises = self.desk.rises(sight, &deed, &mut self.asked);
+        hear(&mut self.talk, &deed, rises);
+        self.go_on(sight, &deed, rises, event);
+    }
+
+    // Goes on from what came of the event, and what the dialogue is then.
+    fn go_on(&mut self, sight: Sight, deed: &Deed, rises: bool, event: &Event)
+        requires ready { IsReadyFor (at sight self.old.desk) self.old (deed_of deed.now) }
+        requires told { self.old.told ≡ empty 131072 }
+        requires ordered { self.old.ordered ≡ empty 131072 }
+        requires rise { rises ≡ epoch_rises (at sight self.old.desk) (deed_of deed.now) }
+        ensures after { self.new ≡ advance_from (at sight self.old.desk) (deed_of deed.now) (event_of event.now) self.old self.old.talk }
+        ensures iface { length self.new.told.text ≤ 72000 }
+        ensures engine { length self.new.ordered.text ≤ 72300 }
+    {
+        let closed_before = self.ends.closed;
+        self.ends = self.ends.after(event);
+        let stage = Stage {
+            opens: is_open(event),
+            closed_before,
+            closed: self.ends.closed,
+            gone: is_lost(sight.engine, deed),
+        };
+        tell(&self.desk, sight, deed, stage.closed, &mut self.told);
+        count(&mut self.scores, self.desk.seen.score, deed);
+        self.desk.hold(sight, &mut self.held, deed, &mut self.asked);
+        self.desk.take(sight, deed);
+        let call = self.desk.call(stage.closed, stage.gone);
+        let owes = is_move(self.talk.owed(call));
+        let unsent = is_unsent(&self.held, deed);
+        let orders = choose(&mut self.talk, stage, call, unsent, deed);
+        let clears = clears_seen(rises, orders);
+        settle_desk(&mut self.desk, stage.closed, owes, clears, &mut self.told);
+        put_orders(stage, &self.held, &self.desk, orders, &mut self.ordered);
+        release(&mut self.held, orders);
+        self.asked.clear();
+    }
+}
+
+/// The core of a session: it takes what happens, and gives the lines to both peers.
+#[derive(Drop)]
+pub struct Core {
+    parts: Parts,
+}
+
+impl Model for Core {
+    ghost use Rattle.adapter_core.specs.View.{View};
+    ghost use Rattle.adapter_core.specs.Stands.{Keeps};
+
+    ghost Value = { View };
+
+    ghost view = { λ c. c.parts };
+
+    ghost invariant = { λ c. Keeps c.parts };
+}
+
+/// What a step wrote to both peers: whole lines, each with its line feed.
+#[derive(Clone, Copy)]
+pub struct Step<'a> {
+    pub iface: &'a [u8],
+    pub engine: &'a [u8],
+}
+
+impl Core {
+    ghost use Rattle.adapter_core.specs.Stands.{Stands, Extends, AreLines};
+    ghost use Rattle.adapter_core.specs.Lending.{StepsOn};
+
+    /// A core before its first step. It takes all memory that it ever uses.
+    pub fn make(alloc: Global, settings: &Settings) -> Result<Core, NoMemory>
+        requires { IsProper settings.now }
+        ensures new { IfOk result (λ core. core ≡ opening settings.now) }
+        ensures stands { IfOk result (λ core. Stands settings.now core []) }
+    {
+        let parts = make_parts(alloc, *settings)?;
+        Ok(Core { parts })
+    }
+
+    /// Whether the event may come.
+    pub fn may(&self, event: &Event) -> bool
+        ensures { result ≡ may self.now.ends (event_of event.now) }
+    {
+        self.parts.ends.may(event)
+    }
+
+    /// One step: for each lawful trace that the core stands for, the lines extend it.
+    pub fn step<'a>(&'a mut self, event: &Event) -> Step<'a>
+        requires { may self.old.ends (event_of event.now) ≡ true }
+        ensures* steps { sem 𝓛 (StepsOn self.entry (event_of event.now) result) }
+        ensures iface_room { length result.iface.now < 131072 }
+        ensures engine_room { length result.engine.now < 131072 }
+        ensures iface_lines { AreLines result.iface.now }
+        ensures engine_lines { AreLines result.engine.now }
+    {
+        self.take(event);
+        self.lines()
+    }
+
+    /// The game, with all moves that were entered and shown.
+    pub fn game(&self) -> &Game
+        ensures { result.now ≡ self.now.desk.game }
+    {
+        &self.parts.desk.game
+    }
+
+    /// The state of the engine: an open search is stale where its ticket is not the epoch.
+    pub fn engine(&self) -> EngineState
+        ensures { result ≡ self.now.talk.state }
+    {
+        self.parts.talk.state()
+    }
+
+    /// Whether both sides have ended.
+    pub fn over(&self) -> bool
+        ensures { result ≡ is_over self.now.ends }
+    {
+        self.parts.ends.iface && self.parts.ends.engine
+    }
+
+    fn take(&mut self, event: &Event)
+        requires { may self.old.ends (event_of event.now) ≡ true }
+        ensures extends { Extends self.old self.new (event_of event.now) self.new.told.text self.new.ordered.text }
+        ensures iface { length self.new.told.text ≤ 72000 }
+        ensures engine { length self.new.ordered.text ≤ 72300 }
+    {
+        self.parts.take(event);
+    }
+
+    fn lines(&self) -> Step<'_>
+        ensures iface { result.iface.now ≡ self.now.told.text }
+        ensures engine { result.engine.now ≡ self.now.ordered.text }
+    {
+        Step {
+            iface: self.parts.told.bytes(),
+            engine: self.parts.ordered.bytes(),
+        }
+    }
+}
+
+fn make_parts(alloc: Global, settings: Settings) -> Result<Parts, NoMemory>
+    ensures { IfOk result (λ parts. parts ≡ opening settings) }
+{
+    Ok(Parts {
+        settings,
+        ends: Ends {
+            opened: false,
+            iface: false,
+            engine: false,
+            iface_lost: false,
+            engine_lost: false,
+            closed: false,
+        },
+        desk: Desk::make(alloc)?,
+        scores: Scores::new(&settings),
+        held: Held::make(alloc)?,
+        talk: Dialogue::new(),
+        asked: Out::make(alloc, ROOM)?,
+        told: Out::make(alloc, ROOM)?,
+        ordered: Out::make(alloc, ROOM)?,
+    })
+}
+
+ghost use Rattle.adapter_core.specs.Stands.{IsOneDialogue, IsSilentToIface, IsSilentToEngine};
+
+/// A law: two lawful traces with the same settings and the same events are equal.
+pub fn one_dialogue(settings: Settings)
+    ensures { IsOneDialogue settings }
+{
+    let _ = settings;
+}
+
+/// A law: in a lawful trace nothing is written to a side that has ended or was lost.
+pub fn ended_sides_get_nothing(settings: Settings)
+    ensures iface { IsSilentToIface settings }
+    ensures engine { IsSilentToEngine settings }
+{
+    let _ = settings;
+}
