@@ -8,3 +8,9 @@ mod Answers
 mod Listing
 mod Commands
 mod Words
+mod Given
+mod Checks
+mod Audits
+mod Verdicts
+mod Replayed
+mod Ended

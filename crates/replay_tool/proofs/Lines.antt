@@ -6,7 +6,7 @@ use Rattle.adapter_core.specs.declared.ends.Ends.{Ends}
 use Rattle.replay_tool.specs.declared.ending.Ending.{Ending}
 use Rattle.replay_tool.specs.Reading.{Said, Comes, Passes, HasNoMark, Cannot, line_says, ends_said, ends_over, fault_said, or_later, first_fault, events_said, events_of}
 
-no_earlier : (a b : Option Ending) → or_later a b ≡ None → (a ≡ None) × (b ≡ None)
+pub no_earlier : (a b : Option Ending) → or_later a b ≡ None → (a ≡ None) × (b ≡ None)
 no_earlier None b e = (refl, e)
 no_earlier (Some x) b e = cc
 

@@ -1,5 +1,5 @@
 -- What the list of moves comes to.
-use Rattle.std.proofs.Common.{◌≡◌, ◌⊎◌, ℕ, List, Option, Result, Ok, Err, IsOk, ⊎_elim, inl, inr, sym, ◌∙◌, ap, subst, refl, ◌<◌, arith}
+use Rattle.std.proofs.Common.{◌≡◌, ◌⊎◌, ℕ, List, Option, Result, Ok, Err, IsOk, ⊎_elim, inl, inr, sym, ◌∙◌, subst, ◌<◌, arith}
 use Rattle.std.specs.Io.KnownBytes.{Appends}
 use Rattle.line_io.specs.Causes.{Rose}
 use Rattle.line_io.specs.Source.{TakesPrefix}
@@ -31,8 +31,8 @@ module _ (spelled : Result Placement FenFault) (kept silent : Type 0) (code : �
   other_told status text (inl t) n z = inl (sym t.0 ∙ z, t.1)
   other_told status text (inr t) n z = inr (sym z ∙ t.0)
 
-  written : (lines : List ℕ) → W lines → (n : ℕ) → code ≡ n → ((n ≡ 0) × silent × Appends out_old out_new lines) ⊎ (n ≡ 5)
-  written lines (inl w) n z = inl (sym z ∙ w.0, w.1, w.2)
+  written : (lines : List ℕ) → W lines → (n : ℕ) → code ≡ n → (n ≡ 0) ⊎ (n ≡ 5)
+  written lines (inl w) n z = inl (sym z ∙ w.0)
   written lines (inr (r, part, inl t)) n z = inr (sym z ∙ t.0)
   written lines (inr (r, part, inr t)) n z = inr (sym z ∙ t.0)
 
@@ -40,23 +40,23 @@ module _ (spelled : Result Placement FenFault) (kept silent : Type 0) (code : �
   no_told status text n s f t z = ⊎_elim (λ p. s p.0) f (other_told status text t n z)
 
   no_written : (lines : List ℕ) (n : ℕ) → (n ≡ 0 → ⊥) → (n ≡ 5 → ⊥) → W lines → code ≡ n → ⊥
-  no_written lines n s f w z = ⊎_elim (λ p. s p.0) f (written lines w n z)
+  no_written lines n s f w z = ⊎_elim s f (written lines w n z)
 
   told_zero : (status : ℕ) (text : List ℕ) → 0 < status → T status text → code ≡ 0 → ⊥
   told_zero status text pos (inl t) z = let e = t.0 in omega (arith, pos, e, z)
   told_zero status text pos (inr t) z = let e = t.0 in omega (arith, e, z)
 
-  written_zero : (lines : List ℕ) → W lines → code ≡ 0 → silent × Appends out_old out_new lines
-  written_zero lines (inl w) z = (w.1, w.2)
+  written_zero : (lines : List ℕ) → W lines → code ≡ 0 → silent × Appends out_old out_new lines × (written_new ≡ written_old)
+  written_zero lines (inl w) z = (w.1, w.2, w.3)
   written_zero lines (inr w) z = absurd (five w.2 z) where
     five : T 5 (tail_of endings.WritingFailed) → code ≡ 0 → ⊥
     five (inl t) z = let e = t.0 in omega (arith, e, z)
     five (inr t) z = let e = t.0 in omega (arith, e, z)
 
-  all_listed : (p : Placement) → spelled ≡ Ok p → WritesMoves p silent code out_old out_new diag_old diag_new written_old written_new told_old told_new → code ≡ 0 → silent × ListsAll spelled out_old out_new
-  all_listed p s w z = let x = written_zero (move_lines w.moves) w.writes z in (x.0, record { position = p; is_spelled = s; moves = w.moves; legal = w.legal; written = x.1 })
+  all_listed : (p : Placement) → spelled ≡ Ok p → WritesMoves p silent code out_old out_new diag_old diag_new written_old written_new told_old told_new → code ≡ 0 → silent × (written_new ≡ written_old) × ListsAll spelled out_old out_new
+  all_listed p s w z = let x = written_zero (move_lines w.moves) w.writes z in (x.0, x.2, record { position = p; is_spelled = s; moves = w.moves; legal = w.legal; written = x.1 })
 
-  pub all : L → code ≡ 0 → silent × ListsAll spelled out_old out_new
+  pub all : L → code ≡ 0 → silent × (written_new ≡ written_old) × ListsAll spelled out_old out_new
   all (WantsMemory k t) z = absurd (told_zero 3 (tail_of endings.NoMemory) (omega arith) t z)
   all (Refuses f s k t) z = absurd (told_zero 2 (position_fault f) (omega arith) t z)
   all (Lists p s w) z = all_listed p s w z
@@ -103,7 +103,7 @@ module _ (spelled : Result Placement FenFault) (kept silent : Type 0) (code : �
   one_fault (Err h) f g a b = cc
 
   told_out : (status : ℕ) (text : List ℕ) → (Rose told_old told_new → ⊥) → T status text → (code ≡ status) × Appends diag_old diag_new text
-  told_out status text d (inl t) = t
+  told_out status text d (inl t) = (t.0, t.1)
   told_out status text d (inr t) = absurd (d t.1)
 
   written_out : (lines : List ℕ) → (Rose written_old written_new → ⊥) → W lines → code ≡ 0

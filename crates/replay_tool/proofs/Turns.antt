@@ -22,7 +22,7 @@ use Rattle.replay_tool.specs.declared.ending.Ending.{Ending}
 use Rattle.replay_tool.specs.declared.ending.Ending.TheVariants as endings
 use Rattle.replay_tool.specs.declared.run.Run.{Run}
 use Rattle.replay_tool.specs.Reading.{Said, Comes, Passes, HasNoMark, Cannot, line_says, ends_said, ends_over, fault_said, first_fault, events_said, events_of, opened}
-use Rattle.replay_tool.specs.Replay.{Streams, streams, Got, ReplaysAll, ReplaysTo, ReplaysWhole, AreFirst, IsAll}
+use Rattle.replay_tool.specs.Replay.{Streams, streams, Got, ReplaysAll, ReplaysTo, ReplaysWhole, ReplaysMuch, AreFirst, AreRead, IsAll}
 use Rattle.replay_tool.specs.Reached.{Steps, Takes, Reached, Turned}
 use Rattle.replay_tool.proofs.Lines.{ends_more, fault_more, events_more}
 
@@ -37,7 +37,7 @@ next_as old new before after r r' e n = subst (λ (x : Result Item ReadFault). N
 call_of : (old new : Held) (before after : Streams) (r : Result Item ReadFault) → (n : Next old new before after r) → Call old new n.0 r
 call_of old new before after r n = record { advances = n.2; answers = n.4 }
 
-got_more : (start before after : Streams) (got more : List ℕ) → Got start before got → Reads before.given after.given before.left after.left more → Got start after (got ++ more)
+pub got_more : (start before after : Streams) (got more : List ℕ) → Got start before got → Reads before.given after.given before.left after.left more → Got start after (got ++ more)
 got_more start before after got more r s = record {
   given = Appends-trans start.given before.given after.given got more r.given s.given;
   left = Consumes-trans start.left before.left after.left got more r.left s.left;
@@ -48,7 +48,7 @@ all_got None l got c a = tt
 all_got (Some x) None got c a = absurd c
 all_got (Some x) (Some y) got c a = c ∙ ap (λ l. got ++ l) a ∙ append-nil got
 
-no_more : (l0 : Option (List ℕ)) (got more : List ℕ) → more ≡ [] → IsAll l0 got → IsAll l0 (got ++ more)
+pub no_more : (l0 : Option (List ℕ)) (got more : List ℕ) → more ≡ [] → IsAll l0 got → IsAll l0 (got ++ more)
 no_more None got more e a = tt
 no_more (Some x) got more e a = a ∙ sym (append-nil got) ∙ ap (λ l. got ++ l) (sym e)
 
@@ -90,6 +90,16 @@ are_first start now held got lines calls runs g ended = of start.left now.left g
       differ true u v = cc
       differ false u v = cc
 
+-- lines that were given were read
+pub are_read : (start now : Streams) (held : Held) (got : List ℕ) (lines : List Piece) (calls : ℕ) → Runs 131072 held got lines calls → Got start now got
+    → (held.ended ≡ true → IsAll start.left got) → AreRead start now lines
+are_read start now held got lines calls runs g ended = record {
+  got = got;
+  reads = g;
+  of_got = (rest held [], ap (items 131072) (sym (append-nil got)) ∙ so_far 131072 calls held got [] lines runs (λ _. refl));
+  of_left = are_first start now held got lines calls runs g ended;
+}
+
 -- the sides after a step of a core
 core_ends : (o : Settings) (old new : View) (t : List Step) (step : Step) (e : Event) → step.event ≡ e → Stands o old t → Stands o new (step ∷ t) → new.ends ≡ ends_after old.ends e
 core_ends o old new t step e same st st' =
@@ -109,6 +119,7 @@ on_more o run start before calls r new given left n = record {
   ends = r.ends;
   trace = r.trace;
   lawful = r.lawful;
+  short = r.short;
   stands = r.stands;
   events_are = r.events_are;
   written = r.written;
@@ -131,6 +142,7 @@ on_end o run start before calls r new given left n =
       scripted = record {
         trace = r.trace;
         lawful = r.lawful;
+        short = r.short;
         events_are = r.events_are ∙ ap (λ (ls : List Piece). Open ∷ events_of opened ls) same;
         written = r.written;
         appended = r.appended;
@@ -151,6 +163,7 @@ module _ (o : Settings) (run : Run) (start before : Streams) (calls : ℕ) (r : 
     scripted = record {
       trace = r.trace;
       lawful = r.lawful;
+      short = r.short;
       events_are = r.events_are ∙ ap (λ (ls : List Piece). Open ∷ events_of opened ls) same;
       written = r.written;
       appended = subst (λ (x : Option (List ℕ)). Appends start.taken x r.written) (sym t) r.appended;
@@ -159,11 +172,19 @@ module _ (o : Settings) (run : Run) (start before : Streams) (calls : ℕ) (r : 
   }
 
   -- after so many calls, and with no whole line and no end
-  pub on_many : IsWaiting run.lines → 8589934592 ≤ calls → ReplaysWhole o 4294967296 run.text.text start before
+  pub on_many : IsWaiting run.lines → 8589934592 ≤ calls → ReplaysMuch o run.text.text start before
+  unfolding on_whole
   on_many w l =
       let few = few_calls 131072 calls run.lines r.got r.lines r.runs in
       let live : flag run.lines.ended ≡ 0 = ap flag w.1 in
-      on_whole 4294967296 before r.got refl r.reads (at_wait 131072 calls run.lines r.got r.lines r.runs w) (omega arith)
+      let same = at_wait 131072 calls run.lines r.got r.lines r.runs w in
+      record {
+        replays = on_whole 4294967296 before r.got refl r.reads same (omega arith);
+        held = run.lines;
+        calls = calls;
+        runs = subst (λ (ls : List Piece). Runs 131072 run.lines r.got ls calls) same r.runs;
+        waits = w;
+      }
 
 -- a fault of the input
 pub on_fault : (o : Settings) (run : Run) (start before : Streams) (calls : ℕ) (r : Reached o run start before calls) (new : Held) (given left : Option (List ℕ)) (f : ReadFault)
@@ -208,8 +229,8 @@ module _ (o : Settings) (run : Run) (start before : Streams) (calls : ℕ) (r : 
   number_on : run.number + 1 ≡ length lines
   number_on = omega (arith, length-append r.lines (p ∷ []), r.number)
 
-  first_on : AreFirst start.left lines
-  first_on = are_first start now new (r.got ++ n.0) lines (suc calls) runs_on (got o run start before calls r new given left (Ok item) n) (ended o run start before calls r new given left (Ok item) n)
+  read_on : AreRead start now lines
+  read_on = are_read start now new (r.got ++ n.0) lines (suc calls) runs_on (got o run start before calls r new given left (Ok item) n) (ended o run start before calls r new given left (Ok item) n)
 
   ends_on : ends_over opened lines ≡ ends_said run.core.ends said
   ends_on = ends_more opened r.lines p ∙ ap (λ (e : Ends). ends_said e (line_says e p)) (sym r.ends)
@@ -218,11 +239,12 @@ module _ (o : Settings) (run : Run) (start before : Streams) (calls : ℕ) (r : 
   pub on_bad : (f : Ending) → fault_said (run.number + 1) said ≡ Some f → events_said said [] ≡ [] → ReplaysTo o f run.text.text start now
   on_bad f is_bad none = record {
     lines = lines;
-    first = first_on;
+    read = read_on;
     is_fault = fault_is ∙ is_bad;
     scripted = record {
       trace = r.trace;
       lawful = r.lawful;
+      short = r.short;
       events_are = r.events_are ∙ ap (λ (es : List Event). Open ∷ es) (sym (events_on ∙ ap (λ (es : List Event). events_of opened r.lines ++ es) none ∙ append-nil (events_of opened r.lines)));
       written = r.written;
       appended = r.appended;
@@ -243,6 +265,7 @@ module _ (o : Settings) (run : Run) (start before : Streams) (calls : ℕ) (r : 
     ends = sym (ends_on ∙ ap (ends_said run.core.ends) e);
     trace = r.trace;
     lawful = r.lawful;
+    short = r.short;
     stands = r.stands;
     events_are = r.events_are ∙ ap (λ (es : List Event). Open ∷ es) (sym (events_on ∙ ap (λ (x : Said). events_of opened r.lines ++ events_said x []) e ∙ append-nil (events_of opened r.lines)));
     written = r.written;
@@ -267,6 +290,7 @@ module _ (o : Settings) (run : Run) (start before : Streams) (calls : ℕ) (r : 
         trace = s.step ∷ r.trace;
         lawful = next.0;
         stands = next.1;
+        short = (s.short, r.short);
         events_are = ap (λ (es : List Event). es ++ s.step.event ∷ []) r.events_are ∙ ap (λ (x : Event). (Open ∷ events_of opened r.lines) ++ x ∷ []) s.adds.event
             ∙ ap (λ (es : List Event). Open ∷ es) (sym (events_on ∙ ap (λ (x : Said). events_of opened r.lines ++ events_said x []) is_event));
         written = r.written;

@@ -1,23 +1,30 @@
 -- What the words of the program command.
-use Rattle.std.specs.Prelude.{ℕ, List, [], ◌∷◌, Bool, false, if◌then◌else◌, codes, Option, Some, None, Vec, vec_items, map}
+use Rattle.std.specs.Prelude.{ℕ, List, [], ◌∷◌, length, ◌&&◌, if◌then◌else◌, nat_lt, codes, Option, Some, None, Vec, vec_items, map}
+use Rattle.std.specs.Option.{option_map}
 use Rattle.std.specs.Str.{bytes_eq}
 use Rattle.replay_tool.specs.declared.command.Command.{Command}
 use Rattle.replay_tool.specs.declared.command.Command.TheVariants as commands
+use Rattle.policy_rules.specs.Policy.{IsProper}
+use Rattle.replay_tool.specs.Words.{settings_of}
 
 -- the bytes of words
 abbrev pub texts : {Z : Type 0} → List (Vec ℕ Z) → List (List ℕ)
 texts words = map vec_items words
 
--- the words command a replay
-abbrev pub is_replay : List (List ℕ) → Bool
-is_replay (word ∷ []) = bytes_eq word (codes "replay")
-is_replay words = false
-
--- the words command a list of moves: one or more words stand behind the first
-abbrev pub is_moves : List (List ℕ) → Bool
-is_moves (word ∷ next ∷ words) = bytes_eq word (codes "moves")
-is_moves words = false
+-- the command of this name with these words: settings stand behind `replay` and `check`, and one or more words behind `moves`
+abbrev pub command_named : List ℕ → List (List ℕ) → Option Command
+command_named name words =
+    if bytes_eq name (codes "replay") then option_map (λ s. commands.Replay s) (settings_of words)
+    else (if bytes_eq name (codes "check") then option_map (λ s. commands.Check s) (settings_of words)
+    else (if bytes_eq name (codes "moves") && nat_lt 0 (length words) then Some commands.Moves else None))
 
 -- the command of the words, where they fit one
 abbrev pub command_of : List (List ℕ) → Option Command
-command_of words = if is_replay words then Some commands.Replay else (if is_moves words then Some commands.Moves else None)
+command_of [] = None
+command_of (name ∷ words) = command_named name words
+
+-- the settings of a command are within their ranges
+abbrev pub HasProper : Command → Type 0
+HasProper (commands.Replay s) = IsProper s
+HasProper (commands.Check s) = IsProper s
+HasProper command = Unit {0}

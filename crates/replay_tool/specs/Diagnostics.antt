@@ -5,6 +5,7 @@ use Rattle.replay_tool.specs.declared.ending.Ending.TheVariants as endings
 
 abbrev pub code_of : Ending → ℕ
 code_of endings.Done = 0
+code_of (endings.Differs n) = 1
 code_of endings.Usage = 2
 code_of (endings.NoMark n) = 2
 code_of (endings.MayNotCome n) = 2
@@ -19,6 +20,7 @@ one_line text = text ++ 10 ∷ []
 -- what stands in a diagnostic behind the number of a line, or all of it
 abbrev pub tail_of : Ending → List ℕ
 tail_of endings.Done = []
+tail_of (endings.Differs n) = []
 tail_of endings.Usage = one_line (codes "replay: usage")
 tail_of (endings.NoMark n) = one_line (codes " has no mark")
 tail_of (endings.MayNotCome n) = one_line (codes " may not come here")
@@ -34,3 +36,9 @@ abbrev pub diagnostic : Ending → List ℕ
 diagnostic (endings.NoMark n) = line_fault n (tail_of (endings.NoMark n))
 diagnostic (endings.MayNotCome n) = line_fault n (tail_of (endings.MayNotCome n))
 diagnostic e = tail_of e
+
+-- what `check` writes of an input that is the script of a lawful trace, or that differs
+abbrev pub verdict : Ending → List ℕ
+verdict endings.Done = one_line (codes "lawful")
+verdict (endings.Differs n) = one_line (codes "differs at line " ++ decimal n)
+verdict e = []

@@ -1,3 +1,4 @@
+pub mod Check
 pub mod Commands
 pub mod Diagnostics
 pub mod Moves
@@ -5,3 +6,6 @@ pub mod Program
 pub mod Reading
 pub mod Replay
 pub mod Reached
+pub mod Words
+pub mod Walked
+pub mod Told

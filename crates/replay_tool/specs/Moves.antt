@@ -46,12 +46,12 @@ position_fault fens.Kings = one_line (codes "replay: position: kings")
 -- a diagnostic was written and the status is this one, or it could not be written and the status is 5
 abbrev pub Told : ℕ → ℕ → List ℕ → Option (List ℕ) → Option (List ℕ) → ℕ → ℕ → Type 0
 Told code status text diag_old diag_new told_old told_new =
-    ((code ≡ status) × Appends diag_old diag_new text) ⊎ ((code ≡ 5) × Rose told_old told_new × TakesPrefix diag_old diag_new text)
+    ((code ≡ status) × Appends diag_old diag_new text × (told_new ≡ told_old)) ⊎ ((code ≡ 5) × Rose told_old told_new × TakesPrefix diag_old diag_new text)
 
 -- all lines were written, or a front of them
 abbrev pub Writes : List ℕ → Type 0 → ℕ → Option (List ℕ) → Option (List ℕ) → Option (List ℕ) → Option (List ℕ) → ℕ → ℕ → ℕ → ℕ → Type 0
 Writes lines silent code out_old out_new diag_old diag_new written_old written_new told_old told_new =
-    ((code ≡ 0) × silent × Appends out_old out_new lines)
+    ((code ≡ 0) × silent × Appends out_old out_new lines × (written_new ≡ written_old))
     ⊎ (Rose written_old written_new × TakesPrefix out_old out_new lines × Told code 5 (tail_of endings.WritingFailed) diag_old diag_new told_old told_new)
 
 -- exactly the legal moves were written, or a front of them

@@ -1,5 +1,5 @@
 -- Where a run has come to.
-use Rattle.std.specs.Prelude.{◌≡◌, ℕ, suc, ◌≤◌, List, ◌∷◌, ◌++◌, length, true, Option, Some, None}
+use Rattle.std.specs.Prelude.{◌≡◌, ◌≢◌, ℕ, suc, List, [], ◌∷◌, ◌++◌, length, true, Option, Some, None}
 use Rattle.std.specs.Io.KnownBytes.{Appends}
 use Rattle.line_io.specs.Event.{Event, Open}
 use Rattle.line_io.specs.Lines.{Piece, unread}
@@ -7,9 +7,9 @@ use Rattle.line_io.specs.Out.{Text, with, empty}
 use Rattle.line_io.specs.Runs.{Runs}
 use Rattle.policy_rules.specs.declared.settings.Settings.{Settings}
 use Rattle.adapter_core.specs.Trace.{Step, Lawful}
-use Rattle.adapter_core.specs.View.{View, opening}
+use Rattle.adapter_core.specs.View.{View}
 use Rattle.adapter_core.specs.Stands.{Stands}
-use Rattle.session_script.specs.Script.{script, events, step_text}
+use Rattle.session_script.specs.Script.{script, events, step_text, IsShortStep, AreShort}
 use Rattle.line_io.specs.Causes.{Rose}
 use Rattle.replay_tool.specs.declared.ending.Ending.{Ending}
 use Rattle.replay_tool.specs.declared.ending.Ending.TheVariants as endings
@@ -18,8 +18,11 @@ use Rattle.replay_tool.specs.Reading.{Said, Comes, first_fault, events_of, ends_
 use Rattle.replay_tool.specs.Replay.{Streams, Got, IsAll, Stopped}
 
 -- a run before its first step
-abbrev pub new_run : Settings → Run
-new_run o = record { core = opening o; lines = unread 131072; text = empty 4194304; number = 0 }
+pub record IsNew (o : Settings) (run : Run) : Type 0 where
+  pub core : Stands o run.core []
+  pub lines : run.lines ≡ unread 131072
+  pub text : run.text ≡ empty 4194304
+  pub number : run.number ≡ 0
 
 abbrev pub with_text : Run → Text → Run
 with_text run text = record run { text = text }
@@ -34,6 +37,7 @@ pub record Steps (old new : View) (e : Event) (text_old text_new : Text) : Type 
   pub step : Step
   pub adds : Adds old new e step
   pub put : text_new ≡ with text_old (step_text step)
+  pub short : IsShortStep step
 
 -- what a line said was done
 abbrev pub Takes : View → View → Said → Text → Text → Type 0
@@ -53,6 +57,7 @@ pub record Reached (o : Settings) (run : Run) (start now : Streams) (calls : ℕ
   pub trace : List Step
   pub lawful : Lawful o trace
   pub stands : Stands o run.core trace
+  pub short : AreShort trace
   pub events_are : events trace ≡ Open ∷ events_of opened lines
   pub written : List ℕ
   pub appended : Appends start.taken now.taken written
@@ -64,9 +69,9 @@ abbrev pub Turned : Settings → Option Ending → Run → Streams → Streams �
 Turned o None run start now calls = Reached o run start now (suc calls)
 Turned o (Some ending) run start now calls = Stopped o ending run.text.text start now
 
--- why a turn or a run stopped: the counts of faults before and after of the input and of the output
+-- Why a turn or a run stopped: the counts of faults before and after of the input and of the output. A count is as before where no failure took place.
 pub record Causes (answer : Option Ending) (read_old read_new written_old written_new : ℕ) : Type 0 where
-  pub reads : read_old ≤ read_new
-  pub writes : written_old ≤ written_new
   pub reading : answer ≡ Some endings.ReadingFailed → Rose read_old read_new
   pub writing : answer ≡ Some endings.WritingFailed → Rose written_old written_new
+  pub read : answer ≢ Some endings.ReadingFailed → answer ≢ Some endings.WritingFailed → read_new ≡ read_old
+  pub written : answer ≢ Some endings.WritingFailed → written_new ≡ written_old

@@ -1,16 +1,18 @@
 // How a run ends.
 ghost use Rattle.std.specs.Prelude.{◌≡◌, ◌+◌, ◌≤◌, length};
 ghost use Rattle.line_io.specs.Out.{with};
-ghost use Rattle.replay_tool.specs.Diagnostics.{code_of, tail_of, diagnostic};
+ghost use Rattle.replay_tool.specs.Diagnostics.{code_of, tail_of, diagnostic, verdict};
 
 use itoa::Buffer;
-use line_io::Out;
+use line_io::{Failed, Out, Sink, write_all};
 
 /// How a run ends.
 #[derive(Clone, Copy, Debug, PartialEq, Eq)]
 pub enum Ending {
-    /// All of the input was replayed.
+    /// All of the input was replayed, or is a lawful script.
     Done,
+    /// The line with this number, counted from 1, differs from the lawful script.
+    Differs(u64),
     Usage,
     /// The line with this number, counted from 1, is no mark.
     NoMark(u64),
@@ -29,6 +31,7 @@ impl Ending {
     {
         match self {
             Ending::Done => 0,
+            Ending::Differs(_) => 1,
             Ending::Usage | Ending::NoMark(_) | Ending::MayNotCome(_) => 2,
             Ending::NoMemory => 3,
             Ending::ReadingFailed => 4,
@@ -42,7 +45,7 @@ impl Ending {
         ensures { result.now ≡ tail_of self }
     {
         match self {
-            Ending::Done => b"",
+            Ending::Done | Ending::Differs(_) => b"",
             Ending::Usage => b"replay: usage\n",
             Ending::NoMark(_) => b" has no mark\n",
             Ending::MayNotCome(_) => b" may not come here\n",
@@ -50,6 +53,18 @@ impl Ending {
             Ending::ReadingFailed => b"replay: reading failed\n",
             Ending::WritingFailed => b"replay: writing failed\n",
             Ending::TooLong => b"replay: input too long\n",
+        }
+    }
+
+    /// Puts what `check` writes of its input, which is one line or nothing.
+    pub fn put_verdict(self, out: &mut Out)
+        requires { length out.old.text + 80 ≤ out.old.room }
+        ensures { out.new ≡ with out.old (verdict self) }
+    {
+        match self {
+            Ending::Done => out.put(b"lawful\n"),
+            Ending::Differs(line) => put_difference(line, out),
+            _ => out.put(b""),
         }
     }
 
@@ -70,7 +85,18 @@ impl Ending {
 }
 
 ghost use Rattle.std.specs.Prelude.{◌++◌};
+ghost use Rattle.replay_tool.specs.declared.ending.Ending.TheVariants as endings;
 ghost use Rattle.replay_tool.specs.Diagnostics.{line_fault};
+
+fn put_difference(line: u64, out: &mut Out)
+    requires { length out.old.text + 80 ≤ out.old.room }
+    ensures { out.new ≡ with out.old (verdict (endings.Differs line)) }
+{
+    let mut digits = Buffer::new();
+    out.put(b"differs at line ");
+    out.put(digits.format(line).as_bytes());
+    out.put(b"\n");
+}
 
 fn put_line_fault(line: u64, tail: &[u8], out: &mut Out)
     requires tail { length tail.now ≤ 40 }
@@ -81,4 +107,37 @@ fn put_line_fault(line: u64, tail: &[u8], out: &mut Out)
     out.put(b"replay: line ");
     out.put(digits.format(line).as_bytes());
     out.put(tail);
+}
+
+ghost use Rattle.std.specs.Prelude.{OnErr, OnOk};
+ghost use Rattle.std.specs.Io.KnownBytes.{Appends};
+ghost use Rattle.line_io.specs.Causes.{HasCause};
+ghost use Rattle.line_io.specs.Source.{TakesPrefix};
+ghost use Rattle.replay_tool.specs.Told.{Wrote};
+
+/// Writes the diagnostic of an ending.
+pub fn tell<D: Sink>(ending: Ending, text: &mut Out, diag: &mut D) -> Result<(), Failed>
+    requires { 80 ≤ text.old.room }
+    ensures ok { OnOk result (Appends (D.taken diag.old) (D.taken diag.new) (diagnostic ending)) }
+    ensures err { OnErr result (TakesPrefix (D.taken diag.old) (D.taken diag.new) (diagnostic ending)) }
+    ensures cause { HasCause (D.faults diag.old) (D.faults diag.new) result }
+    ensures room { text.new.room ≡ text.old.room }
+{
+    text.clear();
+    ending.put_diagnostic(text);
+    write_all(diag, text.bytes())
+}
+
+/// Writes what was found, and gives how the check ended.
+pub fn write_verdict<O: Sink>(found: Ending, text: &mut Out, output: &mut O) -> Ending
+    requires { 80 ≤ text.old.room }
+    ensures wrote { Wrote found result (output.new ≡ output.old) (O.taken output.old) (O.taken output.new) (O.faults output.old) (O.faults output.new) }
+    ensures room { text.new.room ≡ text.old.room }
+{
+    text.clear();
+    found.put_verdict(text);
+    match write_all(output, text.bytes()) {
+        Ok(()) => found,
+        Err(_) => Ending::WritingFailed,
+    }
 }

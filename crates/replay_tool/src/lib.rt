@@ -1,11 +1,15 @@
-//! Replays recorded sessions, and lists legal moves.
+//! Replays and checks recorded sessions, and lists legal moves.
 #![tactic(auto)]
 
+mod check;
 mod command;
+mod due;
 mod ending;
+mod limits;
 mod moves;
 mod replay;
 mod run;
+mod settings;
 #[cfg(test)]
 mod tests;
 

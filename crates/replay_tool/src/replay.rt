@@ -1,20 +1,29 @@
 // The program.
-ghost use Rattle.std.specs.Prelude.{◌≡◌, ◌⊎◌, ℕ, ◌^◌, [], true, Some, is_some};
+ghost use Rattle.std.specs.Prelude.{◌≡◌, ◌⊎◌, ℕ, [], Some, is_some, IfOk};
+ghost use Rattle.std.specs.Io.KnownBytes.{Appends};
 ghost use Rattle.line_io.specs.Causes.{Rose};
-ghost use Rattle.policy_rules.specs.Policy.{usual};
+ghost use Rattle.line_io.specs.Out.{empty};
+ghost use Rattle.policy_rules.specs.Policy.{IsProper};
+ghost use Rattle.policy_rules.specs.declared.settings.Settings.{Settings as AnySettings};
 ghost use Rattle.fen_text.specs.Fen.{position_of};
 ghost use Rattle.replay_tool.specs.declared.command.Command.TheVariants as commands;
 ghost use Rattle.replay_tool.specs.declared.ending.Ending.TheVariants as endings;
 ghost use Rattle.replay_tool.specs.Commands.{command_of, texts};
 ghost use Rattle.replay_tool.specs.Moves.{fen_of, FindsNoPosition, ListsAll};
-ghost use Rattle.replay_tool.specs.Program.{counts, Completes, CompletesList, Does, FindsFault, IsUsage, Ran, RefusesPosition, status_of, Tells, TellsFault, WritesFront};
-ghost use Rattle.replay_tool.specs.Replay.{streams, ReplaysAll, ReplaysWhole};
+ghost use Rattle.replay_tool.specs.Program.{AreSame, counts, Completes, CompletesCheck, CompletesMarked, EndsAs, IsExactCheck, CompletesList, Does, FindsFault, IsUsage, Ran, ReadsMuch, ReadsPart, RefusesPosition, status_of, Tells, TellsFault, HasOneDialogue, WritesFront, WritesItAgain};
+ghost use Rattle.adapter_core.specs.Stands.{IsOneDialogue};
+ghost use Rattle.replay_tool.specs.Check.{ChecksAs, FindsBadLine, FindsDifference, IsLawfulScript};
+ghost use Rattle.replay_tool.specs.Diagnostics.{verdict};
+ghost use Rattle.replay_tool.specs.Walked.{IsUnread};
+ghost use Rattle.replay_tool.specs.Replay.{streams, ReplaysAll};
 
+use crate::check::Audit;
 use crate::command::{Command, read_command};
-use crate::ending::Ending;
+use crate::ending::{Ending, tell, write_verdict};
 use crate::moves::list_moves;
 use crate::run::Run;
-use line_io::{Sink, Source, Status, write_all};
+use adapter_core::one_dialogue;
+use line_io::{NoMemory, Out, Sink, Source, Status, write_all};
 use policy_rules::Settings;
 use std::alloc::Global;
 
@@ -38,21 +47,58 @@ fn refuse_words<D: Sink>(diag: &mut D) -> Status
 // Replays the input, told as one ending.
 fn run_replay<I: Source, O: Sink, D: Sink>(
     alloc: Global,
+    settings: &Settings,
     input: &mut I,
     output: &mut O,
     diag: &mut D,
 ) -> Status
-    ensures { Ran true ((input.new ≡ input.old) × (output.new ≡ output.old)) result.code
-        (streams (I.given input.old) (I.left input.old) (O.taken output.old)) (streams (I.given input.new) (I.left input.new) (O.taken output.new))
+    requires { IsProper settings.now }
+    ensures one { IsOneDialogue settings.now }
+    ensures ran { Ran (λ e. EndsAs settings.now ((input.new ≡ input.old) × (output.new ≡ output.old)) e (streams (I.given input.old) (I.left input.old) (O.taken output.old)) (streams (I.given input.new) (I.left input.new) (O.taken output.new))) result.code
         (D.taken diag.old) (D.taken diag.new)
         (counts (I.faults input.old) (O.faults output.old) (D.faults diag.old)) (counts (I.faults input.new) (O.faults output.new) (D.faults diag.new)) }
 {
-    let Ok(mut run) = Run::make(alloc, &Settings::usual()) else {
+    one_dialogue(*settings);
+    let Ok(mut run) = Run::make(alloc, settings) else {
         let failed = write_all(diag, Ending::NoMemory.tail()).is_err();
         return status(Ending::NoMemory, failed);
     };
     let ending = run.go(input, output);
     let failed = run.tell(ending, diag).is_err();
+    status(ending, failed)
+}
+
+// The memory of a check: its session, and room for one line.
+fn make_check(alloc: Global, settings: &Settings) -> Result<(Audit, Out), NoMemory>
+    requires { IsProper settings.now }
+    ensures unread { IfOk result (λ made. IsUnread made.0.core.settings made.0) }
+    ensures settings { IfOk result (λ made. made.0.core.settings ≡ settings.now) }
+    ensures room { IfOk result (λ made. made.1 ≡ empty 80) }
+{
+    Ok((Audit::make(alloc, settings)?, Out::make(alloc, 80)?))
+}
+
+// Checks the input, told as one ending.
+fn run_check<I: Source, O: Sink, D: Sink>(
+    alloc: Global,
+    settings: &Settings,
+    input: &mut I,
+    output: &mut O,
+    diag: &mut D,
+) -> Status
+    requires { IsProper settings.now }
+    ensures { Ran (λ e. ChecksAs settings.now (input.new ≡ input.old) (output.new ≡ output.old) e (streams (I.given input.old) (I.left input.old) (O.taken output.old)) (streams (I.given input.new) (I.left input.new) (O.taken output.new))) result.code
+        (D.taken diag.old) (D.taken diag.new)
+        (counts (I.faults input.old) (O.faults output.old) (D.faults diag.old)) (counts (I.faults input.new) (O.faults output.new) (D.faults diag.new)) }
+{
+    let Ok((mut audit, mut text)) = make_check(alloc, settings) else {
+        let failed = write_all(diag, Ending::NoMemory.tail()).is_err();
+        return status(Ending::NoMemory, failed);
+    };
+    one_dialogue(*settings);
+    let found = audit.go(input);
+    let ending = write_verdict(found, &mut text, output);
+    let failed = tell(ending, &mut text, diag).is_err();
     status(ending, failed)
 }
 
@@ -64,10 +110,12 @@ fn run_words<I: Source, O: Sink, D: Sink>(
     output: &mut O,
     diag: &mut D,
 ) -> Status
-    ensures { Does (command_of (texts words.now)) (position_of (fen_of (texts words.now))) (input.new ≡ input.old) (output.new ≡ output.old) (diag.new ≡ diag.old) result.code (streams (I.given input.old) (I.left input.old) (O.taken output.old)) (streams (I.given input.new) (I.left input.new) (O.taken output.new)) (D.taken diag.old) (D.taken diag.new) (counts (I.faults input.old) (O.faults output.old) (D.faults diag.old)) (counts (I.faults input.new) (O.faults output.new) (D.faults diag.new)) }
+    ensures does { Does (command_of (texts words.now)) (position_of (fen_of (texts words.now))) (input.new ≡ input.old) (output.new ≡ output.old) (diag.new ≡ diag.old) result.code (streams (I.given input.old) (I.left input.old) (O.taken output.old)) (streams (I.given input.new) (I.left input.new) (O.taken output.new)) (D.taken diag.old) (D.taken diag.new) (counts (I.faults input.old) (O.faults output.old) (D.faults diag.old)) (counts (I.faults input.new) (O.faults output.new) (D.faults diag.new)) }
+    ensures one { HasOneDialogue (command_of (texts words.now)) }
 {
     match read_command(words) {
-        Some(Command::Replay) => run_replay(alloc, input, output, diag),
+        Some(Command::Replay(settings)) => run_replay(alloc, &settings, input, output, diag),
+        Some(Command::Check(settings)) => run_check(alloc, &settings, input, output, diag),
         Some(Command::Moves) => list_moves(alloc, words, output, diag),
         None => refuse_words(diag),
     }
@@ -76,7 +124,11 @@ fn run_words<I: Source, O: Sink, D: Sink>(
 /// Runs the program `replay` on its words, which do not include its name.
 ///
 /// The word `replay` reads marks from the input, passes over those of lines that were written, and
-/// writes the script of the session. The word `moves` joins the words behind it by blanks, as the
+/// writes the script of the session, with the settings that the words behind it give: `Resign` and
+/// `ShowPonder` are `true` or `false`, `ResignMoves` is 1 to 1,000, `ResignScore` 0 to 100,000. The
+/// word `check`, with the same words behind it, reads a log and writes `lawful` where its lines are the
+/// script of a lawful session, else the first line that differs, with status 1. The
+/// word `moves` joins the words behind it by blanks, as the
 /// text of a position (PGN standard, section 16.1), and writes its legal moves, one a line, in the
 /// byte order of their texts; it reads no input. The statuses are 0; 2 where the words are others,
 /// where a line of the input has no mark or its event may not come, or where the text spells no
@@ -91,15 +143,39 @@ pub fn replay_main<I: Source, O: Sink, D: Sink>(
 ) -> Status
     ensures does { Does (command_of (texts words.now)) (position_of (fen_of (texts words.now))) (input.new ≡ input.old) (output.new ≡ output.old) (diag.new ≡ diag.old) result.code (streams (I.given input.old) (I.left input.old) (O.taken output.old)) (streams (I.given input.new) (I.left input.new) (O.taken output.new)) (D.taken diag.old) (D.taken diag.new) (counts (I.faults input.old) (O.faults output.old) (D.faults diag.old)) (counts (I.faults input.new) (O.faults output.new) (D.faults diag.new)) }
     ensures usage { IsUsage (is_some (command_of (texts words.now))) ((input.new ≡ input.old) × (output.new ≡ output.old)) result.code }
-    ensures done { command_of (texts words.now) ≡ Some commands.Replay → result.code ≡ 0 → ReplaysAll usual [] (streams (I.given input.old) (I.left input.old) (O.taken output.old)) (streams (I.given input.new) (I.left input.new) (O.taken output.new)) }
-    ensures script { command_of (texts words.now) ≡ Some commands.Replay → result.code ≡ 2 → FindsFault (streams (I.given input.old) (I.left input.old) (O.taken output.old)) (streams (I.given input.new) (I.left input.new) (O.taken output.new)) (D.taken diag.old) (D.taken diag.new) }
+    ensures done { (settings : AnySettings) → command_of (texts words.now) ≡ Some (commands.Replay settings) → result.code ≡ 0
+        → ReplaysAll settings [] (streams (I.given input.old) (I.left input.old) (O.taken output.old)) (streams (I.given input.new) (I.left input.new) (O.taken output.new))
+        × AreSame (counts (I.faults input.old) (O.faults output.old) (D.faults diag.old)) (counts (I.faults input.new) (O.faults output.new) (D.faults diag.new)) }
+    ensures script { (settings : AnySettings) → command_of (texts words.now) ≡ Some (commands.Replay settings) → result.code ≡ 2
+        → FindsFault settings (streams (I.given input.old) (I.left input.old) (O.taken output.old)) (streams (I.given input.new) (I.left input.new) (O.taken output.new)) (D.taken diag.old) (D.taken diag.new) }
     ensures memory { result.code ≡ 3 → ((input.new ≡ input.old) × (output.new ≡ output.old)) }
-    ensures reading { result.code ≡ 4 → Rose (I.faults input.old) (I.faults input.new) × ReplaysWhole usual 0 [] (streams (I.given input.old) (I.left input.old) (O.taken output.old)) (streams (I.given input.new) (I.left input.new) (O.taken output.new)) }
+    ensures reading { result.code ≡ 4 → Rose (I.faults input.old) (I.faults input.new)
+        × ReadsPart (command_of (texts words.now)) (output.new ≡ output.old) (streams (I.given input.old) (I.left input.old) (O.taken output.old)) (streams (I.given input.new) (I.left input.new) (O.taken output.new)) }
     ensures writing { result.code ≡ 5 → (Rose (O.faults output.old) (O.faults output.new) ⊎ Rose (D.faults diag.old) (D.faults diag.new)) × WritesFront (command_of (texts words.now)) (position_of (fen_of (texts words.now))) (input.new ≡ input.old) (output.new ≡ output.old) (streams (I.given input.old) (I.left input.old) (O.taken output.old)) (streams (I.given input.new) (I.left input.new) (O.taken output.new)) }
-    ensures too_long { result.code ≡ 6 → ReplaysWhole usual (2 ^ 32) [] (streams (I.given input.old) (I.left input.old) (O.taken output.old)) (streams (I.given input.new) (I.left input.new) (O.taken output.new)) }
-    ensures complete { command_of (texts words.now) ≡ Some commands.Replay → Completes result.code (I.left input.old) (counts (I.faults input.old) (O.faults output.old) (D.faults diag.old)) (counts (I.faults input.new) (O.faults output.new) (D.faults diag.new)) }
-    ensures faulty { command_of (texts words.now) ≡ Some commands.Replay → TellsFault result.code (I.left input.old) (D.taken diag.old) (D.taken diag.new) (counts (I.faults input.old) (O.faults output.old) (D.faults diag.old)) (counts (I.faults input.new) (O.faults output.new) (D.faults diag.new)) }
-    ensures moves_done { command_of (texts words.now) ≡ Some commands.Moves → result.code ≡ 0 → (input.new ≡ input.old) × (diag.new ≡ diag.old) × ListsAll (position_of (fen_of (texts words.now))) (O.taken output.old) (O.taken output.new) }
+    ensures too_long { result.code ≡ 6
+        → ReadsMuch (command_of (texts words.now)) (output.new ≡ output.old) (streams (I.given input.old) (I.left input.old) (O.taken output.old)) (streams (I.given input.new) (I.left input.new) (O.taken output.new)) }
+    ensures complete { (settings : AnySettings) → command_of (texts words.now) ≡ Some (commands.Replay settings)
+        → Completes result.code (I.left input.old) (counts (I.faults input.old) (O.faults output.old) (D.faults diag.old)) (counts (I.faults input.new) (O.faults output.new) (D.faults diag.new)) }
+    ensures faulty { (settings : AnySettings) → command_of (texts words.now) ≡ Some (commands.Replay settings)
+        → TellsFault result.code (I.left input.old) (D.taken diag.old) (D.taken diag.new) (counts (I.faults input.old) (O.faults output.old) (D.faults diag.old)) (counts (I.faults input.new) (O.faults output.new) (D.faults diag.new)) }
+    ensures again { (settings : AnySettings) → command_of (texts words.now) ≡ Some (commands.Replay settings)
+        → WritesItAgain settings result.code (streams (I.given input.old) (I.left input.old) (O.taken output.old)) (streams (I.given input.new) (I.left input.new) (O.taken output.new)) }
+    ensures check_lawful { (settings : AnySettings) → command_of (texts words.now) ≡ Some (commands.Check settings) → result.code ≡ 0
+        → IsLawfulScript settings (streams (I.given input.old) (I.left input.old) (O.taken output.old)) (streams (I.given input.new) (I.left input.new) (O.taken output.new))
+        × Appends (O.taken output.old) (O.taken output.new) (verdict endings.Done)
+        × AreSame (counts (I.faults input.old) (O.faults output.old) (D.faults diag.old)) (counts (I.faults input.new) (O.faults output.new) (D.faults diag.new)) }
+    ensures check_differs { (settings : AnySettings) → command_of (texts words.now) ≡ Some (commands.Check settings) → result.code ≡ 1
+        → FindsDifference settings (streams (I.given input.old) (I.left input.old) (O.taken output.old)) (streams (I.given input.new) (I.left input.new) (O.taken output.new))
+        × AreSame (counts (I.faults input.old) (O.faults output.old) (D.faults diag.old)) (counts (I.faults input.new) (O.faults output.new) (D.faults diag.new)) }
+    ensures check_script { (settings : AnySettings) → command_of (texts words.now) ≡ Some (commands.Check settings) → result.code ≡ 2
+        → FindsBadLine settings (output.new ≡ output.old) (streams (I.given input.old) (I.left input.old) (O.taken output.old)) (streams (I.given input.new) (I.left input.new) (O.taken output.new)) (D.taken diag.old) (D.taken diag.new) }
+    ensures check_exact { (settings : AnySettings) → command_of (texts words.now) ≡ Some (commands.Check settings) → IsExactCheck settings result.code (I.left input.old) }
+    ensures check_complete { (settings : AnySettings) → command_of (texts words.now) ≡ Some (commands.Check settings)
+        → CompletesCheck result.code (I.left input.old) (counts (I.faults input.old) (O.faults output.old) (D.faults diag.old)) (counts (I.faults input.new) (O.faults output.new) (D.faults diag.new)) }
+    ensures check_marked { (settings : AnySettings) → command_of (texts words.now) ≡ Some (commands.Check settings)
+        → CompletesMarked result.code (I.left input.old) (counts (I.faults input.old) (O.faults output.old) (D.faults diag.old)) (counts (I.faults input.new) (O.faults output.new) (D.faults diag.new)) }
+    ensures moves_done { command_of (texts words.now) ≡ Some commands.Moves → result.code ≡ 0
+        → (input.new ≡ input.old) × (diag.new ≡ diag.old) × (O.faults output.new ≡ O.faults output.old) × ListsAll (position_of (fen_of (texts words.now))) (O.taken output.old) (O.taken output.new) }
     ensures position { command_of (texts words.now) ≡ Some commands.Moves → result.code ≡ 2 → ((input.new ≡ input.old) × (output.new ≡ output.old)) × FindsNoPosition (position_of (fen_of (texts words.now))) (D.taken diag.old) (D.taken diag.new) }
     ensures moves_complete { command_of (texts words.now) ≡ Some commands.Moves → CompletesList (position_of (fen_of (texts words.now))) result.code (counts (I.faults input.old) (O.faults output.old) (D.faults diag.old)) (counts (I.faults input.new) (O.faults output.new) (D.faults diag.new)) }
     ensures moves_refused { command_of (texts words.now) ≡ Some commands.Moves → RefusesPosition (position_of (fen_of (texts words.now))) result.code (D.taken diag.old) (D.taken diag.new) (counts (I.faults input.old) (O.faults output.old) (D.faults diag.old)) (counts (I.faults input.new) (O.faults output.new) (D.faults diag.new)) }

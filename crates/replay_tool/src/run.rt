@@ -9,13 +9,13 @@ ghost use Rattle.line_io.specs.Source.{TakesPrefix};
 ghost use Rattle.policy_rules.specs.Policy.{IsProper};
 ghost use Rattle.policy_rules.specs.declared.settings.Settings.{Settings as SpecSettings};
 ghost use Rattle.adapter_core.specs.Ends.{may};
-ghost use Rattle.adapter_core.specs.View.{opening};
 ghost use Rattle.replay_tool.specs.Diagnostics.{diagnostic};
 ghost use Rattle.replay_tool.specs.Reached.{Takes, Steps, Reached, Turned};
 ghost use Rattle.replay_tool.specs.Reading.{line_says, fault_said};
 ghost use Rattle.replay_tool.specs.Replay.{Streams, streams, Stopped};
 
-use crate::ending::Ending;
+use crate::ending::{Ending, tell};
+use crate::limits::{LAST_TURNS, LINE_LIMIT, TURNS};
 use adapter_core::Core;
 use line_io::{
     Event, Failed, Item, Lines, Mark, NoMemory, Out, Sink, Source, read_mark, write_all,
@@ -24,17 +24,9 @@ use policy_rules::Settings;
 use session_script::put_step;
 use std::alloc::Global;
 
-const LINE_LIMIT: usize = 131_072;
-
 const STEP_ROOM: usize = 2_097_152;
 
 const TEXT_ROOM: usize = 4_194_304;
-
-// Calls of the reader by which 2^32 bytes were read: at most two for each byte.
-const TURNS: u64 = 8_589_934_592;
-
-// More calls than are needed for the lines that are held.
-const LAST_TURNS: u64 = 135_171;
 
 // A session, the lines of its script, and the part of the output that is not written yet.
 #[derive(Drop)]
@@ -81,7 +73,8 @@ impl Run {
     /// A run before its first step. It takes all memory that it ever uses.
     pub fn make(alloc: Global, settings: &Settings) -> Result<Run, NoMemory>
         requires { IsProper settings.now }
-        ensures { IfOk result (λ run. run ≡ new_run settings.now) }
+        ensures new { IfOk result (λ run. IsNew run.core.settings run) }
+        ensures settings { IfOk result (λ run. run.core.settings ≡ settings.now) }
     {
         Ok(Run {
             core: Core::make(alloc, settings)?,
@@ -111,7 +104,7 @@ impl Run {
         ensures turned { (o : SpecSettings) (start : Streams) (taken : Option (List ℕ)) (calls : ℕ)
             → Reached o self.old start (streams (I.given input.old) (I.left input.old) taken) calls
             → Turned o result self.new start (streams (I.given input.new) (I.left input.new) taken) calls }
-        ensures later { I.faults input.old ≤ I.faults input.new }
+        ensures same { result ≢ Some endings.ReadingFailed → I.faults input.new ≡ I.faults input.old }
         ensures cause { result ≡ Some endings.ReadingFailed → Rose (I.faults input.old) (I.faults input.new) }
         ensures idle { IsReady self.old.lines → result ≡ None → weight self.new.lines + flag self.old.lines.ended + 1 ≤ weight self.old.lines + flag self.new.lines.ended }
         ensures number { self.new.number ≤ self.old.number + 1 }
@@ -189,7 +182,7 @@ impl Run {
 
     // Replays the input, but for what is not written yet.
     fn play<I: Source, O: Sink>(&mut self, input: &mut I, output: &mut O) -> Ending
-        requires { self.old ≡ new_run self.old.core.settings }
+        requires { IsNew self.old.core.settings self.old }
         ensures stopped { Stopped self.old.core.settings result self.new.text.text (streams (I.given input.old) (I.left input.old) (O.taken output.old)) (streams (I.given input.new) (I.left input.new) (O.taken output.new)) }
         ensures causes { Causes (Some result) (I.faults input.old) (I.faults input.new) (O.faults output.old) (O.faults output.new) }
         ensures room { self.new.text.room ≡ 4194304 }
@@ -206,7 +199,7 @@ impl Run {
 
     /// Replays the input.
     pub fn go<I: Source, O: Sink>(&mut self, input: &mut I, output: &mut O) -> Ending
-        requires { self.old ≡ new_run self.old.core.settings }
+        requires { IsNew self.old.core.settings self.old }
         ensures stopped { Stopped self.old.core.settings result [] (streams (I.given input.old) (I.left input.old) (O.taken output.old)) (streams (I.given input.new) (I.left input.new) (O.taken output.new)) }
         ensures causes { Causes (Some result) (I.faults input.old) (I.faults input.new) (O.faults output.old) (O.faults output.new) }
         ensures room { self.new.text.room ≡ 4194304 }
@@ -228,9 +221,7 @@ impl Run {
         ensures err { OnErr result (TakesPrefix (D.taken diag.old) (D.taken diag.new) (diagnostic ending)) }
         ensures cause { HasCause (D.faults diag.old) (D.faults diag.new) result }
     {
-        self.text.clear();
-        ending.put_diagnostic(&mut self.text);
-        write_all(diag, self.text.bytes())
+        tell(ending, &mut self.text, diag)
     }
 }
 
@@ -245,4 +236,4 @@ ghost use Rattle.std.specs.Prelude.{◌≢◌};
 ghost use Rattle.line_io.specs.Lines.{IsReady, weight, flag};
 ghost use Rattle.replay_tool.specs.Reached.{Causes};
 ghost use Rattle.replay_tool.specs.declared.ending.Ending.TheVariants as endings;
-ghost use Rattle.replay_tool.specs.Reached.{new_run, with_text};
+ghost use Rattle.replay_tool.specs.Reached.{IsNew, with_text};

@@ -110,10 +110,15 @@ fn long_lines_have_no_mark(rt: HostRuntime) -> Result<(), Fail> {
     Ok(())
 }
 
-// Runs the program on words between bars, with an output some writes to which fail. It gives the
+// Runs the program on words between bars and an input, with an output some writes to which fail. It gives the
 // status and what was written to the output and to the diagnostic.
-fn answered(alloc: Global, words: &str, fails: &[u64]) -> Result<(u8, Vec<u8>, Vec<u8>), Fail> {
-    let mut source = MemSource::make(alloc, b"x quit\n", 7, &[])?;
+fn answered(
+    alloc: Global,
+    words: &str,
+    input: &str,
+    fails: &[u64],
+) -> Result<(u8, Vec<u8>, Vec<u8>), Fail> {
+    let mut source = MemSource::make(alloc, input.as_bytes(), 7, &[])?;
     let mut output = MemSink::make(alloc, 1_000, fails)?;
     let mut diag = MemSink::make(alloc, 100, &[])?;
     let mut split = Vec::new(alloc);
@@ -128,8 +133,12 @@ fn answered(alloc: Global, words: &str, fails: &[u64]) -> Result<(u8, Vec<u8>, V
 
 const PROMOTIONS: &str = "e1d1\ne1d2\ne1e2\ne1f1\ne1f2\ne7e8b\ne7e8n\ne7e8q\ne7e8r\n";
 
+const QUIT: &str = "U uci\nx quit\nU quit\n";
+
+const USAGE: &str = "replay: usage\n";
+
 // Words, the status, the output and the diagnostic.
-const ANSWERS: [(&str, u8, &str, &str); 7] = [
+const ANSWERS: [(&str, u8, &str, &str); 24] = [
     ("moves|7k/4P3/8/8/8/8/8/4K3|w|-|-|0|1", 0, PROMOTIONS, ""),
     ("moves|7k/4P3/8/8/8/8/8/4K3 w - - 0 1", 0, PROMOTIONS, ""),
     // Mate.
@@ -141,21 +150,169 @@ const ANSWERS: [(&str, u8, &str, &str); 7] = [
         "",
         "replay: position: en passant\n",
     ),
-    ("moves", 2, "", "replay: usage\n"),
-    ("move|4k3/8/8/8/8/8/8/4K3|w|-|-", 2, "", "replay: usage\n"),
+    ("moves", 2, "", USAGE),
+    ("move|4k3/8/8/8/8/8/8/4K3|w|-|-", 2, "", USAGE),
+    ("", 2, "", USAGE),
+    ("replay", 0, QUIT, ""),
+    (
+        "replay|ResignScore=0|ShowPonder=false|Resign=true|ResignMoves=001000",
+        0,
+        QUIT,
+        "",
+    ),
+    ("replay|ResignScore=100000|ResignMoves=1", 0, QUIT, ""),
+    ("replay|Resign=yes", 2, "", USAGE),
+    ("replay|Resign", 2, "", USAGE),
+    ("replay|Resign=", 2, "", USAGE),
+    ("replay|resign=true", 2, "", USAGE),
+    ("replay|Resign=true|Resign=true", 2, "", USAGE),
+    ("replay|ResignMoves=0", 2, "", USAGE),
+    ("replay|ResignMoves=1001", 2, "", USAGE),
+    ("replay|ResignMoves=0000100", 2, "", USAGE),
+    ("replay|ResignScore=100001", 2, "", USAGE),
+    ("replay|ResignScore=-1", 2, "", USAGE),
+    ("replay|LogFile=log", 2, "", USAGE),
+    ("replay|", 2, "", USAGE),
+    ("Replay", 2, "", USAGE),
 ];
 
 #[test]
-fn moves_are_listed(rt: HostRuntime) -> Result<(), Fail> {
+fn words_are_answered(rt: HostRuntime) -> Result<(), Fail> {
     let alloc = rt.alloc();
     for (words, code, lines, fault) in ANSWERS {
-        let (status, written, told) = answered(alloc, words, &[])?;
+        let (status, written, told) = answered(alloc, words, "x quit\n", &[])?;
         assert_eq!(rt; status, code, "of {words}");
         assert_eq!(rt; written.as_slice(), lines.as_bytes(), "of {words}");
         assert_eq!(rt; told.as_slice(), fault.as_bytes(), "of {words}");
     }
-    let (status, _, told) = answered(alloc, "moves|4k3/8/8/8/8/8/8/4K3|w|-|-", &[1])?;
+    let (status, _, told) = answered(alloc, "moves|4k3/8/8/8/8/8/8/4K3|w|-|-", "", &[1])?;
     assert_eq!(rt; status, 5);
     assert_eq!(rt; told.as_slice(), b"replay: writing failed\n".as_slice());
+    Ok(())
+}
+
+// The log of a session with `ping`, to be checked.
+const LOG: &str = "U uci\nx ping 1\nX pong 1\nu uciok\nU isready\nu readyok\nx quit\nU quit\n";
+
+// A log, the status, the output and the diagnostic.
+const CHECKS: [(&str, u8, &str, &str); 12] = [
+    (LOG, 0, "lawful\n", ""),
+    ("U uci", 0, "lawful\n", ""),
+    // The first line is missing.
+    ("", 1, "differs at line 1\n", ""),
+    ("x ping 1\n", 1, "differs at line 1\n", ""),
+    // A written line is missing at the end.
+    ("U uci\nx ping 1\n", 1, "differs at line 3\n", ""),
+    // A written line too much, another one, and one of the wrong peer.
+    ("U uci\nU uci\n", 1, "differs at line 2\n", ""),
+    ("U uci\nx ping 1\nX pong 2\n", 1, "differs at line 3\n", ""),
+    ("U uci\nx ping 1\nU pong 1\n", 1, "differs at line 3\n", ""),
+    // An event where a written line is due.
+    ("U uci\nx ping 1\nx ping 2\n", 1, "differs at line 3\n", ""),
+    ("U uci\nhello\n", 2, "", "replay: line 2 has no mark\n"),
+    (
+        "U uci\nx ping 1\nhello\n",
+        2,
+        "",
+        "replay: line 3 has no mark\n",
+    ),
+    (
+        "U uci\nx quit\nU quit\nx new\n",
+        2,
+        "",
+        "replay: line 4 may not come here\n",
+    ),
+];
+
+// Checks a log that is read in pieces, with an output some writes to which fail.
+fn checked(
+    alloc: Global,
+    log: &str,
+    piece: usize,
+    fails: &[u64],
+) -> Result<(u8, Vec<u8>, Vec<u8>), Fail>
+    requires { 0 < piece }
+{
+    let mut source = MemSource::make(alloc, log.as_bytes(), piece, &[])?;
+    let mut output = MemSink::make(alloc, 100, fails)?;
+    let mut diag = MemSink::make(alloc, 100, &[])?;
+    let words = vec![in alloc; Vec::from_slice(alloc, b"check")?]?;
+    let status = replay_main(alloc, words.as_slice(), &mut source, &mut output, &mut diag);
+    let written = Vec::from_slice(alloc, output.taken())?;
+    let told = Vec::from_slice(alloc, diag.taken())?;
+    Ok((status.code, written, told))
+}
+
+#[test]
+fn logs_are_checked(rt: HostRuntime) -> Result<(), Fail> {
+    let alloc = rt.alloc();
+    for (log, code, line, fault) in CHECKS {
+        for piece in [1usize, 4096] {
+            let (status, written, told) = checked(alloc, log, piece, &[])?;
+            assert_eq!(rt; status, code, "of {log}");
+            assert_eq!(rt; written.as_slice(), line.as_bytes(), "of {log}");
+            assert_eq!(rt; told.as_slice(), fault.as_bytes(), "of {log}");
+        }
+    }
+    let (status, _, told) = checked(alloc, LOG, 4096, &[1])?;
+    assert_eq!(rt; status, 5);
+    assert_eq!(rt; told.as_slice(), b"replay: writing failed\n".as_slice());
+    Ok(())
+}
+
+const TWO_LOST: &str =
+    "u uciok\nu readyok\nx usermove e2e4\nu info depth 9 score cp -700\nu bestmove e7e5\nx usermove g1f3\nu info depth 9 score cp -650\nu bestmove b8c6\n";
+
+const TWO_LOST_SCRIPT: &str =
+    "U uci\nu uciok\nU isready\nu readyok\nx usermove e2e4\nU position startpos moves e2e4\nU go wtime 300000 btime 300000 winc 0 binc 0\nu info depth 9 score cp -700\nu bestmove e7e5\nX move e7e5\nx usermove g1f3\nU position startpos moves e2e4 e7e5 g1f3\nU go wtime 300000 btime 300000 winc 0 binc 0\nu info depth 9 score cp -650\nu bestmove b8c6\nX move b8c6\nX resign\n";
+
+const EVEN: &str =
+    "u uciok\nu readyok\nx usermove e2e4\nu info depth 9 score cp 0\nu bestmove e7e5\nx draw\n";
+
+const EVEN_SCRIPT: &str =
+    "U uci\nu uciok\nU isready\nu readyok\nx usermove e2e4\nU position startpos moves e2e4\nU go wtime 300000 btime 300000 winc 0 binc 0\nu info depth 9 score cp 0\nu bestmove e7e5\nX move e7e5\nx draw\nX offer draw\n";
+
+const FORCED: &str =
+    "U uci\nu uciok\nU isready\nu readyok\nx usermove e2e4\nU position startpos moves e2e4\nU go wtime 300000 btime 300000 winc 0 binc 0\nx force\nU stop\nu bestmove e7e5\n";
+
+const FORCED_MOVE: &str =
+    "U uci\nu uciok\nU isready\nu readyok\nx usermove e2e4\nU position startpos moves e2e4\nU go wtime 300000 btime 300000 winc 0 binc 0\nx force\nU stop\nu bestmove e7e5\nX move e7e5\n";
+
+// Words, the input, the status and the output.
+const SETTINGS: [(&str, &str, u8, &str); 8] = [
+    (
+        "replay|Resign=true|ResignMoves=2",
+        TWO_LOST,
+        0,
+        TWO_LOST_SCRIPT,
+    ),
+    (
+        "check|ResignMoves=0002|Resign=true",
+        TWO_LOST_SCRIPT,
+        0,
+        "lawful\n",
+    ),
+    // Usually nobody resigns.
+    ("check", TWO_LOST_SCRIPT, 1, "differs at line 17\n"),
+    (
+        "check|Resign=true|ResignMoves=2|ResignScore=651",
+        TWO_LOST_SCRIPT,
+        1,
+        "differs at line 17\n",
+    ),
+    ("replay|ResignMoves=1", EVEN, 0, EVEN_SCRIPT),
+    ("check", EVEN_SCRIPT, 1, "differs at line 12\n"),
+    ("check", FORCED, 0, "lawful\n"),
+    ("check", FORCED_MOVE, 1, "differs at line 11\n"),
+];
+
+#[test]
+fn settings_decide(rt: HostRuntime) -> Result<(), Fail> {
+    let alloc = rt.alloc();
+    for (words, input, code, lines) in SETTINGS {
+        let (status, written, _) = answered(alloc, words, input, &[])?;
+        assert_eq!(rt; status, code, "of {words}");
+        assert_eq!(rt; written.as_slice(), lines.as_bytes(), "of {words}");
+    }
     Ok(())
 }

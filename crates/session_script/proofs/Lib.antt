@@ -1,1 +1,4 @@
 mod Rooms
+pub mod Lines
+pub mod Scripts
+pub mod Short

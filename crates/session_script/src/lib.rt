@@ -3,4 +3,4 @@
 
 mod script;
 
-pub use script::put_step;
+pub use script::{put_step, put_written};

@@ -3,7 +3,7 @@ ghost use Rattle.std.specs.Prelude.{◌≡◌, ◌+◌, ◌*◌, ◌≤◌, leng
 ghost use Rattle.line_io.specs.Event.{event_of};
 ghost use Rattle.line_io.specs.Marks.{line_marked, event_marked};
 ghost use Rattle.line_io.specs.Out.{with};
-ghost use Rattle.session_script.specs.Script.{lines_marked, marks_of};
+ghost use Rattle.session_script.specs.Script.{lines_marked, marks_of, written_marks};
 
 use line_io::{Event, Mark, Out, split_line, write_mark_line};
 
@@ -30,6 +30,15 @@ fn put_lines(letter: u8, text: &[u8], out: &mut Out)
     }
 }
 
+/// Puts the marks of the lines in the texts that a step wrote to the interface and to the engine.
+pub fn put_written(iface: &[u8], engine: &[u8], out: &mut Out)
+    requires { length out.old.text + 4 * length iface.now + 4 * length engine.now ≤ out.old.room }
+    ensures written { out.new ≡ with out.old (written_marks iface.now engine.now) }
+{
+    put_lines(b'X', iface, out);
+    put_lines(b'U', engine, out);
+}
+
 /// Puts the marks of a step: that of its event, and those of the lines in the texts that it wrote
 /// to the interface and to the engine.
 pub fn put_step(event: &Event, iface: &[u8], engine: &[u8], out: &mut Out)
@@ -40,6 +49,5 @@ pub fn put_step(event: &Event, iface: &[u8], engine: &[u8], out: &mut Out)
     ensures written { out.new ≡ with out.old (marks_of (event_of event.now) iface.now engine.now) }
 {
     write_mark_line(&Mark::Event(*event), out);
-    put_lines(b'X', iface, out);
-    put_lines(b'U', engine, out);
+    put_written(iface, engine, out);
 }

@@ -1,4 +1,4 @@
-use Rattle.std.proofs.Common.{refl, ap, subst}
+use Rattle.std.proofs.Common.{refl}
 use Rattle.replay_tool.specs.Moves.{WantsMemory}
 use Rattle.replay_tool.proofs.Listing.{told_as}
 use Rattle.replay_tool.proofs.moves.list_moves.Goals as goal

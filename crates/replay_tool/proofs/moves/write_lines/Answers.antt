@@ -3,7 +3,7 @@ use Rattle.replay_tool.proofs.Listing.{told_as}
 use Rattle.replay_tool.proofs.moves.write_lines.Goals as goal
 
 pub returns-in-Ok : goal.returns-in-Ok
-returns-in-Ok g c = inl (refl, refl, c.in-Ok.ensures.ok)
+returns-in-Ok g c = inl (refl, refl, c.in-Ok.ensures.ok, c.in-Ok.ensures.cause.same)
 
 pub returns-in-Err : goal.returns-in-Err
 returns-in-Err g c = inr (c.in-Err.ensures.cause.failed, c.in-Err.ensures.err, told_as _ _ _ _ _ _ _ _ c.tail.ensures c.tell.ensures)

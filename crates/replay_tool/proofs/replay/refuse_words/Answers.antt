@@ -1,4 +1,3 @@
-use Rattle.std.proofs.Common.{refl}
 use Rattle.replay_tool.specs.declared.ending.Ending.TheVariants as endings
 use Rattle.replay_tool.specs.Program.{counts}
 use Rattle.replay_tool.proofs.Answers.{tells}

@@ -1,4 +1,4 @@
-use Rattle.std.proofs.Common.{refl, sym, ◌∙◌}
+use Rattle.std.proofs.Common.{refl}
 use Rattle.replay_tool.specs.Moves.{Refuses, Lists}
 use Rattle.replay_tool.proofs.Listing.{told_as}
 use Rattle.replay_tool.proofs.moves.Listing.list.Goals as goal

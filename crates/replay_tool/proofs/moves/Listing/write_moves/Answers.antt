@@ -1,4 +1,4 @@
-use Rattle.std.proofs.Common.{◌≡◌, ◌∙◌, ◌++◌, ap, subst, List}
+use Rattle.std.proofs.Common.{◌∙◌, ◌++◌, ap, subst, List}
 use Rattle.std.specs.Prelude.{Contains}
 use Rattle.chess_board.specs.declared.board.Move.{Move}
 use Rattle.line_io.specs.Out.{Text}

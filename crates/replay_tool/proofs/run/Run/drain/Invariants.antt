@@ -12,6 +12,6 @@ invariant-loop g l = record {
   room : l.self.text.room ≡ 4194304;
   number : l.self.number ≤ l.fn.self.number + l.counter;
   held : weight l.self.lines + flag l.fn.self.lines.ended + l.counter ≤ weight l.fn.self.lines + flag l.self.lines.ended;
-  reads : g.I.Source.faults l.fn.input ≤ g.I.Source.faults l.input;
-  writes : g.O.Sink.faults l.fn.output ≤ g.O.Sink.faults l.output;
+  read : g.I.Source.faults l.input ≡ g.I.Source.faults l.fn.input;
+  written : g.O.Sink.faults l.output ≡ g.O.Sink.faults l.fn.output;
 }

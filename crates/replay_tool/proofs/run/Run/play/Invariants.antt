@@ -9,6 +9,6 @@ invariant-loop g l = record {
       (streams (g.I.Source.given l.input) (g.I.Source.left l.input) (g.O.Sink.taken l.output)) l.counter;
   room : l.self.text.room ≡ 4194304;
   number : l.self.number ≤ l.counter;
-  reads : g.I.Source.faults l.fn.input ≤ g.I.Source.faults l.input;
-  writes : g.O.Sink.faults l.fn.output ≤ g.O.Sink.faults l.output;
+  read : g.I.Source.faults l.input ≡ g.I.Source.faults l.fn.input;
+  written : g.O.Sink.faults l.output ≡ g.O.Sink.faults l.fn.output;
 }
