@@ -1,0 +1,19 @@
+//! Worked sessions: what the program `replay` makes of whole inputs, worked out by hand.
+#![tactic(auto)]
+
+#[cfg(test)]
+mod analysis;
+#[cfg(test)]
+mod checks;
+#[cfg(test)]
+mod moves;
+#[cfg(test)]
+mod pondering;
+#[cfg(test)]
+mod results;
+#[cfg(test)]
+mod session;
+#[cfg(test)]
+mod settings;
+#[cfg(test)]
+mod start;
