@@ -13,10 +13,10 @@ use Rattle.cecp_lines.specs.declared.words.Command.{Command}
 use Rattle.cecp_lines.specs.declared.words.Command.TheVariants.{Ignored, Bare, With}
 use Rattle.cecp_lines.specs.Messages as says
 use Rattle.cecp_lines.specs.Messages.{Message, message_of}
-use Rattle.cecp_lines.specs.Moves.{move_of}
+use Rattle.chess_board.specs.Spelling.{move_of}
 use Rattle.cecp_lines.specs.Words.{command_of, is_ignored}
 use Rattle.cecp_lines.specs.Reading.{is_empty, only_token, version, base_time, level_of, is_equals, value_at, setting_of, argument, move_or_unknown, other_line, command_line, reading, HasArgument, HasLevel, HasMove, HasSetting, IsMoveAlone, Spells, IsUnknown, IsBad, SpellsOneMessage}
-use Rattle.cecp_lines.proofs.Spelled.{move_spells, spells_move}
+use Rattle.chess_board.proofs.Spelled.{move_spells, spells_move}
 use Rattle.cecp_lines.proofs.LineTokens.{heads, no_tokens, alone, two, tokens_word}
 use Rattle.cecp_lines.proofs.Tables.{move_no_command, ignored_command}
 use Rattle.cecp_lines.proofs.Spellings.{reading_spells}

@@ -1,4 +1,3 @@
-pub mod Spelled
 pub mod Officers
 pub mod LineTokens
 pub mod Tables

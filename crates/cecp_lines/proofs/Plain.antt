@@ -17,11 +17,10 @@ use Rattle.chess_board.proofs.Texts.{reads-back}
 use Rattle.peer_words.proofs.Digits.{digit}
 use Rattle.peer_words.proofs.Trims.{and_true}
 use Rattle.peer_words.proofs.Written.{decimal_digits}
-use Rattle.cecp_lines.specs.Moves.{move_of}
+use Rattle.chess_board.specs.Spelling.{move_of}
 use Rattle.cecp_lines.specs.Replies.{IsWritable}
 use Rattle.cecp_lines.specs.Hearing.{is_plain, plain, of_64_bits, written, same_text, written_move}
-use Rattle.cecp_lines.proofs.Spelled.{move_spells, spells_move}
-use Rattle.cecp_lines.proofs.Officers.{spelled_officer}
+use Rattle.chess_board.proofs.Spelled.{spells_move, read_officer}
 use Rattle.cecp_lines.proofs.Spellings.{bind_some}
 
 pub as_digits : (cs : List ℕ) → list_all is_ascii_digit cs ≡ true → AllDigits 10 cs
@@ -72,7 +71,7 @@ written_move_is text m h =
     let b = bind_some (same_text text) (move_of text) m h in
     let k = cond_some (bytes_eq (text_of b.0) text) b.0 m b.2 in
     let same : text_of b.0 ≡ text = (bytes_eq-Decides (text_of b.0) text).0 k.0 in
-    (sym same ∙ ap text_of k.1, subst IsWritable k.1 (spelled_officer text b.0 (move_spells text b.0 b.1)))
+    (sym same ∙ ap text_of k.1, subst IsWritable k.1 (read_officer text b.0 b.1))
 
 pub move_written : (m : Move) → IsWritable m → written_move (text_of m) ≡ Some m
 move_written m h =

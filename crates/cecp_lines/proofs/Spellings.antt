@@ -15,10 +15,10 @@ use Rattle.cecp_lines.specs.declared.words.Verb.{Verb}
 use Rattle.cecp_lines.specs.declared.words.Verb.TheVariants as verbs
 use Rattle.cecp_lines.specs.Messages as says
 use Rattle.cecp_lines.specs.Messages.{Message, message_of}
-use Rattle.cecp_lines.specs.Moves.{move_of}
+use Rattle.chess_board.specs.Spelling.{move_of}
 use Rattle.cecp_lines.specs.Words.{command_of}
 use Rattle.cecp_lines.specs.Reading.{is_empty, only_token, version, protover, base_time, level, level_of, is_equals, name_at, value_at, setting_of, argument, move_or_unknown, other_line, command_line, reading, HasArgument, HasLevel, Spells}
-use Rattle.cecp_lines.proofs.Spelled.{move_spells}
+use Rattle.chess_board.proofs.Spelled.{move_spells}
 use Rattle.cecp_lines.proofs.LineTokens.{tokens_word, one_token}
 use Rattle.cecp_lines.proofs.Tables.{verb_text, found_means}
 

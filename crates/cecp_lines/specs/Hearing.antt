@@ -9,7 +9,7 @@ use Rattle.std.specs.Map.{lookup}
 use Rattle.chess_board.specs.declared.board.Move.{Move as AnyMove}
 use Rattle.chess_board.specs.Text.{text_of}
 use Rattle.peer_words.specs.Tokens.{trimmed}
-use Rattle.cecp_lines.specs.Moves.{move_of}
+use Rattle.chess_board.specs.Spelling.{move_of}
 use Rattle.cecp_lines.specs.Reading.{is_equals}
 use Rattle.cecp_lines.specs.declared.reply.Reason.{Reason}
 use Rattle.cecp_lines.specs.declared.reply.Reason.TheVariants as reasons

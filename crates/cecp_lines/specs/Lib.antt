@@ -1,4 +1,3 @@
-pub mod Moves
 pub mod Messages
 pub mod Words
 pub mod Reading

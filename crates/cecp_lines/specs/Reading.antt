@@ -14,7 +14,7 @@ use Rattle.cecp_lines.specs.declared.words.Verb.{Verb}
 use Rattle.cecp_lines.specs.declared.words.Verb.TheVariants as verbs
 use Rattle.cecp_lines.specs.Messages as says
 use Rattle.cecp_lines.specs.Messages.{Message, message_of}
-use Rattle.cecp_lines.specs.Moves.{move_of}
+use Rattle.chess_board.specs.Spelling.{move_of}
 use Rattle.cecp_lines.specs.Words.{is_ignored, command_of}
 
 abbrev pub is_empty : List ℕ → Bool

@@ -6,10 +6,9 @@ ghost use Rattle.cecp_lines.specs.Replies.{Told, told_of, Tells, IsWritable, is_
 ghost use Rattle.cecp_lines.specs.Hearing.{stripped, plain, written, written_signed, written_move, are_moves, is_space, is_paren, is_plain, cut, number_field, score_field, fixed_of, reason_of, feature_in, is_repeated, error_in, pong_in, last_in, stat01_in, hint_in, thinking_in, told_in, with_front};
 ghost use Rattle.cecp_lines.specs.Reading.{is_equals};
 
-use crate::moves::move_in;
 use crate::reply::{Outcome, Reason, Reply, Tell};
 use crate::words::named;
-use chess_board::{Move, write_move};
+use chess_board::{Move, read_move, write_move};
 use peer_words::{is_white, trim};
 
 const FIXED: [(&[u8], Reply<'static>); 11] = [
@@ -132,7 +131,7 @@ fn read_score(text: &[u8]) -> Option<i64>
 fn read_written_move(text: &[u8]) -> Option<Move>
     ensures { result ≡ written_move text.now }
 {
-    let m = move_in(text)?;
+    let m = read_move(text)?;
     if write_move(m).as_slice() == text {
         Some(m)
     } else {

@@ -5,7 +5,6 @@
 mod hear;
 mod iface;
 mod laws;
-mod moves;
 mod read;
 mod reply;
 mod tell;

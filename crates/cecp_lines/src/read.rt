@@ -6,8 +6,8 @@ ghost use Rattle.cecp_lines.specs.declared.iface.IfaceFault.TheVariants.{Unknown
 ghost use Rattle.cecp_lines.specs.Reading.{reading, Spells, IsUnknown, IsBad, only_token, argument, protover, base_time, level, setting, egt_path, other_line, is_colon, is_equals};
 
 use crate::iface::{IfaceFault, IfaceMsg};
-use crate::moves::move_in;
 use crate::words::{Command, Verb, command_named};
+use chess_board::read_move;
 use peer_words::{read_centis, read_digits, read_number, read_seconds, split_token, trim};
 
 /// The one token of a text of one token.
@@ -124,7 +124,7 @@ fn read_argument(verb: Verb, text: &[u8]) -> Option<IfaceMsg<'_>>
     match verb {
         Verb::Protover => read_protover(text),
         Verb::Ping => Some(IfaceMsg::Ping(read_lone_number(text)?)),
-        Verb::UserMove => Some(IfaceMsg::UserMove(move_in(lone_token(text)?)?)),
+        Verb::UserMove => Some(IfaceMsg::UserMove(read_move(lone_token(text)?)?)),
         Verb::SetBoard => Some(IfaceMsg::SetBoard(text)),
         Verb::Level => read_level(text),
         Verb::St => Some(IfaceMsg::St(read_seconds(lone_token(text)?)?)),
@@ -148,7 +148,7 @@ fn read_other<'a>(word: &[u8], rest: &[u8]) -> Result<IfaceMsg<'a>, IfaceFault>
     if rest != b"".as_slice() {
         return Err(IfaceFault::UnknownCommand);
     }
-    match move_in(word) {
+    match read_move(word) {
         Some(m) => Ok(IfaceMsg::UserMove(m)),
         None => Err(IfaceFault::UnknownCommand),
     }

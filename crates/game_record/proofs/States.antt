@@ -21,7 +21,7 @@ use Rattle.chess_board.proofs.Legal.{legal-law, checked-law}
 use Rattle.chess_board.proofs.Bools.{either}
 use Rattle.chess_board.proofs.Texts.{legal-written}
 use Rattle.game_record.specs.declared.ending.End.TheVariants as ends
-use Rattle.game_record.specs.Course.{Ply, Course, now_of, positions_of, with_ply, later}
+use Rattle.game_record.specs.Course.{played, Ply, Course, now_of, positions_of, with_ply, later}
 use Rattle.game_record.specs.Ending.{is_way, has_legal, is_dead, state_by, state_of, ended_by, ended_of, stood_in, repeats_of, Ends, StateLaw, EndingLaw}
 use Rattle.game_record.proofs.Replays.{later-append, now_after-append}
 use Rattle.game_record.proofs.Times.{stood_once}
@@ -151,3 +151,12 @@ repeats_more g m =
     let all : positions_of (with_ply g m) ≡ positions_of g ++ now ∷ [] =
     ap (λ (xs : List Placement). g.start ∷ xs) (later-append g.start g.moves m ∙ ap (λ (q : Placement). later g.start g.moves ++ q ∷ []) (sym (now_after-append g.start g.moves m))) in
     ap (stood_in now) all ∙ stood_once now (positions_of g)
+
+-- the end after a move, by its position and how often that stood
+pub ended_more : (g : Course) (m : Ply) (after : Placement) (times : ℕ) → after ≡ played (now_of g) m → times ≡ stood_in after (positions_of g) + 1 →
+    ended_by (state_of after) times after.half ≡ ended_of (with_ply g m)
+unfolding ended_of
+ended_more g m after times a t =
+    let now : after ≡ now_of (with_ply g m) = a ∙ sym (now_after-append g.start g.moves m) in
+    let repeats : times ≡ repeats_of (with_ply g m) = t ∙ ap (λ (p : Placement). stood_in p (positions_of g) + 1) now ∙ sym (repeats_more g m) in
+    ended_same _ _ _ _ _ _ (ap state_of now) repeats (ap (λ (p : Placement). p.half) now)

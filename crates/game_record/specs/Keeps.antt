@@ -1,8 +1,9 @@
 -- What a game keeps.
-use Rattle.std.specs.Prelude.{ℕ, ◌≡◌, ◌+◌, ◌<◌, ◌≤◌, List, [], ◌∷◌, ◌++◌, length, take, slice_index, slice_index_or}
+use Rattle.std.specs.Prelude.{ℕ, ◌≡◌, ◌+◌, ◌<◌, ◌≤◌, Option, List, [], ◌∷◌, ◌++◌, length, take, slice_index, slice_index_or}
 use Rattle.chess_board.specs.Placement.{Placement}
 use Rattle.game_record.specs.Course.{Ply, played, later, AreLegal}
-use Rattle.game_record.specs.Ending.{stood_in}
+use Rattle.game_record.specs.Ending.{stood_in, ended_of}
+use Rattle.game_record.specs.declared.ending.End.{End}
 
 -- the most moves of a game
 abbrev pub most_plies : ℕ
@@ -18,10 +19,11 @@ pub record AreTimes (start : Placement) (positions : List Placement) (times : Li
   pub length_is : length times ≡ length positions
   pub each : (k : ℕ) → k < length positions → slice_index times k ≡ stood_in (slice_index_or positions k start) (start ∷ take (k + 1) positions)
 
--- the positions are those after the moves, with their times, and there is room for more of all
-pub record Keeps (start : Placement) (moves : List Ply) (positions : List Placement) (times : List ℕ) (move_room position_room time_room : ℕ) : Type 0 where
+-- the positions are those after the moves, with their times, the end is the game's, and there is room for more of all
+pub record Keeps (start : Placement) (moves : List Ply) (positions : List Placement) (times : List ℕ) (ended : Option End) (move_room position_room time_room : ℕ) : Type 0 where
   pub positions_are : positions ≡ later start moves
   pub times_are : times ≡ times_of (start ∷ []) start moves
+  pub ended_is : ended ≡ ended_of (record { start = start; moves = moves })
   pub legal : AreLegal start moves
   pub few : length moves ≤ most_plies
   pub move_room_is : most_plies ≤ move_room

@@ -1,11 +1,11 @@
 //! Games.
-ghost use Rattle.std.specs.Prelude.{◌≡◌, ◌+◌, ◌<◌, ◌≤◌, ◌↔◌, ◌∷◌, length, Option, IsErr, IfOk, OnOk, OnErr};
+ghost use Rattle.std.specs.Prelude.{◌≡◌, ◌+◌, ◌<◌, ◌≤◌, ◌↔◌, ◌∷◌, [], List, length, Option, IsErr, IfOk, OnOk, OnErr};
 ghost use Rattle.chess_board.specs.Laws.{IsLegal};
 ghost use Rattle.chess_board.specs.Play.{start_position, IsPosition};
-ghost use Rattle.game_record.specs.Course.{Ply, ply_of, plies_of, IsPlayable, played, AreLegal, now_of, positions_of, begun, with_ply, without_last};
+ghost use Rattle.game_record.specs.Course.{Course, Ply, ply_of, plies_of, IsPlayable, played, AreLegal, now_of, now_after, later, positions_of, begun, with_ply, without_last};
 ghost use Rattle.game_record.specs.Line.{position_text};
 ghost use Rattle.game_record.specs.Ending.{stood_in, repeats_of, ended_of};
-ghost use Rattle.game_record.specs.Keeps.{AreTimes};
+ghost use Rattle.game_record.specs.Keeps.{AreTimes, times_of};
 
 use crate::ending::{End, ended_by, is_same, state_of};
 use chess_board::{Move, Position};
@@ -38,6 +38,8 @@ pub struct Game {
     later: Vec<Position>,
     /// How often each of these then stood.
     times: Vec<u32>,
+    /// How the game has ended by now.
+    ended: Option<End>,
 }
 
 impl Model for Game {
@@ -49,7 +51,7 @@ impl Model for Game {
 
     ghost view = { λ g. record { start = g.start; moves = plies_of g.moves.items } };
 
-    ghost invariant = { λ g. Keeps g.start (plies_of g.moves.items) g.later.items g.times.items (vec_capacity g.moves) (vec_capacity g.later) (vec_capacity g.times) };
+    ghost invariant = { λ g. Keeps g.start (plies_of g.moves.items) g.later.items g.times.items g.ended (vec_capacity g.moves) (vec_capacity g.later) (vec_capacity g.times) };
 }
 
 impl Game {
@@ -60,11 +62,14 @@ impl Game {
         let moves = Vec::with_capacity(alloc, MOST_PLIES)?;
         let later = Vec::with_capacity(alloc, MOST_PLIES)?;
         let times = Vec::with_capacity(alloc, MOST_PLIES)?;
+        let start = Position::start();
+        let ended = ended_in(&start, later.as_slice(), times.as_slice());
         Ok(Game {
-            start: Position::start(),
+            start,
             moves,
             later,
             times,
+            ended,
         })
     }
 
@@ -76,6 +81,7 @@ impl Game {
         self.moves.clear();
         self.later.clear();
         self.times.clear();
+        self.ended = ended_in(&self.start, self.later.as_slice(), self.times.as_slice());
     }
 
     /// Plays a move.
@@ -94,9 +100,11 @@ impl Game {
         if self.moves.len() >= MOST_PLIES {
             return Err(PushFault::TooLong);
         }
+        let ended = ended_by(state_of(&after), times, after.half());
         self.moves.push_reserved(m);
         self.later.push_reserved(after);
         self.times.push_reserved(times);
+        self.ended = ended;
         Ok(())
     }
 
@@ -114,6 +122,7 @@ impl Game {
         self.moves.truncate(plies - n);
         self.later.truncate(plies - n);
         self.times.truncate(plies - n);
+        self.ended = ended_in(&self.start, self.later.as_slice(), self.times.as_slice());
         Ok(())
     }
 
@@ -128,10 +137,7 @@ impl Game {
     pub fn now(&self) -> &Position
         ensures { result.now ≡ now_of self.now }
     {
-        match self.later.last() {
-            Some(position) => position,
-            None => &self.start,
-        }
+        last_position(&self.start, self.later.as_slice())
     }
 
     /// The moves so far, the first one first.
@@ -173,18 +179,14 @@ impl Game {
     pub fn repeats(&self) -> u32
         ensures { result ≡ repeats_of self.now }
     {
-        match self.times.last() {
-            Some(times) => *times,
-            None => 1,
-        }
+        last_times(self.times.as_slice())
     }
 
     /// How the game has ended, if it has.
     pub fn ended(&self) -> Option<End>
         ensures { result ≡ ended_of self.now }
     {
-        let now = self.now();
-        ended_by(state_of(now), self.repeats(), now.half())
+        self.ended
     }
 
     /// How the game will have ended after a legal move.
@@ -195,6 +197,34 @@ impl Game {
         let after = self.now().play(m);
         ended_by(state_of(&after), self.stood(&after) + 1, after.half())
     }
+}
+
+/// The last of the positions, or the start where no move was played.
+fn last_position<'a>(start: &'a Position, positions: &'a [Position]) -> &'a Position
+    ensures { (moves : List Ply) → positions.now ≡ later start.now moves → result.now ≡ now_after start.now moves }
+{
+    match positions.last() {
+        Some(position) => position,
+        None => start,
+    }
+}
+
+/// The last of the times, or once where no move was played.
+fn last_times(times: &[u32]) -> u32
+    ensures { (g : Course) → times.now ≡ times_of (g.start ∷ []) g.start g.moves → result ≡ repeats_of g }
+{
+    match times.last() {
+        Some(times) => *times,
+        None => 1,
+    }
+}
+
+/// How a game with these positions and their times has ended.
+fn ended_in(start: &Position, positions: &[Position], times: &[u32]) -> Option<End>
+    ensures { (moves : List Ply) → positions.now ≡ later start.now moves → times.now ≡ times_of (start.now ∷ []) start.now moves → result ≡ ended_of (record { start = start.now; moves = moves }) }
+{
+    let now = last_position(start, positions);
+    ended_by(state_of(now), last_times(times), now.half())
 }
 
 /// How often a position stood: as often as its last occurrence says.

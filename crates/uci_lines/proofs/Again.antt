@@ -6,13 +6,13 @@ use Rattle.chess_board.specs.declared.board.Move.{Move}
 use Rattle.chess_board.specs.declared.board.Kind.{Kind}
 use Rattle.chess_board.specs.declared.board.Kind.TheVariants.{Pawn, Knight, Bishop, Rook, Queen, King}
 use Rattle.chess_board.specs.Board.{file_of, rank_of}
-use Rattle.chess_board.specs.Text.{text_of, promotion_text, IsOfficer, Spells as MoveSpells}
+use Rattle.chess_board.specs.Text.{text_of, promotion_text, Spells as MoveSpells}
 use Rattle.chess_board.proofs.Texts.{reads-back}
 use Rattle.peer_words.specs.Tokens.{is_white, is_token, trimmed, first_token, rest, trim_left, token_end}
 use Rattle.peer_words.proofs.Trims.{trimmed_again}
 use Rattle.peer_words.proofs.Runs.{token_alone}
 use Rattle.uci_lines.specs.Cuts.{is_word, is_known}
-use Rattle.uci_lines.specs.Moves.{move_of}
+use Rattle.chess_board.specs.Spelling.{move_of}
 use Rattle.uci_lines.specs.Says.{Name, UciOk, ReadyOk, Best}
 use Rattle.uci_lines.specs.Spells.{IsFirst, Behind, PerhapsMove, Begins, HasForm}
 use Rattle.uci_lines.specs.Said.{spaced, move_text, best_text, said_text, can_write}
@@ -20,8 +20,7 @@ use Rattle.uci_lines.proofs.Fronts.{BeginsWhite, first_is, rest_is}
 use Rattle.uci_lines.proofs.Cutting.{cut_token}
 use Rattle.uci_lines.proofs.FirstTokens.{cut_first}
 use Rattle.uci_lines.proofs.Listings.{is_perhaps}
-use Rattle.uci_lines.proofs.Spelled.{move_spelled}
-use Rattle.uci_lines.proofs.Officers.{read_officer}
+use Rattle.chess_board.proofs.Spelled.{spelled_officer}
 use Rattle.uci_lines.proofs.Kept.{solid_token, solid_over, spaced_trimmed, spaced_white}
 
 -- a word at the front of a text is its first such word
@@ -60,13 +59,9 @@ move_token m =
     let some : ltb 0 (length (text_of m)) ≡ true = grind (arith, nat_tests) in
     rw (some, a, b, c, d, promotion_black m.promo) refl
 
--- a move that a text spells can be written
-pub move_officer : (text : List ℕ) (m : Move) → MoveSpells text m → IsOfficer m.promo
-move_officer text m h = read_officer text m (move_spelled text m h)
-
 pub perhaps_officer : (text : List ℕ) (o : Option Move) → PerhapsMove text o → can_write o
 perhaps_officer text None h = tt
-perhaps_officer text (Some m) h = move_officer text m h
+perhaps_officer text (Some m) h = spelled_officer text m h
 
 -- NAMES
 

@@ -6,7 +6,8 @@ use Rattle.peer_words.specs.Tokens.{is_white, trim_left, trimmed, tokens}
 use Rattle.peer_words.proofs.TokenLists.{tokens_some, tokens_white, tokens_trimmed}
 use Rattle.peer_words.proofs.Trims.{and_true}
 use Rattle.uci_lines.specs.Cuts.{Part, onto_part, cut, is_no_move}
-use Rattle.uci_lines.specs.Moves.{move_of, add_move, run}
+use Rattle.chess_board.specs.Spelling.{move_of}
+use Rattle.uci_lines.specs.Moves.{add_move, run}
 use Rattle.uci_lines.proofs.Fronts.{front, behind, front-white, behind-white, front-byte, behind-byte}
 use Rattle.uci_lines.proofs.Cutting.{part_at, step, here, black_first, front_kept, cut_is}
 

@@ -5,6 +5,7 @@ use Rattle.std.specs.Option.{IfSome}
 use Rattle.std.specs.Fmt.{decimal, signed_decimal}
 use Rattle.chess_board.specs.declared.board.Move.{Move}
 use Rattle.chess_board.specs.Text.{text_of, IsOfficer}
+use Rattle.chess_board.proofs.Spelled.{spelled_officer}
 use Rattle.chess_board.proofs.Texts.{reads-back}
 use Rattle.peer_words.specs.Tokens.{is_token, tokens}
 use Rattle.peer_words.proofs.Sizes.{digits_small, centis_small}
@@ -19,7 +20,7 @@ use Rattle.uci_lines.specs.Spells.{IsRun, Takes, Tells, HasForm}
 use Rattle.uci_lines.specs.Said.{score_text, bound_text, move_text, each_move, pv_text, facts_text, said_text, can_write}
 use Rattle.uci_lines.proofs.Fronts.{BeginsWhite}
 use Rattle.uci_lines.proofs.Kept.{tokens_front}
-use Rattle.uci_lines.proofs.Again.{begins_with, move_token, move_officer}
+use Rattle.uci_lines.proofs.Again.{begins_with, move_token}
 
 -- WHAT IS TOLD FITS
 
@@ -43,7 +44,7 @@ pub record Fits (f : Facts) : Type 0 where
 
 run_officers : (ts : List (List ℕ)) (moves : List Move) (others : List (List ℕ)) → IsRun ts moves others → AllOfficers moves
 run_officers ts _ _ (IsRun.Ends h) = tt
-run_officers _ _ others (IsRun.Goes {t = t} {m = m} {ts = ts} {moves = moves} s r) = (move_officer t m s, run_officers ts moves others r)
+run_officers _ _ others (IsRun.Goes {t = t} {m = m} {ts = ts} {moves = moves} s r) = (spelled_officer t m s, run_officers ts moves others r)
 
 take_fits : (f : Facts) (ts : List (List ℕ)) (g : Facts) (others : List (List ℕ)) → Takes f ts g others → Fits f → Fits g
 take_fits f _ _ _ (Takes.Depth {t = t} {n = n} e) h = record { depth = digits_small 18 t n e; time = h.time; nodes = h.nodes; multipv = h.multipv; number = h.number; score = h.score; current = h.current; pv = h.pv }
@@ -55,7 +56,7 @@ take_fits f _ _ _ (Takes.Centipawns {t = t} {n = n} e) h = record { depth = h.de
 take_fits f _ _ _ (Takes.ToMate {t = t} {n = n} e) h = record { depth = h.depth; time = h.time; nodes = h.nodes; multipv = h.multipv; number = h.number; score = centis_small t n e; current = h.current; pv = h.pv }
 take_fits f _ _ _ Takes.LowerBound h = record { depth = h.depth; time = h.time; nodes = h.nodes; multipv = h.multipv; number = h.number; score = h.score; current = h.current; pv = h.pv }
 take_fits f _ _ _ Takes.UpperBound h = record { depth = h.depth; time = h.time; nodes = h.nodes; multipv = h.multipv; number = h.number; score = h.score; current = h.current; pv = h.pv }
-take_fits f _ _ _ (Takes.Current {t = t} {m = m} s) h = record { depth = h.depth; time = h.time; nodes = h.nodes; multipv = h.multipv; number = h.number; score = h.score; current = move_officer t m s; pv = h.pv }
+take_fits f _ _ _ (Takes.Current {t = t} {m = m} s) h = record { depth = h.depth; time = h.time; nodes = h.nodes; multipv = h.multipv; number = h.number; score = h.score; current = spelled_officer t m s; pv = h.pv }
 take_fits f _ _ _ (Takes.Pv {ts = ts} {others = others} {m = m} {moves = moves} r) h = record { depth = h.depth; time = h.time; nodes = h.nodes; multipv = h.multipv; number = h.number; score = h.score; current = h.current; pv = run_officers ts (m ∷ moves) others r }
 
 pub tells_fits : (f : Facts) (ts : List (List ℕ)) (h : Facts) → Tells f ts h → Fits f → Fits h

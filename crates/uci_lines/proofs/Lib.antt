@@ -3,8 +3,6 @@ pub mod Fronts
 pub mod Cutting
 pub mod CutTokens
 pub mod Pieces
-pub mod Spelled
-pub mod Officers
 pub mod Stripped
 pub mod Parts
 pub mod Rooms

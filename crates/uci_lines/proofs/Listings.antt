@@ -5,13 +5,13 @@ use Rattle.chess_board.specs.declared.board.Move.{Move}
 use Rattle.peer_words.specs.Tokens.{is_token, trimmed}
 use Rattle.uci_lines.specs.Cuts.{Part, cut, is_word, is_choice}
 use Rattle.uci_lines.specs.Choices.{values, before_choice, from_choice}
-use Rattle.uci_lines.specs.Moves.{move_of}
+use Rattle.chess_board.specs.Spelling.{move_of}
 use Rattle.uci_lines.specs.Spells.{IsFirst, Behind, PerhapsMove, UpToChoice, HasValues}
 use Rattle.uci_lines.proofs.Counts.{same_text, text_same}
 use Rattle.uci_lines.proofs.Cutting.{cut_token}
 use Rattle.uci_lines.proofs.FirstTokens.{first_cut, none_cut, cut_first, cut_none, white_as}
 use Rattle.uci_lines.proofs.Pieces.{values_none, values_some}
-use Rattle.uci_lines.proofs.Spelled.{move_spelled, spells_back, read_is}
+use Rattle.chess_board.proofs.Spelled.{move_spells, spells_move, read_is}
 
 -- what stands behind a cut
 abbrev pub after_cut : Option Part → List ℕ
@@ -31,12 +31,12 @@ cut_behind word text z = behind_by word text (cut (is_word word) true text) z re
 
 -- moves
 pub perhaps_is : (text : List ℕ) (o : Option Move) → PerhapsMove text o → o ≡ move_of text
-perhaps_is text (Some m) h = sym (move_spelled text m h)
+perhaps_is text (Some m) h = sym (spells_move text m h)
 perhaps_is text None h = read_is text None tt h
 
 perhaps_by : (text : List ℕ) (o : Option Move) → move_of text ≡ o → PerhapsMove text o
-perhaps_by text (Some m) e = spells_back text m e
-perhaps_by text None e = λ m h. none_some m (sym e ∙ move_spelled text m h)
+perhaps_by text (Some m) e = move_spells text m e
+perhaps_by text None e = λ m h. none_some m (sym e ∙ spells_move text m h)
   where
     none_some : (m : Move) → None ≡ Some m → ⊥
     none_some m k = absurd (cc)

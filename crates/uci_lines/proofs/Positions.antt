@@ -6,7 +6,7 @@ use Rattle.std.proofs.lemmas.Bool.Decides.{nat_tests}
 use Rattle.peer_words.proofs.Trims.{and_true}
 use Rattle.uci_lines.specs.Orders.{Command, Position, start_text, moves_text}
 use Rattle.uci_lines.specs.Behind.{after}
-use Rattle.uci_lines.specs.Moves.{move_of}
+use Rattle.chess_board.specs.Spelling.{move_of}
 use Rattle.std.specs.Str.{bytes_eq}
 use Rattle.chess_board.specs.Placement.{Placement}
 use Rattle.chess_board.specs.Play.{IsPosition}

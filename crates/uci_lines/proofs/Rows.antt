@@ -5,7 +5,7 @@ use Rattle.chess_board.specs.declared.board.Move.{Move}
 use Rattle.peer_words.specs.Tokens.{tokens, trimmed, first_token, rest}
 use Rattle.uci_lines.specs.Cuts.{Part, cut, is_word, is_known, is_choice}
 use Rattle.uci_lines.specs.Choices.{values, before_choice, chosen}
-use Rattle.uci_lines.specs.Moves.{move_of}
+use Rattle.chess_board.specs.Spelling.{move_of}
 use Rattle.uci_lines.specs.Options.{is_on, range_from, no_range, spin, spin_in, shown_text, text_after, shape_named, option_line, option_with, option_said}
 use Rattle.uci_lines.specs.Infos.{no_facts, facts_in}
 use Rattle.uci_lines.specs.Engine.{name_said, hint_in, best_said, said_after, said_by, engine_message}

@@ -7,13 +7,14 @@ use Rattle.uci_lines.specs.declared.says.Score.TheVariants.{Cp, Mate}
 use Rattle.uci_lines.specs.declared.info.Field.{Field}
 use Rattle.uci_lines.specs.declared.info.Field.TheVariants as fields
 use Rattle.uci_lines.specs.Cuts.{is_word}
-use Rattle.uci_lines.specs.Moves.{move_of, add_move, run}
+use Rattle.chess_board.specs.Spelling.{move_of}
+use Rattle.uci_lines.specs.Moves.{add_move, run}
 use Rattle.uci_lines.specs.Says.{Facts}
 use Rattle.uci_lines.specs.Infos.{field_named, first_count, first_score, first_move, newer_run, hear, ends_info, facts_from}
 use Rattle.uci_lines.specs.Spells.{PerhapsMove, NoMoveFirst, IsRun, Takes, Tells}
 use Rattle.uci_lines.proofs.Counts.{same_text, text_same}
 use Rattle.uci_lines.proofs.Listings.{perhaps_is, is_perhaps}
-use Rattle.uci_lines.proofs.Spelled.{move_spelled, spells_back}
+use Rattle.chess_board.proofs.Spelled.{move_spells, spells_move}
 
 clash : (b : Bool) → b ≡ true → b ≡ false → ⊥
 clash true h k = absurd (cc)
@@ -52,11 +53,11 @@ no_run (t ∷ ts) h = ap (λ o. add_move o (run ts)) (sym (perhaps_is t None h))
 
 run_is : (ts : List (List ℕ)) (moves : List Move) (others : List (List ℕ)) → IsRun ts moves others → run ts ≡ moves
 run_is ts _ _ (IsRun.Ends h) = no_run ts h
-run_is _ _ others (IsRun.Goes {t = t} {m = m} {ts = ts} {moves = moves} s r) = ap (λ o. add_move o (run ts)) (move_spelled t m s) ∙ ap (λ ms. m ∷ ms) (run_is ts moves others r)
+run_is _ _ others (IsRun.Goes {t = t} {m = m} {ts = ts} {moves = moves} s r) = ap (λ o. add_move o (run ts)) (spells_move t m s) ∙ ap (λ ms. m ∷ ms) (run_is ts moves others r)
 
 run_passed : (f : Facts) (ts : List (List ℕ)) (moves : List Move) (others : List (List ℕ)) → IsRun ts moves others → facts_from f ts ≡ facts_from f others
 run_passed f ts _ _ (IsRun.Ends h) = refl
-run_passed f _ _ others (IsRun.Goes {t = t} {m = m} {ts = ts} {moves = moves} s r) = passed f t ts (move_plain t m (move_spelled t m s)) ∙ run_passed f ts moves others r
+run_passed f _ _ others (IsRun.Goes {t = t} {m = m} {ts = ts} {moves = moves} s r) = passed f t ts (move_plain t m (spells_move t m s)) ∙ run_passed f ts moves others r
 
 record Runs (ts : List (List ℕ)) (moves : List Move) : Type 0 where
   others : List (List ℕ)
@@ -65,7 +66,7 @@ record Runs (ts : List (List ℕ)) (moves : List Move) : Type 0 where
 
 runs_by : (t : List ℕ) (ts : List (List ℕ)) (o : Option Move) → move_of t ≡ o → Runs ts (run ts) → Runs (t ∷ ts) (add_move o (run ts))
 runs_by t ts None e r = record { others = t ∷ ts; is_run = IsRun.Ends (subst (λ (o : Option Move). PerhapsMove t o) e (is_perhaps t)); fits = omega arith }
-runs_by t ts (Some m) e r = record { others = r.others; is_run = IsRun.Goes (spells_back t m e) r.is_run; fits = omega (arith, r.fits) }
+runs_by t ts (Some m) e r = record { others = r.others; is_run = IsRun.Goes (move_spells t m e) r.is_run; fits = omega (arith, r.fits) }
 
 runs : (ts : List (List ℕ)) → Runs ts (run ts)
 runs [] = record { others = []; is_run = IsRun.Ends tt; fits = omega arith }
@@ -83,7 +84,7 @@ takes_is f _ _ _ (Takes.Centipawns {t = t} {ts = ts} {n = n} e) = ap (λ o. fact
 takes_is f _ _ _ (Takes.ToMate {t = t} {ts = ts} {n = n} e) = ap (λ o. facts_from (record f { score = option_or (option_map (λ k. Mate k) o) f.score }) (t ∷ ts)) e ∙ passed (record f { score = Some (Mate n) }) t ts (centis_plain t n e)
 takes_is f _ _ _ Takes.LowerBound = refl
 takes_is f _ _ _ Takes.UpperBound = refl
-takes_is f _ _ _ (Takes.Current {t = t} {ts = ts} {m = m} s) = ap (λ o. facts_from (record f { current = option_or o f.current }) (t ∷ ts)) (move_spelled t m s) ∙ passed (record f { current = Some m }) t ts (move_plain t m (move_spelled t m s))
+takes_is f _ _ _ (Takes.Current {t = t} {ts = ts} {m = m} s) = ap (λ o. facts_from (record f { current = option_or o f.current }) (t ∷ ts)) (spells_move t m s) ∙ passed (record f { current = Some m }) t ts (move_plain t m (spells_move t m s))
 takes_is f _ _ _ (Takes.Pv {ts = ts} {others = others} {m = m} {moves = moves} r) = ap (λ ms. facts_from (record f { pv = newer_run ms f.pv }) ts) (run_is ts (m ∷ moves) others r) ∙ run_passed (record f { pv = m ∷ moves }) ts (m ∷ moves) others r
 
 some_moves : List Move → Bool
@@ -119,7 +120,7 @@ takes_taking f _ _ _ (Takes.Centipawns e) = ap (λ o. is_some (option_map (λ k.
 takes_taking f _ _ _ (Takes.ToMate e) = ap (λ o. is_some (option_map (λ k. Mate k) o)) e
 takes_taking f _ _ _ Takes.LowerBound = refl
 takes_taking f _ _ _ Takes.UpperBound = refl
-takes_taking f _ _ _ (Takes.Current {t = t} {m = m} s) = ap (λ o. is_some o) (move_spelled t m s)
+takes_taking f _ _ _ (Takes.Current {t = t} {m = m} s) = ap (λ o. is_some o) (spells_move t m s)
 takes_taking f _ _ _ (Takes.Pv {ts = ts} {others = others} {m = m} {moves = moves} r) = ap some_moves (run_is ts (m ∷ moves) others r)
 
 -- a token and the field that it names
@@ -220,7 +221,7 @@ take_by fields.Score f t (u ∷ []) e h = absurd (cc)
 take_by fields.Score f t (u ∷ v ∷ us) e h = take_score f t u v us (is_word (codes "cp") u) (is_word (codes "mate") u) e refl refl h
 take_by fields.Bound f t ts e h = take_bound f t ts e
 take_by fields.Current f t [] e h = absurd (cc)
-take_by fields.Current f t (u ∷ us) e h = let s = some_of (move_of u) h in given f (record f { current = Some s.0 }) t (codes "currmove") (u ∷ us) us e (one_less u us) (Takes.Current (spells_back u s.0 s.1))
+take_by fields.Current f t (u ∷ us) e h = let s = some_of (move_of u) h in given f (record f { current = Some s.0 }) t (codes "currmove") (u ∷ us) us e (one_less u us) (Takes.Current (move_spells u s.0 s.1))
 take_by fields.Pv f t ts e h = take_pv f t ts (run ts) e h (runs ts)
 take_by fields.Text f t ts e h = absurd (cc)
 take_by fields.Other f t ts e h = absurd (cc)

@@ -4,7 +4,7 @@ use Rattle.std.specs.List.{before_first}
 use Rattle.std.specs.Option.{option_map}
 use Rattle.std.specs.Str.{bytes_eq}
 use Rattle.peer_words.specs.Tokens.{is_white, token_end}
-use Rattle.uci_lines.specs.Moves.{move_of}
+use Rattle.chess_board.specs.Spelling.{move_of}
 use Rattle.uci_lines.specs.declared.cut.Stop.{Stop}
 use Rattle.uci_lines.specs.declared.cut.Stop.TheVariants.{Message, Kind, Default, Choice, Ponder, NoMove}
 use Rattle.uci_lines.specs.declared.cut.Found.{Found}

@@ -3,7 +3,7 @@ use Rattle.std.specs.Prelude.{ℕ, List, codes, true, if◌then◌else◌, Optio
 use Rattle.peer_words.specs.Tokens.{first_token, rest}
 use Rattle.chess_board.specs.declared.board.Move.{Move}
 use Rattle.uci_lines.specs.Cuts.{Part, cut, is_word, is_known}
-use Rattle.uci_lines.specs.Moves.{move_of}
+use Rattle.chess_board.specs.Spelling.{move_of}
 use Rattle.uci_lines.specs.Options.{option_said}
 use Rattle.uci_lines.specs.Infos.{facts_in}
 use Rattle.uci_lines.specs.Says.{Says, Name, UciOk, ReadyOk, Best, Info, Nothing}

@@ -9,7 +9,8 @@ use Rattle.uci_lines.specs.declared.says.Score.TheVariants.{Cp, Mate}
 use Rattle.uci_lines.specs.declared.info.Field.{Field}
 use Rattle.uci_lines.specs.declared.info.Field.TheVariants as fields
 use Rattle.uci_lines.specs.Cuts.{is_word}
-use Rattle.uci_lines.specs.Moves.{move_of, run}
+use Rattle.chess_board.specs.Spelling.{move_of}
+use Rattle.uci_lines.specs.Moves.{run}
 use Rattle.uci_lines.specs.Says.{Facts}
 
 -- the field that a token names

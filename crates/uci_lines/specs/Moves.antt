@@ -1,37 +1,7 @@
--- Move texts as a function, and runs of them.
-use Rattle.std.specs.Prelude.{◌≡◌, ℕ, ◌+◌, ◌-◌, ◌*◌, Bool, true, false, nat_lt, nat_le, ◌&&◌, if◌then◌else◌, List, [], ◌∷◌, Option, Some, None, refl}
-use Rattle.std.proofs.lemmas.Bool.{ltb-true}
-use Rattle.chess_board.specs.declared.board.Square.{Square}
+-- Runs of move texts.
+use Rattle.std.specs.Prelude.{ℕ, List, [], ◌∷◌, Option, Some, None}
 use Rattle.chess_board.specs.declared.board.Move.{Move}
-use Rattle.chess_board.specs.declared.board.Kind.{Kind}
-use Rattle.chess_board.specs.Text.{promotion_of}
-
--- the square of a number, where it is on the board
-abbrev pub square_if : (n : ℕ) (within : Bool) → nat_lt n 64 ≡ within → Option Square
-square_if n true e = Some (record { index = n; on_board = ltb-true n 64 e })
-square_if n false e = None
-
--- the square that a letter and a digit name
-abbrev pub square_named : ℕ → ℕ → Option Square
-square_named file rank =
-    if nat_le 97 file && nat_le file 104 && nat_le 49 rank && nat_le rank 56
-    then square_if ((rank - 49) * 8 + (file - 97)) (nat_lt ((rank - 49) * 8 + (file - 97)) 64) refl
-    else None
-
-abbrev pub move_from : Option Square → Option Square → Option Kind → Option Move
-move_from (Some from) (Some to) promo = Some (record { from = from; to = to; promo = promo })
-move_from None to promo = None
-move_from (Some from) None promo = None
-
-abbrev pub promoted : Option Square → Option Square → Option Kind → Option Move
-promoted from to None = None
-promoted from to (Some piece) = move_from from to (Some piece)
-
--- the move that a text spells
-unfoldable pub move_of : List ℕ → Option Move
-move_of (f ∷ r ∷ g ∷ s ∷ []) = move_from (square_named f r) (square_named g s) None
-move_of (f ∷ r ∷ g ∷ s ∷ letter ∷ []) = promoted (square_named f r) (square_named g s) (promotion_of letter)
-move_of _ = None
+use Rattle.chess_board.specs.Spelling.{move_of}
 
 abbrev pub add_move : Option Move → List Move → List Move
 add_move None moves = []

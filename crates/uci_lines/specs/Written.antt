@@ -11,7 +11,7 @@ use Rattle.fen_text.specs.declared.fault.FenFault.{FenFault}
 use Rattle.fen_text.specs.Fen.{position_of}
 use Rattle.fen_text.specs.Written.{written}
 use Rattle.uci_lines.specs.Behind.{after}
-use Rattle.uci_lines.specs.Moves.{move_of}
+use Rattle.chess_board.specs.Spelling.{move_of}
 
 -- a text that is not empty and neither begins nor ends with white space
 abbrev pub is_text : List ℕ → Bool

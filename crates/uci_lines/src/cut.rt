@@ -5,7 +5,7 @@ ghost use Rattle.peer_words.specs.Tokens.{is_white, token_end};
 ghost use Rattle.std.specs.Option.{option_map};
 ghost use Rattle.uci_lines.specs.Cuts.{cut, stops, part_of};
 
-use crate::moves::move_in;
+use chess_board::read_move;
 use peer_words::is_white;
 
 /// The tokens at which a line is cut.
@@ -45,7 +45,7 @@ impl Stop {
             Stop::Default => word == b"default".as_slice(),
             Stop::Choice => word == b"default".as_slice() || word == b"var".as_slice(),
             Stop::Ponder => word == b"ponder".as_slice(),
-            Stop::NoMove => !word.is_empty() && move_in(word).is_none(),
+            Stop::NoMove => !word.is_empty() && read_move(word).is_none(),
         }
     }
 }

@@ -7,9 +7,9 @@ ghost use Rattle.uci_lines.specs.Spells.{SpellsMessage};
 
 use crate::cut::{Stop, find_word};
 use crate::info::read_info;
-use crate::moves::move_in;
 use crate::option::read_option;
 use crate::says::EngineMsg;
+use chess_board::read_move;
 use peer_words::split_token;
 
 fn read_name(text: &[u8]) -> EngineMsg<'_>
@@ -29,9 +29,9 @@ fn read_best(text: &[u8]) -> EngineMsg<'_>
     ensures writable { CanWrite (says_of result) }
 {
     let (word, others) = split_token(text);
-    let best = move_in(word);
+    let best = read_move(word);
     let hint = match find_word(others, Stop::Ponder) {
-        Some(found) => move_in(split_token(found.after).0),
+        Some(found) => read_move(split_token(found.after).0),
         None => None,
     };
     EngineMsg::Best { best, hint }

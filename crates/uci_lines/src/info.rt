@@ -6,10 +6,10 @@ ghost use Rattle.uci_lines.specs.Moves.{run};
 ghost use Rattle.uci_lines.specs.Said.{can_write};
 ghost use Rattle.uci_lines.specs.Says.{facts_of};
 
-use crate::moves::{front_moves, move_in, next_move};
+use crate::moves::{front_moves, next_move};
 use crate::says::{Info, Score};
 use crate::words::next_token;
-use chess_board::Move;
+use chess_board::{Move, read_move};
 use peer_words::{read_centis, read_count};
 
 /// The words that tell something.
@@ -73,7 +73,7 @@ fn first_move(text: &[u8]) -> Option<Move>
     ensures value { result ≡ first_move (tokens text.now) }
     ensures officer { can_write result }
 {
-    move_in(next_token(text)?.0)
+    read_move(next_token(text)?.0)
 }
 
 fn score_of(unit: &[u8], number: &[u8]) -> Option<Score>

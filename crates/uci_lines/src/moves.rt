@@ -2,20 +2,12 @@
 ghost use Rattle.std.specs.Prelude.{◌≡◌, ◌∷◌, ◌<◌, [], length, MatchOption, IfSome};
 ghost use Rattle.peer_words.specs.Tokens.{tokens};
 ghost use Rattle.chess_board.specs.Text.{IsOfficer};
-ghost use Rattle.uci_lines.specs.Moves.{move_of, run};
+ghost use Rattle.uci_lines.specs.Moves.{run};
 
 use crate::cut::{Stop, find_word};
 use crate::words::next_token;
 use chess_board::{Move, read_move};
 use peer_words::trim;
-
-/// The move that a text spells.
-pub(crate) fn move_in(text: &[u8]) -> Option<Move>
-    ensures value { result ≡ move_of text.now }
-    ensures officer { IfSome result (λ m. IsOfficer m.promo) }
-{
-    read_move(text)
-}
 
 /// The first move of a text of moves, and the text after it. None where the text begins with no move.
 pub fn next_move(text: &[u8]) -> Option<(Move, &[u8])>
@@ -24,7 +16,7 @@ pub fn next_move(text: &[u8]) -> Option<(Move, &[u8])>
     ensures shorter { IfSome result (λ p. length p.1.now < length text.now) }
 {
     let (token, others) = next_token(text)?;
-    Some((move_in(token)?, others))
+    Some((read_move(token)?, others))
 }
 
 /// The move texts at the front of a text, as many as there are, trimmed.

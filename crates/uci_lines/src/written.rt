@@ -4,8 +4,7 @@ ghost use Rattle.std.specs.Option.{option_map};
 ghost use Rattle.uci_lines.specs.Written.{is_text, value_cut, is_written_move, is_blank_byte, is_moves, is_fen, fields_before, is_count, is_positive};
 
 use crate::behind::after;
-use crate::moves::move_in;
-use chess_board::write_move;
+use chess_board::{read_move, write_move};
 use fen_text::{read_fen, write_fen};
 use peer_words::trim;
 
@@ -32,7 +31,7 @@ pub(crate) fn cut_value(text: &[u8]) -> Option<(&[u8], &[u8])>
 fn is_written_move(text: &[u8]) -> bool
     ensures { result ≡ is_written_move text.now }
 {
-    match move_in(text) {
+    match read_move(text) {
         Some(m) => write_move(m).as_slice() == text,
         None => false,
     }

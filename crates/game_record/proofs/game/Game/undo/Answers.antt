@@ -9,8 +9,9 @@ use Rattle.game_record.proofs.game.Game.undo.Goals as goal
 pub invariant_of-self : goal.invariant_of-self
 invariant_of-self c =
     let less : length c.truncate.new.self.items ≤ length c.self.inside.moves.items = omega (arith, ap length c.truncate.ensures.items, length-take (c.len-plies.result - c.args.n) c.self.inside.moves.items) in
-    keeps_take (c.len-plies.result - c.args.n) c.self.inside.start c.self.inside.moves.items _ c.self.inside.later.items _ c.self.inside.times.items _ _ _ _ _ _ _
+    keeps_take (c.len-plies.result - c.args.n) c.self.inside.start c.self.inside.moves.items _ c.self.inside.later.items _ c.self.inside.times.items _ _ _ _ _ _ _ _ _
     c.self.invariant c.truncate.ensures.items c.truncate-2.ensures.items c.truncate-3.ensures.items c.truncate.ensures.capacity c.truncate-2.ensures.capacity c.truncate-3.ensures.capacity less
+    (λ left positions times. c.ended_in-self-inside.ensures left (c.as_slice.ensures.value ∙ positions) (c.as_slice-2.ensures.value ∙ times))
 
 abbrev course : Placement → List Ply → Course
 course start moves = record { start = start; moves = moves }

@@ -1,13 +1,14 @@
 -- A text spells a move exactly where the function gives it.
-use Rattle.std.proofs.Common.{◌≡◌, ℕ, ◌+◌, ◌-◌, ◌*◌, ◌≤◌, Bool, true, false, ◌&&◌, ltb, leb, cond, List, [], ◌∷◌, Option, Some, None, refl, sym, ap, ◌∙◌, arith}
+use Rattle.std.proofs.Common.{◌≡◌, ℕ, ◌+◌, ◌-◌, ◌*◌, ◌≤◌, Bool, true, false, ◌&&◌, ltb, leb, cond, List, [], ◌∷◌, Option, Some, None, refl, sym, ap, ◌∙◌, subst, arith}
 use Rattle.std.specs.Prelude.{IsSome, IfSome, IfNone}
 use Rattle.std.proofs.lemmas.Bool.Decides.{nat_tests}
 use Rattle.chess_board.specs.declared.board.Square.{Square}
 use Rattle.chess_board.specs.declared.board.Kind.{Kind}
+use Rattle.chess_board.specs.declared.board.Kind.TheVariants.{Knight, Bishop, Rook, Queen}
 use Rattle.chess_board.specs.declared.board.Move.{Move}
-use Rattle.chess_board.specs.Text.{Spells, SquareSpells, promotion_of}
+use Rattle.chess_board.specs.Text.{Spells, SquareSpells, promotion_of, IsOfficer}
 use Rattle.chess_board.proofs.Places.{square_same}
-use Rattle.cecp_lines.specs.Moves.{square_if, square_named, move_from, promoted, move_of}
+use Rattle.chess_board.specs.Spelling.{square_if, square_named, move_from, promoted, move_of}
 
 if_there : (n : ℕ) (s : Square) (b : Bool) (e : ltb n 64 ≡ b) → n ≡ s.index → square_if n b e ≡ Some s
 if_there n s true e h = ap Some (square_same _ s h)
@@ -108,7 +109,34 @@ no_move : (text : List ℕ) (o : Option Move) → move_of text ≡ o → ((m : M
 no_move text None e h = refl
 no_move text (Some m) e h = absurd (h m (move_spells text m e))
 
--- the move that is read is the function's
-pub found_move : (text : List ℕ) (o : Option Move) → IfSome o (Spells text) → IfNone o ((m : Move) → Spells text m → ⊥) → o ≡ move_of text
-found_move text (Some m) h none = sym (spells_move text m h)
-found_move text None h none = no_move text (move_of text) refl none
+-- a call that answers the move that a text spells answers the function's
+pub read_is : (text : List ℕ) (o : Option Move) → IfSome o (Spells text) → IfNone o ((m : Move) → Spells text m → ⊥) → o ≡ move_of text
+read_is text (Some m) h none = sym (spells_move text m h)
+read_is text None h none = no_move text (move_of text) refl none
+
+-- a text names no pawn and no king
+chosen : (a b c d : Bool) → IsOfficer (cond a (Some Queen) (cond b (Some Rook) (cond c (Some Bishop) (cond d (Some Knight) None))))
+chosen true b c d = tt
+chosen false true c d = tt
+chosen false false true d = tt
+chosen false false false true = tt
+chosen false false false false = tt
+
+officer : (letter : ℕ) → IsOfficer (promotion_of letter)
+officer letter = chosen _ _ _ _
+
+pub spelled_officer : (text : List ℕ) (m : Move) → Spells text m → IsOfficer m.promo
+spelled_officer [] m h = absurd h
+spelled_officer (f ∷ []) m h = absurd h
+spelled_officer (f ∷ r ∷ []) m h = absurd h
+spelled_officer (f ∷ r ∷ g ∷ []) m h = absurd h
+spelled_officer (f ∷ r ∷ g ∷ s ∷ []) m h = subst IsOfficer (sym h.2) tt
+spelled_officer (f ∷ r ∷ g ∷ s ∷ letter ∷ []) m h = subst IsOfficer (sym h.2) (officer letter)
+spelled_officer (f ∷ r ∷ g ∷ s ∷ letter ∷ more ∷ others) m h = absurd h
+
+pub read_officer : (text : List ℕ) (m : Move) → move_of text ≡ Some m → IsOfficer m.promo
+read_officer text m h = spelled_officer text m (move_spells text m h)
+
+pub some_officer : (text : List ℕ) (o : Option Move) → IfSome o (Spells text) → IfSome o (λ m. IsOfficer m.promo)
+some_officer text None h = tt
+some_officer text (Some m) h = spelled_officer text m h

@@ -1,4 +1,4 @@
--- Move texts as a function.
+-- The move that a text spells, as a function of the text.
 use Rattle.std.specs.Prelude.{◌≡◌, ℕ, ◌+◌, ◌-◌, ◌*◌, Bool, true, false, nat_lt, nat_le, ◌&&◌, if◌then◌else◌, List, [], ◌∷◌, Option, Some, None, refl}
 use Rattle.std.proofs.lemmas.Bool.{ltb-true}
 use Rattle.chess_board.specs.declared.board.Square.{Square}
@@ -25,7 +25,7 @@ move_from (Some from) None promo = None
 
 abbrev pub promoted : Option Square → Option Square → Option Kind → Option Move
 promoted from to None = None
-promoted from to (Some kind) = move_from from to (Some kind)
+promoted from to (Some piece) = move_from from to (Some piece)
 
 -- the move that a text spells
 unfoldable pub move_of : List ℕ → Option Move
