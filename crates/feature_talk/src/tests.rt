@@ -1,0 +1,223 @@
+//! Engines by their options, and the features that are told of them.
+use crate::{Say, Talk, feature_lists_are_short, shown_name, write_bare_list, write_list};
+use line_io::Out;
+use option_map::{Declared, Options};
+use std::alloc::Global;
+use std::process::Abort;
+use std::test::Fail;
+use uci_lines::{EngineMsg, read_engine};
+
+/// The options of an engine, as it declares them.
+fn declared(rt: &impl Abort, alloc: Global, lines: &[&str]) -> Result<Options, Fail> {
+    let mut options = Options::make(alloc)?;
+    for line in lines {
+        if let EngineMsg::OptionLine(msg) = read_engine(line.as_bytes()) {
+            assert_eq!(rt; options.declare(&msg), Declared::Done, "{line}");
+        }
+    }
+    Ok(options)
+}
+
+/// Writes the list, where the room is enough.
+fn write(options: &Options, name: &str, out: &mut Out) {
+    feature_lists_are_short();
+    out.clear();
+    if out.spare() >= 1_000 + options.text() + options.count() {
+        write_list(options, name.as_bytes(), out);
+    }
+}
+
+#[test]
+fn writes_the_list(rt: HostRuntime) -> Result<(), Fail> {
+    let mut out = Out::make(rt.alloc(), 3_000)?;
+    let engines: [(&str, &[&str], &str); 4] = [
+        (
+            "Toy 1.0",
+            &[
+                "option name Hash type spin default 16 min 1 max 1024",
+                "option name Ponder type check default false",
+                "option name Style type combo default Normal var Solid var Normal var Risky",
+            ],
+            "feature myname=\"Toy 1.0\"
+feature ping=1
+feature setboard=1
+feature playother=1
+feature san=0
+feature usermove=1
+feature time=1
+feature draw=1
+feature sigint=0
+feature sigterm=0
+feature reuse=1
+feature analyze=1
+feature variants=\"normal\"
+feature colors=0
+feature memory=1
+feature smp=0
+feature option=\"Style -combo Solid /// *Normal /// Risky\"
+feature done=1
+",
+        ),
+        (
+            "",
+            &["option name MultiPV type spin default 1 min 1 max 5"],
+            "feature myname=\"UCI engine\"
+feature ping=1
+feature setboard=1
+feature playother=1
+feature san=0
+feature usermove=1
+feature time=1
+feature draw=1
+feature sigint=0
+feature sigterm=0
+feature reuse=1
+feature analyze=1
+feature variants=\"normal\"
+feature colors=0
+feature memory=0
+feature smp=0
+feature option=\"MultiPV -spin 1 1 5\"
+feature done=1
+",
+        ),
+        // some of what Stockfish 15.1 declares, with the path of a table base
+        (
+            "Stockfish 15.1",
+            &[
+                "option name Debug Log File type string default ",
+                "option name Threads type spin default 1 min 1 max 1024",
+                "option name Hash type spin default 16 min 1 max 33554432",
+                "option name NalimovPath type string default <empty>",
+                "option name Clear Hash type button",
+                "option name Ponder type check default false",
+                "option name UCI_Elo type spin default 1350 min 1350 max 2850",
+                "option name Use NNUE type check default true",
+            ],
+            "feature myname=\"Stockfish 15.1\"
+feature ping=1
+feature setboard=1
+feature playother=1
+feature san=0
+feature usermove=1
+feature time=1
+feature draw=1
+feature sigint=0
+feature sigterm=0
+feature reuse=1
+feature analyze=1
+feature variants=\"normal\"
+feature colors=0
+feature memory=1
+feature smp=1
+feature egt=\"nalimov\"
+feature option=\"Debug Log File -string \"
+feature option=\"Clear Hash -button\"
+feature option=\"Use NNUE -check 1\"
+feature done=1
+",
+        ),
+        // options of other kinds than the commands need
+        (
+            "Say \"no\"",
+            &[
+                "option name Hash type check default true",
+                "option name Threads type string default 4",
+                "option name NalimovPath type button",
+                "option name Number of Threads type spin default 1 min 1 max 16",
+            ],
+            "feature myname=\"UCI engine\"
+feature ping=1
+feature setboard=1
+feature playother=1
+feature san=0
+feature usermove=1
+feature time=1
+feature draw=1
+feature sigint=0
+feature sigterm=0
+feature reuse=1
+feature analyze=1
+feature variants=\"normal\"
+feature colors=0
+feature memory=0
+feature smp=0
+feature option=\"Number of Threads -spin 1 1 16\"
+feature done=1
+",
+        ),
+    ];
+    for (name, lines, want) in engines {
+        let options = declared(&rt, rt.alloc(), lines)?;
+        write(&options, name, &mut out);
+        assert_eq!(rt; out.bytes(), want.as_bytes(), "{name}");
+    }
+    Ok(())
+}
+
+#[test]
+fn writes_the_bare_list(rt: HostRuntime) -> Result<(), Fail> {
+    let mut out = Out::make(rt.alloc(), 1_000)?;
+    feature_lists_are_short();
+    write_bare_list(b"Toga II 3.0", &mut out);
+    let want = "feature myname=\"Toga II 3.0\"
+feature ping=1
+feature setboard=1
+feature playother=1
+feature san=0
+feature usermove=1
+feature time=1
+feature draw=1
+feature sigint=0
+feature sigterm=0
+feature reuse=1
+feature analyze=1
+feature variants=\"normal\"
+feature colors=0
+feature memory=0
+feature smp=0
+feature done=1
+";
+    assert_eq!(rt; out.bytes(), want.as_bytes());
+    Ok(())
+}
+
+#[test]
+fn shows_names_that_fit(rt: HostRuntime) -> Result<(), Fail> {
+    let letters = vec![in rt.alloc(); b'x'; 257]?;
+    let usual = b"UCI engine".as_slice();
+    let names = [
+        (b"Toy".as_slice(), b"Toy".as_slice()),
+        (b"Toga II\t3.0 (it's)", b"Toga II\t3.0 (it's)"),
+        (b"", usual),
+        (b"The \"Turk\"", usual),
+        (b"\"", usual),
+        (&letters[..256], &letters[..256]),
+        (letters.as_slice(), usual),
+    ];
+    for (said, want) in names {
+        assert_eq!(rt; shown_name(said), want);
+    }
+    Ok(())
+}
+
+#[test]
+fn tells_the_list_once_the_engine_has_started(rt: HostRuntime) {
+    let mut talk = Talk::new();
+    assert!(rt; !talk.is_due());
+    // before the options were told, twice
+    assert_eq!(rt; talk.protover(true), Say::Wait);
+    assert_eq!(rt; talk.protover(true), Say::Wait);
+    assert!(rt; talk.is_due());
+    assert!(rt; talk.left_boot());
+    assert!(rt; !talk.is_due());
+    // and after
+    assert_eq!(rt; talk.protover(false), Say::List);
+    assert!(rt; !talk.is_due());
+
+    // an engine that told its options before `protover` came
+    let mut talk = Talk::new();
+    assert!(rt; !talk.left_boot());
+    assert_eq!(rt; talk.protover(false), Say::List);
+    assert!(rt; !talk.is_due());
+}
