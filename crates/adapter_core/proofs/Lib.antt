@@ -9,7 +9,6 @@ pub mod Told
 pub mod Serving
 pub mod First
 pub mod Keeps
-pub mod Rooms
 pub mod Writes
 pub mod Shown
 pub mod Fresh

@@ -170,7 +170,7 @@ no_answer h m = refl
 -- THE MOVES OF A STEP
 
 -- the move that a deed shows
-abbrev shown_by : Deed → List AnyMove
+abbrev pub shown_by : Deed → List AnyMove
 shown_by (Shows best hint) = best ∷ []
 shown_by d = []
 
@@ -195,7 +195,7 @@ row_shows h Readies = refl
 row_shows h Closes = refl
 
 -- the moves that are told in an open session
-open_shows : (owes : Bool) (h : Here) (d : Deed) → moves_told (replies_of false owes h d) ≡ shown_by d
+pub open_shows : (owes : Bool) (h : Here) (d : Deed) → moves_told (replies_of false owes h d) ≡ shown_by d
 open_shows owes h d =
     let pongs = cond owes [] (map told.Pong (desk_after_deed h d).pings) in
     joined (row h d) pongs ∙ ap (λ (l : List AnyMove). moves_told (row h d) ++ l) (no_pongs owes (desk_after_deed h d).pings) ∙ append_none (moves_told (row h d)) ∙ row_shows h d where

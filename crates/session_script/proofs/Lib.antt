@@ -1,4 +1,4 @@
-mod Rooms
+pub mod Rooms
 pub mod Lines
 pub mod Scripts
 pub mod Short

@@ -1,0 +1,11 @@
+pub mod Shows
+pub mod Sending
+pub mod Speech
+pub mod Rounds
+pub mod Counting
+pub mod Drawing
+pub mod Stepping
+pub mod Ordered
+pub mod Start
+pub mod Whole
+pub mod Alike

@@ -1,0 +1,107 @@
+-- A step that tells a move tells it first.
+use Rattle.std.proofs.Common.{◌≡◌, ℕ, zero, suc, ◌+◌, ◌/◌, ◌%◌, ◌<◌, ◌==◌, List, [], ◌∷◌, ◌++◌, length, Bool, true, false, cond, refl, ap, sym, subst, ◌∙◌, arith, eqb}
+use Rattle.std.proofs.lemmas.Bool.Decides.{nat_tests}
+use Rattle.std.specs.Fmt.{decimal, digits, digits_onto, digit_glyph}
+use Rattle.chess_board.specs.declared.board.Move.{Move as AnyMove}
+use Rattle.cecp_lines.specs.declared.reply.Tell.TheVariants as tells
+use Rattle.cecp_lines.specs.declared.reply.Outcome.TheVariants as outcomes
+use Rattle.cecp_lines.specs.Replies.{Told}
+use Rattle.cecp_lines.specs.Replies as told
+use Rattle.feature_talk.specs.Features.{told_lines}
+use Rattle.policy_rules.specs.declared.settings.Settings.{Settings}
+use Rattle.search_epochs.specs.Talk.{is_move}
+use Rattle.desk_rules.specs.Desk.{Here}
+use Rattle.desk_rules.specs.Steps.{Deed, Shows}
+use Rattle.desk_rules.specs.Replies.{replies_of, row}
+use Rattle.adapter_core.specs.Shown.{moves_told}
+use Rattle.adapter_core.specs.Trace.{Step, Lawful, iface_text, engine_text, state, here, deed, owing, closed_after}
+use Rattle.adapter_core.proofs.Shown.{open_shows, shown_by}
+use Rattle.line_io.specs.Lines.{parts}
+use Rattle.drill.specs.declared.tally.Tally.{Tally}
+use Rattle.drill.specs.Tally.{counted}
+use Rattle.drill.specs.Sent.{counted_texts, shows_move}
+
+-- a text that begins with a digit
+abbrev Begins : List ℕ → Type 0
+Begins text = (e : ℕ) × (ds : List ℕ) × (text ≡ (48 + e) ∷ ds) × (e < 10)
+
+begins_more : (text more : List ℕ) → Begins text → Begins (text ++ more)
+begins_more text more b = (b.0, b.1 ++ more, ap (λ l. l ++ more) b.2, b.3)
+
+glyph : (x : ℕ) → x < 10 → digit_glyph false x ≡ 48 + x
+glyph x l = grind (arith, nat_tests)
+
+one_digit : (k n : ℕ) (acc : List ℕ) → Begins (digits_onto k 10 false (n / 10) ((48 + n % 10) ∷ acc)) → Begins (digits_onto (suc k) 10 false n acc)
+one_digit k n acc more = by (n / 10 == 0) where
+  by : (b : Bool) → Begins (cond b (digit_glyph false (n % 10) ∷ acc) (digits_onto k 10 false (n / 10) (digit_glyph false (n % 10) ∷ acc)))
+  by true = (n % 10, acc, ap (λ x. x ∷ acc) (glyph (n % 10) (omega arith)), omega arith)
+  by false = subst (λ x. Begins (digits_onto k 10 false (n / 10) (x ∷ acc))) (sym (glyph (n % 10) (omega arith))) more
+
+digits_begin : (k n d : ℕ) (acc : List ℕ) → d < 10 → Begins (digits_onto k 10 false n ((48 + d) ∷ acc))
+digits_begin zero n d acc l = (d, acc, refl, l)
+digits_begin (suc k) n d acc l = one_digit k n ((48 + d) ∷ acc) (digits_begin k (n / 10) (n % 10) ((48 + d) ∷ acc) (omega arith))
+
+decimal_begins : (n : ℕ) → Begins (decimal n)
+unfolding digits
+decimal_begins n = one_digit 63 n [] (digits_begin 63 (n / 10) (n % 10) [] (omega arith))
+
+-- such a text shows no move
+none_shown : (text : List ℕ) → Begins text → shows_move text ≡ false
+none_shown text b = ap shows_move b.2 ∙ other b.0 b.1 b.3 where
+  other : (e : ℕ) (ds : List ℕ) → e < 10 → shows_move ((48 + e) ∷ ds) ≡ false
+  other e ds l = let z : eqb 109 (48 + e) ≡ false = grind (arith, nat_tests) in rw z refl
+
+thinking_begins : (depth : ℕ) (a b c d e f g : List ℕ) → Begins ((((((((decimal depth ++ a) ++ b) ++ c) ++ d) ++ e) ++ f) ++ g))
+thinking_begins depth a b c d e f g =
+    begins_more _ g (begins_more _ f (begins_more _ e (begins_more _ d (begins_more _ c (begins_more _ b (begins_more _ a (decimal_begins depth)))))))
+
+-- lines that tell no move do not begin with one
+none_first : (rs : List Told) → moves_told rs ≡ [] → shows_move (told_lines rs) ≡ false
+none_first [] e = refl
+none_first (told.Feature name value ∷ rs) e = refl
+none_first (told.Move m ∷ rs) e = cc
+none_first (told.Illegal m ∷ rs) e = refl
+none_first (told.IllegalLong m ∷ rs) e = refl
+none_first (told.Error reason line ∷ rs) e = refl
+none_first (told.TellError tells.Position ∷ rs) e = refl
+none_first (told.TellError tells.Move ∷ rs) e = refl
+none_first (told.TellError tells.Ended ∷ rs) e = refl
+none_first (told.Pong n ∷ rs) e = refl
+none_first (told.OfferDraw ∷ rs) e = refl
+none_first (told.Resign ∷ rs) e = refl
+none_first (told.Hint m ∷ rs) e = refl
+none_first (told.Result outcomes.WhiteMates ∷ rs) e = refl
+none_first (told.Result outcomes.BlackMates ∷ rs) e = refl
+none_first (told.Result outcomes.Stalemate ∷ rs) e = refl
+none_first (told.Result outcomes.Dead ∷ rs) e = refl
+none_first (told.Result outcomes.Repetition ∷ rs) e = refl
+none_first (told.Result outcomes.Fifty ∷ rs) e = refl
+none_first (told.Thinking depth score time nodes hint pv ∷ rs) e =
+    none_shown (told_lines (told.Thinking depth score time nodes hint pv ∷ rs)) (begins_more _ (told_lines rs) (thinking_begins depth (32 ∷ []) _ _ _ _ pv (10 ∷ [])))
+none_first (told.Stat01 time nodes depth left all current ∷ rs) e = refl
+
+-- the count of moves of lines, by how they begin
+shown_next : (n : ℕ) (rs : List Told) (ms : List AnyMove) → moves_told rs ≡ ms → ms ≡ [] → cond (shows_move (told_lines rs)) (n + 1) n ≡ n + length (moves_told rs)
+shown_next n rs ms e z = ap (λ (b : Bool). cond b (n + 1) n) (none_first rs (e ∙ z)) ∙ (let q : n ≡ n + length (moves_told rs) = omega (arith, ap length (e ∙ z)) in q)
+
+one_next : (n : ℕ) (m : AnyMove) (rs : List Told) → moves_told rs ≡ m ∷ [] → shows_move (told_lines rs) ≡ true → cond (shows_move (told_lines rs)) (n + 1) n ≡ n + length (moves_told rs)
+one_next n m rs e z = ap (λ (b : Bool). cond b (n + 1) n) z ∙ (let q : n + 1 ≡ n + length (moves_told rs) = omega (arith, ap length e) in q)
+
+by_deed : (n : ℕ) (closed owes : Bool) (h : Here) (d : Deed) → cond (shows_move (told_lines (replies_of closed owes h d))) (n + 1) n ≡ n + length (moves_told (replies_of closed owes h d))
+unfolding row
+by_deed n true owes h d = omega arith
+by_deed n false owes h (Shows best hint) = one_next n best (replies_of false owes h (Shows best hint)) (open_shows owes h (Shows best hint)) refl
+by_deed n false owes h d = shown_next n (replies_of false owes h d) (shown_by d) (open_shows owes h d) refl
+
+-- a lawful step tells a move exactly where what it wrote begins with one
+pub is_shown : (o : Settings) (step : Step) (t : List Step) (n : ℕ) → Lawful o (step ∷ t) → cond (shows_move (told_lines step.replies)) (n + 1) n ≡ n + length (moves_told step.replies)
+is_shown o step t n l =
+    let s = state o t in
+    subst (λ (rs : List Told). cond (shows_move (told_lines rs)) (n + 1) n ≡ n + length (moves_told rs)) (sym l.1.replies) (by_deed n (closed_after s step.event) (is_move (owing s step.event)) (here s) (deed s step.event))
+
+-- so what it wrote counts it
+pub counts_step : (o : Settings) (step : Step) (t : List Step) (tally : Tally) → Lawful o (step ∷ t) → counted_texts tally (iface_text step) (engine_text step) ≡ counted tally step
+counts_step o step t tally l =
+    ap with_shown (is_shown o step t tally.shown l) where
+      with_shown : ℕ → Tally
+      with_shown n = record { steps = tally.steps + 1; to_iface = tally.to_iface + length (parts (iface_text step)); to_engine = tally.to_engine + length (parts (engine_text step)); shown = n }

@@ -1,0 +1,117 @@
+-- The events of a drill.
+use Rattle.std.specs.Prelude.{◌≡◌, ◌≢◌, ◌⊎◌, ℕ, zero, suc, List, [], ◌∷◌, ◌++◌, length, codes, Bool, true, false, not, ◌&&◌, ◌||◌, if◌then◌else◌, nat_le, Option, Some, None, slice_get}
+use Rattle.line_io.specs.Event.{Event, Iface, Engine, EngineEnd}
+use Rattle.chess_board.specs.declared.board.Move.{Move}
+use Rattle.chess_board.specs.Play.{start_position, HasLegal}
+use Rattle.chess_board.specs.Text.{text_of, AreLegalMoves}
+use Rattle.game_record.specs.Course.{Course, ply_of, now_of, begun, with_ply}
+use Rattle.desk_rules.specs.Desk.{has_ended}
+use Rattle.drill.specs.Generator.{next, place_of}
+
+-- where a drill stands: the last number of its generator, the game that it keeps, and the move that it has the engine ponder on
+pub record Stand : Type 0 where
+  pub seed : ℕ
+  pub game : Course
+  pub hint : Option Move
+
+abbrev pub starting : ℕ → Stand
+starting number = record { seed = number; game = begun start_position; hint = None }
+
+-- a move is drawn from all legal ones, which stand in the order of their texts
+pub record Draws (s : Stand) (m : Move) : Type 0 where
+  pub moves : List Move
+  pub legal : AreLegalMoves (now_of s.game) moves
+  pub drawn : slice_get moves (place_of (next s.seed) (length moves)) ≡ Some m
+
+-- THE BEGINNING AND THE END
+
+abbrev pub greeting : List Event
+greeting =
+    Iface (codes "xboard") ∷ Iface (codes "protover 2")
+    ∷ Engine (codes "id name Drill") ∷ Engine (codes "option name Ponder type check default false") ∷ Engine (codes "uciok") ∷ Engine (codes "readyok") ∷ []
+
+abbrev pub preparation : List Event
+preparation = Iface (codes "new") ∷ Engine (codes "readyok") ∷ Iface (codes "post") ∷ Iface (codes "hard") ∷ Engine (codes "readyok") ∷ []
+
+abbrev pub closing : List Event
+closing = Iface (codes "quit") ∷ EngineEnd ∷ []
+
+-- A NEW GAME
+
+-- the game has ended, or has 10,000 moves of both sides
+abbrev pub is_spent : Course → Bool
+is_spent g = has_ended g || nat_le 10000 (length g.moves)
+
+-- an answer without a move
+abbrev pub no_move : Event
+no_move = Engine (codes "bestmove 0000")
+
+-- the answer to a ponder search that is over
+abbrev pub lapsed : Option Move → List Event
+lapsed None = []
+lapsed (Some hint) = no_move ∷ []
+
+abbrev pub new_game : Option Move → List Event
+new_game hint = Iface (codes "new") ∷ (lapsed hint ++ Engine (codes "readyok") ∷ [])
+
+-- a new game, where the one that stands is spent
+abbrev pub renewal : Stand → List Event
+renewal s = if is_spent s.game then new_game s.hint else []
+
+abbrev pub renewed : Stand → Stand
+renewed s = if is_spent s.game then starting s.seed else s
+
+-- THE MOVE OF THE USER
+
+abbrev pub entry : Move → List Event
+entry m = Iface (codes "time 30000") ∷ Iface (codes "otim 30000") ∷ Iface (codes "usermove " ++ text_of m) ∷ []
+
+-- after a move that was drawn
+abbrev pub moved : Stand → Move → Stand
+moved s m = record { seed = next s.seed; game = with_ply s.game (ply_of m); hint = None }
+
+-- the ponder search of another move is over
+abbrev pub Misses : Option Move → Move → List Event → Type 0
+Misses None m es = es ≡ []
+Misses (Some hint) m es = ((hint ≡ m) × (es ≡ [])) ⊎ ((hint ≢ m) × (es ≡ no_move ∷ []))
+
+-- THE MOVE OF THE ENGINE
+
+abbrev pub thinks : Move → Event
+thinks m = Engine (codes "info depth 1 score cp 0 time 1 nodes 1 pv " ++ text_of m)
+
+abbrev pub answer : Move → List Event
+answer m = thinks m ∷ Engine (codes "bestmove " ++ text_of m) ∷ []
+
+abbrev pub answer_with : Move → Move → List Event
+answer_with m hint = thinks m ∷ Engine (codes "bestmove " ++ (text_of m ++ (codes " ponder " ++ text_of hint))) ∷ []
+
+-- the engine ponders on the hint where the game has not ended, and would not have after the hint
+abbrev pub ponders : Course → Move → Bool
+ponders g hint = not (has_ended g) && not (has_ended (with_ply g (ply_of hint)))
+
+abbrev pub hinted : Stand → Move → Stand
+hinted s hint = record { seed = next s.seed; game = s.game; hint = (if ponders s.game hint then Some hint else None) }
+
+-- what the engine answers, where the game has not ended: with a hint, where the side then on move has a legal move
+pub data Answers (s : Stand) (es : List Event) (s' : Stand) : Type 0 where
+  Nothing : has_ended s.game ≡ true → es ≡ [] → s' ≡ s → Answers s es s'
+  Alone : (m : Move) → has_ended s.game ≡ false → Draws s m → ¬ HasLegal (now_of (moved s m).game) → es ≡ answer m → s' ≡ moved s m → Answers s es s'
+  WithHint : (m hint : Move) → has_ended s.game ≡ false → Draws s m → Draws (moved s m) hint → es ≡ answer_with m hint → s' ≡ hinted (moved s m) hint → Answers s es s'
+
+-- ROUNDS
+
+-- a round: a new game where one is due, a move of the user and one of the engine
+pub record Round (s : Stand) (es : List Event) (s' : Stand) : Type 0 where
+  pub entered : Move
+  pub drawn : Draws (renewed s) entered
+  pub missed : List Event
+  pub misses : Misses (renewed s).hint entered missed
+  pub answered : List Event
+  pub answers : Answers (moved (renewed s) entered) answered s'
+  pub events_are : es ≡ renewal s ++ (entry entered ++ (missed ++ answered))
+
+-- so many rounds, one after the other
+abbrev pub Rounds : ℕ → Stand → List Event → Stand → Type 0
+Rounds zero s es s' = (es ≡ []) × (s' ≡ s)
+Rounds (suc n) s es s' = (between : Stand) × (first last : List Event) × Rounds n s first between × Round between last s' × (es ≡ first ++ last)

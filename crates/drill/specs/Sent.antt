@@ -1,0 +1,73 @@
+-- What was sent to the core.
+use Rattle.std.specs.Prelude.{◌≡◌, ℕ, ◌+◌, ◌*◌, ◌≤◌, List, [], ◌∷◌, Bool, true, false, if◌then◌else◌, codes, length, eqb}
+use Rattle.std.specs.List.{starts_with}
+use Rattle.line_io.specs.Event.{Event, is_line}
+use Rattle.line_io.specs.Lines.{parts}
+use Rattle.policy_rules.specs.declared.settings.Settings.{Settings}
+use Rattle.policy_rules.specs.Policy.{usual}
+use Rattle.adapter_core.specs.declared.ends.Ends.{Ends}
+use Rattle.adapter_core.specs.Ends.{is_quit}
+use Rattle.adapter_core.specs.Trace.{Step, Lawful}
+use Rattle.adapter_core.specs.View.{View}
+use Rattle.adapter_core.specs.Stands.{Stands}
+use Rattle.drill.specs.declared.tally.Tally.{Tally}
+use Rattle.drill.specs.Tally.{counted}
+
+-- the counts are small beside the number of steps
+pub record AreFew (t : Tally) : Type 0 where
+  pub to_iface : t.to_iface ≤ 131072 * t.steps
+  pub to_engine : t.to_engine ≤ 131072 * t.steps
+  pub shown : t.shown ≤ t.steps
+
+-- the core, and what was counted of its steps
+pub record Progress : Type 0 where
+  pub core : View
+  pub tally : Tally
+
+-- a step of this event extends each lawful trace for which the core stood, and is counted
+pub record Sends (old new : Progress) (e : Event) : Type 0 where
+  pub step : Step
+  pub event : step.event ≡ e
+  pub extends : (o : Settings) (t : List Step) → Lawful o t → Stands o old.core t → Lawful o (step ∷ t) × Stands o new.core (step ∷ t)
+  pub tally_is : new.tally ≡ counted old.tally step
+
+-- the text begins with a move
+abbrev pub shows_move : List ℕ → Bool
+shows_move text = starts_with eqb text (codes "move ")
+
+-- one step more, by what it wrote
+abbrev pub counted_texts : Tally → List ℕ → List ℕ → Tally
+counted_texts t iface engine = record {
+  steps = t.steps + 1;
+  to_iface = t.to_iface + length (parts iface);
+  to_engine = t.to_engine + length (parts engine);
+  shown = (if shows_move iface then t.shown + 1 else t.shown);
+}
+
+-- a step of this event was taken; where it is lawful, it was counted
+pub record Steps (old new : View) (e : Event) (tally_old tally_new : Tally) : Type 0 where
+  pub step : Step
+  pub event : step.event ≡ e
+  pub extends : (o : Settings) (t : List Step) → Lawful o t → Stands o old t → Lawful o (step ∷ t) × Stands o new (step ∷ t)
+  pub tally_is : (o : Settings) (t : List Step) → Lawful o (step ∷ t) → tally_new ≡ counted tally_old step
+  pub few : AreFew tally_new
+
+-- the events were sent, the first one first
+abbrev pub Sent : Progress → Progress → List Event → Type 0
+Sent old new [] = new ≡ old
+Sent old new (e ∷ es) = (between : Progress) × Sends old between e × Sent between new es
+
+-- both sides talk
+abbrev pub talking : Ends
+talking = record { opened = true; iface = false; engine = false; iface_lost = false; engine_lost = false; closed = false }
+
+-- a line of the interface that does not end the session
+abbrev pub IsSpeech : List ℕ → Type 0
+IsSpeech line = (is_line line ≡ true) × (is_quit line ≡ false)
+
+-- the core stands for a lawful trace, and the counts are small
+pub record IsSteady (p : Progress) : Type 0 where
+  pub trace : List Step
+  pub lawful : Lawful usual trace
+  pub stands : Stands usual p.core trace
+  pub few : AreFew p.tally

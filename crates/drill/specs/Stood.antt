@@ -1,0 +1,44 @@
+-- What the parts of a round do.
+use Rattle.std.specs.Prelude.{◌≡◌, ℕ, List, ◌++◌}
+use Rattle.line_io.specs.Event.{Event}
+use Rattle.chess_board.specs.declared.board.Move.{Move}
+use Rattle.drill.specs.declared.round.Drill.{Drill}
+use Rattle.drill.specs.Rounds.{Stand, Draws, Misses, Answers, Round, Rounds, entry, answer_with, moved, hinted}
+use Rattle.drill.specs.Sent.{Sent}
+
+abbrev pub stand_of : Drill → Stand
+stand_of d = record { seed = d.seed; game = d.game; hint = d.hint }
+
+-- a move was drawn for the user, and entered
+pub record UserMoves (old new : Drill) : Type 0 where
+  pub entered : Move
+  pub drawn : Draws (stand_of old) entered
+  pub missed : List Event
+  pub misses : Misses old.hint entered missed
+  pub sent : Sent old.session new.session (entry entered ++ missed)
+  pub stand : stand_of new ≡ moved (stand_of old) entered
+
+-- a hint was drawn, and the engine answered with it
+pub record HintDrawn (old new : Drill) (m : Move) : Type 0 where
+  pub hint : Move
+  pub drawn : Draws (stand_of old) hint
+  pub sent : Sent old.session new.session (answer_with m hint)
+  pub stand : stand_of new ≡ hinted (stand_of old) hint
+
+-- the engine answered, where the game had not ended
+pub record EngineMoves (old new : Drill) : Type 0 where
+  pub answered : List Event
+  pub answers : Answers (stand_of old) answered (stand_of new)
+  pub sent : Sent old.session new.session answered
+
+-- a round was played
+pub record RoundPlayed (old new : Drill) : Type 0 where
+  pub events : List Event
+  pub round : Round (stand_of old) events (stand_of new)
+  pub sent : Sent old.session new.session events
+
+-- so many rounds were played
+pub record RoundsPlayed (n : ℕ) (old new : Drill) : Type 0 where
+  pub events : List Event
+  pub rounds : Rounds n (stand_of old) events (stand_of new)
+  pub sent : Sent old.session new.session events

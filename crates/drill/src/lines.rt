@@ -1,0 +1,35 @@
+// Lines with moves.
+ghost use Rattle.std.specs.Prelude.{◌≡◌, ◌++◌, ◌+◌, ◌≤◌, length, codes};
+ghost use Rattle.chess_board.specs.Text.{IsOfficer, text_of};
+
+use arrayvec::ArrayVec;
+use chess_board::{Move, move_texts_are_short, write_move};
+
+/// A line that a drill sends.
+pub type Line = ArrayVec<u8, 72>;
+
+/// Words, and a move behind them.
+pub fn line_with(words: &[u8], m: Move) -> Line
+    requires officer { IsOfficer m.promo }
+    requires short { length words.now ≤ 48 }
+    ensures text { result.items ≡ words.now ++ text_of m }
+    ensures short { length result.items ≤ length words.now + 5 }
+{
+    move_texts_are_short(m);
+    let mut line = ArrayVec::new();
+    let _ = line.try_extend_from_slice(words);
+    let _ = line.try_extend_from_slice(write_move(m).as_slice());
+    line
+}
+
+/// An answer with a hint.
+pub fn answer_with(best: Move, hint: Move) -> Line
+    requires best { IsOfficer best.promo }
+    requires hint { IsOfficer hint.promo }
+    ensures { result.items ≡ codes "bestmove " ++ (text_of best ++ (codes " ponder " ++ text_of hint)) }
+{
+    let mut line = line_with(b"bestmove ", best);
+    let behind = line_with(b" ponder ", hint);
+    let _ = line.try_extend_from_slice(behind.as_slice());
+    line
+}

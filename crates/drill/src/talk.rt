@@ -1,0 +1,153 @@
+// What is said in a session.
+ghost use Rattle.std.specs.Prelude.{◌≡◌, ◌≤◌, ◌+◌, ◌∷◌, List};
+ghost use Rattle.line_io.specs.Event.{Event as AnyEvent, Open};
+ghost use Rattle.chess_board.specs.Text.{IsOfficer};
+ghost use Rattle.adapter_core.specs.Ends.{at_start};
+ghost use Rattle.drill.specs.Rounds.{Misses, answer, answer_with, closing, entry, greeting, lapsed, new_game, preparation, thinks};
+ghost use Rattle.drill.specs.Sent.{Sends, Sent, talking};
+
+use crate::lines::{answer_with, line_with};
+use crate::session::Session;
+use chess_board::{Move, equal_moves};
+use line_io::Event;
+
+const NO_MOVE: &[u8] = b"bestmove 0000";
+
+impl Session {
+    /// Opens the session, up to the engine's first `readyok`.
+    pub fn greet(&mut self)
+        requires start { self.old.core.ends ≡ at_start }
+        requires few { self.old.tally.steps ≤ 999000 }
+        ensures sent { Sent self.old self.new (Open ∷ greeting) }
+        ensures talking { self.new.core.ends ≡ talking }
+        ensures few { self.new.tally.steps ≤ self.old.tally.steps + 7 }
+    {
+        self.send(&Event::Open);
+        self.iface(b"xboard");
+        self.iface(b"protover 2");
+        self.engine(b"id name Drill");
+        self.engine(b"option name Ponder type check default false");
+        self.engine(b"uciok");
+        self.engine(b"readyok");
+    }
+
+    /// Begins the first game, with thinking shown and the engine pondering.
+    pub fn prepare(&mut self)
+        requires talking { self.old.core.ends ≡ talking }
+        requires few { self.old.tally.steps ≤ 999000 }
+        ensures sent { Sent self.old self.new preparation }
+        ensures talking { self.new.core.ends ≡ talking }
+        ensures few { self.new.tally.steps ≤ self.old.tally.steps + 5 }
+    {
+        self.iface(b"new");
+        self.engine(b"readyok");
+        self.iface(b"post");
+        self.iface(b"hard");
+        self.engine(b"readyok");
+    }
+
+    // Answers a ponder search that is over.
+    fn lapse(&mut self, hint: Option<Move>)
+        requires talking { self.old.core.ends ≡ talking }
+        requires few { self.old.tally.steps ≤ 999900 }
+        ensures sent { Sent self.old self.new (lapsed hint) }
+        ensures talking { self.new.core.ends ≡ talking }
+        ensures few { self.new.tally.steps ≤ self.old.tally.steps + 1 }
+    {
+        if hint.is_none() {
+            return;
+        }
+        self.engine(NO_MOVE);
+    }
+
+    /// Begins a new game, where the engine may ponder on a hint.
+    pub fn begin_game(&mut self, hint: Option<Move>)
+        requires talking { self.old.core.ends ≡ talking }
+        requires few { self.old.tally.steps ≤ 999000 }
+        ensures sent { Sent self.old self.new (new_game hint) }
+        ensures talking { self.new.core.ends ≡ talking }
+        ensures few { self.new.tally.steps ≤ self.old.tally.steps + 3 }
+    {
+        self.iface(b"new");
+        self.lapse(hint);
+        self.engine(b"readyok");
+    }
+
+    /// Enters a move of the user.
+    pub fn enter(&mut self, m: Move)
+        requires officer { IsOfficer m.promo }
+        requires talking { self.old.core.ends ≡ talking }
+        requires few { self.old.tally.steps ≤ 999000 }
+        ensures sent { Sent self.old self.new (entry m) }
+        ensures talking { self.new.core.ends ≡ talking }
+        ensures few { self.new.tally.steps ≤ self.old.tally.steps + 3 }
+    {
+        self.iface(b"time 30000");
+        self.iface(b"otim 30000");
+        self.iface(line_with(b"usermove ", m).as_slice());
+    }
+
+    /// Answers the ponder search of another move than the one that was entered.
+    pub fn miss(&mut self, hint: Option<Move>, m: Move)
+        requires talking { self.old.core.ends ≡ talking }
+        requires few { self.old.tally.steps ≤ 999000 }
+        ensures sent { (es : List AnyEvent) × Misses hint m es × Sent self.old self.new es }
+        ensures talking { self.new.core.ends ≡ talking }
+        ensures few { self.new.tally.steps ≤ self.old.tally.steps + 1 }
+    {
+        let Some(hint) = hint else { return };
+        if equal_moves(hint, m) {
+            return;
+        }
+        self.engine(NO_MOVE);
+    }
+
+    // Tells what the engine thinks of.
+    fn think(&mut self, m: Move)
+        requires officer { IsOfficer m.promo }
+        requires talking { self.old.core.ends ≡ talking }
+        requires few { self.old.tally.steps ≤ 999900 }
+        ensures sends { Sends self.old self.new (thinks m) }
+        ensures talking { self.new.core.ends ≡ talking }
+        ensures few { self.new.tally.steps ≤ self.old.tally.steps + 1 }
+    {
+        self.engine(line_with(b"info depth 1 score cp 0 time 1 nodes 1 pv ", m).as_slice());
+    }
+
+    /// Answers a search with a move.
+    pub fn answer(&mut self, m: Move)
+        requires officer { IsOfficer m.promo }
+        requires talking { self.old.core.ends ≡ talking }
+        requires few { self.old.tally.steps ≤ 999000 }
+        ensures sent { Sent self.old self.new (answer m) }
+        ensures talking { self.new.core.ends ≡ talking }
+        ensures few { self.new.tally.steps ≤ self.old.tally.steps + 2 }
+    {
+        self.think(m);
+        self.engine(line_with(b"bestmove ", m).as_slice());
+    }
+
+    /// Answers a search with a move and a hint.
+    pub fn answer_with(&mut self, m: Move, hint: Move)
+        requires officer { IsOfficer m.promo }
+        requires hint { IsOfficer hint.promo }
+        requires talking { self.old.core.ends ≡ talking }
+        requires few { self.old.tally.steps ≤ 999000 }
+        ensures sent { Sent self.old self.new (answer_with m hint) }
+        ensures talking { self.new.core.ends ≡ talking }
+        ensures few { self.new.tally.steps ≤ self.old.tally.steps + 2 }
+    {
+        self.think(m);
+        self.engine(answer_with(m, hint).as_slice());
+    }
+
+    /// Ends the session.
+    pub fn close(&mut self)
+        requires talking { self.old.core.ends ≡ talking }
+        requires few { self.old.tally.steps ≤ 999000 }
+        ensures sent { Sent self.old self.new closing }
+    {
+        self.send(&Event::Iface(b"quit"));
+        self.send(&Event::EngineEnd);
+    }
+}

@@ -1,0 +1,70 @@
+// What a drill counts.
+ghost use Rattle.std.specs.Prelude.{◌≡◌, ◌≤◌, ◌<◌, ◌+◌, length};
+ghost use Rattle.line_io.specs.Lines.{parts};
+ghost use Rattle.drill.specs.Tally.{nothing};
+ghost use Rattle.drill.specs.Sent.{counted_texts, shows_move};
+
+use line_io::split_line;
+
+/// Steps, lines to both peers, and moves that were shown.
+#[derive(Clone, Copy, Debug, PartialEq, Eq)]
+pub struct Tally {
+    pub steps: u64,
+    pub to_iface: u64,
+    pub to_engine: u64,
+    pub shown: u64,
+}
+
+fn count_lines(text: &[u8]) -> u64
+    requires { length text.now ≤ 131072 }
+    ensures value { result ≡ length (parts text.now) }
+    ensures few { result ≤ 131072 }
+{
+    let mut rest = text;
+    let mut count = 0;
+    while !rest.is_empty() {
+        let (_, after) = split_line(rest);
+        count += 1;
+        rest = after;
+    }
+    count
+}
+
+// A step that shows a move tells it first.
+fn shows_move(iface: &[u8]) -> bool
+    ensures { result ≡ shows_move iface.now }
+{
+    iface.starts_with(b"move ")
+}
+
+impl Tally {
+    /// No step yet.
+    pub fn nothing() -> Tally
+        ensures { result ≡ nothing }
+    {
+        Tally {
+            steps: 0,
+            to_iface: 0,
+            to_engine: 0,
+            shown: 0,
+        }
+    }
+
+    /// Counts a step, by the texts that it wrote to both peers.
+    pub fn count(&mut self, iface: &[u8], engine: &[u8])
+        requires iface { length iface.now ≤ 131072 }
+        requires engine { length engine.now ≤ 131072 }
+        requires few { (self.old.steps < 4294967296) × (self.old.to_iface < 4294967296000000) × (self.old.to_engine < 4294967296000000) × (self.old.shown < 4294967296000000) }
+        ensures counted { self.new ≡ counted_texts self.old iface.now engine.now }
+        ensures to_iface { self.new.to_iface ≤ self.old.to_iface + 131072 }
+        ensures to_engine { self.new.to_engine ≤ self.old.to_engine + 131072 }
+        ensures shown { self.new.shown ≤ self.old.shown + 1 }
+    {
+        self.to_iface += count_lines(iface);
+        self.to_engine += count_lines(engine);
+        self.steps += 1;
+        if shows_move(iface) {
+            self.shown += 1;
+        }
+    }
+}
