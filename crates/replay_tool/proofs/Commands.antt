@@ -11,11 +11,13 @@ use Rattle.std.specs.Io.KnownBytes.{Appends}
 use Rattle.replay_tool.specs.Check.{IsLawfulScript, FindsBadLine, FindsDifference}
 use Rattle.replay_tool.specs.Diagnostics.{verdict}
 use Rattle.replay_tool.specs.Moves.{ListsAll, FindsNoPosition}
-use Rattle.replay_tool.specs.Program.{Counts, AreSame, Does, IsUsage, Tells, FindsFault, ReadsPart, ReadsMuch, WritesFront, WritesItAgain, HasOneDialogue, IsExactCheck, CompletesCheck, CompletesMarked, Completes, TellsFault, CompletesList, RefusesPosition}
+use Rattle.replay_tool.specs.Program.{Counts, AreSame, Does, IsUsage, Tells, FindsFault, ReadsPart, ReadsMuch, WritesFront, WritesItAgain, HasOneDialogue, IsExactCheck, CompletesCheck, CompletesMarked, Completes, TellsFault, CompletesList, CompletesDrill, RefusesPosition}
 use Rattle.replay_tool.specs.Replay.{Streams, ReplaysAll}
 use Rattle.replay_tool.proofs.Answers as ran
 use Rattle.replay_tool.proofs.Verdicts as checked
+use Rattle.replay_tool.specs.Drilled.{DrillsAll}
 use Rattle.replay_tool.proofs.Listing as listing
+use Rattle.replay_tool.proofs.Drilling as drilling
 
 module _ (spelled : Result Placement FenFault) (unread kept silent : Type 0) (start now : Streams) (diag_old diag_new : Option (List ℕ)) (old new : Counts) (code : ℕ) where
   abbrev D : Option Command → Type 0
@@ -41,6 +43,7 @@ module _ (spelled : Result Placement FenFault) (unread kept silent : Type 0) (st
   usage (Some (commands.Replay o)) d = λ f. cc
   usage (Some (commands.Check o)) d = λ f. cc
   usage (Some commands.Moves) d = λ f. cc
+  usage (Some (commands.Drill number count)) d = λ f. cc
 
   as_replay : (o : Settings) (command : Option Command) → D command → command ≡ Some (commands.Replay o) → D (Some (commands.Replay o))
   as_replay o command d e = subst D e d
@@ -58,24 +61,28 @@ module _ (spelled : Result Placement FenFault) (unread kept silent : Type 0) (st
   memory None d z = absurd (not_usage 3 d.2 z (λ e. cc) (λ e. cc))
   memory (Some (commands.Replay o)) d z = ran.memory o (unread × kept) start now diag_old diag_new old new code d z
   memory (Some (commands.Check o)) d z = checked.memory o unread kept start now diag_old diag_new old new code d z
+  memory (Some (commands.Drill number count)) d z = (d.0, drilling.wants _ _ _ _ _ _ _ _ _ _ _ _ _ d.1 z)
   memory (Some commands.Moves) d z = (d.0, listing.wants _ _ _ _ _ _ _ _ _ _ _ _ d.1 z)
 
   pub reading : (command : Option Command) → D command → code ≡ 4 → Rose old.read new.read × ReadsPart command kept start now
   reading None d z = absurd (not_usage 4 d.2 z (λ e. cc) (λ e. cc))
   reading (Some (commands.Replay o)) d z = ran.reading o (unread × kept) start now diag_old diag_new old new code d z
   reading (Some (commands.Check o)) d z = checked.reading o unread kept start now diag_old diag_new old new code d z
+  reading (Some (commands.Drill number count)) d z = absurd (drilling.not_reading _ _ _ _ _ _ _ _ _ _ _ _ _ d.1 z)
   reading (Some commands.Moves) d z = absurd (listing.not_reading _ _ _ _ _ _ _ _ _ _ _ _ d.1 z)
 
   pub too_long : (command : Option Command) → D command → code ≡ 6 → ReadsMuch command kept start now
   too_long None d z = absurd (not_usage 6 d.2 z (λ e. cc) (λ e. cc))
   too_long (Some (commands.Replay o)) d z = ran.too_long o (unread × kept) start now diag_old diag_new old new code d z
   too_long (Some (commands.Check o)) d z = checked.too_long o unread kept start now diag_old diag_new old new code d z
+  too_long (Some (commands.Drill number count)) d z = absurd (drilling.not_long _ _ _ _ _ _ _ _ _ _ _ _ _ d.1 z)
   too_long (Some commands.Moves) d z = absurd (listing.not_long _ _ _ _ _ _ _ _ _ _ _ _ d.1 z)
 
   pub writing : (command : Option Command) → D command → code ≡ 5 → (Rose old.written new.written ⊎ Rose old.told new.told) × WritesFront command spelled unread kept start now
   writing None d z = (inr (usage_rose d.2 z), (d.0, d.1))
   writing (Some (commands.Replay o)) d z = ran.writing o (unread × kept) start now diag_old diag_new old new code d z
   writing (Some (commands.Check o)) d z = checked.writing o unread kept start now diag_old diag_new old new code d z
+  writing (Some (commands.Drill number count)) d z = let f = drilling.front _ _ _ _ _ _ _ _ _ _ _ _ _ d.1 z in (f.0, (d.0, f.1))
   writing (Some commands.Moves) d z = let f = listing.front _ _ _ _ _ _ _ _ _ _ _ _ d.1 z in (f.0, (d.0, f.1))
 
   pub complete : (command : Option Command) → D command → (o : Settings) → command ≡ Some (commands.Replay o) → Completes code start.left old new
@@ -122,3 +129,12 @@ module _ (spelled : Result Placement FenFault) (unread kept silent : Type 0) (st
 
   pub moves_unread : (command : Option Command) → D command → command ≡ Some commands.Moves → unread
   moves_unread command d e = (as_moves command d e).0
+
+  as_drill : (number count : ℕ) (command : Option Command) → D command → command ≡ Some (commands.Drill number count) → D (Some (commands.Drill number count))
+  as_drill number count command d e = subst D e d
+
+  pub drill_done : (command : Option Command) → D command → (number count : ℕ) → command ≡ Some (commands.Drill number count) → code ≡ 0 → unread × silent × (new.written ≡ old.written) × DrillsAll number count start.taken now.taken
+  drill_done command d number count e z = let m = as_drill number count command d e in let l = drilling.all _ _ _ _ _ _ _ _ _ _ _ _ _ m.1 z in (m.0, l.0, l.1, l.2)
+
+  pub drill_complete : (command : Option Command) → D command → (number count : ℕ) → command ≡ Some (commands.Drill number count) → unread × CompletesDrill code old new
+  drill_complete command d number count e = let m = as_drill number count command d e in (m.0, λ steady. drilling.complete _ _ _ _ _ _ _ _ _ _ _ _ _ m.1 steady.written steady.told)

@@ -14,3 +14,5 @@ mod Audits
 mod Verdicts
 mod Replayed
 mod Ended
+pub mod Tells
+pub mod Drilling

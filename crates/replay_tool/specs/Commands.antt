@@ -1,30 +1,42 @@
 -- What the words of the program command.
-use Rattle.std.specs.Prelude.{ℕ, List, [], ◌∷◌, length, ◌&&◌, if◌then◌else◌, nat_lt, codes, Option, Some, None, Vec, vec_items, map}
+use Rattle.std.specs.Prelude.{ℕ, ◌≤◌, List, [], ◌∷◌, length, ◌&&◌, if◌then◌else◌, nat_lt, codes, Option, Some, None, Vec, vec_items, map}
 use Rattle.std.specs.Option.{option_map}
 use Rattle.std.specs.Str.{bytes_eq}
 use Rattle.replay_tool.specs.declared.command.Command.{Command}
 use Rattle.replay_tool.specs.declared.command.Command.TheVariants as commands
 use Rattle.policy_rules.specs.Policy.{IsProper}
-use Rattle.replay_tool.specs.Words.{settings_of}
+use Rattle.replay_tool.specs.Words.{number_of, settings_of}
 
 -- the bytes of words
 abbrev pub texts : {Z : Type 0} → List (Vec ℕ Z) → List (List ℕ)
 texts words = map vec_items words
 
--- the command of this name with these words: settings stand behind `replay` and `check`, and one or more words behind `moves`
+abbrev pub drill_by : Option ℕ → Option ℕ → Option Command
+drill_by (Some number) (Some count) = Some (commands.Drill number count)
+drill_by number count = None
+
+-- a number below 2^31 and a count up to 100,000
+abbrev pub drill_of : List (List ℕ) → Option Command
+drill_of (number ∷ count ∷ []) = drill_by (number_of 10 0 2147483647 number) (number_of 10 0 100000 count)
+drill_of words = None
+
+-- the command of this name with these words: settings stand behind `replay` and `check`, one or more words behind `moves`, and two numbers
+-- behind `drill`
 abbrev pub command_named : List ℕ → List (List ℕ) → Option Command
 command_named name words =
     if bytes_eq name (codes "replay") then option_map (λ s. commands.Replay s) (settings_of words)
     else (if bytes_eq name (codes "check") then option_map (λ s. commands.Check s) (settings_of words)
-    else (if bytes_eq name (codes "moves") && nat_lt 0 (length words) then Some commands.Moves else None))
+    else (if bytes_eq name (codes "drill") then drill_of words
+    else (if bytes_eq name (codes "moves") && nat_lt 0 (length words) then Some commands.Moves else None)))
 
 -- the command of the words, where they fit one
 abbrev pub command_of : List (List ℕ) → Option Command
 command_of [] = None
 command_of (name ∷ words) = command_named name words
 
--- the settings of a command are within their ranges
+-- the settings and the count of a command are within their ranges
 abbrev pub HasProper : Command → Type 0
 HasProper (commands.Replay s) = IsProper s
 HasProper (commands.Check s) = IsProper s
+HasProper (commands.Drill number count) = count ≤ 100000
 HasProper command = Unit {0}

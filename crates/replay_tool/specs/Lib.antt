@@ -1,6 +1,7 @@
 pub mod Check
 pub mod Commands
 pub mod Diagnostics
+pub mod Drilled
 pub mod Moves
 pub mod Program
 pub mod Reading

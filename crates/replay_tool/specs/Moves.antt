@@ -1,13 +1,12 @@
 -- What the command `moves` does.
-use Rattle.std.specs.Prelude.{◌≡◌, ◌⊎◌, ◌↔◌, ℕ, List, [], ◌∷◌, ◌++◌, codes, Option, Result, Ok, Err, Contains, AllPairs}
+use Rattle.std.specs.Prelude.{◌≡◌, ◌⊎◌, ℕ, List, [], ◌∷◌, ◌++◌, codes, Option, Result, Ok, Err}
 use Rattle.std.specs.List.{join_with_byte}
 use Rattle.std.specs.Io.KnownBytes.{Appends}
 use Rattle.line_io.specs.Causes.{Rose}
 use Rattle.line_io.specs.Source.{TakesPrefix}
 use Rattle.chess_board.specs.declared.board.Move.{Move}
 use Rattle.chess_board.specs.Placement.{Placement}
-use Rattle.chess_board.specs.Laws.{IsLegal}
-use Rattle.chess_board.specs.Text.{text_of, ComesBefore}
+use Rattle.chess_board.specs.Text.{text_of, AreLegalMoves}
 use Rattle.fen_text.specs.declared.fault.FenFault.{FenFault}
 use Rattle.fen_text.specs.declared.fault.FenFault.TheVariants as fens
 use Rattle.replay_tool.specs.declared.ending.Ending.TheVariants as endings
@@ -27,11 +26,6 @@ fen_of (command ∷ words) = join_with_byte 32 words
 abbrev pub move_lines : List Move → List ℕ
 move_lines [] = []
 move_lines (m ∷ moves) = one_line (text_of m) ++ move_lines moves
-
--- exactly the legal moves, each once, in the byte order of their texts
-pub record AreLegalMoves (p : Placement) (moves : List Move) : Type 0 where
-  pub each : (m : Move) → Contains moves m ↔ IsLegal p m.from.index m.to.index m.promo
-  pub ordered : AllPairs ComesBefore moves
 
 -- the diagnostic of a text that spells no position: its first field that spells nothing
 abbrev pub position_fault : FenFault → List ℕ

@@ -18,6 +18,7 @@ use Rattle.adapter_core.specs.Stands.{IsOneDialogue}
 use Rattle.session_script.specs.Script.{script}
 use Rattle.replay_tool.specs.Check.{AreScript, BeginsWhole, BeginsMuch, ChecksAs, WritesPart}
 use Rattle.replay_tool.specs.Moves.{Listed, ListsFront, position_fault}
+use Rattle.replay_tool.specs.Drilled.{Drilled, DrillsFront}
 use Rattle.replay_tool.specs.Replay.{Streams, Stopped, ReplaysTo, ReplaysWhole, ReplaysMuch, CutShort}
 
 -- the counts of faults of the input, the output and the diagnostic
@@ -57,10 +58,12 @@ pub record Ran (Ends : Ending → Type 0) (code : ℕ) (diag_old diag_new : Opti
   pub read : ending ≢ endings.ReadingFailed → ending ≢ endings.WritingFailed → new.read ≡ old.read
   pub written : ending ≢ endings.WritingFailed → new.written ≡ old.written
 
--- What the command came to. A list of moves reads nothing; `spelled` is what the words behind the command spell as a position.
+-- What the command came to. A list of moves and a drill read nothing; `spelled` is what the words behind the command spell as a position.
 abbrev pub Does : Option Command → Result Placement FenFault → Type 0 → Type 0 → Type 0 → ℕ → Streams → Streams → Option (List ℕ) → Option (List ℕ) → Counts → Counts → Type 0
 Does (Some commands.Moves) spelled unread kept silent code start now diag_old diag_new old new =
     unread × Listed spelled kept silent code start.taken now.taken diag_old diag_new old.written new.written old.told new.told
+Does (Some (commands.Drill number count)) spelled unread kept silent code start now diag_old diag_new old new =
+    unread × Drilled number count kept silent code start.taken now.taken diag_old diag_new old.written new.written old.told new.told
 Does (Some (commands.Replay o)) spelled unread kept silent code start now diag_old diag_new old new = Ran (λ e. EndsAs o (unread × kept) e start now) code diag_old diag_new old new
 Does (Some (commands.Check o)) spelled unread kept silent code start now diag_old diag_new old new = Ran (λ e. ChecksAs o unread kept e start now) code diag_old diag_new old new
 Does None spelled unread kept silent code start now diag_old diag_new old new = unread × kept × Tells code endings.Usage diag_old diag_new old new
@@ -105,6 +108,7 @@ TellsFault code left diag_old diag_new old new = (x : List ℕ) (fault : Ending)
 -- The output is untouched, or took a front of what was due.
 abbrev pub WritesFront : Option Command → Result Placement FenFault → Type 0 → Type 0 → Streams → Streams → Type 0
 WritesFront (Some commands.Moves) spelled unread kept start now = unread × (kept ⊎ ListsFront spelled start.taken now.taken)
+WritesFront (Some (commands.Drill number count)) spelled unread kept start now = unread × (kept ⊎ DrillsFront number count start.taken now.taken)
 WritesFront (Some (commands.Replay o)) spelled unread kept start now = (unread × kept) ⊎ CutShort o start now
 WritesFront (Some (commands.Check o)) spelled unread kept start now = (unread × kept) ⊎ WritesPart o start now
 WritesFront None spelled unread kept start now = unread × kept
@@ -112,6 +116,10 @@ WritesFront None spelled unread kept start now = unread × kept
 -- the moves of a position that is spelled are written, or there was no memory
 abbrev pub CompletesList : Result Placement FenFault → ℕ → Counts → Counts → Type 0
 CompletesList spelled code old new = IsOk spelled → IsSteady old new → (code ≡ 0) ⊎ (code ≡ 3)
+
+-- the drill is played and its line is written, or there was no memory
+abbrev pub CompletesDrill : ℕ → Counts → Counts → Type 0
+CompletesDrill code old new = IsSteady old new → (code ≡ 0) ⊎ (code ≡ 3)
 
 -- the fault of a text that spells no position is told, or there was no memory
 abbrev pub RefusesPosition : Result Placement FenFault → ℕ → Option (List ℕ) → Option (List ℕ) → Counts → Counts → Type 0

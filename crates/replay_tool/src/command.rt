@@ -1,8 +1,8 @@
 // The commands of the program.
 ghost use Rattle.std.specs.Prelude.{◌≡◌, IfSome};
-ghost use Rattle.replay_tool.specs.Commands.{HasProper, command_of, command_named, texts};
+ghost use Rattle.replay_tool.specs.Commands.{HasProper, command_of, command_named, drill_of, texts};
 
-use crate::settings::read_settings;
+use crate::settings::{read_number, read_settings};
 use policy_rules::Settings;
 
 /// What the words of the program command.
@@ -12,8 +12,23 @@ pub enum Command {
     Replay(Settings),
     /// Compares the input with the lawful script of its events.
     Check(Settings),
+    /// Plays the drill of a number, with so many rounds.
+    Drill { number: u32, count: u32 },
     /// Lists the legal moves of the position that the words behind the first spell.
     Moves,
+}
+
+fn read_drill(words: &[Vec<u8>]) -> Option<Command>
+    ensures value { result ≡ drill_of (texts words.now) }
+    ensures proper { IfSome result (λ command. HasProper command) }
+{
+    let [number, count] = words else {
+        return None;
+    };
+    Some(Command::Drill {
+        number: read_number(number.as_slice(), 10, 0, 2_147_483_647)?,
+        count: read_number(count.as_slice(), 10, 0, 100_000)?,
+    })
 }
 
 fn read_named(name: &[u8], words: &[Vec<u8>]) -> Option<Command>
@@ -24,6 +39,8 @@ fn read_named(name: &[u8], words: &[Vec<u8>]) -> Option<Command>
         Some(Command::Replay(read_settings(words)?))
     } else if name == b"check".as_slice() {
         Some(Command::Check(read_settings(words)?))
+    } else if name == b"drill".as_slice() {
+        read_drill(words)
     } else if name == b"moves".as_slice() && !words.is_empty() {
         Some(Command::Moves)
     } else {

@@ -1,4 +1,4 @@
-//! Replays and checks recorded sessions, and lists legal moves.
+//! Replays and checks recorded sessions, lists legal moves, and plays drills.
 #![tactic(auto)]
 
 mod check;
@@ -7,6 +7,7 @@ mod due;
 mod ending;
 mod limits;
 mod moves;
+mod play;
 mod replay;
 mod run;
 mod settings;

@@ -80,8 +80,8 @@ fn put_moves(moves: &[Move], out: &mut Out)
     }
 }
 
-// Writes a diagnostic, and gives the status.
-fn tell<D: Sink>(text: &[u8], status: u8, diag: &mut D) -> Status
+/// Writes a diagnostic, and gives the status.
+pub fn tell<D: Sink>(text: &[u8], status: u8, diag: &mut D) -> Status
     ensures { Told result.code status text.now (D.taken diag.old) (D.taken diag.new) (D.faults diag.old) (D.faults diag.new) }
 {
     match write_all(diag, text) {
@@ -90,8 +90,8 @@ fn tell<D: Sink>(text: &[u8], status: u8, diag: &mut D) -> Status
     }
 }
 
-// Writes lines to the output, and tells where that failed.
-fn write_lines<O: Sink, D: Sink>(lines: &[u8], output: &mut O, diag: &mut D) -> Status
+/// Writes lines to the output, and tells where that failed.
+pub fn write_lines<O: Sink, D: Sink>(lines: &[u8], output: &mut O, diag: &mut D) -> Status
     ensures { Writes lines.now (diag.new ≡ diag.old) result.code (O.taken output.old) (O.taken output.new) (D.taken diag.old) (D.taken diag.new)
         (O.faults output.old) (O.faults output.new) (D.faults diag.old) (D.faults diag.new) }
 {

@@ -9,8 +9,9 @@ ghost use Rattle.fen_text.specs.Fen.{position_of};
 ghost use Rattle.replay_tool.specs.declared.command.Command.TheVariants as commands;
 ghost use Rattle.replay_tool.specs.declared.ending.Ending.TheVariants as endings;
 ghost use Rattle.replay_tool.specs.Commands.{command_of, texts};
+ghost use Rattle.replay_tool.specs.Drilled.{DrillsAll};
 ghost use Rattle.replay_tool.specs.Moves.{fen_of, FindsNoPosition, ListsAll};
-ghost use Rattle.replay_tool.specs.Program.{AreSame, counts, Completes, CompletesCheck, CompletesMarked, EndsAs, IsExactCheck, CompletesList, Does, FindsFault, IsUsage, Ran, ReadsMuch, ReadsPart, RefusesPosition, status_of, Tells, TellsFault, HasOneDialogue, WritesFront, WritesItAgain};
+ghost use Rattle.replay_tool.specs.Program.{AreSame, counts, Completes, CompletesCheck, CompletesMarked, EndsAs, IsExactCheck, CompletesDrill, CompletesList, Does, FindsFault, IsUsage, Ran, ReadsMuch, ReadsPart, RefusesPosition, status_of, Tells, TellsFault, HasOneDialogue, WritesFront, WritesItAgain};
 ghost use Rattle.adapter_core.specs.Stands.{IsOneDialogue};
 ghost use Rattle.replay_tool.specs.Check.{ChecksAs, FindsBadLine, FindsDifference, IsLawfulScript};
 ghost use Rattle.replay_tool.specs.Diagnostics.{verdict};
@@ -21,6 +22,7 @@ use crate::check::Audit;
 use crate::command::{Command, read_command};
 use crate::ending::{Ending, tell, write_verdict};
 use crate::moves::list_moves;
+use crate::play::play_drill;
 use crate::run::Run;
 use adapter_core::one_dialogue;
 use line_io::{NoMemory, Out, Sink, Source, Status, write_all};
@@ -116,6 +118,7 @@ fn run_words<I: Source, O: Sink, D: Sink>(
     match read_command(words) {
         Some(Command::Replay(settings)) => run_replay(alloc, &settings, input, output, diag),
         Some(Command::Check(settings)) => run_check(alloc, &settings, input, output, diag),
+        Some(Command::Drill { number, count }) => play_drill(alloc, number, count, output, diag),
         Some(Command::Moves) => list_moves(alloc, words, output, diag),
         None => refuse_words(diag),
     }
@@ -130,7 +133,9 @@ fn run_words<I: Source, O: Sink, D: Sink>(
 /// script of a lawful session, else the first line that differs, with status 1. The
 /// word `moves` joins the words behind it by blanks, as the
 /// text of a position (PGN standard, section 16.1), and writes its legal moves, one a line, in the
-/// byte order of their texts; it reads no input. The statuses are 0; 2 where the words are others,
+/// byte order of their texts; it reads no input. The word `drill` with a number below 2^31 and a count up
+/// to 100,000 plays that many rounds of drawn moves in one session and writes a line with what it counted;
+/// it reads no input either. The statuses are 0; 2 where the words are others,
 /// where a line of the input has no mark or its event may not come, or where the text spells no
 /// position; 3 where there is no memory at the beginning; 4 and 5 where reading and writing
 /// failed; and 6 where the input is too long.
@@ -180,6 +185,10 @@ pub fn replay_main<I: Source, O: Sink, D: Sink>(
     ensures moves_complete { command_of (texts words.now) ≡ Some commands.Moves → CompletesList (position_of (fen_of (texts words.now))) result.code (counts (I.faults input.old) (O.faults output.old) (D.faults diag.old)) (counts (I.faults input.new) (O.faults output.new) (D.faults diag.new)) }
     ensures moves_refused { command_of (texts words.now) ≡ Some commands.Moves → RefusesPosition (position_of (fen_of (texts words.now))) result.code (D.taken diag.old) (D.taken diag.new) (counts (I.faults input.old) (O.faults output.old) (D.faults diag.old)) (counts (I.faults input.new) (O.faults output.new) (D.faults diag.new)) }
     ensures moves_read_nothing { command_of (texts words.now) ≡ Some commands.Moves → input.new ≡ input.old }
+    ensures drill_done { (number count : ℕ) → command_of (texts words.now) ≡ Some (commands.Drill number count) → result.code ≡ 0
+        → (input.new ≡ input.old) × (diag.new ≡ diag.old) × (O.faults output.new ≡ O.faults output.old) × DrillsAll number count (O.taken output.old) (O.taken output.new) }
+    ensures drill_complete { (number count : ℕ) → command_of (texts words.now) ≡ Some (commands.Drill number count)
+        → (input.new ≡ input.old) × CompletesDrill result.code (counts (I.faults input.old) (O.faults output.old) (D.faults diag.old)) (counts (I.faults input.new) (O.faults output.new) (D.faults diag.new)) }
 {
     run_words(alloc, words, input, output, diag)
 }

@@ -135,10 +135,13 @@ const PROMOTIONS: &str = "e1d1\ne1d2\ne1e2\ne1f1\ne1f2\ne7e8b\ne7e8n\ne7e8q\ne7e
 
 const QUIT: &str = "U uci\nx quit\nU quit\n";
 
+const NO_ROUND: &str =
+    "drill 1 0: 13 events, 18 lines to the interface, 8 lines to the engine, 0 moves shown, rnbqkbnr/pppppppp/8/8/8/8/PPPPPPPP/RNBQKBNR w KQkq - 0 1\n";
+
 const USAGE: &str = "replay: usage\n";
 
 // Words, the status, the output and the diagnostic.
-const ANSWERS: [(&str, u8, &str, &str); 24] = [
+const ANSWERS: [(&str, u8, &str, &str); 32] = [
     ("moves|7k/4P3/8/8/8/8/8/4K3|w|-|-|0|1", 0, PROMOTIONS, ""),
     ("moves|7k/4P3/8/8/8/8/8/4K3 w - - 0 1", 0, PROMOTIONS, ""),
     // Mate.
@@ -174,6 +177,15 @@ const ANSWERS: [(&str, u8, &str, &str); 24] = [
     ("replay|LogFile=log", 2, "", USAGE),
     ("replay|", 2, "", USAGE),
     ("Replay", 2, "", USAGE),
+    ("drill|1|0", 0, NO_ROUND, ""),
+    // Numbers may begin with zeros, and the line has none.
+    ("drill|0000000001|00", 0, NO_ROUND, ""),
+    ("drill|2147483648|0", 2, "", USAGE),
+    ("drill|00000000001|0", 2, "", USAGE),
+    ("drill|1|100001", 2, "", USAGE),
+    ("drill|1", 2, "", USAGE),
+    ("drill|1|0|0", 2, "", USAGE),
+    ("drill|-1|0", 2, "", USAGE),
 ];
 
 #[test]
@@ -186,6 +198,9 @@ fn words_are_answered(rt: HostRuntime) -> Result<(), Fail> {
         assert_eq!(rt; told.as_slice(), fault.as_bytes(), "of {words}");
     }
     let (status, _, told) = answered(alloc, "moves|4k3/8/8/8/8/8/8/4K3|w|-|-", "", &[1])?;
+    assert_eq!(rt; status, 5);
+    assert_eq!(rt; told.as_slice(), b"replay: writing failed\n".as_slice());
+    let (status, _, told) = answered(alloc, "drill|1|0", "", &[1])?;
     assert_eq!(rt; status, 5);
     assert_eq!(rt; told.as_slice(), b"replay: writing failed\n".as_slice());
     Ok(())

@@ -6,6 +6,8 @@ mod analysis;
 #[cfg(test)]
 mod checks;
 #[cfg(test)]
+mod drills;
+#[cfg(test)]
 mod moves;
 #[cfg(test)]
 mod pondering;

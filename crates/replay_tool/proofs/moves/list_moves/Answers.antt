@@ -1,6 +1,6 @@
 use Rattle.std.proofs.Common.{refl}
 use Rattle.replay_tool.specs.Moves.{WantsMemory}
-use Rattle.replay_tool.proofs.Listing.{told_as}
+use Rattle.replay_tool.proofs.Tells.{told_as}
 use Rattle.replay_tool.proofs.moves.list_moves.Goals as goal
 
 pub returns-in-Err : goal.returns-in-Err

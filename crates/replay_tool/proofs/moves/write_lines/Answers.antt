@@ -1,5 +1,5 @@
 use Rattle.std.proofs.Common.{refl, inl, inr}
-use Rattle.replay_tool.proofs.Listing.{told_as}
+use Rattle.replay_tool.proofs.Tells.{told_as}
 use Rattle.replay_tool.proofs.moves.write_lines.Goals as goal
 
 pub returns-in-Ok : goal.returns-in-Ok

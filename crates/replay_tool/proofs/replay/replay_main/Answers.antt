@@ -63,3 +63,9 @@ returns-clause-again g c = does.again _ _ _ _ _ _ _ _ _ _ _ _ c.run_words.ensure
 
 pub returns-clause-check_marked : goal.returns-clause-check_marked
 returns-clause-check_marked g c = does.check_marked _ _ _ _ _ _ _ _ _ _ _ _ c.run_words.ensures.does
+
+pub returns-clause-drill_done : goal.returns-clause-drill_done
+returns-clause-drill_done g c = does.drill_done _ _ _ _ _ _ _ _ _ _ _ _ c.run_words.ensures.does
+
+pub returns-clause-drill_complete : goal.returns-clause-drill_complete
+returns-clause-drill_complete g c = does.drill_complete _ _ _ _ _ _ _ _ _ _ _ _ c.run_words.ensures.does

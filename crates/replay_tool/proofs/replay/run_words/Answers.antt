@@ -32,3 +32,10 @@ returns-in-Some-Moves-clause-one g c = subst HasOneDialogue (sym (sym c.read_com
 
 pub returns-in-None-clause-one : goal.returns-in-None-clause-one
 returns-in-None-clause-one g c = subst HasOneDialogue (sym (sym c.read_command.ensures.value ∙ c.in-None.is)) tt
+
+pub returns-in-Some-Drill-clause-does : goal.returns-in-Some-Drill-clause-does
+returns-in-Some-Drill-clause-does g c =
+    is_done _ _ _ _ _ _ _ _ _ _ _ _ _ (sym c.read_command.ensures.value ∙ c.in-Some-Drill.is ∙ ap (λ (k : Command). Some k) c.in-Some-Drill.field-0-is) (refl, c.play_drill.ensures)
+
+pub returns-in-Some-Drill-clause-one : goal.returns-in-Some-Drill-clause-one
+returns-in-Some-Drill-clause-one g c = subst HasOneDialogue (sym (sym c.read_command.ensures.value ∙ c.in-Some-Drill.is ∙ ap (λ (k : Command). Some k) c.in-Some-Drill.field-0-is)) tt

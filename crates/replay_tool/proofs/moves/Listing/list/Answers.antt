@@ -1,6 +1,6 @@
 use Rattle.std.proofs.Common.{refl}
 use Rattle.replay_tool.specs.Moves.{Refuses, Lists}
-use Rattle.replay_tool.proofs.Listing.{told_as}
+use Rattle.replay_tool.proofs.Tells.{told_as}
 use Rattle.replay_tool.proofs.moves.Listing.list.Goals as goal
 
 pub returns-in-Err : goal.returns-in-Err
