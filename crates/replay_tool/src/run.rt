@@ -1,5 +1,5 @@
 // A run of the command `replay`.
-ghost use Rattle.std.specs.Prelude.{◌≡◌, ℕ, ◌+◌, ◌≤◌, ◌<◌, ◌++◌, length, [], Option, List, Some, None, IfOk, OnOk, OnErr, true, false};
+ghost use Rattle.std.specs.Prelude.{◌≡◌, ◌⊎◌, ℕ, ◌+◌, ◌≤◌, ◌<◌, ◌++◌, length, [], Option, List, Some, None, IfOk, OnOk, OnErr, true, false};
 ghost use Rattle.std.specs.Io.KnownBytes.{Appends};
 ghost use Rattle.line_io.specs.Event.{event_of};
 ghost use Rattle.line_io.specs.Causes.{HasCause, Rose};
@@ -135,6 +135,7 @@ impl Run {
         ensures turned { (o : SpecSettings) (start : Streams) (calls : ℕ)
             → Reached o self.old start (streams (I.given input.old) (I.left input.old) (O.taken output.old)) calls
             → Turned o result self.new start (streams (I.given input.new) (I.left input.new) (O.taken output.new)) calls }
+        ensures written { result ≢ Some endings.WritingFailed → IsReady self.old.lines ⊎ Appends (O.taken output.old) (O.taken output.new) self.old.text.text }
         ensures causes { Causes result (I.faults input.old) (I.faults input.new) (O.faults output.old) (O.faults output.new) }
         ensures idle { IsReady self.old.lines → result ≡ None → weight self.new.lines + flag self.old.lines.ended + 1 ≤ weight self.old.lines + flag self.new.lines.ended }
         ensures number { self.new.number ≤ self.old.number + 1 }
@@ -151,7 +152,8 @@ impl Run {
 
     // The output is to be written: a read may wait, or a step may not fit.
     fn is_due(&self) -> bool
-        ensures { result ≡ false → length self.now.text.text + 2097152 ≤ self.now.text.room }
+        ensures room { result ≡ false → length self.now.text.text + 2097152 ≤ self.now.text.room }
+        ensures ready { result ≡ false → IsReady self.now.lines }
     {
         !self.lines.is_ready() || self.text.spare() < STEP_ROOM
     }
