@@ -4,3 +4,6 @@
 mod script;
 
 pub use script::{put_step, put_written};
+
+#[cfg(test)]
+mod tests;
