@@ -61,6 +61,10 @@ Sent old new (e ∷ es) = (between : Progress) × Sends old between e × Sent be
 abbrev pub talking : Ends
 talking = record { opened = true; iface = false; engine = false; iface_lost = false; engine_lost = false; closed = false }
 
+-- so many steps more may be counted
+abbrev pub HasRoom : ℕ → Progress → Type 0
+HasRoom n p = p.tally.steps + n ≤ 1000000
+
 -- a line of the interface that does not end the session
 abbrev pub IsSpeech : List ℕ → Type 0
 IsSpeech line = (is_line line ≡ true) × (is_quit line ≡ false)

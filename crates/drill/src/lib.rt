@@ -12,3 +12,6 @@ mod tally;
 
 pub use laws::drills_are_one;
 pub use run::drill_line;
+
+#[cfg(test)]
+mod tests;

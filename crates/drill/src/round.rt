@@ -10,7 +10,7 @@ ghost use Rattle.adapter_core.specs.Stands.{Stands};
 ghost use Rattle.desk_rules.specs.Desk.{has_ended};
 ghost use Rattle.drill.specs.Generator.{next};
 ghost use Rattle.drill.specs.Rounds.{Draws, is_spent, new_game, renewal, renewed, starting, ponders};
-ghost use Rattle.drill.specs.Sent.{Sent, talking};
+ghost use Rattle.drill.specs.Sent.{HasRoom, Sent, talking};
 ghost use Rattle.drill.specs.Tally.{nothing};
 ghost use Rattle.drill.specs.Stood.{stand_of, EngineMoves, HintDrawn, RoundPlayed, RoundsPlayed, UserMoves};
 
@@ -69,7 +69,7 @@ impl Drill {
     // Begins a new game where one is due.
     fn renew(&mut self)
         requires talking { self.old.session.core.ends ≡ talking }
-        requires few { self.old.session.tally.steps ≤ 999000 }
+        requires room { HasRoom 3 self.old.session }
         ensures sent { Sent self.old.session self.new.session (renewal (stand_of self.old)) }
         ensures stand { stand_of self.new ≡ renewed (stand_of self.old) }
         ensures open { is_spent self.new.game ≡ false }
@@ -84,7 +84,7 @@ impl Drill {
 
     fn begin_anew(&mut self)
         requires talking { self.old.session.core.ends ≡ talking }
-        requires few { self.old.session.tally.steps ≤ 999000 }
+        requires room { HasRoom 3 self.old.session }
         ensures sent { Sent self.old.session self.new.session (new_game self.old.hint) }
         ensures stand { stand_of self.new ≡ starting self.old.seed }
         ensures talking { self.new.session.core.ends ≡ talking }
@@ -111,7 +111,7 @@ impl Drill {
     // Plays a move in the game of the drill.
     fn play(&mut self, m: Move)
         requires legal { IsLegal (now_of self.old.game) m.from.index m.to.index m.promo }
-        requires room { length self.old.game.moves < 12000 }
+        requires plies { length self.old.game.moves < 12000 }
         ensures { self.new ≡ record self.old { game = with_ply self.old.game (ply_of m) } }
     {
         let _ = self.game.push(m);
@@ -120,12 +120,12 @@ impl Drill {
     // Draws and enters a move of the user.
     fn move_user(&mut self)
         requires open { has_ended self.old.game ≡ false }
-        requires room { length self.old.game.moves < 10000 }
+        requires plies { length self.old.game.moves < 10000 }
         requires talking { self.old.session.core.ends ≡ talking }
-        requires few { self.old.session.tally.steps ≤ 998000 }
+        requires room { HasRoom 4 self.old.session }
         ensures moves { UserMoves self.old self.new }
         ensures quiet { self.new.hint ≡ None }
-        ensures room { length self.new.game.moves < 11000 }
+        ensures plies { length self.new.game.moves < 11000 }
         ensures talking { self.new.session.core.ends ≡ talking }
         ensures few { self.new.session.tally.steps ≤ self.old.session.tally.steps + 4 }
     {
@@ -139,9 +139,9 @@ impl Drill {
     // Draws and answers with a move of the engine, where the game has not ended.
     fn move_engine(&mut self)
         requires quiet { self.old.hint ≡ None }
-        requires room { length self.old.game.moves < 11000 }
+        requires plies { length self.old.game.moves < 11000 }
         requires talking { self.old.session.core.ends ≡ talking }
-        requires few { self.old.session.tally.steps ≤ 998000 }
+        requires room { HasRoom 2 self.old.session }
         ensures moves { EngineMoves self.old self.new }
         ensures talking { self.new.session.core.ends ≡ talking }
         ensures few { self.new.session.tally.steps ≤ self.old.session.tally.steps + 2 }
@@ -163,7 +163,7 @@ impl Drill {
         requires officer { IsOfficer m.promo }
         requires legal { HasLegal (now_of self.old.game) }
         requires talking { self.old.session.core.ends ≡ talking }
-        requires few { self.old.session.tally.steps ≤ 999000 }
+        requires room { HasRoom 2 self.old.session }
         ensures moves { HintDrawn self.old self.new m }
         ensures talking { self.new.session.core.ends ≡ talking }
         ensures few { self.new.session.tally.steps ≤ self.old.session.tally.steps + 2 }
@@ -176,7 +176,7 @@ impl Drill {
     // One round.
     fn round(&mut self)
         requires talking { self.old.session.core.ends ≡ talking }
-        requires few { self.old.session.tally.steps ≤ 990000 }
+        requires room { HasRoom 9 self.old.session }
         ensures round { RoundPlayed self.old self.new }
         ensures talking { self.new.session.core.ends ≡ talking }
         ensures few { self.new.session.tally.steps ≤ self.old.session.tally.steps + 9 }
@@ -189,7 +189,7 @@ impl Drill {
     /// So many rounds.
     pub fn play_rounds(&mut self, count: u32)
         requires talking { self.old.session.core.ends ≡ talking }
-        requires few { self.old.session.tally.steps + 9 * count ≤ 980000 }
+        requires room { HasRoom (9 * count) self.old.session }
         ensures rounds { RoundsPlayed count self.old self.new }
         ensures talking { self.new.session.core.ends ≡ talking }
         ensures few { self.new.session.tally.steps ≤ self.old.session.tally.steps + 9 * count }

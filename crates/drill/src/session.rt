@@ -4,7 +4,7 @@ ghost use Rattle.line_io.specs.Event.{event_of, is_line, Iface as FromIface, Eng
 ghost use Rattle.policy_rules.specs.Policy.{usual};
 ghost use Rattle.adapter_core.specs.Ends.{at_start, ends_after, may};
 ghost use Rattle.adapter_core.specs.Stands.{Stands};
-ghost use Rattle.drill.specs.Sent.{AreFew, IsSpeech, Sends, Steps, talking};
+ghost use Rattle.drill.specs.Sent.{AreFew, HasRoom, IsSpeech, Sends, Steps, talking};
 ghost use Rattle.drill.specs.Tally.{nothing};
 
 use crate::tally::Tally;
@@ -64,7 +64,7 @@ impl Session {
     /// Sends an event.
     pub fn send(&mut self, event: &Event)
         requires may { may self.old.core.ends (event_of event.now) ≡ true }
-        requires few { self.old.tally.steps ≤ 1000000 }
+        requires room { HasRoom 1 self.old }
         ensures sends { Sends self.old self.new (event_of event.now) }
         ensures ends { self.new.core.ends ≡ ends_after self.old.core.ends (event_of event.now) }
         ensures few { self.new.tally.steps ≤ self.old.tally.steps + 1 }
@@ -76,7 +76,7 @@ impl Session {
     pub fn iface(&mut self, line: &[u8])
         requires talking { self.old.core.ends ≡ talking }
         requires speech { IsSpeech line.now }
-        requires few { self.old.tally.steps ≤ 1000000 }
+        requires room { HasRoom 1 self.old }
         ensures sends { Sends self.old self.new (FromIface line.now) }
         ensures talking { self.new.core.ends ≡ talking }
         ensures few { self.new.tally.steps ≤ self.old.tally.steps + 1 }
@@ -88,7 +88,7 @@ impl Session {
     pub fn engine(&mut self, line: &[u8])
         requires talking { self.old.core.ends ≡ talking }
         requires line { is_line line.now ≡ true }
-        requires few { self.old.tally.steps ≤ 1000000 }
+        requires room { HasRoom 1 self.old }
         ensures sends { Sends self.old self.new (FromEngine line.now) }
         ensures talking { self.new.core.ends ≡ talking }
         ensures few { self.new.tally.steps ≤ self.old.tally.steps + 1 }

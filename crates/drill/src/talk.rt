@@ -4,7 +4,7 @@ ghost use Rattle.line_io.specs.Event.{Event as AnyEvent, Open};
 ghost use Rattle.chess_board.specs.Text.{IsOfficer};
 ghost use Rattle.adapter_core.specs.Ends.{at_start};
 ghost use Rattle.drill.specs.Rounds.{Misses, answer, answer_with, closing, entry, greeting, lapsed, new_game, preparation, thinks};
-ghost use Rattle.drill.specs.Sent.{Sends, Sent, talking};
+ghost use Rattle.drill.specs.Sent.{HasRoom, Sends, Sent, talking};
 
 use crate::lines::{answer_with, line_with};
 use crate::session::Session;
@@ -17,7 +17,7 @@ impl Session {
     /// Opens the session, up to the engine's first `readyok`.
     pub fn greet(&mut self)
         requires start { self.old.core.ends ≡ at_start }
-        requires few { self.old.tally.steps ≤ 999000 }
+        requires room { HasRoom 7 self.old }
         ensures sent { Sent self.old self.new (Open ∷ greeting) }
         ensures talking { self.new.core.ends ≡ talking }
         ensures few { self.new.tally.steps ≤ self.old.tally.steps + 7 }
@@ -34,7 +34,7 @@ impl Session {
     /// Begins the first game, with thinking shown and the engine pondering.
     pub fn prepare(&mut self)
         requires talking { self.old.core.ends ≡ talking }
-        requires few { self.old.tally.steps ≤ 999000 }
+        requires room { HasRoom 5 self.old }
         ensures sent { Sent self.old self.new preparation }
         ensures talking { self.new.core.ends ≡ talking }
         ensures few { self.new.tally.steps ≤ self.old.tally.steps + 5 }
@@ -49,7 +49,7 @@ impl Session {
     // Answers a ponder search that is over.
     fn lapse(&mut self, hint: Option<Move>)
         requires talking { self.old.core.ends ≡ talking }
-        requires few { self.old.tally.steps ≤ 999900 }
+        requires room { HasRoom 1 self.old }
         ensures sent { Sent self.old self.new (lapsed hint) }
         ensures talking { self.new.core.ends ≡ talking }
         ensures few { self.new.tally.steps ≤ self.old.tally.steps + 1 }
@@ -63,7 +63,7 @@ impl Session {
     /// Begins a new game, where the engine may ponder on a hint.
     pub fn begin_game(&mut self, hint: Option<Move>)
         requires talking { self.old.core.ends ≡ talking }
-        requires few { self.old.tally.steps ≤ 999000 }
+        requires room { HasRoom 3 self.old }
         ensures sent { Sent self.old self.new (new_game hint) }
         ensures talking { self.new.core.ends ≡ talking }
         ensures few { self.new.tally.steps ≤ self.old.tally.steps + 3 }
@@ -77,7 +77,7 @@ impl Session {
     pub fn enter(&mut self, m: Move)
         requires officer { IsOfficer m.promo }
         requires talking { self.old.core.ends ≡ talking }
-        requires few { self.old.tally.steps ≤ 999000 }
+        requires room { HasRoom 3 self.old }
         ensures sent { Sent self.old self.new (entry m) }
         ensures talking { self.new.core.ends ≡ talking }
         ensures few { self.new.tally.steps ≤ self.old.tally.steps + 3 }
@@ -90,7 +90,7 @@ impl Session {
     /// Answers the ponder search of another move than the one that was entered.
     pub fn miss(&mut self, hint: Option<Move>, m: Move)
         requires talking { self.old.core.ends ≡ talking }
-        requires few { self.old.tally.steps ≤ 999000 }
+        requires room { HasRoom 1 self.old }
         ensures sent { (es : List AnyEvent) × Misses hint m es × Sent self.old self.new es }
         ensures talking { self.new.core.ends ≡ talking }
         ensures few { self.new.tally.steps ≤ self.old.tally.steps + 1 }
@@ -106,7 +106,7 @@ impl Session {
     fn think(&mut self, m: Move)
         requires officer { IsOfficer m.promo }
         requires talking { self.old.core.ends ≡ talking }
-        requires few { self.old.tally.steps ≤ 999900 }
+        requires room { HasRoom 1 self.old }
         ensures sends { Sends self.old self.new (thinks m) }
         ensures talking { self.new.core.ends ≡ talking }
         ensures few { self.new.tally.steps ≤ self.old.tally.steps + 1 }
@@ -118,7 +118,7 @@ impl Session {
     pub fn answer(&mut self, m: Move)
         requires officer { IsOfficer m.promo }
         requires talking { self.old.core.ends ≡ talking }
-        requires few { self.old.tally.steps ≤ 999000 }
+        requires room { HasRoom 2 self.old }
         ensures sent { Sent self.old self.new (answer m) }
         ensures talking { self.new.core.ends ≡ talking }
         ensures few { self.new.tally.steps ≤ self.old.tally.steps + 2 }
@@ -132,7 +132,7 @@ impl Session {
         requires officer { IsOfficer m.promo }
         requires hint { IsOfficer hint.promo }
         requires talking { self.old.core.ends ≡ talking }
-        requires few { self.old.tally.steps ≤ 999000 }
+        requires room { HasRoom 2 self.old }
         ensures sent { Sent self.old self.new (answer_with m hint) }
         ensures talking { self.new.core.ends ≡ talking }
         ensures few { self.new.tally.steps ≤ self.old.tally.steps + 2 }
@@ -144,7 +144,7 @@ impl Session {
     /// Ends the session.
     pub fn close(&mut self)
         requires talking { self.old.core.ends ≡ talking }
-        requires few { self.old.tally.steps ≤ 999000 }
+        requires room { HasRoom 2 self.old }
         ensures sent { Sent self.old self.new closing }
     {
         self.send(&Event::Iface(b"quit"));
