@@ -14,5 +14,5 @@ mod Audits
 mod Verdicts
 mod Replayed
 mod Ended
-pub mod Tells
+pub mod Telling
 pub mod Drilling

@@ -5,7 +5,7 @@ use Rattle.line_io.specs.Source.{TakesPrefix}
 use Rattle.drill.specs.Played.{Drills}
 use Rattle.replay_tool.specs.declared.ending.Ending.TheVariants as endings
 use Rattle.replay_tool.specs.Diagnostics.{tail_of}
-use Rattle.replay_tool.specs.Moves.{Told, Writes}
+use Rattle.replay_tool.specs.Told.{Told, Writes}
 
 -- How a drill was played. Nothing is written to the output where there is no memory.
 pub data Drilled (number count : ℕ) (kept silent : Type 0) (code : ℕ) (out_old out_new diag_old diag_new : Option (List ℕ)) (written_old written_new told_old told_new : ℕ) : Type 0 where

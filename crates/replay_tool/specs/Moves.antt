@@ -1,8 +1,7 @@
 -- What the command `moves` does.
-use Rattle.std.specs.Prelude.{◌≡◌, ◌⊎◌, ℕ, List, [], ◌∷◌, ◌++◌, codes, Option, Result, Ok, Err}
+use Rattle.std.specs.Prelude.{◌≡◌, ℕ, List, [], ◌∷◌, ◌++◌, codes, Option, Result, Ok, Err}
 use Rattle.std.specs.List.{join_with_byte}
 use Rattle.std.specs.Io.KnownBytes.{Appends}
-use Rattle.line_io.specs.Causes.{Rose}
 use Rattle.line_io.specs.Source.{TakesPrefix}
 use Rattle.chess_board.specs.declared.board.Move.{Move}
 use Rattle.chess_board.specs.Placement.{Placement}
@@ -11,6 +10,7 @@ use Rattle.fen_text.specs.declared.fault.FenFault.{FenFault}
 use Rattle.fen_text.specs.declared.fault.FenFault.TheVariants as fens
 use Rattle.replay_tool.specs.declared.ending.Ending.TheVariants as endings
 use Rattle.replay_tool.specs.Diagnostics.{one_line, tail_of}
+use Rattle.replay_tool.specs.Told.{Told, Writes}
 
 -- each word behind a blank
 abbrev pub behind_blanks : List (List ℕ) → List ℕ
@@ -36,17 +36,6 @@ position_fault fens.EnPassant = one_line (codes "replay: position: en passant")
 position_fault fens.Half = one_line (codes "replay: position: half")
 position_fault fens.Full = one_line (codes "replay: position: full")
 position_fault fens.Kings = one_line (codes "replay: position: kings")
-
--- a diagnostic was written and the status is this one, or it could not be written and the status is 5
-abbrev pub Told : ℕ → ℕ → List ℕ → Option (List ℕ) → Option (List ℕ) → ℕ → ℕ → Type 0
-Told code status text diag_old diag_new told_old told_new =
-    ((code ≡ status) × Appends diag_old diag_new text × (told_new ≡ told_old)) ⊎ ((code ≡ 5) × Rose told_old told_new × TakesPrefix diag_old diag_new text)
-
--- all lines were written, or a front of them
-abbrev pub Writes : List ℕ → Type 0 → ℕ → Option (List ℕ) → Option (List ℕ) → Option (List ℕ) → Option (List ℕ) → ℕ → ℕ → ℕ → ℕ → Type 0
-Writes lines silent code out_old out_new diag_old diag_new written_old written_new told_old told_new =
-    ((code ≡ 0) × silent × Appends out_old out_new lines × (written_new ≡ written_old))
-    ⊎ (Rose written_old written_new × TakesPrefix out_old out_new lines × Told code 5 (tail_of endings.WritingFailed) diag_old diag_new told_old told_new)
 
 -- exactly the legal moves were written, or a front of them
 pub record WritesMoves (p : Placement) (silent : Type 0) (code : ℕ) (out_old out_new diag_old diag_new : Option (List ℕ)) (written_old written_new told_old told_new : ℕ) : Type 0 where

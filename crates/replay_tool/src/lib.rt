@@ -13,5 +13,6 @@ mod run;
 mod settings;
 #[cfg(test)]
 mod tests;
+mod told;
 
 pub use replay::replay_main;

@@ -6,12 +6,13 @@ ghost use Rattle.chess_board.specs.Text.{IsOfficer, text_of};
 ghost use Rattle.fen_text.specs.Fen.{position_of};
 ghost use Rattle.replay_tool.specs.Commands.{texts};
 ghost use Rattle.replay_tool.specs.Diagnostics.{one_line};
-ghost use Rattle.replay_tool.specs.Moves.{Listed, Told, Writes, WritesMoves, fen_of, move_lines, position_fault};
+ghost use Rattle.replay_tool.specs.Moves.{Listed, WritesMoves, fen_of, move_lines, position_fault};
 
 use crate::ending::Ending;
+use crate::told::{tell_text, write_lines};
 use chess_board::{Move, Position, move_texts_are_exact, move_texts_are_short, write_move};
 use fen_text::{FenFault, read_fen};
-use line_io::{NoMemory, Out, Sink, Status, write_all};
+use line_io::{NoMemory, Out, Sink, Status};
 use std::alloc::Global;
 
 // A position has at most 512 legal moves, each of at most five bytes and a line feed.
@@ -80,27 +81,6 @@ fn put_moves(moves: &[Move], out: &mut Out)
     }
 }
 
-/// Writes a diagnostic, and gives the status.
-pub fn tell<D: Sink>(text: &[u8], status: u8, diag: &mut D) -> Status
-    ensures { Told result.code status text.now (D.taken diag.old) (D.taken diag.new) (D.faults diag.old) (D.faults diag.new) }
-{
-    match write_all(diag, text) {
-        Ok(()) => Status { code: status },
-        Err(_) => Status { code: 5 },
-    }
-}
-
-/// Writes lines to the output, and tells where that failed.
-pub fn write_lines<O: Sink, D: Sink>(lines: &[u8], output: &mut O, diag: &mut D) -> Status
-    ensures { Writes lines.now (diag.new ≡ diag.old) result.code (O.taken output.old) (O.taken output.new) (D.taken diag.old) (D.taken diag.new)
-        (O.faults output.old) (O.faults output.new) (D.faults diag.old) (D.faults diag.new) }
-{
-    match write_all(output, lines) {
-        Ok(()) => Status { code: 0 },
-        Err(_) => tell(Ending::WritingFailed.tail(), 5, diag),
-    }
-}
-
 // A text that may spell a position, and room for the lines of its moves.
 #[derive(Drop)]
 struct Listing {
@@ -144,7 +124,7 @@ impl Listing {
             (O.faults output.old) (O.faults output.new) (D.faults diag.old) (D.faults diag.new) }
     {
         match read_fen(self.fen.as_slice()) {
-            Err(fault) => tell(fault_line(fault), 2, diag),
+            Err(fault) => tell_text(fault_line(fault), 2, diag),
             Ok(position) => self.write_moves(&position, output, diag),
         }
     }
@@ -162,7 +142,7 @@ pub fn list_moves<O: Sink, D: Sink>(
         (O.faults output.old) (O.faults output.new) (D.faults diag.old) (D.faults diag.new) }
 {
     match Listing::make(alloc, words) {
-        Err(_) => tell(Ending::NoMemory.tail(), 3, diag),
+        Err(_) => tell_text(Ending::NoMemory.tail(), 3, diag),
         Ok(mut listing) => listing.list(output, diag),
     }
 }

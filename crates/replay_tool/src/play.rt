@@ -3,7 +3,7 @@ ghost use Rattle.std.specs.Prelude.{◌≡◌, ◌≤◌};
 ghost use Rattle.replay_tool.specs.Drilled.{Drilled};
 
 use crate::ending::Ending;
-use crate::moves::{tell, write_lines};
+use crate::told::{tell_text, write_lines};
 use drill::drill_line;
 use line_io::{Sink, Status};
 use std::alloc::Global;
@@ -22,7 +22,7 @@ pub fn play_drill<O: Sink, D: Sink>(
         (O.faults output.old) (O.faults output.new) (D.faults diag.old) (D.faults diag.new) }
 {
     match drill_line(alloc, number, count) {
-        Err(_) => tell(Ending::NoMemory.tail(), 3, diag),
+        Err(_) => tell_text(Ending::NoMemory.tail(), 3, diag),
         Ok(line) => write_lines(line.bytes(), output, diag),
     }
 }

@@ -1,5 +1,5 @@
 use Rattle.std.proofs.Common.{refl, inl, inr}
-use Rattle.replay_tool.proofs.moves.tell.Goals as goal
+use Rattle.replay_tool.proofs.told.tell_text.Goals as goal
 
 pub returns-in-Ok : goal.returns-in-Ok
 returns-in-Ok g c = inl (refl, c.in-Ok.ensures.ok, c.in-Ok.ensures.cause.same)

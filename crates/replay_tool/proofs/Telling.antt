@@ -5,7 +5,7 @@ use Rattle.line_io.specs.Causes.{Rose}
 use Rattle.line_io.specs.Source.{TakesPrefix}
 use Rattle.replay_tool.specs.declared.ending.Ending.TheVariants as endings
 use Rattle.replay_tool.specs.Diagnostics.{tail_of}
-use Rattle.replay_tool.specs.Moves.{Told, Writes}
+use Rattle.replay_tool.specs.Told.{Told, Writes}
 
 -- A DIAGNOSTIC
 
