@@ -14,6 +14,8 @@ mod name;
 mod orders;
 mod pings;
 mod refuse;
+#[cfg(test)]
+mod tests;
 
 pub use answers::put_pongs;
 pub use call::is_gone;

@@ -1,0 +1,17 @@
+use Rattle.std.proofs.Common.{sym, subst}
+use Rattle.desk_rules.specs.Desk.{at}
+use Rattle.desk_rules.specs.Steps.{deed_of}
+use Rattle.desk_rules.specs.Fits.{IsSound}
+use Rattle.desk_rules.proofs.Sound.{stays_sound}
+use Rattle.desk_rules.proofs.tests.Bench.follow.Goals as goal
+
+pub call-call-requires : goal.call-call-requires
+call-call-requires c =
+    let h = at c.args.sight c.args.self.now.desk in
+    let sound = subst IsSound (sym c.take.ensures) (stays_sound h c.args.self.now.held (deed_of c.args.deed.now) c.requires.sound c.requires.fits) in
+    sound.hint
+
+pub returns : goal.returns
+returns c =
+    let h = at c.args.sight c.args.self.now.desk in
+    subst IsSound (sym c.take.ensures) (stays_sound h c.args.self.now.held (deed_of c.args.deed.now) c.requires.sound c.requires.fits)
