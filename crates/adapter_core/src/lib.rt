@@ -5,6 +5,8 @@ mod ends;
 mod laws;
 mod session;
 mod steps;
+#[cfg(test)]
+mod tests;
 
 pub use ends::Ends;
 pub use laws::{interface_alone, moves_are_shown_in_time};
