@@ -38,7 +38,7 @@ closing = Iface (codes "quit") ∷ EngineEnd ∷ []
 
 -- A NEW GAME
 
--- the game has ended, or has 10,000 moves of both sides
+-- the game has ended, or has at least 10,000 moves of both sides
 abbrev pub is_spent : Course → Bool
 is_spent g = has_ended g || nat_le 10000 (length g.moves)
 
