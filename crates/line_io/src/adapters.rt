@@ -2,7 +2,7 @@
 use crate::{Failed, Sink, Source};
 use std::io::{Read, Write};
 
-/// A source over a reader. It tells nothing of its bytes, and counts the reads that failed.
+/// A source over a reader. It has left what the reader has left, and counts the reads that failed.
 #[derive(Drop)]
 pub struct ReadAdapter<R> {
     inner: R,
@@ -15,12 +15,20 @@ impl<R> ReadAdapter<R> {
 
     /// Over a reader, with no fault counted.
     pub fn new(reader: R) -> ReadAdapter<R>
-        ensures { read_faults result ≡ 0 }
+        ensures none { read_faults result ≡ 0 }
+        ensures inner { result.inner ≡ reader }
     {
         ReadAdapter {
             inner: reader,
             faults: 0,
         }
+    }
+
+    /// How many reads failed. The count stays at the last value of its type.
+    pub fn faults(&self) -> u64
+        ensures { result ≡ read_faults self.now }
+    {
+        self.faults
     }
 }
 
@@ -28,11 +36,11 @@ impl<R: Read> Source for ReadAdapter<R> {
     ghost use Rattle.std.specs.Prelude.{None};
     ghost use Rattle.line_io.specs.Adapters.{read_faults};
 
-    ghost given = { λ s. None };
-
-    ghost left = { λ s. None };
-
-    ghost faults = { λ s. read_faults s };
+    ghost state = { λ s. record {
+      given = None;
+      left = R.remaining s.inner;
+      faults = read_faults s;
+    } };
 
     fn read(&mut self, buf: &mut [u8]) -> Result<usize, Failed> {
         match self.inner.read(buf) {
@@ -45,8 +53,8 @@ impl<R: Read> Source for ReadAdapter<R> {
     }
 }
 
-/// A sink over a writer. It tells nothing of its bytes, and counts the writes that failed or took
-/// nothing.
+/// A sink over a writer. It has taken what the writer has taken, and counts the writes that failed
+/// or took nothing.
 #[derive(Drop)]
 pub struct WriteAdapter<W> {
     inner: W,
@@ -59,22 +67,27 @@ impl<W> WriteAdapter<W> {
 
     /// Over a writer, with no fault counted.
     pub fn new(writer: W) -> WriteAdapter<W>
-        ensures { write_faults result ≡ 0 }
+        ensures none { write_faults result ≡ 0 }
+        ensures inner { result.inner ≡ writer }
     {
         WriteAdapter {
             inner: writer,
             faults: 0,
         }
     }
+
+    /// How many writes failed or took nothing. The count stays at the last value of its type.
+    pub fn faults(&self) -> u64
+        ensures { result ≡ write_faults self.now }
+    {
+        self.faults
+    }
 }
 
 impl<W: Write> Sink for WriteAdapter<W> {
-    ghost use Rattle.std.specs.Prelude.{None};
     ghost use Rattle.line_io.specs.Adapters.{write_faults};
 
-    ghost taken = { λ s. None };
-
-    ghost faults = { λ s. write_faults s };
+    ghost state = { λ s. record { taken = W.contents s.inner; faults = write_faults s } };
 
     fn write(&mut self, piece: &[u8]) -> Result<usize, Failed> {
         match self.inner.write(piece) {

@@ -1,7 +1,8 @@
+pub mod Found
+pub mod Built
 pub mod Gives
 pub mod Made
 pub mod Replies
 pub mod Reading
 pub mod Sessions
-pub mod Sought
-pub mod Turns
+pub mod Hearing

@@ -2,14 +2,17 @@
 use Rattle.std.proofs.Common.{◌≡◌, inl, inr, ℕ, ◌≤◌, List, [], ◌++◌, length, Option, Some, None, IfSome, IsSome, refl, ap, sym, subst, ◌∙◌, append-nil, arith, length-append}
 use Rattle.std.specs.Io.KnownBytes.{Appends, Consumes, IsAtEnd}
 use Rattle.std.proofs.KnownBytes.{Appends-nil, Consumes-nil}
-use Rattle.line_io.specs.Lines.{items}
+use Rattle.line_io.specs.Lines.{Reads, items}
 use Rattle.scripted_engine.specs.Script.{first_bad, blocks_of}
-use Rattle.scripted_engine.specs.Ends.{code_of, Giver, Taker, Gave, IsRead, NoScript, Answered, replies, Session, Completes, AnswersInput}
+use Rattle.scripted_engine.specs.Ends.{streams, code_of, IsRead, NoScript, Answered, replies, Session, Completes, AnswersInput}
+use Rattle.line_io.specs.Source.{Received}
+use Rattle.line_io.specs.Source.{Supplied}
+use Rattle.line_io.specs.Taken.{starts}
 use Rattle.scripted_engine.specs.declared.ending.Ending.{Ending}
 use Rattle.scripted_engine.specs.declared.ending.Ending.TheVariants.{Done, Usage, NoMemory, ReadFailed, WriteFailed, BadScript, TooLarge, Endless}
 
 -- no script came
-pub unread : (ending : Ending) (file file' input : Giver) (output : Taker) (script : List ℕ) → Gave file file' script → NoScript file file' script ending → Session ending file file' input input output output
+pub unread : (ending : Ending) (file file' input : Supplied) (output : Received) (script : List ℕ) → Reads file file' script → NoScript file file' script ending → Session ending (streams file input output) (streams file' input output)
 unread ending file file' input output script gave why = record {
   script = script;
   heard = [];
@@ -17,15 +20,16 @@ unread ending file file' input output script gave why = record {
   from_file = gave;
   from_input = record { given = Appends-nil input.given; left = Consumes-nil input.left };
   to_output = Appends-nil output.taken;
-  ends = inl (why, refl, refl);
+  in_time = ([], starts);
+  ends = inl (record { why = why; none_heard = refl; none_told = refl });
 }
 
-pub opened_none : (file input : Giver) (output : Taker) → Session NoMemory file file input input output output
+pub opened_none : (file input : Supplied) (output : Received) → Session NoMemory (streams file input output) (streams file input output)
 opened_none file input output = unread NoMemory file file input output [] (record { given = Appends-nil file.given; left = Consumes-nil file.left }) (omega arith)
 
 -- the lines were answered
-pub answered : (ending : Ending) (file file' input input' : Giver) (output output' : Taker) (script : List ℕ) → Gave file file' script → IsRead file' script → first_bad script ≡ None
-    → Answered ending (blocks_of script) input input' output output' → Session ending file file' input input' output output'
+pub answered : (ending : Ending) (file file' input input' : Supplied) (output output' : Received) (script : List ℕ) → Reads file file' script → IsRead file' script → first_bad script ≡ None
+    → Answered ending (blocks_of script) (streams file input output) (streams file' input' output') → Session ending (streams file input output) (streams file' input' output')
 answered ending file file' input input' output output' script gave read good a = record {
   script = script;
   heard = a.heard;
@@ -33,13 +37,14 @@ answered ending file file' input input' output output' script gave read good a =
   from_file = gave;
   from_input = a.gave;
   to_output = a.took;
-  ends = inr (read, good, a.ends);
+  in_time = a.in_time;
+  ends = inr (record { read = read; good = good; ends = a.ends });
 }
 
 -- a run that was given one word does not end by its usage
-pub not_usage : (ending : Ending) (file file' input input' : Giver) (output output' : Taker) → Session ending file file' input input' output output' → code_of ending ≡ 2 → ⊥
+pub not_usage : (ending : Ending) (file file' input input' : Supplied) (output output' : Received) → Session ending (streams file input output) (streams file' input' output') → code_of ending ≡ 2 → ⊥
 not_usage Done file file' input input' output output' s e = cc
-not_usage Usage file file' input input' output output' s e = elim (s.ends) [ inl h ↦ h.0 | inr h ↦ h.2 ]
+not_usage Usage file file' input input' output output' s e = elim (s.ends) [ inl h ↦ h.why | inr h ↦ h.ends ]
 not_usage NoMemory file file' input input' output output' s e = cc
 not_usage ReadFailed file file' input input' output output' s e = cc
 not_usage WriteFailed file file' input input' output output' s e = cc
@@ -63,28 +68,28 @@ ended_at None rest f h = cc
 ended_at (Some ys) rest f h = cc (f, h)
 
 -- a file that told its bytes and was read to its end gave them all
-whole_file : (file file' : Giver) (script told : List ℕ) → Gave file file' script → file.left ≡ Some told → IsRead file' script → script ≡ told
+whole_file : (file file' : Supplied) (script told : List ℕ) → Reads file file' script → file.left ≡ Some told → IsRead file' script → script ≡ told
 whole_file file file' script told gave e read =
     let t = all_told file.left file'.left script told gave.left e in
     sym (append-nil script) ∙ ap (λ l. script ++ l) (sym (ended_at file'.left t.0 t.1 read.at_end)) ∙ sym t.2
 
-shorter : (old new : Giver) (got all : List ℕ) → Gave old new got → old.left ≡ Some all → length got ≤ length all
+shorter : (old new : Supplied) (got all : List ℕ) → Reads old new got → old.left ≡ Some all → length got ≤ length all
 shorter old new got all gave e =
     let t = all_told old.left new.left got all gave.left e in omega (arith, ap (λ (l : List ℕ). length l) t.2, length-append got t.0)
 
-answers_done : (file file' input input' : Giver) (output output' : Taker) (s : Session Done file file' input input' output output') (script heard : List ℕ) → file.left ≡ Some script → input.left ≡ Some heard
+answers_done : (file file' input input' : Supplied) (output output' : Received) (s : Session Done (streams file input output) (streams file' input' output')) (script heard : List ℕ) → file.left ≡ Some script → input.left ≡ Some heard
     → Appends output.taken output'.taken (replies (blocks_of script) (items 65536 heard))
 answers_done file file' input input' output output' s script heard f i =
     elim (s.ends) [
-      | inl h ↦ absurd h.0
+      | inl h ↦ absurd h.why
       | inr h ↦
           let t = all_told input.left input'.left s.heard heard s.from_input.left i in
-          let same = whole_file file file' s.script script s.from_file f h.0 in
-          let told = h.2.all t.0 (λ e. over input.left input'.left t.0 heard i t.1 (h.2.at_end e)) in
+          let same = whole_file file file' s.script script s.from_file f h.read in
+          let told = h.ends.all t.0 (λ e. over input.left input'.left t.0 heard i t.1 (h.ends.at_end e)) in
           subst (λ (l : List ℕ). Appends output.taken output'.taken l) (told ∙ ap (λ b. replies (blocks_of s.script) (items 65536 b)) (sym t.2) ∙ ap (λ b. replies (blocks_of b) (items 65536 heard)) same) s.to_output
     ]
 
-pub answers : (ending : Ending) (file file' input input' : Giver) (output output' : Taker) → Session ending file file' input input' output output' → AnswersInput (code_of ending) file input output output'
+pub answers : (ending : Ending) (file file' input input' : Supplied) (output output' : Received) → Session ending (streams file input output) (streams file' input' output') → AnswersInput (code_of ending) (streams file input output) (streams file' input' output')
 answers Done file file' input input' output output' s = λ script heard f i e. answers_done file file' input input' output output' s script heard f i
 answers Usage file file' input input' output output' s = λ script heard f i e. cc
 answers NoMemory file file' input input' output output' s = λ script heard f i e. cc
@@ -98,18 +103,18 @@ some_none : (o : Option ℕ) → IsSome o → o ≡ None → ⊥
 some_none None h e = cc h
 some_none (Some x) h e = cc e
 
-pub complete : (ending : Ending) (file file' input input' : Giver) (output output' : Taker) → Session ending file file' input input' output output' → Completes (code_of ending) file file' input input' output output'
-complete Done file file' input input' output output' s = λ script heard f l g i m a b d. inl refl
-complete NoMemory file file' input input' output output' s = λ script heard f l g i m a b d. inr refl
-complete Usage file file' input input' output output' s = λ script heard f l g i m a b d. elim (s.ends) [ inl h ↦ absurd h.0 | inr h ↦ absurd h.2 ]
-complete ReadFailed file file' input input' output output' s = λ script heard f l g i m a b d. elim (s.ends) [ inl h ↦ absurd (a h.0.1) | inr h ↦ absurd (b h.2.0) ]
-complete WriteFailed file file' input input' output output' s = λ script heard f l g i m a b d. elim (s.ends) [ inl h ↦ absurd h.0 | inr h ↦ absurd (d h.2.0) ]
-complete BadScript file file' input input' output output' s = λ script heard f l g i m a b d.
+pub complete : (ending : Ending) (file file' input input' : Supplied) (output output' : Received) → Session ending (streams file input output) (streams file' input' output') → Completes (code_of ending) (streams file input output) (streams file' input' output')
+complete Done file file' input input' output output' s = λ script heard p. inl refl
+complete NoMemory file file' input input' output output' s = λ script heard p. inr refl
+complete Usage file file' input input' output output' s = λ script heard p. elim (s.ends) [ inl h ↦ absurd h.why | inr h ↦ absurd h.ends ]
+complete ReadFailed file file' input input' output output' s = λ script heard p. elim (s.ends) [ inl h ↦ absurd (p.file_reads h.why.1) | inr h ↦ absurd (p.input_reads h.ends.0) ]
+complete WriteFailed file file' input input' output output' s = λ script heard p. elim (s.ends) [ inl h ↦ absurd h.why | inr h ↦ absurd (p.output_writes h.ends.0) ]
+complete BadScript file file' input input' output output' s = λ script heard p.
     elim (s.ends) [
-      | inl h ↦ absurd (some_none (first_bad s.script) h.0.1 (ap first_bad (whole_file file file' s.script script s.from_file f h.0.0) ∙ g))
-      | inr h ↦ absurd h.2
+      | inl h ↦ absurd (some_none (first_bad s.script) h.why.1 (ap first_bad (whole_file file file' s.script script s.from_file p.script_told h.why.0) ∙ p.good))
+      | inr h ↦ absurd h.ends
     ]
-complete TooLarge file file' input input' output output' s = λ script heard f l g i m a b d.
-    let n = shorter file file' s.script script s.from_file f in elim (s.ends) [ inl h ↦ absurd (omega (arith, h.0)) | inr h ↦ absurd h.2 ]
-complete Endless file file' input input' output output' s = λ script heard f l g i m a b d.
-    let n = shorter input input' s.heard heard s.from_input i in elim (s.ends) [ inl h ↦ absurd h.0 | inr h ↦ absurd (omega (arith, h.2.0)) ]
+complete TooLarge file file' input input' output output' s = λ script heard p.
+    let n = shorter file file' s.script script s.from_file p.script_told in elim (s.ends) [ inl h ↦ absurd (omega (arith, h.why, p.fits)) | inr h ↦ absurd h.ends ]
+complete Endless file file' input input' output output' s = λ script heard p.
+    let n = shorter input input' s.heard heard s.from_input p.input_told in elim (s.ends) [ inl h ↦ absurd h.why | inr h ↦ absurd (omega (arith, h.ends.0, p.few)) ]

@@ -4,5 +4,6 @@ pub mod Choice
 pub mod Ends
 pub mod Faults
 pub mod Lending
-pub mod Reached
+pub mod Queues
+pub mod Heard
 pub mod Script

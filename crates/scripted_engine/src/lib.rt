@@ -1,9 +1,11 @@
 //! An engine whose answers stand in a script.
 #![tactic(auto)]
 
+mod answering;
 mod block;
 mod ending;
 mod line;
+mod queue;
 mod run;
 mod script;
 

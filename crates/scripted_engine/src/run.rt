@@ -1,17 +1,17 @@
 // The program.
-ghost use Rattle.std.specs.Prelude.{◌≡◌, ◌+◌, ◌<◌, ◌≤◌, ◌^◌, ◌↔◌, ℕ, List, [], length, true, Some, None, IsTrue, MatchResult, OnOk};
-ghost use Rattle.line_io.specs.Causes.{HasCause};
-ghost use Rattle.line_io.specs.Lines.{unread, Held, IsReady};
+ghost use Rattle.std.specs.Prelude.{◌≡◌, ◌↔◌, ℕ, List, [], length, None, MatchResult};
+ghost use Rattle.line_io.specs.Lines.{unread, Reads};
+ghost use Rattle.line_io.specs.Source.{Supplied};
 ghost use Rattle.scripted_engine.specs.Blocks.{Block};
 ghost use Rattle.scripted_engine.specs.Script.{blocks_of, first_bad};
 ghost use Rattle.scripted_engine.specs.Answers.{Stands};
-ghost use Rattle.scripted_engine.specs.Ends.{Giver, Taker, giver, taker, Gave, IsRead, NoScript, is_quit, Answered, Session, AnswersInput, Completes, code_of};
+ghost use Rattle.scripted_engine.specs.Ends.{streams, IsRead, NoScript, Answered, Session};
+ghost use Rattle.scripted_engine.specs.Ends.{AnswersInput, Completes, code_of};
 ghost use Rattle.scripted_engine.specs.declared.ending.Ending.{Ending};
-ghost use Rattle.scripted_engine.specs.Reached.{Reached, After, Drained, work};
 
+use crate::answering::ending_of;
 use crate::{Ending, ScriptFault, Scripted};
-use line_io::{Item, Lines, Sink, Source, Status, write_all};
-use peer_words::split_token;
+use line_io::{Lines, Sink, Source, Status, take_lines};
 use std::alloc::Global;
 
 const SCRIPT_LIMIT: usize = 16_777_216;
@@ -20,15 +20,13 @@ const CHUNK: usize = 65_536;
 
 const LINE_LIMIT: usize = 65_536;
 
-// After so many calls of the reader of lines the input gave at least 2^32 bytes.
-const TURNS: u64 = (1 << 33) + 1;
-
 // The script in the file.
 fn read_script<F: Source>(alloc: Global, file: &mut F) -> Result<Vec<u8>, Ending>
-    ensures { let old = giver (F.given file.old) (F.left file.old) (F.faults file.old) in
-        let new = giver (F.given file.new) (F.left file.new) (F.faults file.new) in
-        (script : List ℕ) × Gave old new script
-        × MatchResult result (λ read. (read.items ≡ script) × IsRead new script) (NoScript old new script) }
+    ensures { let old = F.state file.old in
+        let new = F.state file.new in
+        (script : List ℕ) × Reads old new script
+        × MatchResult result (λ read. (read.items ≡ script) × IsRead new script)
+        (NoScript old new script) }
 {
     let mut chunk = vec![in alloc; 0; CHUNK]?;
     let mut script = Vec::new(alloc);
@@ -46,69 +44,6 @@ fn read_script<F: Source>(alloc: Global, file: &mut F) -> Result<Vec<u8>, Ending
     }
 }
 
-fn is_quit(line: &[u8]) -> bool
-    ensures { result ≡ is_quit line.now }
-{
-    let (word, _) = split_token(line);
-    word == b"quit".as_slice()
-}
-
-// Answers the next line, where one came. It tells how the run ends, where it does.
-fn answer_next<I: Source, O: Sink>(
-    scripted: &mut Scripted,
-    lines: &mut Lines,
-    input: &mut I,
-    output: &mut O,
-) -> Option<Ending>
-    ensures after { let old = giver (I.given input.old) (I.left input.old) (I.faults input.old) in
-        let new = giver (I.given input.new) (I.left input.new) (I.faults input.new) in
-        let output_old = taker (O.taken output.old) (O.faults output.old) in
-        let output_new = taker (O.taken output.new) (O.faults output.new) in
-        (blocks : List Block) (input0 : Giver) (output0 : Taker) (calls : ℕ)
-        → Reached blocks scripted.old lines.old input0 old output0 output_old calls
-        → After result blocks scripted.new lines.new input0 new output0 output_new calls }
-    ensures falls { result ≡ None → IsReady lines.old → work lines.new < work lines.old }
-{
-    match lines.next(input) {
-        Err(_) => Some(Ending::ReadFailed),
-        Ok(Item::End) => Some(Ending::Done),
-        Ok(Item::More) => None,
-        Ok(Item::Long) => None,
-        Ok(Item::Line(line)) => {
-            if write_all(output, scripted.answer(line)).is_err() {
-                return Some(Ending::WriteFailed);
-            }
-            if is_quit(line) {
-                return Some(Ending::Done);
-            }
-            None
-        }
-    }
-}
-
-// Answers the lines that are whole, or the last ones where the end was seen. It reads nothing.
-fn answer_held<I: Source, O: Sink>(
-    scripted: &mut Scripted,
-    lines: &mut Lines,
-    input: &mut I,
-    output: &mut O,
-) -> Option<Ending>
-    ensures { let old = giver (I.given input.old) (I.left input.old) (I.faults input.old) in
-        let new = giver (I.given input.new) (I.left input.new) (I.faults input.new) in
-        let output_old = taker (O.taken output.old) (O.faults output.old) in
-        let output_new = taker (O.taken output.new) (O.faults output.new) in
-        (blocks : List Block) (input0 : Giver) (output0 : Taker) (calls : ℕ)
-        → Reached blocks scripted.old lines.old input0 old output0 output_old calls
-        → Drained result blocks scripted.new lines.new input0 new output0 output_new calls }
-{
-    while lines.is_ready() {
-        if let Some(ending) = answer_next(scripted, lines, input, output) {
-            return Some(ending);
-        }
-    }
-    None
-}
-
 // Answers the lines of the input.
 fn answer_lines<I: Source, O: Sink>(
     scripted: &mut Scripted,
@@ -117,28 +52,21 @@ fn answer_lines<I: Source, O: Sink>(
     output: &mut O,
 ) -> Ending
     requires { lines.old ≡ unread 65536 }
-    ensures { let old = giver (I.given input.old) (I.left input.old) (I.faults input.old) in
-        let new = giver (I.given input.new) (I.left input.new) (I.faults input.new) in
-        let output_old = taker (O.taken output.old) (O.faults output.old) in
-        let output_new = taker (O.taken output.new) (O.faults output.new) in
-        (blocks : List Block) → Stands scripted.old blocks []
-        → Answered result blocks old new output_old output_new }
+    ensures { (blocks : List Block) (file file' : Supplied) → Stands scripted.old blocks []
+        → Answered result blocks
+        (streams file (I.state input.old) (O.state output.old))
+        (streams file' (I.state input.new) (O.state output.new)) }
 {
-    for _ in 0..TURNS {
-        if let Some(ending) = answer_next(scripted, lines, input, output) {
-            return ending;
-        }
-    }
-    answer_held(scripted, lines, input, output).unwrap_or(Ending::Endless)
+    ending_of(take_lines(lines, input, scripted, output))
 }
 
 // The script in the file, ready to answer.
 fn open_script<F: Source>(alloc: Global, file: &mut F) -> Result<Scripted, Ending>
-    ensures { let old = giver (F.given file.old) (F.left file.old) (F.faults file.old) in
-        let new = giver (F.given file.new) (F.left file.new) (F.faults file.new) in
-        (script : List ℕ) × Gave old new script
-        × MatchResult result (λ scripted. IsRead new script × (first_bad script ≡ None) × Stands scripted (blocks_of script) [])
-        (NoScript old new script) }
+    ensures { let old = F.state file.old in
+        let new = F.state file.new in
+        (script : List ℕ) × Reads old new script
+        × MatchResult result (λ scripted. IsRead new script × (first_bad script ≡ None)
+        × Stands scripted (blocks_of script) []) (NoScript old new script) }
 {
     let script = read_script(alloc, file)?;
     match Scripted::make(alloc, script.as_slice()) {
@@ -155,9 +83,8 @@ fn run<F: Source, I: Source, O: Sink>(
     output: &mut O,
 ) -> Ending
     ensures { Session result
-        (giver (F.given file.old) (F.left file.old) (F.faults file.old)) (giver (F.given file.new) (F.left file.new) (F.faults file.new))
-        (giver (I.given input.old) (I.left input.old) (I.faults input.old)) (giver (I.given input.new) (I.left input.new) (I.faults input.new))
-        (taker (O.taken output.old) (O.faults output.old)) (taker (O.taken output.new) (O.faults output.new)) }
+        (streams (F.state file.old) (I.state input.old) (O.state output.old))
+        (streams (F.state file.new) (I.state input.new) (O.state output.new)) }
 {
     let Ok(mut lines) = Lines::make(alloc, LINE_LIMIT) else {
         return Ending::NoMemory;
@@ -181,18 +108,18 @@ pub fn scripted_main<F: Source, I: Source, O: Sink>(
     output: &mut O,
 ) -> Status
     ensures usage { (result.code ≡ 2) ↔ (length words.now ≡ 1 → ⊥) }
-    ensures untouched { result.code ≡ 2 → (file.new ≡ file.old) × (input.new ≡ input.old) × (output.new ≡ output.old) }
-    ensures session { length words.now ≡ 1 → (ending : Ending) × (result.code ≡ code_of ending) × Session ending
-        (giver (F.given file.old) (F.left file.old) (F.faults file.old)) (giver (F.given file.new) (F.left file.new) (F.faults file.new))
-        (giver (I.given input.old) (I.left input.old) (I.faults input.old)) (giver (I.given input.new) (I.left input.new) (I.faults input.new))
-        (taker (O.taken output.old) (O.faults output.old)) (taker (O.taken output.new) (O.faults output.new)) }
-    ensures answers { length words.now ≡ 1 → AnswersInput result.code
-        (giver (F.given file.old) (F.left file.old) (F.faults file.old)) (giver (I.given input.old) (I.left input.old) (I.faults input.old))
-        (taker (O.taken output.old) (O.faults output.old)) (taker (O.taken output.new) (O.faults output.new)) }
-    ensures complete { length words.now ≡ 1 → Completes result.code
-        (giver (F.given file.old) (F.left file.old) (F.faults file.old)) (giver (F.given file.new) (F.left file.new) (F.faults file.new))
-        (giver (I.given input.old) (I.left input.old) (I.faults input.old)) (giver (I.given input.new) (I.left input.new) (I.faults input.new))
-        (taker (O.taken output.old) (O.faults output.old)) (taker (O.taken output.new) (O.faults output.new)) }
+    ensures untouched { result.code ≡ 2
+        → (file.new ≡ file.old) × (input.new ≡ input.old) × (output.new ≡ output.old) }
+    ensures session { let old = streams (F.state file.old) (I.state input.old) (O.state output.old) in
+        let new = streams (F.state file.new) (I.state input.new) (O.state output.new) in
+        length words.now ≡ 1
+        → (ending : Ending) × (result.code ≡ code_of ending) × Session ending old new }
+    ensures answers { let old = streams (F.state file.old) (I.state input.old) (O.state output.old) in
+        let new = streams (F.state file.new) (I.state input.new) (O.state output.new) in
+        length words.now ≡ 1 → AnswersInput result.code old new }
+    ensures complete { let old = streams (F.state file.old) (I.state input.old) (O.state output.old) in
+        let new = streams (F.state file.new) (I.state input.new) (O.state output.new) in
+        length words.now ≡ 1 → Completes result.code old new }
 {
     if words.len() != 1 {
         return Status {

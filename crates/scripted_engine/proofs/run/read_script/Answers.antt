@@ -1,12 +1,12 @@
 use Rattle.std.proofs.Common.{◌≤◌, List, ℕ, subst, ◌∙◌, ◌++◌, take, length, ap, sym, arith, length-append}
-use Rattle.scripted_engine.specs.Ends.{giver, Gave}
+use Rattle.line_io.specs.Lines.{Reads}
 use Rattle.scripted_engine.proofs.Reading.{gave_none, gave_taken, gave_kept, none_taken, front_taken, no_memory}
-use Rattle.scripted_engine.proofs.Turns.{rose_later}
+use Rattle.scripted_engine.proofs.Hearing.{rose_later}
 use Rattle.scripted_engine.proofs.run.read_script.Goals as goal
 
 pub loop-script-init : goal.loop-script-init
 loop-script-init g c =
-    let file = giver (g.F.Source.given c.args.file.now) (g.F.Source.left c.args.file.now) (g.F.Source.faults c.args.file.now) in
+    let file = g.F.Source.state c.args.file.now in
     record {
       gave = gave_none file c.new-script.result.items c.new-script.ensures.items;
       fits = omega (arith, ap length c.new-script.ensures.items);
@@ -16,9 +16,9 @@ loop-script-init g c =
 
 pub returns-in-Err : goal.returns-in-Err
 returns-in-Err g c =
-    let old = giver (g.F.Source.given c.args.file.now) (g.F.Source.left c.args.file.now) (g.F.Source.faults c.args.file.now) in
-    let now = giver (g.F.Source.given c.loop-script.file) (g.F.Source.left c.loop-script.file) (g.F.Source.faults c.loop-script.file) in
-    let new = giver (g.F.Source.given c.read.new.self) (g.F.Source.left c.read.new.self) (g.F.Source.faults c.read.new.self) in
+    let old = g.F.Source.state c.args.file.now in
+    let now = g.F.Source.state c.loop-script.file in
+    let new = g.F.Source.state c.read.new.self in
     let i = c.loop-script.invariant in (
       c.loop-script.script.items,
       gave_kept old now new c.loop-script.script.items i.gave c.in-Err.ensures.gives c.in-Err.ensures.takes,
@@ -27,9 +27,9 @@ returns-in-Err g c =
 
 pub returns-in-Ok-eq0 : goal.returns-in-Ok-eq0
 returns-in-Ok-eq0 g c =
-    let old = giver (g.F.Source.given c.args.file.now) (g.F.Source.left c.args.file.now) (g.F.Source.faults c.args.file.now) in
-    let now = giver (g.F.Source.given c.loop-script.file) (g.F.Source.left c.loop-script.file) (g.F.Source.faults c.loop-script.file) in
-    let new = giver (g.F.Source.given c.read.new.self) (g.F.Source.left c.read.new.self) (g.F.Source.faults c.read.new.self) in
+    let old = g.F.Source.state c.args.file.now in
+    let now = g.F.Source.state c.loop-script.file in
+    let new = g.F.Source.state c.read.new.self in
     let i = c.loop-script.invariant in
     let got = take c.in-Ok-eq0.field-0 c.read.new.buf in
     let same = none_taken c.loop-script.script.items c.read.new.buf c.in-Ok-eq0.field-0 c.in-Ok-eq0.field-0-test in (
@@ -40,9 +40,9 @@ returns-in-Ok-eq0 g c =
 
 pub returns-then-count-len : goal.returns-then-count-len
 returns-then-count-len g c =
-    let old = giver (g.F.Source.given c.args.file.now) (g.F.Source.left c.args.file.now) (g.F.Source.faults c.args.file.now) in
-    let now = giver (g.F.Source.given c.loop-script.file) (g.F.Source.left c.loop-script.file) (g.F.Source.faults c.loop-script.file) in
-    let new = giver (g.F.Source.given c.read.new.self) (g.F.Source.left c.read.new.self) (g.F.Source.faults c.read.new.self) in
+    let old = g.F.Source.state c.args.file.now in
+    let now = g.F.Source.state c.loop-script.file in
+    let new = g.F.Source.state c.read.new.self in
     let i = c.loop-script.invariant in
     let got = take c.in-Ok.count c.read.new.buf in (
       c.loop-script.script.items ++ got,
@@ -52,16 +52,16 @@ returns-then-count-len g c =
 
 pub loop-script-preserved : goal.loop-script-preserved
 loop-script-preserved g c =
-    let old = giver (g.F.Source.given c.args.file.now) (g.F.Source.left c.args.file.now) (g.F.Source.faults c.args.file.now) in
-    let now = giver (g.F.Source.given c.loop-script.file) (g.F.Source.left c.loop-script.file) (g.F.Source.faults c.loop-script.file) in
-    let new = giver (g.F.Source.given c.read.new.self) (g.F.Source.left c.read.new.self) (g.F.Source.faults c.read.new.self) in
+    let old = g.F.Source.state c.args.file.now in
+    let now = g.F.Source.state c.loop-script.file in
+    let new = g.F.Source.state c.read.new.self in
     let i = c.loop-script.invariant in
     let got = take c.in-Ok.count c.read.new.buf in
     let fits : length (c.loop-script.script.items ++ got) ≤ 16777216 = omega (arith, length-append c.loop-script.script.items got, c.in-Ok.ensures.bound.1, c.len.ensures, c.if-count-len.false, i.fits) in
     let front = ap (λ l. take c.in-Ok.count l) c.deref.ensures.value ∙ front_taken c.in-Ok.count c.loop-script.chunk.len c.read.new.buf _ c.in-Ok.ensures.bound.0 (omega (arith, c.in-Ok.ensures.bound.0, c.deref_mut.ensures.len, c.read.auto.buf)) in
     let items = c.in_ok-extend_from_slice-in-Ok.ensures.items ∙ ap (λ l. c.loop-script.script.items ++ l) front in
     record {
-      gave = subst (λ (l : List ℕ). Gave old new l) (sym items) (gave_taken old now new c.loop-script.script.items got i.gave c.in-Ok.ensures.gives c.in-Ok.ensures.takes.0);
+      gave = subst (λ (l : List ℕ). Reads old new l) (sym items) (gave_taken old now new c.loop-script.script.items got i.gave c.in-Ok.ensures.gives c.in-Ok.ensures.takes.0);
       fits = omega (arith, ap length items, fits);
       chunk = i.chunk;
       later = omega (arith, i.later, c.in-Ok.ensures.cause.later);
@@ -69,9 +69,9 @@ loop-script-preserved g c =
 
 pub returns-in_err-extend_from_slice-in-Ok : goal.returns-in_err-extend_from_slice-in-Ok
 returns-in_err-extend_from_slice-in-Ok g c =
-    let old = giver (g.F.Source.given c.args.file.now) (g.F.Source.left c.args.file.now) (g.F.Source.faults c.args.file.now) in
-    let now = giver (g.F.Source.given c.loop-script.file) (g.F.Source.left c.loop-script.file) (g.F.Source.faults c.loop-script.file) in
-    let new = giver (g.F.Source.given c.read.new.self) (g.F.Source.left c.read.new.self) (g.F.Source.faults c.read.new.self) in
+    let old = g.F.Source.state c.args.file.now in
+    let now = g.F.Source.state c.loop-script.file in
+    let new = g.F.Source.state c.read.new.self in
     let i = c.loop-script.invariant in
     let got = take c.in-Ok.count c.read.new.buf in
     let fits : length (c.loop-script.script.items ++ got) ≤ 16777216 = omega (arith, length-append c.loop-script.script.items got, c.in-Ok.ensures.bound.1, c.len.ensures, c.if-count-len.false, i.fits) in (

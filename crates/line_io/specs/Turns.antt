@@ -1,0 +1,38 @@
+-- Where the taking of lines has come to.
+use Rattle.std.specs.Prelude.{◌≡◌, ◌≤◌, ℕ, suc, ◌+◌, not, List, length, true, Option, Some, None}
+use Rattle.line_io.specs.Lines.{Piece, Held, Reads, IsWaiting, weight, flag}
+use Rattle.line_io.specs.Runs.{Runs}
+use Rattle.line_io.specs.Source.{Supplied}
+use Rattle.line_io.specs.Takers.{Meaning}
+use Rattle.line_io.specs.Taken.{Place, InTime, IsOver, WasWritten, Taken}
+use Rattle.line_io.specs.declared.taker.LinesEnd.{LinesEnd}
+
+-- so many calls got these bytes and gave these lines, and each read came in time
+pub record Course (limit : ℕ) (Written : List Piece → Type 0) (held : Held) (given : List ℕ) (pieces : List Piece) (old new : Supplied) (calls : ℕ) : Type 0 where
+  pub gave : Reads old new given
+  pub runs : Runs limit held given pieces calls
+  pub in_time : InTime limit Written given pieces
+  pub at_end : held.ended ≡ true → IsOver old new
+  pub no_fault : new.faults ≡ old.faults
+
+-- and the taker took these lines, so many
+pub record Reached {S O X : Type 0} (means : Meaning S O X) (limit : ℕ) (first now : Place S O) (held : Held) (calls number : ℕ) : Type 0 where
+  pub given : List ℕ
+  pub pieces : List Piece
+  pub course : Course limit (WasWritten means first) held given pieces first.input now.input calls
+  pub count : number ≡ length pieces
+  pub took : means.took first.taker first.output pieces now.taker now.output
+
+-- one call more, or an end
+abbrev pub After : {S O X : Type 0} → Meaning S O X → ℕ → Option (LinesEnd X) → Place S O → Place S O → Held → ℕ → ℕ → Type 0
+After means limit None first now held calls number = Reached means limit first now held (suc calls) number
+After means limit (Some ending) first now held calls number = Taken means limit ending first now
+
+-- what the calls to come have to take away, where nothing more is read
+abbrev pub work : Held → ℕ
+work held = weight held + flag (not held.ended)
+
+-- no line that is held is whole, or an end
+abbrev pub Drained : {S O X : Type 0} → Meaning S O X → ℕ → Option (LinesEnd X) → Place S O → Place S O → Held → ℕ → ℕ → Type 0
+Drained means limit None first now held calls number = IsWaiting held × ((later : ℕ) × (calls ≤ later) × Reached means limit first now held later number)
+Drained means limit (Some ending) first now held calls number = Taken means limit ending first now

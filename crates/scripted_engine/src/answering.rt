@@ -1,0 +1,61 @@
+// Answers the lines that a script is given.
+ghost use Rattle.std.specs.Prelude.{◌≡◌};
+ghost use Rattle.scripted_engine.specs.Ends.{is_quit};
+ghost use Rattle.scripted_engine.specs.Heard.{ending_of};
+
+use crate::{Ending, Scripted};
+use line_io::{LinesEnd, Sink, TakesLines, write_all};
+use peer_words::split_token;
+
+/// Why no more lines are answered.
+#[derive(Clone, Copy, Debug, PartialEq, Eq)]
+pub enum Stop {
+    Quit,
+    WriteFailed,
+}
+
+/// How a run ends.
+pub fn ending_of(end: LinesEnd<Stop>) -> Ending
+    ensures { result ≡ ending_of end }
+{
+    match end {
+        LinesEnd::Stopped(Stop::Quit) => Ending::Done,
+        LinesEnd::Stopped(Stop::WriteFailed) => Ending::WriteFailed,
+        LinesEnd::Ended => Ending::Done,
+        LinesEnd::ReadFailed => Ending::ReadFailed,
+        LinesEnd::Endless => Ending::Endless,
+    }
+}
+
+fn is_quit(line: &[u8]) -> bool
+    ensures { result ≡ is_quit line.now }
+{
+    let (word, _) = split_token(line);
+    word == b"quit".as_slice()
+}
+
+impl<O: Sink> TakesLines<O> for Scripted {
+    ghost use Rattle.scripted_engine.specs.Heard.{answers_of};
+
+    type Stop = Stop;
+
+    ghost means = { answers_of O.state };
+
+    fn line(&mut self, _number: u64, line: &[u8], output: &mut O) -> Option<Stop> {
+        if write_all(output, self.answer(line)).is_err() {
+            return Some(Stop::WriteFailed);
+        }
+        if is_quit(line) {
+            return Some(Stop::Quit);
+        }
+        None
+    }
+
+    fn long(&mut self, _number: u64, _output: &mut O) -> Option<Stop> {
+        None
+    }
+
+    fn flush(&mut self, _output: &mut O) -> Option<Stop> {
+        None
+    }
+}
