@@ -1,85 +1,26 @@
 -- How a position stands, and how a game has ended, by tests and by the Laws.
-use Rattle.std.proofs.Common.{◌≡◌, ℕ, ◌+◌, ◌<◌, ◌≤◌, List, [], ◌∷◌, ◌++◌, Bool, true, false, ◌&&◌, ◌||◌, cond, leb, eqb, Option, Some, None, inl, inr, refl, sym, ap, subst, ◌∙◌, arith}
+use Rattle.std.proofs.Common.{◌≡◌, ℕ, ◌+◌, ◌<◌, ◌≤◌, List, [], ◌∷◌, ◌++◌, Bool, true, false, ◌&&◌, cond, leb, eqb, Some, None, refl, sym, ap, ◌∙◌, arith}
 use Rattle.std.specs.Prelude.{count_by}
 use Rattle.std.specs.Bool.{Decides}
 use Rattle.std.proofs.lemmas.Bool.Decides.{Decides-and, Decides-or, Decides-eqb, nat_tests}
-use Rattle.chess_board.specs.declared.board.Kind.{Kind}
-use Rattle.chess_board.specs.declared.board.Kind.TheVariants.{Pawn, Knight, Bishop, Rook, Queen, King}
-use Rattle.chess_board.specs.declared.board.Move.{Move}
-use Rattle.chess_board.specs.declared.board.Square.{Square}
 use Rattle.chess_board.specs.declared.board.State.{State}
 use Rattle.chess_board.specs.declared.board.State.TheVariants as states
 use Rattle.chess_board.specs.Attack.{is_checked}
-use Rattle.chess_board.specs.Board.{Men, squares, some_square}
+use Rattle.chess_board.specs.Board.{Men}
 use Rattle.chess_board.specs.Laws.{IsChecked}
 use Rattle.chess_board.specs.Placement.{Placement}
 use Rattle.chess_board.specs.Play.{is_man, is_minor, HasLegal, IsDead, StateFits}
-use Rattle.chess_board.specs.Rules.{is_legal}
-use Rattle.chess_board.specs.Text.{IsOfficer}
-use Rattle.chess_board.proofs.Below.{some_below-found, some_square-hit, squares-is}
-use Rattle.chess_board.proofs.Legal.{legal-law, checked-law}
-use Rattle.chess_board.proofs.Bools.{either}
-use Rattle.chess_board.proofs.Texts.{legal-written}
+use Rattle.chess_board.proofs.Legal.{checked-law}
+use Rattle.chess_board.proofs.Ways.{way-law}
 use Rattle.game_record.specs.declared.ending.End.TheVariants as ends
 use Rattle.game_record.specs.Course.{played, Ply, Course, now_of, positions_of, with_ply, later}
-use Rattle.game_record.specs.Ending.{is_way, has_legal, is_dead, state_by, state_of, ended_by, ended_of, stood_in, repeats_of, Ends, StateLaw, EndingLaw}
+use Rattle.game_record.specs.Ending.{has_legal, is_dead, state_by, state_of, ended_by, ended_of, stood_in, repeats_of, Ends, StateLaw, EndingLaw}
 use Rattle.game_record.proofs.Replays.{later-append, now_after-append}
 use Rattle.game_record.proofs.Times.{stood_once}
 
-or_left : (a b : Bool) → a ≡ true → (a || b) ≡ true
-or_left a b e = rw e refl
-
-or_right : (a b : Bool) → b ≡ true → (a || b) ≡ true
-or_right true b e = refl
-or_right false b e = e
-
-abbrev square : (s : ℕ) → s < 64 → Square
-square s low = record { index = s; on_board = low }
-
-abbrev move_of : Square → Square → Option Kind → Move
-move_of from to promo = record { from = from; to = to; promo = promo }
-
-some_move : (p : Placement) (from to : ℕ) (promo : Option Kind) → from < 64 → to < 64 → is_legal p from to promo ≡ true → HasLegal p
-some_move p from to promo f t e = record { move = move_of (square from f) (square to t) promo; legal = (legal-law p from to promo).0 e }
-
-way_legal : (p : Placement) (from to : ℕ) → from < 64 → to < 64 → is_way p from to ≡ true → HasLegal p
-way_legal p from to f t e =
-    elim (either (is_legal p from to None) ((is_legal p from to (Some Queen) || is_legal p from to (Some Rook)) || (is_legal p from to (Some Bishop) || is_legal p from to (Some Knight))) e) as (λ _. HasLegal p) [
-      | inl h ↦ some_move p from to None f t h
-      | inr h ↦ elim (either (is_legal p from to (Some Queen) || is_legal p from to (Some Rook)) (is_legal p from to (Some Bishop) || is_legal p from to (Some Knight)) h) as (λ _. HasLegal p) [
-        | inl k ↦ elim (either (is_legal p from to (Some Queen)) (is_legal p from to (Some Rook)) k) as (λ _. HasLegal p) [
-          | inl q ↦ some_move p from to (Some Queen) f t q
-          | inr q ↦ some_move p from to (Some Rook) f t q
-        ]
-        | inr k ↦ elim (either (is_legal p from to (Some Bishop)) (is_legal p from to (Some Knight)) k) as (λ _. HasLegal p) [
-          | inl q ↦ some_move p from to (Some Bishop) f t q
-          | inr q ↦ some_move p from to (Some Knight) f t q
-        ]
-      ]
-    ]
-
-legal_way : (p : Placement) (from to : ℕ) (promo : Option Kind) → IsOfficer promo → is_legal p from to promo ≡ true → is_way p from to ≡ true
-legal_way p from to None o e = or_left (is_legal p from to None) _ e
-legal_way p from to (Some Queen) o e = or_right (is_legal p from to None) _ (or_left (is_legal p from to (Some Queen) || is_legal p from to (Some Rook)) _ (or_left (is_legal p from to (Some Queen)) _ e))
-legal_way p from to (Some Rook) o e = or_right (is_legal p from to None) _ (or_left (is_legal p from to (Some Queen) || is_legal p from to (Some Rook)) _ (or_right (is_legal p from to (Some Queen)) _ e))
-legal_way p from to (Some Bishop) o e = or_right (is_legal p from to None) _ (or_right (is_legal p from to (Some Queen) || is_legal p from to (Some Rook)) _ (or_left (is_legal p from to (Some Bishop)) _ e))
-legal_way p from to (Some Knight) o e = or_right (is_legal p from to None) _ (or_right (is_legal p from to (Some Queen) || is_legal p from to (Some Rook)) _ (or_right (is_legal p from to (Some Bishop)) _ e))
-legal_way p from to (Some Pawn) o e = absurd o
-legal_way p from to (Some King) o e = absurd o
-
 has_legal-law : (p : Placement) → Decides (has_legal p) (HasLegal p)
 unfolding has_legal
-has_legal-law p = (
-  λ e.
-      let one = some_below-found squares (λ from. some_square (λ to. is_way p from to)) e in
-      let two = some_below-found squares (λ to. is_way p one.0 to) one.2 in
-      way_legal p one.0 two.0 (subst (λ (n : ℕ). one.0 < n) squares-is one.1) (subst (λ (n : ℕ). two.0 < n) squares-is two.1) two.2,
-  λ h.
-      let m = h.move in
-      let test = (legal-law p m.from.index m.to.index m.promo).1 h.legal in
-      let way = legal_way p m.from.index m.to.index m.promo (legal-written p m h.legal) test in
-      some_square-hit (λ from. some_square (λ to. is_way p from to)) m.from.index m.from.on_board (some_square-hit (λ to. is_way p m.from.index to) m.to.index m.to.on_board way),
-)
+has_legal-law p = way-law p
 
 dead-law : (men : Men) → Decides (is_dead men) (IsDead men)
 dead-law men =

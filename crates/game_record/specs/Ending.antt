@@ -6,11 +6,11 @@ use Rattle.chess_board.specs.declared.board.Rights.{Rights}
 use Rattle.chess_board.specs.declared.board.State.{State}
 use Rattle.chess_board.specs.declared.board.State.TheVariants as states
 use Rattle.chess_board.specs.Attack.{is_checked}
-use Rattle.chess_board.specs.Board.{Man, Men, same_side, some_square}
+use Rattle.chess_board.specs.Board.{Man, Men, same_side}
 use Rattle.chess_board.specs.Laws.{Same}
 use Rattle.chess_board.specs.Placement.{Placement}
+use Rattle.chess_board.specs.Place.{has_any_way}
 use Rattle.chess_board.specs.Play.{is_man, is_minor, StateFits}
-use Rattle.chess_board.specs.Rules.{is_legal}
 use Rattle.game_record.specs.declared.ending.End.{End}
 use Rattle.game_record.specs.declared.ending.End.TheVariants.{Mate, Stale, Dead, Repetition, Fifty}
 use Rattle.game_record.specs.Course.{Course, now_of, positions_of}
@@ -65,14 +65,9 @@ stood_in p positions = count_by (is_same p) positions
 abbrev pub repeats_of : Course → ℕ
 repeats_of g = stood_in (now_of g) (positions_of g)
 
--- whether some move from a square to another is legal
-abbrev pub is_way : Placement → ℕ → ℕ → Bool
-is_way p from to =
-    is_legal p from to None
-    || ((is_legal p from to (Some Queen) || is_legal p from to (Some Rook)) || (is_legal p from to (Some Bishop) || is_legal p from to (Some Knight)))
-
+-- whether the side on move has a legal move
 unfoldable pub has_legal : Placement → Bool
-has_legal p = some_square (λ from. some_square (λ to. is_way p from to))
+has_legal p = has_any_way p
 
 -- beside the two kings no man, or one bishop or knight alone
 abbrev pub is_dead : Men → Bool

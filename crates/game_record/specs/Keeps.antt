@@ -1,5 +1,5 @@
 -- What a game keeps.
-use Rattle.std.specs.Prelude.{ℕ, ◌≡◌, ◌+◌, ◌<◌, ◌≤◌, Option, List, [], ◌∷◌, ◌++◌, length, take, slice_index, slice_index_or}
+use Rattle.std.specs.Prelude.{ℕ, ◌≡◌, ◌+◌, ◌-◌, ◌<◌, ◌≤◌, Option, List, [], ◌∷◌, ◌++◌, length, take, slice_index, slice_index_or}
 use Rattle.chess_board.specs.Placement.{Placement}
 use Rattle.game_record.specs.Course.{Ply, played, later, AreLegal}
 use Rattle.game_record.specs.Ending.{stood_in, ended_of}
@@ -13,6 +13,10 @@ most_plies = 12000
 abbrev pub times_of : List Placement → Placement → List Ply → List ℕ
 times_of before p [] = []
 times_of before p (m ∷ moves) = stood_in (played p m) (before ++ played p m ∷ []) ∷ times_of (before ++ played p m ∷ []) (played p m) moves
+
+-- the positions from before the last pawn's move or capture, by the half-move count of the one that follows them
+abbrev pub left_behind : Placement → List Placement → List Placement
+left_behind p positions = take (length positions - p.half) positions
 
 -- with each position how often it then stood
 pub record AreTimes (start : Placement) (positions : List Placement) (times : List ℕ) : Type 0 where

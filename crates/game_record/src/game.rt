@@ -5,7 +5,7 @@ ghost use Rattle.chess_board.specs.Play.{start_position, IsPosition};
 ghost use Rattle.game_record.specs.Course.{Course, Ply, ply_of, plies_of, IsPlayable, played, AreLegal, now_of, now_after, later, positions_of, begun, with_ply, without_last};
 ghost use Rattle.game_record.specs.Line.{position_text};
 ghost use Rattle.game_record.specs.Ending.{stood_in, repeats_of, ended_of};
-ghost use Rattle.game_record.specs.Keeps.{AreTimes, times_of};
+ghost use Rattle.game_record.specs.Keeps.{AreTimes, times_of, left_behind};
 
 use crate::ending::{End, ended_by, is_same, state_of};
 use chess_board::{Move, Position};
@@ -96,7 +96,7 @@ impl Game {
             return Err(PushFault::Illegal);
         }
         let after = now.play(m);
-        let times = self.stood(&after) + 1;
+        let times = self.stood(m, &after) + 1;
         if self.moves.len() >= MOST_PLIES {
             return Err(PushFault::TooLong);
         }
@@ -167,12 +167,20 @@ impl Game {
         self.start.facts();
     }
 
-    /// How often a position stood in the game so far.
-    fn stood(&self, p: &Position) -> u32
-        ensures value { result ≡ stood_in p.now (positions_of self.now) }
+    /// How often the position after a move stood in the game so far.
+    fn stood(&self, m: Move, after: &Position) -> u32
+        requires legal { IsPlayable (now_of self.now) (ply_of m) }
+        requires after { after.now ≡ played (now_of self.now) (ply_of m) }
+        ensures value { result ≡ stood_in after.now (positions_of self.now) }
         ensures few { result ≤ 12001 }
     {
-        last_stood(p, &self.start, self.later.as_slice(), self.times.as_slice())
+        self.start.facts();
+        last_stood(
+            after,
+            &self.start,
+            self.later.as_slice(),
+            self.times.as_slice(),
+        )
     }
 
     /// How often the present position stood, the present time counted (article 9.2.2).
@@ -195,7 +203,7 @@ impl Game {
         ensures { result ≡ ended_of (with_ply self.now (ply_of m)) }
     {
         let after = self.now().play(m);
-        ended_by(state_of(&after), self.stood(&after) + 1, after.half())
+        ended_by(state_of(&after), self.stood(m, &after) + 1, after.half())
     }
 }
 
@@ -227,15 +235,20 @@ fn ended_in(start: &Position, positions: &[Position], times: &[u32]) -> Option<E
     ended_by(state_of(now), last_times(times), now.half())
 }
 
-/// How often a position stood: as often as its last occurrence says.
+/// How often a position stood: as often as its last occurrence since a pawn's move or a capture says.
 fn last_stood(p: &Position, start: &Position, later: &[Position], times: &[u32]) -> u32
-    requires { AreTimes start.now later.now times.now }
+    requires times { AreTimes start.now later.now times.now }
+    requires behind { stood_in p.now (left_behind p.now (start.now ∷ later.now)) ≡ 0 }
     ensures { result ≡ stood_in p.now (start.now ∷ later.now) }
 {
-    for i in (0..later.len()).rev() {
+    let oldest = later.len().saturating_sub(p.half() as usize);
+    for i in (oldest..later.len()).rev() {
         if is_same(p, &later[i]) {
             return times[i];
         }
+    }
+    if oldest > 0 {
+        return 0;
     }
     if is_same(p, start) { 1 } else { 0 }
 }

@@ -1,10 +1,11 @@
 use Rattle.std.proofs.Common.{sym, ◌∙◌, arith, ◌≡◌, true, false, length, ap, lit<, ◌<◌, ◌+◌, ◌*◌, ◌++◌, ◌∷◌, [], ℕ, subst}
 use Rattle.chess_board.specs.declared.board.Move.{Move}
-use Rattle.chess_board.specs.Place.{IsDone, legal, legal_at}
+use Rattle.chess_board.specs.Rules.{reaches_to}
+use Rattle.chess_board.specs.Place.{IsDone, legal, legal_at, ordered_square}
 use Rattle.chess_board.proofs.Places.{IsMoveAt, is_move_at, done_push, done_skip, legal_is}
 use Rattle.chess_board.proofs.Total.{few_moves}
 use Rattle.chess_board.proofs.list.add_moves_between.Goals as goal
-use Rattle.chess_board.proofs.list.add_moves_between.Goals.{then-is_legal_move, else-is_legal_move}
+use Rattle.chess_board.proofs.list.add_moves_between.Goals.{then-is_legal_reach, else-is_legal_reach}
 
 pub push-requires : goal.push-requires
 push-requires c =
@@ -13,7 +14,7 @@ push-requires c =
     let n : ℕ = f * 320 + t * 5 + q in
     let m : Move = record { from = c.square_in_order.result; to = c.square_in_order-in-loop-choice.result; promo = c.promotion_at.result } in
     let at : IsMoveAt m n = is_move_at m f t q c.requires.places.0 c.requires.places.1 c.loop-choice-test.true c.square_in_order.ensures c.square_in_order-in-loop-choice.ensures c.promotion_at.ensures in
-    let legal' : legal_at p n ≡ true = sym (legal_is p m n at) ∙ (sym c.is_legal_move.ensures ∙ c.if-is_legal_move.true) in
+    let legal' : legal_at p n ≡ true = sym (legal_is p m n at) ∙ (sym c.is_legal_reach.ensures ∙ c.if-is_legal_reach.true) in
     let places = c.requires.places in let low = places.0 in let low' = places.1 in
     let few = few_moves p n c.requires.men (omega arith) legal' in
     let done : IsDone p c.loop-choice.moves.items n = c.loop-choice.invariant in
@@ -32,13 +33,19 @@ loop-choice-preserved c =
     let out = c.loop-choice.moves.items in
     let within : n < 20480 = omega arith in
     let next : n + 1 ≡ f * 320 + t * 5 + (q + 1) = omega arith in
-    elim c.if-is_legal_move.branch [
-      | then-is_legal_move w ↦
-          let pushed : c.if-is_legal_move.moves.items ≡ out ++ m ∷ [] = ap (λ v. v.items) w.moves-is ∙ w.push.ensures.items in
-          let is : legal p m ≡ true = sym c.is_legal_move.ensures ∙ w.if-is_legal_move.true in
+    elim c.if-is_legal_reach.branch [
+      | then-is_legal_reach w ↦
+          let pushed : c.if-is_legal_reach.moves.items ≡ out ++ m ∷ [] = ap (λ v. v.items) w.moves-is ∙ w.push.ensures.items in
+          let is : legal p m ≡ true = sym c.is_legal_reach.ensures ∙ w.if-is_legal_reach.true in
           rw pushed (subst (λ (i : ℕ). IsDone p (out ++ m ∷ []) i) next (done_push p out n m within c.loop-choice.invariant at is))
-      | else-is_legal_move w ↦
-          let same : c.if-is_legal_move.moves.items ≡ out = ap (λ v. v.items) w.moves-is in
-          let never : legal p m ≡ false = sym c.is_legal_move.ensures ∙ w.if-is_legal_move.false in
+      | else-is_legal_reach w ↦
+          let same : c.if-is_legal_reach.moves.items ≡ out = ap (λ v. v.items) w.moves-is in
+          let never : legal p m ≡ false = sym c.is_legal_reach.ensures ∙ w.if-is_legal_reach.false in
           rw same (subst (λ (i : ℕ). IsDone p out i) next (done_skip p out n m within c.loop-choice.invariant at never))
     ]
+
+pub is_legal_reach-requires-clause-reach : goal.is_legal_reach-requires-clause-reach
+is_legal_reach-requires-clause-reach c =
+    let p = c.args.setup.now in
+    subst (λ (i : ℕ). reaches_to p i c.square_in_order-in-loop-choice.result.index ≡ true) (sym c.square_in_order.ensures)
+    (subst (λ (i : ℕ). reaches_to p (ordered_square c.args.from_place) i ≡ true) (sym c.square_in_order-in-loop-choice.ensures) c.requires.reach)

@@ -6,14 +6,14 @@ use Rattle.chess_board.proofs.Below.{some_below-hit, some_below-none, some_below
 use Rattle.chess_board.proofs.Ways.{no_way}
 use Rattle.chess_board.proofs.list.has_move_between.Goals as goal
 
-pub returns-then-not-may_reach : goal.returns-then-not-may_reach
-returns-then-not-may_reach c = sym (no_way c.args.setup.now c.args.from.index c.args.to.index (sym c.may_reach.ensures ∙ c.if-not-may_reach.true))
+pub returns-then-not-may_reach_in : goal.returns-then-not-may_reach_in
+returns-then-not-may_reach_in c = sym (no_way c.args.setup.now c.args.from.index c.args.to.index (sym c.may_reach_in.ensures ∙ c.if-not-may_reach_in.true))
 
-pub returns-then-is_legal_move : goal.returns-then-is_legal_move
+pub returns-then-is_legal_reach : goal.returns-then-is_legal_reach
 unfolding has_way
-returns-then-is_legal_move c =
+returns-then-is_legal_reach c =
     let p = c.args.setup.now in
-    let legal : is_legal p c.args.from.index c.args.to.index c.promotion_at-promo.result ≡ true = sym c.is_legal_move.ensures ∙ c.if-is_legal_move.true in
+    let legal : is_legal p c.args.from.index c.args.to.index c.promotion_at-promo.result ≡ true = sym c.is_legal_reach.ensures ∙ c.if-is_legal_reach.true in
     let here : is_legal p c.args.from.index c.args.to.index (promotion c.loop-choice.choice) ≡ true =
     subst (λ (promo : Option Kind). is_legal p c.args.from.index c.args.to.index promo ≡ true) c.promotion_at-promo.ensures legal in
     sym (some_below-hit 5 c.loop-choice.choice (λ choice. is_legal p c.args.from.index c.args.to.index (promotion choice)) (omega arith) here)
@@ -21,3 +21,6 @@ returns-then-is_legal_move c =
 pub returns : goal.returns
 unfolding has_way
 returns c = sym (some_below-none 5 _ (λ k low. some_below-at c.loop-choice.choice k _ c.loop-choice.invariant (omega arith)))
+
+pub is_legal_reach-requires-clause-reach : goal.is_legal_reach-requires-clause-reach
+is_legal_reach-requires-clause-reach c = sym c.may_reach_in.ensures ∙ c.if-not-may_reach_in.false

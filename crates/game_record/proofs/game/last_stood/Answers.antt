@@ -3,6 +3,7 @@ use Rattle.std.proofs.Common.{◌≡◌, ℕ, zero, suc, ◌+◌, ◌-◌, ◌<�
 use Rattle.chess_board.specs.Placement.{Placement}
 use Rattle.game_record.specs.Ending.{is_same, stood_in}
 use Rattle.game_record.proofs.Times.{stood_found}
+use Rattle.game_record.proofs.Recent.{stood_nowhere}
 use Rattle.game_record.proofs.game.last_stood.Goals as goal
 
 inside : (xs : List Placement) (i : ℕ) (a b : Placement) → i < length xs → get_or xs i a ≡ get_or xs i b
@@ -17,5 +18,10 @@ returns-then-is_same c =
     let n : k + 1 ≡ c.loop-i.i = omega arith in
     let at : c.index-later-i.result ≡ get_or c.args.later.now k c.args.start.now = c.index-later-i.is ∙ inside c.args.later.now k c.index-later-i.result c.args.start.now low in
     let same : is_same c.args.p.now (get_or c.args.later.now k c.args.start.now) ≡ true = ap (is_same c.args.p.now) (sym at) ∙ sym c.is_same.ensures ∙ c.if-is_same.true in
-    let none : stood_in c.args.p.now (drop (k + 1) c.args.later.now) ≡ 0 = ap (λ (i : ℕ). stood_in c.args.p.now (drop i c.args.later.now)) n ∙ c.loop-i.invariant in
-    c.requires.each k low ∙ stood_found c.args.p.now c.args.start.now c.args.later.now k low same none
+    let none : stood_in c.args.p.now (drop (k + 1) c.args.later.now) ≡ 0 = ap (λ (i : ℕ). stood_in c.args.p.now (drop i c.args.later.now)) n ∙ c.loop-i.invariant.none in
+    c.requires.times.each k low ∙ stood_found c.args.p.now c.args.start.now c.args.later.now k low same none
+
+pub returns-then-oldest-gt0 : goal.returns-then-oldest-gt0
+returns-then-oldest-gt0 c =
+    let first : c.loop-i.i ≡ length c.args.later.now - c.args.p.now.half = omega arith in
+    sym (stood_nowhere c.args.p.now c.args.start.now c.args.later.now c.loop-i.i first (omega arith) c.requires.behind c.loop-i.invariant.none)

@@ -1,0 +1,101 @@
+-- The tables of squares that a man could go to: each row is the set of the squares that pass the test.
+use Rattle.std.proofs.Common.{◌≡◌, ◌<◌, ◌+◌, ◌*◌, ◌/◌, ◌%◌, ℕ, zero, suc, Bool, true, false, not, cond, List, refl, sym, subst, arith, get_or}
+use Rattle.chess_board.specs.declared.board.Kind.TheVariants.{Pawn, Knight, Queen, King}
+use Rattle.chess_board.specs.declared.board.Side.TheVariants.{White, Black}
+use Rattle.chess_board.specs.declared.reach.TheConstants.{LINES, JUMPS, KING_WAYS, WHITE_PAWN_WAYS, BLACK_PAWN_WAYS}
+use Rattle.chess_board.specs.Board.{each_below}
+use Rattle.chess_board.specs.Reach.{form, has, IsSetOf}
+use Rattle.chess_board.proofs.Below.{each_below-at}
+
+abbrev agrees : Bool → Bool → Bool
+agrees a b = cond a b (not b)
+
+agree-is : (a b : Bool) → agrees a b ≡ true → a ≡ b
+agree-is true b e = sym e
+agree-is false true e = absurd (cc)
+agree-is false false e = refl
+
+-- a row of a table has exactly the squares that pass the test
+abbrev row_fits : List ℕ → (ℕ → ℕ → Bool) → ℕ → Bool
+row_fits table test from = each_below 64 (λ to. agrees (has (get_or table from 0) to) (test from to))
+
+abbrev part_fits : List ℕ → (ℕ → ℕ → Bool) → ℕ → Bool
+part_fits table test part = each_below 8 (λ i. row_fits table test (part * 8 + i))
+
+in_part : (table : List ℕ) (test : ℕ → ℕ → Bool) → ((part : ℕ) → part < 8 → part_fits table test part ≡ true) → (from : ℕ) → from < 64 → IsSetOf (test from) (get_or table from 0)
+in_part table test fits from low s low' =
+    let part = fits (from / 8) (omega arith) in
+    let row = each_below-at 8 (from % 8) (λ i. row_fits table test (from / 8 * 8 + i)) part (omega arith) in
+    let e : from / 8 * 8 + from % 8 ≡ from = omega arith in
+    let row' : row_fits table test from ≡ true = subst (λ (n : ℕ). row_fits table test n ≡ true) e row in
+    agree-is _ _ (each_below-at 64 s (λ to. agrees (has (get_or table from 0) to) (test from to)) row' low')
+
+lines-part : (part : ℕ) → part < 8 → part_fits LINES (form White Queen) part ≡ true
+lines-part zero h = refl
+lines-part (suc zero) h = refl
+lines-part (suc (suc zero)) h = refl
+lines-part (suc (suc (suc zero))) h = refl
+lines-part (suc (suc (suc (suc zero)))) h = refl
+lines-part (suc (suc (suc (suc (suc zero))))) h = refl
+lines-part (suc (suc (suc (suc (suc (suc zero)))))) h = refl
+lines-part (suc (suc (suc (suc (suc (suc (suc zero))))))) h = refl
+lines-part (suc (suc (suc (suc (suc (suc (suc (suc n)))))))) h = absurd (omega arith)
+
+pub lines-fits : (from : ℕ) → from < 64 → IsSetOf (form White Queen from) (get_or LINES from 0)
+lines-fits from low = in_part LINES (form White Queen) lines-part from low
+
+jumps-part : (part : ℕ) → part < 8 → part_fits JUMPS (form White Knight) part ≡ true
+jumps-part zero h = refl
+jumps-part (suc zero) h = refl
+jumps-part (suc (suc zero)) h = refl
+jumps-part (suc (suc (suc zero))) h = refl
+jumps-part (suc (suc (suc (suc zero)))) h = refl
+jumps-part (suc (suc (suc (suc (suc zero))))) h = refl
+jumps-part (suc (suc (suc (suc (suc (suc zero)))))) h = refl
+jumps-part (suc (suc (suc (suc (suc (suc (suc zero))))))) h = refl
+jumps-part (suc (suc (suc (suc (suc (suc (suc (suc n)))))))) h = absurd (omega arith)
+
+pub jumps-fits : (from : ℕ) → from < 64 → IsSetOf (form White Knight from) (get_or JUMPS from 0)
+jumps-fits from low = in_part JUMPS (form White Knight) jumps-part from low
+
+king_ways-part : (part : ℕ) → part < 8 → part_fits KING_WAYS (form White King) part ≡ true
+king_ways-part zero h = refl
+king_ways-part (suc zero) h = refl
+king_ways-part (suc (suc zero)) h = refl
+king_ways-part (suc (suc (suc zero))) h = refl
+king_ways-part (suc (suc (suc (suc zero)))) h = refl
+king_ways-part (suc (suc (suc (suc (suc zero))))) h = refl
+king_ways-part (suc (suc (suc (suc (suc (suc zero)))))) h = refl
+king_ways-part (suc (suc (suc (suc (suc (suc (suc zero))))))) h = refl
+king_ways-part (suc (suc (suc (suc (suc (suc (suc (suc n)))))))) h = absurd (omega arith)
+
+pub king_ways-fits : (from : ℕ) → from < 64 → IsSetOf (form White King from) (get_or KING_WAYS from 0)
+king_ways-fits from low = in_part KING_WAYS (form White King) king_ways-part from low
+
+white_pawn_ways-part : (part : ℕ) → part < 8 → part_fits WHITE_PAWN_WAYS (form White Pawn) part ≡ true
+white_pawn_ways-part zero h = refl
+white_pawn_ways-part (suc zero) h = refl
+white_pawn_ways-part (suc (suc zero)) h = refl
+white_pawn_ways-part (suc (suc (suc zero))) h = refl
+white_pawn_ways-part (suc (suc (suc (suc zero)))) h = refl
+white_pawn_ways-part (suc (suc (suc (suc (suc zero))))) h = refl
+white_pawn_ways-part (suc (suc (suc (suc (suc (suc zero)))))) h = refl
+white_pawn_ways-part (suc (suc (suc (suc (suc (suc (suc zero))))))) h = refl
+white_pawn_ways-part (suc (suc (suc (suc (suc (suc (suc (suc n)))))))) h = absurd (omega arith)
+
+pub white_pawn_ways-fits : (from : ℕ) → from < 64 → IsSetOf (form White Pawn from) (get_or WHITE_PAWN_WAYS from 0)
+white_pawn_ways-fits from low = in_part WHITE_PAWN_WAYS (form White Pawn) white_pawn_ways-part from low
+
+black_pawn_ways-part : (part : ℕ) → part < 8 → part_fits BLACK_PAWN_WAYS (form Black Pawn) part ≡ true
+black_pawn_ways-part zero h = refl
+black_pawn_ways-part (suc zero) h = refl
+black_pawn_ways-part (suc (suc zero)) h = refl
+black_pawn_ways-part (suc (suc (suc zero))) h = refl
+black_pawn_ways-part (suc (suc (suc (suc zero)))) h = refl
+black_pawn_ways-part (suc (suc (suc (suc (suc zero))))) h = refl
+black_pawn_ways-part (suc (suc (suc (suc (suc (suc zero)))))) h = refl
+black_pawn_ways-part (suc (suc (suc (suc (suc (suc (suc zero))))))) h = refl
+black_pawn_ways-part (suc (suc (suc (suc (suc (suc (suc (suc n)))))))) h = absurd (omega arith)
+
+pub black_pawn_ways-fits : (from : ℕ) → from < 64 → IsSetOf (form Black Pawn from) (get_or BLACK_PAWN_WAYS from 0)
+black_pawn_ways-fits from low = in_part BLACK_PAWN_WAYS (form Black Pawn) black_pawn_ways-part from low
