@@ -12,7 +12,7 @@ use Rattle.cecp_lines.specs.declared.iface.IfaceFault.TheVariants.{UnknownComman
 use Rattle.cecp_lines.specs.declared.words.Command.{Command}
 use Rattle.cecp_lines.specs.declared.words.Command.TheVariants.{Ignored, Bare, With}
 use Rattle.cecp_lines.specs.Messages as says
-use Rattle.cecp_lines.specs.Messages.{Message, message_of}
+use Rattle.cecp_lines.specs.Messages.{Message}
 use Rattle.chess_board.specs.Spelling.{move_of}
 use Rattle.cecp_lines.specs.Words.{command_of, is_ignored}
 use Rattle.cecp_lines.specs.Reading.{is_empty, only_token, version, base_time, level_of, is_equals, value_at, setting_of, argument, move_or_unknown, other_line, command_line, reading, HasArgument, HasLevel, HasMove, HasSetting, IsMoveAlone, Spells, IsUnknown, IsBad, SpellsOneMessage}

@@ -4,13 +4,4 @@ pub mod Tables
 pub mod Spellings
 pub mod Complete
 pub mod Answered
-pub mod Fronts
-pub mod Plain
-pub mod Hears
-pub mod Tellings
-pub mod Rereads
-pub mod Lists
-pub mod Exact
-pub mod Spoken
-pub mod Again
 pub mod Lengths

@@ -26,7 +26,7 @@ none_by line (c ∷ cs) e h = absurd (cc (tokens_some line c cs e))
 pub no_tokens : (line : List ℕ) → tokens line ≡ [] → first_token line ≡ []
 no_tokens line h = none_by line (first_token line) refl h
 
--- a rest is empty where it has no token
+-- a rest is empty if it has no token
 pub rest_empty : (line : List ℕ) → tokens (rest line) ≡ [] → rest line ≡ []
 rest_empty line h =
     sym (trim_left_trimmed (drop (token_end (trim_left line)) (trim_left line))) ∙ no_first (rest line) (no_tokens (rest line) h)

@@ -2,5 +2,4 @@ pub mod Messages
 pub mod Words
 pub mod Reading
 pub mod Replies
-pub mod Texts
-pub mod Hearing
+pub mod Quit

@@ -1,4 +1,4 @@
--- What the interface is told, whatever memory its bytes lie in, and the texts.
+-- The replies to the interface, whatever memory their bytes lie in, and how they are written.
 use Rattle.std.specs.Prelude.{◌≡◌, ℕ, ℤ, ◌+◌, ◌<◌, ◌≤◌, ◌^◌, List, [], ◌∷◌, ◌++◌, length, map, Bool, true, not, ◌&&◌, ◌||◌, ◌==◌, nat_lt, codes, decimal, Option, Some, None, IfSome}
 use Rattle.std.specs.Fmt.{signed_decimal}
 use Rattle.std.specs.Int.RustNames.{FitsSigned}

@@ -171,11 +171,20 @@ fn read_message(line: &[u8]) -> Result<IfaceMsg<'_>, IfaceFault>
 /// section "Commands from xboard to the engine"). The line has no line feed.
 pub fn read_iface(line: &[u8]) -> Result<IfaceMsg<'_>, IfaceFault>
     ensures value { read_as result ≡ reading line.now }
-    // A message is read exactly where the line spells it.
+    // A message is read if and only if the line spells it.
     ensures spelled { (m : Message) → (read_as result ≡ Ok m) ↔ Spells line.now m }
     // Which fault it is.
     ensures unknown { (result ≡ Err UnknownCommand) ↔ IsUnknown line.now }
     ensures bad { (result ≡ Err BadArgument) ↔ IsBad line.now }
 {
     read_message(line)
+}
+
+ghost use Rattle.cecp_lines.specs.Quit.{is_quit};
+
+/// Whether the line spells `quit`.
+pub fn is_quit(line: &[u8]) -> bool
+    ensures { result ≡ is_quit line.now }
+{
+    matches!(read_iface(line), Ok(IfaceMsg::Quit))
 }

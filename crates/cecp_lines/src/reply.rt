@@ -1,4 +1,4 @@
-// What the interface is told.
+// The replies to the interface.
 
 use chess_board::Move;
 
@@ -17,7 +17,7 @@ pub enum Reason {
     LineTooLong,
 }
 
-/// What the user is to be told.
+/// An error that the user is to see.
 #[derive(Clone, Copy, Debug, PartialEq, Eq)]
 pub enum Tell {
     /// A position that is none.
@@ -44,7 +44,7 @@ pub enum Outcome {
 /// Output" and "Analyze Mode".
 #[derive(Clone, Copy, Debug, PartialEq, Eq)]
 pub enum Reply<'a> {
-    /// A feature and its value, with the quotes where it has some.
+    /// A feature and its value, with the quotes if it has some.
     Feature {
         name: &'a [u8],
         value: &'a [u8],

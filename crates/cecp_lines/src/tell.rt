@@ -59,7 +59,7 @@ fn put_move(m: Move, out: &mut Out)
 }
 
 /// Some words and a move.
-pub(crate) fn put_words_and_move(words: &[u8], m: Move, out: &mut Out)
+fn put_words_and_move(words: &[u8], m: Move, out: &mut Out)
     requires writable { IsWritable m }
     requires room { length out.old.text + length (words.now ++ text_of m) ≤ out.old.room }
     ensures { out.new ≡ with out.old (words.now ++ text_of m) }

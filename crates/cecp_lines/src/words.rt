@@ -1,10 +1,9 @@
 // The command words.
-ghost use Rattle.std.specs.Prelude.{◌≡◌, map};
-ghost use Rattle.std.specs.Str.{bytes_eq};
-ghost use Rattle.std.specs.Map.{lookup};
+ghost use Rattle.std.specs.Prelude.{◌≡◌};
 ghost use Rattle.cecp_lines.specs.Words.{command_of};
 
 use crate::iface::IfaceMsg;
+use peer_words::named;
 
 /// What a command word stands for.
 #[derive(Clone, Copy, Debug, PartialEq, Eq)]
@@ -78,21 +77,7 @@ const COMMANDS: [(&[u8], Command); 40] = [
     (b"egtpath", Command::With(Verb::EgtPath)),
 ];
 
-/// What the table has beside the word.
-pub(crate) fn named<T: Copy>(rows: &[(&'static [u8], T)], word: &[u8]) -> Option<T>
-    ensures { result ≡ lookup (bytes_eq word.now) (map (λ row. (row.0.now, row.1)) rows.now) }
-{
-    let mut rest = rows;
-    while let [(name, meaning), others @ ..] = rest {
-        if word == *name {
-            return Some(*meaning);
-        }
-        rest = others;
-    }
-    None
-}
-
-/// What a word stands for. None where it is no command word.
+/// What a word stands for. None if it is no command word.
 pub(crate) fn command_named(word: &[u8]) -> Option<Command>
     ensures { result ≡ command_of word.now }
 {

@@ -141,7 +141,7 @@ begins_at : (xs : List ℕ) (c : ℕ) (cs : List ℕ) → (list_all (λ b. not (
 begins_at xs c cs (inl h) f = begins_black xs c cs h f
 begins_at xs c cs (inr k) f = subst (λ (ys : List ℕ). Begins ys (c ∷ cs)) (sym k.is) (begins_cut k.front k.more k.white c cs k.black k.is_white (sym (ap (before_first is_white) k.is) ∙ f))
 
--- A line's tokens are its first token, where it has one, and the tokens of the rest.
+-- A line's tokens are its first token, if it has one, and the tokens of the rest.
 pub first_is_token : (line : List ℕ) (c : ℕ) (cs : List ℕ) → first_token line ≡ c ∷ cs → is_token (c ∷ cs) ≡ true
 first_is_token line c cs e = (begins_at (trim_left line) c cs (cut (trim_left line)) e).token
 

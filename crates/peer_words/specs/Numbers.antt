@@ -49,7 +49,7 @@ milliseconds (Some whole) (Some part) = Some (whole * 1000 + part)
 milliseconds (Some whole) None = None
 milliseconds None part = None
 
--- the same with the place of the point, where there is one
+-- the same with the place of the point, if there is one
 abbrev pub seconds_at : Option ℕ → List ℕ → Option ℕ
 seconds_at None text = milliseconds (digits 6 text) (Some 0)
 seconds_at (Some at) text = milliseconds (digits 6 (take at text)) (thousandths (drop (at + 1) text))
@@ -62,6 +62,6 @@ seconds text = seconds_at (position is_point text) text
 abbrev pub three_digits : ℕ → List ℕ
 three_digits n = (48 + n / 100) ∷ (48 + n / 10 % 10) ∷ (48 + n % 10) ∷ []
 
--- milliseconds written as seconds: whole ones, and three decimals where they are needed
+-- milliseconds written as seconds: whole ones, and three decimals if they are needed
 abbrev pub seconds_text : ℕ → List ℕ
 seconds_text ms = if ms % 1000 == 0 then decimal (ms / 1000) else decimal (ms / 1000) ++ (46 ∷ three_digits (ms % 1000))

@@ -1,12 +1,14 @@
-//! What the grammars of both peers share: tokens, numbers and the kinds of a search.
+//! What the grammars of both peers share: tokens, numbers, tables of words and the kinds of a search.
 #![tactic(auto)]
 
 mod kinds;
 mod numbers;
+mod tables;
 mod tokens;
 
 pub use kinds::GoKind;
 pub use numbers::{read_centis, read_count, read_digits, read_number, read_seconds, read_signed};
+pub use tables::named;
 pub use tokens::{is_white, split_token, trim, trim_end, trim_start};
 
 #[cfg(test)]

@@ -1,6 +1,6 @@
 // Tokens and numbers as both protocols have them.
 use crate::{
-    is_white, read_centis, read_count, read_digits, read_number, read_seconds, read_signed,
+    is_white, named, read_centis, read_count, read_digits, read_number, read_seconds, read_signed,
     split_token, trim, trim_end, trim_start,
 };
 use std::test::Fail;
@@ -53,5 +53,14 @@ fn lines_are_cut_at_white_space(rt: HostRuntime) -> Result<(), Fail> {
     let (none, after) = split_token(b" \r");
     assert_eq!(rt; none, b"".as_slice());
     assert_eq!(rt; after, b"".as_slice());
+    Ok(())
+}
+
+#[test]
+fn words_are_named(rt: HostRuntime) -> Result<(), Fail> {
+    let rows: [(&[u8], u32); 3] = [(b"one", 1), (b"two", 2), (b"one", 3)];
+    assert_eq!(rt; named(&rows, b"one"), Some(1));
+    assert_eq!(rt; named(&rows, b"two"), Some(2));
+    assert_eq!(rt; named(&rows, b"three"), None);
     Ok(())
 }

@@ -62,7 +62,7 @@ fn split_at_white(text: &[u8]) -> (&[u8], &[u8])
     }
 }
 
-/// The first token of a line, empty where there is none, and the trimmed rest after it.
+/// The first token of a line, empty if there is none, and the trimmed rest after it.
 pub fn split_token(line: &[u8]) -> (&[u8], &[u8])
     ensures token { result.0.now ≡ first_token line.now }
     ensures rest { result.1.now ≡ rest line.now }

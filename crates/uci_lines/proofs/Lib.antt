@@ -5,7 +5,6 @@ pub mod CutTokens
 pub mod Pieces
 pub mod Stripped
 pub mod Parts
-pub mod Rooms
 pub mod TextLengths
 pub mod Counts
 pub mod Searches
@@ -18,13 +17,4 @@ pub mod Listings
 pub mod Ranges
 pub mod Tellings
 pub mod Rows
-pub mod Kept
-pub mod Again
-pub mod ValuesAgain
-pub mod SpinsAgain
-pub mod OptionsAgain
-pub mod InfosAgain
-pub mod MessagesAgain
-pub mod RunLengths
-pub mod ValueLengths
-pub mod SaidLengths
+pub mod MoveTokens

@@ -27,7 +27,7 @@ unfolding join_first
 join_onto c w [] = refl
 join_onto c w (s ∷ ss) = refl
 
--- where no choice begins, the first byte goes before the pieces of the others
+-- if no choice begins, the first byte goes before the pieces of the others
 pass : (fresh : Bool) (b : ℕ) (bs : List ℕ) → (fresh && is_choice (front (b ∷ bs))) ≡ false → pieces fresh (b ∷ bs) ≡ onto_first b (pieces (is_white b) bs)
 pass fresh b bs e = rw e refl
 

@@ -36,6 +36,6 @@ abbrev pub number_or : Option (ℕ × List ℕ) → List ℕ → Option ℕ × L
 number_or None text = (None, text)
 number_or (Some found) text = (Some found.0, found.1)
 
--- the same, where they are there
+-- the same, if they are there
 abbrev pub perhaps_number : List ℕ → List ℕ → Option ℕ × List ℕ
 perhaps_number word text = number_or (number_behind word text) text

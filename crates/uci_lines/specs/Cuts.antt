@@ -18,7 +18,7 @@ pub record Part : Type 0 where
 abbrev pub onto_part : ℕ → Part → Part
 onto_part b part = record { before = b ∷ part.before; word = part.word; after = part.after }
 
--- Where the first token that passes stands. A token begins at the front only where the front is fresh:
+-- Where the first token that passes stands. A token begins at the front only if the front is fresh:
 -- the start of the line, or behind white space.
 abbrev pub cut : (List ℕ → Bool) → Bool → List ℕ → Option Part
 cut p fresh [] = None

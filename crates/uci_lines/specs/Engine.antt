@@ -35,6 +35,6 @@ abbrev pub said_by : Option Part → Says
 said_by None = Nothing
 said_by (Some part) = said_after part.word part.after
 
--- what stands before the first known word is passed over
+-- what stands before the first known word is ignored
 unfoldable pub engine_message : List ℕ → Says
 engine_message line = said_by (cut is_known true line)

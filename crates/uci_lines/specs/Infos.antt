@@ -1,4 +1,4 @@
--- What is told of a search.
+-- What an engine reports of its search.
 use Rattle.std.specs.Prelude.{ℕ, List, [], ◌∷◌, codes, Bool, true, false, if◌then◌else◌, Option, None}
 use Rattle.std.specs.Option.{option_or, option_map}
 use Rattle.peer_words.specs.Tokens.{tokens}
@@ -52,7 +52,7 @@ abbrev pub newer_run : List Move → List Move → List Move
 newer_run [] old = old
 newer_run (m ∷ moves) old = m ∷ moves
 
--- What a field says, with the tokens behind its word. Where what must follow does not, nothing changes.
+-- What a field says, with the tokens behind its word. If what must follow does not, nothing changes.
 abbrev pub hear : Field → Facts → List (List ℕ) → Facts
 hear fields.Depth f ts = record f { depth = option_or (first_count ts) f.depth }
 hear fields.Time f ts = record f { time = option_or (first_count ts) f.time }
@@ -71,7 +71,7 @@ ends_info fields.Text = true
 ends_info _ = false
 
 -- The tokens are read from left to right, up to `string`. What a field takes names no field itself, so
--- it may be passed over like any other token.
+-- it may be ignored like any other token.
 abbrev pub facts_from : Facts → List (List ℕ) → Facts
 facts_from f [] = f
 facts_from f (t ∷ ts) = if ends_info (field_named t) then f else facts_from (hear (field_named t) f ts) ts

@@ -6,10 +6,9 @@ pub mod Options
 pub mod Infos
 pub mod Engine
 pub mod Orders
-pub mod Said
 pub mod Behind
 pub mod Written
 pub mod Asked
 pub mod Scores
 pub mod Spells
-pub mod Again
+pub mod Writable

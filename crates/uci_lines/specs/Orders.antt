@@ -1,4 +1,4 @@
--- What an engine is told, whatever memory its texts lie in, and the texts of it.
+-- The orders to an engine, whatever memory their texts lie in, and how they are written.
 use Rattle.std.specs.Prelude.{ℕ, List, [], ◌∷◌, ◌++◌, codes, decimal, Bool, true, false, Option, Some, None}
 use Rattle.std.specs.Borrow.{Bor}
 use Rattle.uci_lines.specs.declared.orders.GoControl.{GoControl}
@@ -17,12 +17,12 @@ pub data Command : Type 0 where
   Position : (fen : Option (List ℕ)) (moves : List ℕ) → Command
   Go : (ponder : Bool) (control : GoControl) (depth : Option ℕ) → Command
 
--- the text behind a word, where there is one
+-- the text behind a word, if there is one
 abbrev pub optional_text : List ℕ → Option (List ℕ) → List ℕ
 optional_text word None = []
 optional_text word (Some text) = word ++ text
 
--- the number behind a word, where there is one
+-- the number behind a word, if there is one
 abbrev pub optional_number : List ℕ → Option ℕ → List ℕ
 optional_number word None = []
 optional_number word (Some n) = word ++ decimal n

@@ -12,7 +12,7 @@ use Rattle.uci_lines.specs.declared.says.EngineMsg.TheVariants as messages
 use Rattle.uci_lines.specs.Moves.{run}
 use Rattle.uci_lines.specs.Choices.{values}
 
--- what is told of a search, with the moves of its pv
+-- what an engine reports of its search, with the moves of its pv
 pub record Facts : Type 0 where
   pub depth : Option ℕ
   pub time : Option ℕ

@@ -1,4 +1,4 @@
--- How large the scores are that lines tell.
+-- How large the scores are that lines report.
 use Rattle.std.specs.Prelude.{◌≡◌, ℕ, ◌^◌, ◌<◌, nat_abs, List, IfSome}
 use Rattle.uci_lines.specs.declared.says.Score.{Score}
 use Rattle.uci_lines.specs.declared.says.Score.TheVariants.{Cp, Mate}
@@ -10,6 +10,6 @@ abbrev pub IsCentis : Score → Type 0
 IsCentis (Cp score) = nat_abs score < 10 ^ 9
 IsCentis (Mate moves) = nat_abs moves < 10 ^ 9
 
--- The scores that lines tell have at most nine digits.
+-- The scores that lines report have at most nine digits.
 abbrev pub ScoresAreCentis : Type 0
 ScoresAreCentis = (line : List ℕ) (facts : Facts) → engine_message line ≡ Info facts → IfSome facts.score IsCentis

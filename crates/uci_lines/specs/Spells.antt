@@ -36,13 +36,13 @@ pub record IsFirst (p : List ℕ → Bool) (text : List ℕ) (part : Part) : Typ
   pub ends_there : begins_white part.after ≡ true
   pub none_before : IsNoneOf p (tokens part.before)
 
--- what stands behind the first such word of a text; nothing where there is none
+-- what stands behind the first such word of a text; nothing if there is none
 abbrev pub Behind : List ℕ → List ℕ → List ℕ → Type 0
 Behind word text others =
     (IsNoneOf (is_word word) (tokens text) × (others ≡ []))
     ⊎ ((part : Part) × IsFirst (is_word word) text part × (others ≡ part.after))
 
--- the move that a text spells, or none where it spells none
+-- the move that a text spells, or none if it spells none
 abbrev pub PerhapsMove : List ℕ → Option Move → Type 0
 PerhapsMove text (Some m) = MoveSpells text m
 PerhapsMove text None = (m : Move) → MoveSpells text m → ⊥
@@ -107,7 +107,7 @@ pub data IsRun : List (List ℕ) → List Move → List (List ℕ) → Type 0 wh
   Goes : {t : List ℕ} → {m : Move} → {ts others : List (List ℕ)} → {moves : List Move}
       → MoveSpells t m → IsRun ts moves others → IsRun (t ∷ ts) (m ∷ moves) others
 
--- A field at the front of the tokens takes its value: what is told then, and the tokens that are left.
+-- A field at the front of the tokens takes its value: what is reported then, and the tokens that are left.
 pub data Takes (f : Facts) : List (List ℕ) → Facts → List (List ℕ) → Type 0 where
   Depth : {t : List ℕ} → {ts : List (List ℕ)} → {n : ℕ} → count t ≡ Some n → Takes f (codes "depth" ∷ t ∷ ts) (record f { depth = Some n }) ts
   Time : {t : List ℕ} → {ts : List (List ℕ)} → {n : ℕ} → count t ≡ Some n → Takes f (codes "time" ∷ t ∷ ts) (record f { time = Some n }) ts
@@ -121,7 +121,7 @@ pub data Takes (f : Facts) : List (List ℕ) → Facts → List (List ℕ) → T
   Current : {t : List ℕ} → {ts : List (List ℕ)} → {m : Move} → MoveSpells t m → Takes f (codes "currmove" ∷ t ∷ ts) (record f { current = Some m }) ts
   Pv : {ts others : List (List ℕ)} → {m : Move} → {moves : List Move} → IsRun ts (m ∷ moves) others → Takes f (codes "pv" ∷ ts) (record f { pv = m ∷ moves }) others
 
--- What is told in the end, by the tokens from left to right: a later value replaces an earlier one, and a
+-- What is reported in the end, by the tokens from left to right: a later value replaces an earlier one, and a
 -- token that takes nothing is skipped.
 pub data Tells : Facts → List (List ℕ) → Facts → Type 0 where
   End : {f : Facts} → Tells f [] f
@@ -148,7 +148,7 @@ HasForm line (OptionLine name shape) = (text : List ℕ) × Begins line (codes "
 HasForm line (Info facts) = (text : List ℕ) × Begins line (codes "info") text × Tells no_facts (tokens text) facts
 HasForm line Nothing = ⊥
 
--- A line spells a message: the one whose form it has, and Nothing where it has none.
+-- A line spells a message: the one whose form it has, and Nothing if it has none.
 abbrev pub SpellsMessage : List ℕ → Says → Type 0
 SpellsMessage line Nothing = (m : Says) → HasForm line m → ⊥
 SpellsMessage line m = HasForm line m

@@ -200,7 +200,7 @@ fn order_in(line: &[u8]) -> Option<Order<'_>>
 /// The order that a line is (UCI, "GUI to engine"). The line has no line feed.
 ///
 /// # Errors
-/// `BadOrder` exactly where the line is the text of no order that may be written.
+/// `BadOrder` if and only if the line is the text of no order that may be written.
 pub fn read_order(line: &[u8]) -> Result<Order<'_>, BadOrder>
     ensures found { IfOk result (λ o. SpellsOrder line.now (command_of o)) }
     ensures only { (c : Command) → SpellsOrder line.now c → IsOkAnd result (λ o. command_of o ≡ c) }

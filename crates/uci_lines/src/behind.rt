@@ -39,7 +39,7 @@ pub(crate) fn number_behind<'a>(word: &[u8], text: &'a [u8]) -> Option<(u64, &'a
     Some((exact_count(digits)?, others))
 }
 
-/// The same, where they are there.
+/// The same, or no number and the whole text if they are not there.
 pub(crate) fn perhaps_number<'a>(word: &[u8], text: &'a [u8]) -> (Option<u64>, &'a [u8])
     ensures number { result.0 ≡ (perhaps_number word.now text.now).0 }
     ensures others { result.1.now ≡ (perhaps_number word.now text.now).1 }

@@ -1,7 +1,7 @@
 // Reads what an engine says.
 ghost use Rattle.std.specs.Prelude.{◌≡◌, ◌↔◌};
 ghost use Rattle.uci_lines.specs.Engine.{name_said, best_said, said_after, engine_message};
-ghost use Rattle.uci_lines.specs.Said.{CanWrite};
+ghost use Rattle.uci_lines.specs.Writable.{CanWrite};
 ghost use Rattle.uci_lines.specs.Says.{Says, says_of};
 ghost use Rattle.uci_lines.specs.Spells.{SpellsMessage};
 
@@ -71,7 +71,7 @@ fn read_message(line: &[u8]) -> EngineMsg<'_>
 /// `lines_say_one_message` says that each line spells exactly one message.
 pub fn read_engine(line: &[u8]) -> EngineMsg<'_>
     ensures value { says_of result ≡ engine_message line.now }
-    // A message is read exactly where the line spells it.
+    // A message is read if and only if the line spells it.
     ensures spelled { (m : Says) → (says_of result ≡ m) ↔ SpellsMessage line.now m }
     ensures writable { CanWrite (says_of result) }
 {

@@ -1,9 +1,9 @@
-// What is told of a search (UCI, "info").
+// What an engine reports of its search (UCI, "info").
 ghost use Rattle.std.specs.Prelude.{◌≡◌};
 ghost use Rattle.peer_words.specs.Tokens.{tokens};
 ghost use Rattle.uci_lines.specs.Infos.{ends_info, field_named, first_count, score_of, first_score, first_move, newer_run, hear, facts_in, facts_from};
 ghost use Rattle.uci_lines.specs.Moves.{run};
-ghost use Rattle.uci_lines.specs.Said.{can_write};
+ghost use Rattle.uci_lines.specs.Writable.{can_write};
 ghost use Rattle.uci_lines.specs.Says.{facts_of};
 
 use crate::moves::{front_moves, next_move};
@@ -12,7 +12,7 @@ use crate::words::next_token;
 use chess_board::{Move, read_move};
 use peer_words::{read_centis, read_count};
 
-/// The words that tell something.
+/// The words of an `info` line.
 #[derive(Clone, Copy)]
 pub(crate) enum Field {
     Depth,
@@ -56,7 +56,7 @@ fn field_named(word: &[u8]) -> Field
     }
 }
 
-/// Whether what follows the word is passed over.
+/// Whether what follows the word is ignored.
 fn ends_info(field: Field) -> bool
     ensures { result ≡ ends_info field }
 {
@@ -103,7 +103,7 @@ fn newer_run<'a>(new: &'a [u8], old: &'a [u8]) -> &'a [u8]
     if next_move(new).is_some() { new } else { old }
 }
 
-/// What was told before, and what a field tells with the text behind its word.
+/// What was reported before, and what a field reports with the text behind its word.
 fn hear<'a>(field: Field, info: Info<'a>, text: &'a [u8]) -> Info<'a>
     ensures value { facts_of result ≡ hear field (facts_of info.entry) (tokens text.now) }
     ensures officer { can_write info.entry.current → can_write result.current }

@@ -1,19 +1,7 @@
 // Laws about the definitions that contracts cite, each a clause of a function that does nothing.
-ghost use Rattle.uci_lines.specs.Again.{MessagesReadBack, TextsFitTheLine};
 ghost use Rattle.uci_lines.specs.Spells.{SpellsOneMessage};
 
 /// A line of the engine spells exactly one message.
 pub fn lines_say_one_message()
     ensures { SpellsOneMessage }
-{}
-
-/// What `write_engine` writes of a message that some line spells is a line that spells it, so `read_engine`
-/// gives it back: each field is the same, the moves of a pv and the values of a combo as lists.
-pub fn written_messages_are_read_again()
-    ensures { MessagesReadBack }
-{}
-
-/// What `write_engine` writes of the message that a line spells is at most 256 bytes longer than the line.
-pub fn written_messages_fit_the_line()
-    ensures { TextsFitTheLine }
 {}

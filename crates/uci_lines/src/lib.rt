@@ -1,9 +1,8 @@
-//! The lines of a chess engine: what it says, and what it is told (Universal Chess Interface, April 2006).
+//! The lines of a chess engine: what it says, and the orders to it (Universal Chess Interface, April 2006).
 #![tactic(auto)]
 
 mod asked;
 mod behind;
-mod canonical;
 mod cut;
 mod engine;
 mod info;
@@ -19,11 +18,8 @@ mod words;
 mod written;
 
 pub use asked::{BadOrder, positions_may_stand, read_order};
-pub use canonical::write_engine;
 pub use engine::read_engine;
-pub use laws::{
-    lines_say_one_message, written_messages_are_read_again, written_messages_fit_the_line,
-};
+pub use laws::lines_say_one_message;
 pub use moves::next_move;
 pub use option::next_value;
 pub use orders::{GoControl, Order, write_order};

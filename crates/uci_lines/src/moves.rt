@@ -9,7 +9,7 @@ use crate::words::next_token;
 use chess_board::{Move, read_move};
 use peer_words::trim;
 
-/// The first move of a text of moves, and the text after it. None where the text begins with no move.
+/// The first move of a text of moves, and the text after it. None if the text begins with no move.
 pub fn next_move(text: &[u8]) -> Option<(Move, &[u8])>
     ensures first { MatchOption result (run (tokens text.now) ≡ []) (λ p. run (tokens text.now) ≡ p.0 ∷ run (tokens p.1.now)) }
     ensures officer { IfSome result (λ p. IsOfficer p.0.promo) }

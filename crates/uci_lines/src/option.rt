@@ -5,7 +5,7 @@ ghost use Rattle.peer_words.specs.Tokens.{tokens, trimmed};
 ghost use Rattle.uci_lines.specs.Cuts.{cut, is_word, is_choice};
 ghost use Rattle.uci_lines.specs.Choices.{values, before_choice, from_choice, default_value};
 ghost use Rattle.uci_lines.specs.Options.{is_on, text_after, shape_named, option_with, option_said};
-ghost use Rattle.uci_lines.specs.Said.{CanWrite};
+ghost use Rattle.uci_lines.specs.Writable.{CanWrite};
 ghost use Rattle.uci_lines.specs.Says.{shape_of, declared_by, says_of};
 
 use crate::cut::{Stop, find_word};
@@ -72,7 +72,7 @@ fn split_choice(text: &[u8]) -> (&[u8], &[u8])
     }
 }
 
-/// The first value of a combo, and the text from which the later ones are read. None where there is none.
+/// The first value of a combo, and the text from which the later ones are read. None if there is none.
 pub fn next_value(text: &[u8]) -> Option<(&[u8], &[u8])>
     ensures first { MatchOption result (values text.now ≡ []) (λ p. values text.now ≡ p.0.now ∷ values p.1.now) }
     ensures shorter { IfSome result (λ p. length p.1.now < length text.now) }

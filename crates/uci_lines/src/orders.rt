@@ -1,4 +1,4 @@
-// What an engine is told.
+// The orders to an engine.
 ghost use Rattle.std.specs.Prelude.{◌≡◌, ◌+◌, ◌≤◌, ◌++◌, codes, decimal, length};
 ghost use Rattle.line_io.specs.Out.{with};
 ghost use Rattle.uci_lines.specs.Orders.{command_of, command_text, optional_text, optional_number, optional_now, start_text, moves_text, set_option_text, position_text, control_text, go_text};
@@ -6,7 +6,7 @@ ghost use Rattle.uci_lines.specs.Orders.{command_of, command_text, optional_text
 use itoa::Buffer;
 use line_io::Out;
 
-/// What an engine is told (UCI, "GUI to engine").
+/// An order to an engine (UCI, "GUI to engine").
 #[derive(Clone, Copy, Debug, PartialEq, Eq)]
 pub enum Order<'a> {
     Uci,
@@ -54,7 +54,7 @@ fn put_number(word: &[u8], n: u64, out: &mut Out)
     out.put(digits.format(n).as_bytes());
 }
 
-pub(crate) fn put_optional_number(word: &[u8], n: Option<u64>, out: &mut Out)
+fn put_optional_number(word: &[u8], n: Option<u64>, out: &mut Out)
     requires { length out.old.text + length (optional_number word.now n) ≤ out.old.room }
     ensures { out.new ≡ with out.old (optional_number word.now n) }
 {

@@ -21,7 +21,7 @@ impl Range {
     ghost use Rattle.uci_lines.specs.Options.{range_of, spin_in};
     ghost use Rattle.uci_lines.specs.Says.{shape_of};
 
-    /// The spin, with its default moved into the range. None where a number lacks or the range is empty.
+    /// The spin, with its default moved into the range. None if a number is missing or the range is empty.
     pub fn spin<'a>(self) -> Option<OptionKind<'a>>
         ensures { option_map shape_of result ≡ spin_in (range_of self) }
     {

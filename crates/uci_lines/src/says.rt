@@ -8,7 +8,7 @@ pub enum EngineMsg<'a> {
     Name(&'a [u8]),
     UciOk,
     ReadyOk,
-    /// `bestmove`: the move, and the one on which the engine would ponder, each where it is a move text.
+    /// `bestmove`: the move, and the one on which the engine would ponder, each if it is a move text.
     Best {
         best: Option<Move>,
         hint: Option<Move>,
@@ -38,7 +38,7 @@ pub enum OptionKind<'a> {
     Text { default: &'a [u8] },
 }
 
-/// What the engine tells of its search. Times are in milliseconds.
+/// What the engine reports of its search. Times are in milliseconds.
 #[derive(Clone, Copy, Debug, PartialEq, Eq)]
 pub struct Info<'a> {
     pub depth: Option<u64>,
@@ -52,7 +52,7 @@ pub struct Info<'a> {
     pub bound: bool,
     /// `currmove`.
     pub current: Option<Move>,
-    /// Move texts with white space between, from which `next_move` reads the moves; empty where there are none.
+    /// The text of the moves of the engine's line, which `next_move` reads one by one.
     pub pv: &'a [u8],
 }
 

@@ -1,7 +1,7 @@
 use Rattle.std.proofs.Common.{◌≡◌, length}
 use Rattle.peer_words.specs.Tokens.{tokens}
 use Rattle.uci_lines.specs.Says.{facts_of}
-use Rattle.uci_lines.specs.Said.{can_write}
+use Rattle.uci_lines.specs.Writable.{can_write}
 use Rattle.uci_lines.specs.Infos.{facts_from, no_facts}
 use Rattle.uci_lines.proofs.info.read_info.Given as goal
 

@@ -1,0 +1,196 @@
+-- The text of a reply is read as this reply, so a line reads as a reply if and only if it is its text.
+use Rattle.std.proofs.Common.{◌≡◌, ℕ, ℤ, ◌+◌, ◌^◌, ◌<◌, List, [], ◌∷◌, ◌++◌, Bool, true, false, not, eqb, ltb, cond, length, take, drop, Option, Some, None, refl, sym, ap, ◌∙◌, arith, append_assoc}
+use Rattle.std.specs.Prelude.{codes, IfSome, ◌↔◌}
+use Rattle.std.specs.Option.{option_map, option_and_then}
+use Rattle.std.specs.List.{list_all, before_first, position_or_len}
+use Rattle.std.specs.Char.{is_ascii_digit}
+use Rattle.std.specs.Fmt.{decimal, signed_decimal}
+use Rattle.std.proofs.lemmas.Bool.Decides.{nat_tests}
+use Rattle.std.proofs.lemmas.Slice.Eq.{bytes_eq-Decides}
+use Rattle.std.proofs.lemmas.Fmt.{decimal_is_IsNumeral}
+use Rattle.std.proofs.Math.Seq.{take-append_seam, drop-append_seam}
+use mir.Val.{SFits}
+use mir.Syntax.{w64}
+use Rattle.chess_board.specs.declared.board.Move.{Move as AnyMove}
+use Rattle.peer_words.specs.Tokens.{trimmed}
+use Rattle.peer_words.proofs.Trims.{and_true}
+use Rattle.peer_words.proofs.Runs.{all_of, prefix_stops}
+use Rattle.peer_words.proofs.Written.{decimal_digits}
+use Rattle.cecp_lines.specs.declared.reply.Reason.{Reason}
+use Rattle.cecp_lines.specs.declared.reply.Reason.TheVariants as reasons
+use Rattle.cecp_lines.specs.declared.reply.Tell.{Tell}
+use Rattle.cecp_lines.specs.declared.reply.Tell.TheVariants as tells
+use Rattle.cecp_lines.specs.declared.reply.Outcome.{Outcome}
+use Rattle.cecp_lines.specs.declared.reply.Outcome.TheVariants as outcomes
+use Rattle.cecp_lines.specs.declared.reply.Reply.{Reply}
+use Rattle.cecp_lines.specs.Replies as told
+use Rattle.cecp_lines.specs.Replies.{Told, told_of, told_text, reason_text, tell_text, outcome_text, hint_text, current_text, is_name_byte, is_feature_name, IsWritable, AreMoves, IsRepeated, IsReply, Fits, Tells}
+use Rattle.cecp_iface_side.specs.Hearing.{stripped, is_space, number_field, score_field, fixed_lines, fixed_of, reason_of, named_feature, feature_at, feature_in, is_repeated, error_of, error_at, error_in, short_pong, pong_in, last_in, stat01_in, hint_in, thinking_of, thinking_in, with_front, or_front, told_in}
+use Rattle.cecp_iface_side.proofs.Plain.{decimal_written, move_written}
+use Rattle.cecp_iface_side.proofs.Rereads.{cut_position, after_cut, number_reads, score_reads}
+use Rattle.cecp_iface_side.proofs.Lists.{moves_read, hint_read, last_read}
+use Rattle.cecp_iface_side.proofs.Tellings.{look, told_tells, stat_text, thinking_text}
+
+-- FEATURES
+
+no_equals : (b : ℕ) → is_name_byte b ≡ true → not (eqb b 61) ≡ true
+no_equals b h = grind (arith, nat_tests)
+
+feature_text : (name value : List ℕ) → codes "feature " ++ name ++ codes "=" ++ value ≡ codes "feature " ++ (name ++ (61 ∷ value))
+feature_text name value = simp append_assoc
+
+feature_read : (name value : List ℕ) → is_feature_name name ≡ true → feature_in (name ++ (61 ∷ value)) ≡ Some (told.Feature name value)
+feature_read name value h =
+    let both = and_true (ltb 0 (length name)) (list_all is_name_byte name) h in
+    ap (λ o. feature_at o (name ++ (61 ∷ value))) (cut_position 61 name value (all_of is_name_byte (λ b. not (eqb b 61)) no_equals name both.1))
+    ∙ ap (λ t. named_feature t (drop (length name + 1) (name ++ (61 ∷ value)))) (take-append_seam name (61 ∷ value))
+    ∙ ap (named_feature name) (after_cut 61 name value)
+    ∙ ap (λ b. cond b (Some (told.Feature name value)) None) h
+
+-- REFUSALS
+
+reason_found : (r : Reason) → reason_of (reason_text r) ≡ Some r
+reason_found reasons.UnknownCommand = refl
+reason_found reasons.BadArgument = refl
+reason_found reasons.EngineEnded = refl
+reason_found reasons.NotAnalyzing = refl
+reason_found reasons.NoMoveToUndo = refl
+reason_found reasons.UnknownOption = refl
+reason_found reasons.BadValue = refl
+reason_found reasons.TooManySettings = refl
+reason_found reasons.TooManyPings = refl
+reason_found reasons.LineTooLong = refl
+
+reason_solid : (r : Reason) → list_all (λ b. not (eqb b 41)) (reason_text r) ≡ true
+reason_solid reasons.UnknownCommand = refl
+reason_solid reasons.BadArgument = refl
+reason_solid reasons.EngineEnded = refl
+reason_solid reasons.NotAnalyzing = refl
+reason_solid reasons.NoMoveToUndo = refl
+reason_solid reasons.UnknownOption = refl
+reason_solid reasons.BadValue = refl
+reason_solid reasons.TooManySettings = refl
+reason_solid reasons.TooManyPings = refl
+reason_solid reasons.LineTooLong = refl
+
+repeats : (r : Reason) (line : List ℕ) → IsRepeated r line → is_repeated r line ≡ true
+repeats reasons.UnknownCommand line h = (bytes_eq-Decides (trimmed line) line).1 h
+repeats reasons.BadArgument line h = (bytes_eq-Decides (trimmed line) line).1 h
+repeats reasons.EngineEnded line h = (bytes_eq-Decides (trimmed line) line).1 h
+repeats reasons.NotAnalyzing line h = (bytes_eq-Decides (trimmed line) line).1 h
+repeats reasons.NoMoveToUndo line h = (bytes_eq-Decides (trimmed line) line).1 h
+repeats reasons.UnknownOption line h = (bytes_eq-Decides (trimmed line) line).1 h
+repeats reasons.BadValue line h = (bytes_eq-Decides (trimmed line) line).1 h
+repeats reasons.TooManySettings line h = (bytes_eq-Decides (trimmed line) line).1 h
+repeats reasons.TooManyPings line h = (bytes_eq-Decides (trimmed line) line).1 h
+repeats reasons.LineTooLong line h = (bytes_eq-Decides line (codes "...")).1 h
+
+error_text : (words line : List ℕ) → codes "Error (" ++ words ++ codes "): " ++ line ≡ codes "Error (" ++ (words ++ (41 ∷ (58 ∷ 32 ∷ line)))
+error_text words line = simp append_assoc
+
+error_read : (r : Reason) (line : List ℕ) → IsRepeated r line → error_in (reason_text r ++ (41 ∷ (58 ∷ 32 ∷ line))) ≡ Some (told.Error r line)
+error_read r line h =
+    ap (λ o. error_at o (reason_text r ++ (41 ∷ (58 ∷ 32 ∷ line)))) (cut_position 41 (reason_text r) (58 ∷ 32 ∷ line) (reason_solid r))
+    ∙ ap (λ t. error_of (reason_of t) (stripped (codes "): ") (drop (length (reason_text r)) (reason_text r ++ (41 ∷ (58 ∷ 32 ∷ line)))))) (take-append_seam (reason_text r) (41 ∷ (58 ∷ 32 ∷ line)))
+    ∙ ap (λ t. error_of (reason_of (reason_text r)) (stripped (codes "): ") t)) (drop-append_seam (reason_text r) (41 ∷ (58 ∷ 32 ∷ line)))
+    ∙ ap (λ o. error_of o (Some line)) (reason_found r)
+    ∙ ap (λ b. cond b (Some (told.Error r line)) None) (repeats r line h)
+
+pong_read : (n : ℕ) → n < 2 ^ 32 → pong_in (decimal n) ≡ Some (told.Pong n)
+pong_read n h =
+    let t : ltb n (2 ^ 32) ≡ true = grind (arith, nat_tests) in
+    ap (option_and_then short_pong) (decimal_written n (omega arith)) ∙ ap (λ b. cond b (Some (told.Pong n)) None) t
+
+stat01_read : (time nodes depth left all : ℕ) (current : Option AnyMove) → time < 2 ^ 64 → nodes < 2 ^ 64 → depth < 2 ^ 64 → left < 2 ^ 64 → all < 2 ^ 64 → IfSome current IsWritable →
+    stat01_in (decimal time ++ (32 ∷ (decimal nodes ++ (32 ∷ (decimal depth ++ (32 ∷ (decimal left ++ (32 ∷ (decimal all ++ current_text current))))))))) ≡ Some (told.Stat01 time nodes depth left all current)
+stat01_read time nodes depth left all current a b c d e w =
+    ap (option_and_then (λ (t : ℕ × List ℕ). option_and_then (λ (n : ℕ × List ℕ). option_and_then (λ (p : ℕ × List ℕ). option_and_then (λ (l : ℕ × List ℕ). option_map (λ (x : ℕ × Option AnyMove). told.Stat01 t.0 n.0 p.0 l.0 x.0 x.1) (last_in l.1)) (number_field p.1)) (number_field n.1)) (number_field t.1))) (number_reads time (decimal nodes ++ (32 ∷ (decimal depth ++ (32 ∷ (decimal left ++ (32 ∷ (decimal all ++ current_text current))))))) a)
+    ∙ ap (option_and_then (λ (n : ℕ × List ℕ). option_and_then (λ (p : ℕ × List ℕ). option_and_then (λ (l : ℕ × List ℕ). option_map (λ (x : ℕ × Option AnyMove). told.Stat01 time n.0 p.0 l.0 x.0 x.1) (last_in l.1)) (number_field p.1)) (number_field n.1))) (number_reads nodes (decimal depth ++ (32 ∷ (decimal left ++ (32 ∷ (decimal all ++ current_text current))))) b)
+    ∙ ap (option_and_then (λ (p : ℕ × List ℕ). option_and_then (λ (l : ℕ × List ℕ). option_map (λ (x : ℕ × Option AnyMove). told.Stat01 time nodes p.0 l.0 x.0 x.1) (last_in l.1)) (number_field p.1))) (number_reads depth (decimal left ++ (32 ∷ (decimal all ++ current_text current))) c)
+    ∙ ap (option_and_then (λ (l : ℕ × List ℕ). option_map (λ (x : ℕ × Option AnyMove). told.Stat01 time nodes depth l.0 x.0 x.1) (last_in l.1))) (number_reads left (decimal all ++ current_text current) d)
+    ∙ ap (option_map (λ (x : ℕ × Option AnyMove). told.Stat01 time nodes depth left x.0 x.1)) (last_read all current e w)
+
+thinking_read : (depth : ℕ) (score : ℤ) (time nodes : ℕ) (hint : Option AnyMove) (pv : List ℕ) → depth < 2 ^ 64 → SFits w64 score → time < 2 ^ 64 → nodes < 2 ^ 64 → IfSome hint IsWritable → AreMoves pv →
+    thinking_in (decimal depth ++ (32 ∷ (signed_decimal score ++ (32 ∷ (decimal time ++ (32 ∷ (decimal nodes ++ (32 ∷ (hint_text hint ++ pv))))))))) ≡ Some (told.Thinking depth score time nodes hint pv)
+thinking_read depth score time nodes hint pv a b c d w m =
+    ap (option_and_then (λ (p : ℕ × List ℕ). option_and_then (λ (s : ℤ × List ℕ). option_and_then (λ (t : ℕ × List ℕ). option_and_then (λ (n : ℕ × List ℕ). option_and_then (thinking_of p.0 s.0 t.0 n.0) (hint_in n.1)) (number_field t.1)) (number_field s.1)) (score_field p.1))) (number_reads depth (signed_decimal score ++ (32 ∷ (decimal time ++ (32 ∷ (decimal nodes ++ (32 ∷ (hint_text hint ++ pv))))))) a)
+    ∙ ap (option_and_then (λ (s : ℤ × List ℕ). option_and_then (λ (t : ℕ × List ℕ). option_and_then (λ (n : ℕ × List ℕ). option_and_then (thinking_of depth s.0 t.0 n.0) (hint_in n.1)) (number_field t.1)) (number_field s.1))) (score_reads score (decimal time ++ (32 ∷ (decimal nodes ++ (32 ∷ (hint_text hint ++ pv))))) b)
+    ∙ ap (option_and_then (λ (t : ℕ × List ℕ). option_and_then (λ (n : ℕ × List ℕ). option_and_then (thinking_of depth score t.0 n.0) (hint_in n.1)) (number_field t.1))) (number_reads time (decimal nodes ++ (32 ∷ (hint_text hint ++ pv))) c)
+    ∙ ap (option_and_then (λ (n : ℕ × List ℕ). option_and_then (thinking_of depth score time n.0) (hint_in n.1))) (number_reads nodes (hint_text hint ++ pv) d)
+    ∙ ap (option_and_then (thinking_of depth score time nodes)) (hint_read hint pv w m)
+    ∙ ap (λ x. cond x (Some (told.Thinking depth score time nodes hint pv)) None) (moves_read pv m)
+
+-- A line that begins with digits and a blank has no front and is no fixed line.
+abbrev digits_before : List ℕ → Bool
+digits_before line = list_all is_ascii_digit (before_first is_space line)
+
+digit_no_space : (b : ℕ) → is_ascii_digit b ≡ true → not (eqb b 32) ≡ true
+digit_no_space b h = grind (arith, nat_tests)
+
+digits_there : (ds more : List ℕ) → list_all is_ascii_digit ds ≡ true → digits_before (ds ++ (32 ∷ more)) ≡ true
+digits_there ds more h =
+    let stop : position_or_len is_space (ds ++ (32 ∷ more)) ≡ length ds = prefix_stops (λ b. not (eqb b 32)) ds 32 more (all_of is_ascii_digit (λ b. not (eqb b 32)) digit_no_space ds h) refl in
+    ap (λ n. list_all is_ascii_digit (take n (ds ++ (32 ∷ more)))) stop ∙ ap (list_all is_ascii_digit) (take-append_seam ds (32 ∷ more)) ∙ h
+
+not_fixed : (line : List ℕ) (o : Option Reply) → fixed_of line ≡ o → digits_before line ≡ true → fixed_of line ≡ None
+not_fixed line None e h = e
+not_fixed line (Some r) e h =
+    let no_digits = look (λ u k. digits_before u ≡ false) fixed_lines (refl, (refl, (refl, (refl, (refl, (refl, (refl, (refl, (refl, (refl, (refl, tt))))))))))) line r e in
+    absurd (cc)
+
+front_digit : (c : ℕ) (more : List ℕ) → is_ascii_digit c ≡ true → with_front (c ∷ more) ≡ thinking_in (c ∷ more)
+front_digit c more h =
+    let f : eqb 102 c ≡ false = grind (arith, nat_tests) in
+    let m : eqb 109 c ≡ false = grind (arith, nat_tests) in
+    let i : eqb 73 c ≡ false = grind (arith, nat_tests) in
+    let e : eqb 69 c ≡ false = grind (arith, nat_tests) in
+    let p : eqb 112 c ≡ false = grind (arith, nat_tests) in
+    let k : eqb 72 c ≡ false = grind (arith, nat_tests) in
+    let s : eqb 115 c ≡ false = grind (arith, nat_tests) in
+    rw (f, m, i, e, p, k, s) refl
+
+front_digits : (ds more : List ℕ) → 0 < length ds → list_all is_ascii_digit ds ≡ true → with_front (ds ++ more) ≡ thinking_in (ds ++ more)
+front_digits [] more some h = absurd (omega arith)
+front_digits (c ∷ cs) more some h = front_digit c (cs ++ more) (and_true (is_ascii_digit c) (list_all is_ascii_digit cs) h).0
+
+told_digits : (n : ℕ) (more : List ℕ) → n < 2 ^ 64 → told_in (decimal n ++ (32 ∷ more)) ≡ thinking_in (decimal n ++ (32 ∷ more))
+told_digits n more h =
+    ap (λ o. or_front o (decimal n ++ (32 ∷ more))) (not_fixed (decimal n ++ (32 ∷ more)) (fixed_of (decimal n ++ (32 ∷ more))) refl (digits_there (decimal n) more (decimal_digits n h)))
+    ∙ front_digits (decimal n) (32 ∷ more) (decimal_is_IsNumeral n h).0.0 (decimal_digits n h)
+
+tell_read : (tell : Tell) → told_in (tell_text tell) ≡ Some (told.TellError tell)
+tell_read tells.Position = refl
+tell_read tells.Move = refl
+tell_read tells.Ended = refl
+
+outcome_read : (outcome : Outcome) → told_in (outcome_text outcome) ≡ Some (told.Result outcome)
+outcome_read outcomes.WhiteMates = refl
+outcome_read outcomes.BlackMates = refl
+outcome_read outcomes.Stalemate = refl
+outcome_read outcomes.Dead = refl
+outcome_read outcomes.Repetition = refl
+outcome_read outcomes.Fifty = refl
+
+pub told_again : (t : Told) → IsReply t → Fits t → told_in (told_text t) ≡ Some t
+told_again (told.Feature name value) h f = ap told_in (feature_text name value) ∙ feature_read name value h
+told_again (told.Move m) h f = ap (option_map (λ x. told.Move x)) (move_written m h)
+told_again (told.Illegal m) h f = ap (option_map (λ x. told.Illegal x)) (move_written m h)
+told_again (told.IllegalLong m) h f = ap (option_map (λ x. told.IllegalLong x)) (move_written m h)
+told_again (told.Error r line) h f = ap told_in (error_text (reason_text r) line) ∙ error_read r line h
+told_again (told.TellError tell) h f = tell_read tell
+told_again (told.Pong n) h f = pong_read n f
+told_again told.OfferDraw h f = refl
+told_again told.Resign h f = refl
+told_again (told.Hint m) h f = ap (option_map (λ x. told.Hint x)) (move_written m h)
+told_again (told.Result outcome) h f = outcome_read outcome
+told_again (told.Thinking depth score time nodes hint pv) h f =
+    ap told_in (sym (thinking_text (decimal depth) (signed_decimal score) (decimal time) (decimal nodes) (hint_text hint) pv))
+    ∙ told_digits depth (signed_decimal score ++ (32 ∷ (decimal time ++ (32 ∷ (decimal nodes ++ (32 ∷ (hint_text hint ++ pv))))))) f.0
+    ∙ thinking_read depth score time nodes hint pv f.0 f.1 f.2 f.3 h.0 h.1
+told_again (told.Stat01 time nodes depth left all current) h f =
+    ap told_in (sym (stat_text (codes "stat01: ") (decimal time) (decimal nodes) (decimal depth) (decimal left) (decimal all) (current_text current)))
+    ∙ stat01_read time nodes depth left all current f.0 f.1 f.2 f.3 f.4 h
+
+-- the clause on what was read
+pub told_exact : (line : List ℕ) (r : Option Reply) → option_map told_of r ≡ told_in line → (t : Told) → (option_map told_of r ≡ Some t) ↔ Tells line t
+told_exact line r e t = (λ h. told_tells line t (sym e ∙ h), λ h. e ∙ ap told_in h.text ∙ told_again t h.form h.fits)

@@ -1,0 +1,9 @@
+pub mod Fronts
+pub mod Plain
+pub mod Hears
+pub mod Tellings
+pub mod Rereads
+pub mod Lists
+pub mod Exact
+pub mod Spoken
+pub mod Again

@@ -1,0 +1,15 @@
+//! The interface's side of the Chess Engine Communication Protocol, version 2: what an interface says, as it
+//! writes it, and what an engine replies, as it reads it. The bridge itself only goes the other way, with
+//! `cecp_lines`.
+#![tactic(auto)]
+
+mod hear;
+mod laws;
+mod write;
+
+pub use hear::read_reply;
+pub use laws::written_messages_are_read_again;
+pub use write::write_iface;
+
+#[cfg(test)]
+mod tests;

@@ -1,0 +1,11 @@
+pub mod Rooms
+pub mod Kept
+pub mod Again
+pub mod ValuesAgain
+pub mod SpinsAgain
+pub mod OptionsAgain
+pub mod InfosAgain
+pub mod MessagesAgain
+pub mod RunLengths
+pub mod ValueLengths
+pub mod SaidLengths

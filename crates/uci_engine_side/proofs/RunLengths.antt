@@ -1,0 +1,100 @@
+-- The moves that are told are no longer than the tokens of the line.
+use Rattle.std.proofs.Common.{◌≡◌, ℕ, ◌+◌, ◌<◌, ◌≤◌, List, [], ◌∷◌, Bool, true, false, cond, ltb, length, filter, Option, Some, None, ap, arith, length-append}
+use Rattle.std.specs.List.{slice_split, onto_first}
+use Rattle.chess_board.specs.declared.board.Move.{Move}
+use Rattle.chess_board.specs.declared.board.Kind.{Kind}
+use Rattle.chess_board.specs.declared.board.Kind.TheVariants.{Pawn, Knight, Bishop, Rook, Queen, King}
+use Rattle.chess_board.specs.Text.{text_of, promotion_text, Spells as MoveSpells}
+use Rattle.peer_words.specs.Tokens.{is_white, tokens}
+use Rattle.uci_lines.specs.Says.{Facts}
+use Rattle.uci_lines.specs.Spells.{IsRun, Takes, Tells}
+use Rattle.uci_engine_side.specs.Said.{each_move}
+
+-- the bytes of some texts, with one more for each
+abbrev pub total : List (List ℕ) → ℕ
+total [] = 0
+total (t ∷ ts) = 1 + length t + total ts
+
+onto_total : (b : ℕ) (ts : List (List ℕ)) (n : ℕ) → 0 < length ts → total ts ≤ n → (total (onto_first b ts) ≤ n + 1) × (0 < length (onto_first b ts))
+onto_total b [] n l h = absurd (omega (arith, l))
+onto_total b (t ∷ ts) n l h = (omega (arith, h), omega arith)
+
+split_step : (w : Bool) (b : ℕ) (parts : List (List ℕ)) (n : ℕ) → 0 < length parts → total parts ≤ n + 1 → (total (cond w ([] ∷ parts) (onto_first b parts)) ≤ n + 2) × (0 < length (cond w ([] ∷ parts) (onto_first b parts)))
+split_step true b parts n l h = (omega (arith, h), omega arith)
+split_step false b parts n l h = let k = onto_total b parts (n + 1) l h in (omega (arith, k.0), k.1)
+
+split_total : (text : List ℕ) → (total (slice_split is_white text) ≤ length text + 1) × (0 < length (slice_split is_white text))
+split_total [] = (omega arith, omega arith)
+split_total (b ∷ bs) =
+    let h = split_total bs in
+    let k = split_step (is_white b) b (slice_split is_white bs) (length bs) h.1 h.0 in
+    (omega (arith, k.0), k.1)
+
+kept_step : (keep : Bool) (t : List ℕ) (ts us : List (List ℕ)) → total ts ≤ total us → total (cond keep (t ∷ ts) ts) ≤ total (t ∷ us)
+kept_step true t ts us h = omega (arith, h)
+kept_step false t ts us h = omega (arith, h)
+
+kept_total : (p : List ℕ → Bool) (ts : List (List ℕ)) → total (filter p ts) ≤ total ts
+kept_total p [] = omega arith
+kept_total p (t ∷ ts) = kept_step (p t) t (filter p ts) ts (kept_total p ts)
+
+pub tokens_total : (text : List ℕ) → total (tokens text) ≤ length text + 1
+tokens_total text = omega (arith, kept_total (λ part. ltb 0 (length part)) (slice_split is_white text), (split_total text).0)
+
+promotion_length : (p : Option Kind) → length (promotion_text p) ≤ 1
+promotion_length None = omega arith
+promotion_length (Some Pawn) = omega arith
+promotion_length (Some King) = omega arith
+promotion_length (Some Queen) = omega arith
+promotion_length (Some Rook) = omega arith
+promotion_length (Some Bishop) = omega arith
+promotion_length (Some Knight) = omega arith
+
+pub move_length : (m : Move) → length (text_of m) ≤ 5
+move_length m = omega (arith, promotion_length m.promo)
+
+no_promotion : (p : Option Kind) → p ≡ None → length (promotion_text p) ≡ 0
+no_promotion p e = ap (λ o. length (promotion_text o)) e
+
+-- a move is written with as many bytes as it was read
+move_fits : (text : List ℕ) (m : Move) → MoveSpells text m → length (text_of m) ≤ length text
+move_fits [] m h = absurd h
+move_fits (f ∷ []) m h = absurd h
+move_fits (f ∷ r ∷ []) m h = absurd h
+move_fits (f ∷ r ∷ g ∷ []) m h = absurd h
+move_fits (f ∷ r ∷ g ∷ s ∷ []) m h = omega (arith, no_promotion m.promo h.2)
+move_fits (f ∷ r ∷ g ∷ s ∷ letter ∷ []) m h = omega (arith, move_length m)
+move_fits (f ∷ r ∷ g ∷ s ∷ letter ∷ more ∷ others) m h = absurd h
+
+run_fits : (ts : List (List ℕ)) (moves : List Move) (others : List (List ℕ)) → IsRun ts moves others → length (each_move moves) + total others ≤ total ts
+run_fits ts _ _ (IsRun.Ends h) = omega arith
+run_fits _ _ others (IsRun.Goes {t = t} {m = m} {ts = ts} {moves = moves} s r) =
+    omega (arith, move_fits t m s, run_fits ts moves others r, length-append (text_of m) (each_move moves))
+
+-- what a field leaves, and the moves that it takes
+record Left (f : Facts) (ts : List (List ℕ)) (g : Facts) (others : List (List ℕ)) (n : ℕ) : Type 0 where
+  fewer : total others ≤ total ts
+  moves : length (each_move g.pv) ≤ n
+
+taken_left : (n : ℕ) (f : Facts) (ts : List (List ℕ)) (g : Facts) (others : List (List ℕ)) → Takes f ts g others → total ts ≤ n → length (each_move f.pv) ≤ n → Left f ts g others n
+taken_left n f _ _ _ (Takes.Depth e) l k = record { fewer = omega arith; moves = k }
+taken_left n f _ _ _ (Takes.Time e) l k = record { fewer = omega arith; moves = k }
+taken_left n f _ _ _ (Takes.Nodes e) l k = record { fewer = omega arith; moves = k }
+taken_left n f _ _ _ (Takes.MultiPv e) l k = record { fewer = omega arith; moves = k }
+taken_left n f _ _ _ (Takes.Number e) l k = record { fewer = omega arith; moves = k }
+taken_left n f _ _ _ (Takes.Centipawns e) l k = record { fewer = omega arith; moves = k }
+taken_left n f _ _ _ (Takes.ToMate e) l k = record { fewer = omega arith; moves = k }
+taken_left n f _ _ _ Takes.LowerBound l k = record { fewer = omega arith; moves = k }
+taken_left n f _ _ _ Takes.UpperBound l k = record { fewer = omega arith; moves = k }
+taken_left n f _ _ _ (Takes.Current s) l k = record { fewer = omega arith; moves = k }
+taken_left n f _ _ _ (Takes.Pv {ts = ts} {others = others} {m = m} {moves = moves} r) l k =
+    let h = run_fits ts (m ∷ moves) others r in
+    record { fewer = omega (arith, h); moves = omega (arith, h, l) }
+
+pub told_moves : (n : ℕ) (f : Facts) (ts : List (List ℕ)) (h : Facts) → Tells f ts h → total ts ≤ n → length (each_move f.pv) ≤ n → length (each_move h.pv) ≤ n
+told_moves n f _ _ Tells.End l k = k
+told_moves n f _ _ Tells.Rest l k = k
+told_moves n f ts h (Tells.Taken {g = g} {others = others} t u) l k =
+    let left = taken_left n f ts g others t l k in
+    told_moves n g others h u (omega (arith, left.fewer, l)) left.moves
+told_moves n f _ h (Tells.Skipped {t = t} {ts = ts} s e u) l k = told_moves n f ts h u (omega (arith, l)) k

@@ -1,0 +1,96 @@
+-- The canonical text of what an engine says: the parts in the order of the grammar, one blank between.
+use Rattle.std.specs.Prelude.{ℕ, ℤ, List, [], ◌∷◌, ◌++◌, codes, Bool, true, false, Option, Some, None}
+use Rattle.std.specs.Fmt.{signed_decimal}
+use Rattle.chess_board.specs.declared.board.Move.{Move}
+use Rattle.chess_board.specs.Text.{text_of}
+use Rattle.uci_lines.specs.declared.says.Score.{Score}
+use Rattle.uci_lines.specs.declared.says.Score.TheVariants.{Cp, Mate}
+use Rattle.uci_lines.specs.Orders.{optional_number}
+use Rattle.uci_lines.specs.Says.{Facts, Shape, Check, Spin, Combo, Button, Text, Says, Name, UciOk, ReadyOk, Best, OptionLine, Info, Nothing}
+
+-- a text behind a blank, if there is one
+abbrev pub spaced : List ℕ → List ℕ
+spaced [] = []
+spaced (b ∷ bs) = 32 ∷ b ∷ bs
+
+abbrev pub score_text : Option Score → List ℕ
+score_text None = []
+score_text (Some (Cp n)) = codes " score cp " ++ signed_decimal n
+score_text (Some (Mate n)) = codes " score mate " ++ signed_decimal n
+
+abbrev pub bound_text : Bool → List ℕ
+bound_text false = []
+bound_text true = codes " lowerbound"
+
+-- the move behind a word, if there is one
+abbrev pub move_text : List ℕ → Option Move → List ℕ
+move_text word None = []
+move_text word (Some m) = word ++ text_of m
+
+-- each move behind a blank
+abbrev pub each_move : List Move → List ℕ
+each_move [] = []
+each_move (m ∷ moves) = codes " " ++ text_of m ++ each_move moves
+
+abbrev pub pv_text : List Move → List ℕ
+pv_text [] = []
+pv_text (m ∷ moves) = codes " pv" ++ each_move (m ∷ moves)
+
+abbrev pub counts_text : Facts → List ℕ
+counts_text f =
+    optional_number (codes " depth ") f.depth ++ optional_number (codes " time ") f.time ++ optional_number (codes " nodes ") f.nodes
+    ++ optional_number (codes " multipv ") f.multipv ++ optional_number (codes " currmovenumber ") f.number
+
+unfoldable pub facts_text : Facts → List ℕ
+facts_text f = codes "info" ++ counts_text f ++ score_text f.score ++ bound_text f.bound ++ move_text (codes " currmove ") f.current ++ pv_text f.pv
+
+-- each value behind `var`
+abbrev pub each_value : List (List ℕ) → List ℕ
+each_value [] = []
+each_value (value ∷ values) = codes " var" ++ spaced value ++ each_value values
+
+abbrev pub switch_text : Bool → List ℕ
+switch_text true = codes "true"
+switch_text false = codes "false"
+
+abbrev pub empty_or : List ℕ → List ℕ
+empty_or [] = codes "<empty>"
+empty_or (b ∷ bs) = b ∷ bs
+
+abbrev pub check_text : Bool → List ℕ
+check_text on = codes " type check default " ++ switch_text on
+
+abbrev pub range_text : ℤ → ℤ → List ℕ
+range_text min max = (codes " min " ++ signed_decimal min) ++ (codes " max " ++ signed_decimal max)
+
+abbrev pub spin_text : ℤ → ℤ → ℤ → List ℕ
+spin_text default min max = (codes " type spin default " ++ signed_decimal default) ++ range_text min max
+
+abbrev pub combo_text : List ℕ → List (List ℕ) → List ℕ
+combo_text default values = codes " type combo default" ++ spaced default ++ each_value values
+
+abbrev pub string_text : List ℕ → List ℕ
+string_text default = codes " type string default " ++ empty_or default
+
+abbrev pub shape_text : Shape → List ℕ
+shape_text (Check on) = check_text on
+shape_text (Spin default min max) = spin_text default min max
+shape_text (Combo default values) = combo_text default values
+shape_text Button = codes " type button"
+shape_text (Text default) = string_text default
+
+abbrev pub option_text : List ℕ → Shape → List ℕ
+option_text name shape = codes "option name" ++ spaced name ++ shape_text shape
+
+abbrev pub best_text : Option Move → List ℕ
+best_text None = codes "0000"
+best_text (Some m) = text_of m
+
+unfoldable pub said_text : Says → List ℕ
+said_text (Name text) = codes "id name" ++ spaced text
+said_text UciOk = codes "uciok"
+said_text ReadyOk = codes "readyok"
+said_text (Best best hint) = codes "bestmove " ++ best_text best ++ move_text (codes " ponder ") hint
+said_text (OptionLine name shape) = option_text name shape
+said_text (Info facts) = facts_text facts
+said_text Nothing = []

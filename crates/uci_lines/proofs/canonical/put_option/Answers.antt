@@ -1,8 +1,0 @@
-use Rattle.std.proofs.Common.{◌++◌, codes}
-use Rattle.uci_lines.specs.Says.{shape_of}
-use Rattle.uci_lines.specs.Said.{spaced, shape_text}
-use Rattle.uci_lines.proofs.Rooms.{two}
-use Rattle.uci_lines.proofs.canonical.put_option.Goals as goal
-
-pub returns : goal.returns
-returns c = two c.args.out.now c.put_name.new.out c.put_kind.new.out (codes "option name" ++ spaced c.args.option.now.name.now) (shape_text (shape_of c.args.option.now.kind)) c.put_name.ensures c.put_kind.ensures

@@ -1,0 +1,14 @@
+-- The messages whose moves have a text: no pawn becomes a king or a pawn.
+use Rattle.std.specs.Prelude.{Option}
+use Rattle.std.specs.Option.{IfSome}
+use Rattle.chess_board.specs.declared.board.Move.{Move}
+use Rattle.chess_board.specs.Text.{IsOfficer}
+use Rattle.uci_lines.specs.Says.{Says, Best, Info}
+
+abbrev pub can_write : Option Move → Type 0
+can_write m = IfSome m (λ k. IsOfficer k.promo)
+
+abbrev pub CanWrite : Says → Type 0
+CanWrite (Best best hint) = can_write best × can_write hint
+CanWrite (Info facts) = can_write facts.current
+CanWrite _ = Unit {0}
