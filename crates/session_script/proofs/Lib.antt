@@ -1,4 +1,4 @@
-pub mod Rooms
 pub mod Lines
 pub mod Scripts
+pub mod Numbered
 pub mod Short

@@ -4,12 +4,13 @@ use Rattle.std.specs.List.{onto_first, flat_map, AllByRecursion}
 use Rattle.line_io.specs.Event.{Event, Open, has_feed, is_line}
 use Rattle.line_io.specs.Event as events
 use Rattle.line_io.specs.Lines.{parts, is_feed}
-use Rattle.line_io.specs.Marks.{line_marked, event_marked, event_text}
-use Rattle.line_io.proofs.Scripts.{parts_line}
+use Rattle.script_lines.specs.Marks.{line_marked, event_marked, event_text}
+use Rattle.script_lines.proofs.Scripts.{parts_line}
 use Rattle.adapter_core.specs.declared.ends.Ends.{Ends}
 use Rattle.adapter_core.specs.Ends.{may}
 use Rattle.adapter_core.specs.Trace.{Step, iface_text, engine_text}
-use Rattle.session_script.specs.Script.{lines_marked, written_marks, step_text, script}
+use Rattle.script_lines.specs.StepText.{lines_marked, written_marks}
+use Rattle.session_script.specs.Script.{step_text, script1}
 
 -- no line feed stands in any of them
 abbrev pub AreBare : List (List ℕ) → Type 0
@@ -111,13 +112,13 @@ lines_of (s ∷ t) = lines_of t ++ step_lines s
 abbrev pub AreTold : List Step → Type 0
 AreTold t = AllByRecursion (λ s. IsTold s.event) t
 
-script_parts : (t : List Step) (ys : List ℕ) → AreTold t → parts (script t ++ ys) ≡ lines_of t ++ parts ys
+script_parts : (t : List Step) (ys : List ℕ) → AreTold t → parts (script1 t ++ ys) ≡ lines_of t ++ parts ys
 script_parts [] ys a = refl
 script_parts (s ∷ t) ys a =
-    ap parts (append_assoc (script t) (step_text s) ys)
+    ap parts (append_assoc (script1 t) (step_text s) ys)
     ∙ script_parts t (step_text s ++ ys) a.1
     ∙ ap (λ ps. lines_of t ++ ps) (step_parts s ys a.0)
     ∙ sym (append_assoc (lines_of t) (step_lines s) (parts ys))
 
-pub script_lines : (t : List Step) → AreTold t → parts (script t) ≡ lines_of t
-script_lines t a = ap parts (sym (append-nil (script t))) ∙ script_parts t [] a ∙ append-nil (lines_of t)
+pub script1_lines : (t : List Step) → AreTold t → parts (script1 t) ≡ lines_of t
+script1_lines t a = ap parts (sym (append-nil (script1 t))) ∙ script_parts t [] a ∙ append-nil (lines_of t)

@@ -5,13 +5,14 @@ use Rattle.std.proofs.Math.Seq.{take-append_seam}
 use Rattle.line_io.specs.Event.{Event, Open, is_line}
 use Rattle.line_io.specs.Event as events
 use Rattle.line_io.specs.Lines.{parts}
-use Rattle.line_io.specs.Marks.{Happens, ToIface, ToEngine, is_written, mark_of, event_text}
-use Rattle.line_io.proofs.Spelled.{spelled_read}
+use Rattle.script_lines.specs.Marks.{Happens, ToIface, ToEngine, is_written, mark_of, event_text}
+use Rattle.script_lines.proofs.Spelled.{spelled_read}
 use Rattle.policy_rules.specs.declared.settings.Settings.{Settings}
 use Rattle.adapter_core.specs.declared.ends.Ends.{Ends}
 use Rattle.adapter_core.specs.Ends.{may, ends_after, at_start}
 use Rattle.adapter_core.specs.Trace.{Step, Lawful, state, event_in, iface_text, engine_text}
 use Rattle.adapter_core.specs.Stands.{IsOneDialogue}
+use Rattle.session_script.specs.OneWay.{IsOpened}
 use Rattle.session_script.specs.Script.{events, event_told, told_in}
 use Rattle.session_script.proofs.Lines.{behind, written_lines, event_lines, IsTold, told, step_lines, lines_of, AreTold}
 
@@ -67,24 +68,27 @@ abbrev pub later_events : List Step → List Event
 later_events [] = []
 later_events (s ∷ t) = later_events t ++ later_event s.event
 
+-- the lines of a step tell its event
+pub step_told : (s : Step) → IsTold s.event → told_in (step_lines s) ≡ later_event s.event
+step_told s a =
+    told_both (event_lines s.event) (written_lines (iface_text s) (engine_text s))
+    ∙ ap (λ es. es ++ told_in (written_lines (iface_text s) (engine_text s))) (event_read s.event a)
+    ∙ ap (λ es. later_event s.event ++ es) (written_quiet (iface_text s) (engine_text s))
+    ∙ append-nil (later_event s.event)
+
 -- a script tells the events of its trace
 pub script_told : (t : List Step) → AreTold t → told_in (lines_of t) ≡ later_events t
 script_told [] a = refl
 script_told (s ∷ t) a =
     told_both (lines_of t) (step_lines s)
     ∙ ap (λ es. es ++ told_in (step_lines s)) (script_told t a.1)
-    ∙ ap (λ es. later_events t ++ es) (told_both (event_lines s.event) (written_lines (iface_text s) (engine_text s))
-    ∙ ap (λ es. es ++ told_in (written_lines (iface_text s) (engine_text s))) (event_read s.event a.0)
-    ∙ ap (λ es. later_event s.event ++ es) (written_quiet (iface_text s) (engine_text s)) ∙ append-nil (later_event s.event))
+    ∙ ap (λ es. later_events t ++ es) (step_told s a.0)
 
 -- LAWFUL TRACES
 
 pub all_told : (o : Settings) (t : List Step) → Lawful o t → AreTold t
 all_told o [] l = tt
 all_told o (s ∷ t) l = (told (state o t).ends s.event l.1.may_come, all_told o t l.0)
-
-abbrev pub IsOpened : Settings → List Step → Type 0
-IsOpened o t = (state o t).ends.opened ≡ true
 
 first_true : (a b : Bool) → (a && b) ≡ true → a ≡ true
 first_true true b e = refl

@@ -4,8 +4,8 @@ use Rattle.std.specs.List.{onto_first, flat_map, AllByRecursion}
 use Rattle.std.proofs.lemmas.Bool.Decides.{nat_tests}
 use Rattle.line_io.specs.Event.{has_feed}
 use Rattle.line_io.specs.Lines.{parts, is_feed}
-use Rattle.line_io.specs.Marks.{ToIface, ToEngine, mark_of}
-use Rattle.line_io.proofs.Spelled.{spelled_read}
+use Rattle.script_lines.specs.Marks.{ToIface, ToEngine, mark_of}
+use Rattle.script_lines.proofs.Spelled.{spelled_read}
 use Rattle.session_script.specs.Script.{IsShortText}
 use Rattle.session_script.proofs.Lines.{AreBare, bare_parts, behind, written_lines}
 

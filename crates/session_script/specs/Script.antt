@@ -1,34 +1,38 @@
--- The script of a trace.
+-- The scripts of a trace.
 use Rattle.std.specs.Prelude.{ℕ, ◌<◌, length, List, [], ◌∷◌, ◌++◌, Option, Some}
-use Rattle.std.specs.List.{flat_map, AllByRecursion}
+use Rattle.std.specs.List.{AllByRecursion}
 use Rattle.line_io.specs.Event.{Event}
-use Rattle.line_io.specs.Lines.{parts}
-use Rattle.line_io.specs.Marks.{Mark, Happens, mark_of, event_marked, line_marked}
+use Rattle.policy_rules.specs.declared.settings.Settings.{Settings}
+use Rattle.script_lines.specs.Marks.{Mark, Happens, mark_of}
+use Rattle.script_lines.specs.Header.{header_text}
+use Rattle.script_lines.specs.StepLine.{step_number}
+use Rattle.script_lines.specs.StepText.{written_marks, step_marks, numbered_marks}
 use Rattle.adapter_core.specs.Trace.{Step, iface_text, engine_text}
 use Rattle.adapter_core.specs.Stands.{AreLines}
-
--- the lines of a text, each behind the letter of its mark
-abbrev pub lines_marked : ℕ → List ℕ → List ℕ
-lines_marked letter text = flat_map (line_marked letter) (parts text)
-
--- the marks of the lines that were written in two texts, to the interface and to the engine
-abbrev pub written_marks : List ℕ → List ℕ → List ℕ
-written_marks iface engine = lines_marked 88 iface ++ lines_marked 85 engine
-
--- the marks of an event and of what was written
-abbrev pub marks_of : Event → List ℕ → List ℕ → List ℕ
-marks_of e iface engine = event_marked e ++ written_marks iface engine
 
 abbrev pub written_text : Step → List ℕ
 written_text s = written_marks (iface_text s) (engine_text s)
 
+-- the text of a step: its event's mark, and the marks of the lines that it wrote
 abbrev pub step_text : Step → List ℕ
-step_text s = marks_of s.event (iface_text s) (engine_text s)
+step_text s = step_marks s.event (iface_text s) (engine_text s)
 
--- the script of a trace, whose newest step stands first
-abbrev pub script : List Step → List ℕ
-script [] = []
-script (s ∷ t) = script t ++ step_text s
+-- the script of version 1 of a trace, whose newest step stands first
+abbrev pub script1 : List Step → List ℕ
+script1 [] = []
+script1 (s ∷ t) = script1 t ++ step_text s
+
+-- the text of step k, counted from 0, behind the line with its number
+abbrev pub numbered_text : ℕ → Step → List ℕ
+numbered_text k s = numbered_marks (step_number k) s.event (iface_text s) (engine_text s)
+
+abbrev pub numbered_texts : List Step → List ℕ
+numbered_texts [] = []
+numbered_texts (s ∷ t) = numbered_texts t ++ numbered_text (length t) s
+
+-- the script of version 2: a header with the settings, then each step with its number
+abbrev pub script2 : Settings → List Step → List ℕ
+script2 settings t = header_text settings ++ 10 ∷ numbered_texts t
 
 -- the events of a trace, the oldest first
 abbrev pub events : List Step → List Event

@@ -1,9 +1,29 @@
 //! The script of a session: what happened and what was written, line by line.
 #![tactic(auto)]
 
-mod script;
+ghost use Rattle.session_script.specs.OneWay.{HasOneSession, HasOneTrace};
 
-pub use script::{put_step, put_written};
+use adapter_core::one_dialogue;
+use policy_rules::Settings;
+
+/// A law: a script is read back in one way only. One of version 1 has one trace under the
+/// settings; one of version 2 has one trace, and tells its settings.
+pub fn scripts_have_one_trace(settings: Settings)
+    ensures version_1 { HasOneTrace settings }
+    ensures version_2 { HasOneSession settings }
+{
+    one_dialogue(settings);
+}
 
 #[cfg(test)]
-mod tests;
+mod tests {
+    use super::scripts_have_one_trace;
+    use policy_rules::Settings;
+    use std::test::Fail;
+
+    #[test]
+    fn laws_can_be_called(_rt: HostRuntime) -> Result<(), Fail> {
+        scripts_have_one_trace(Settings::usual());
+        Ok(())
+    }
+}

@@ -1,6 +1,6 @@
 use Rattle.std.proofs.Common.{◌≡◌, ◌+◌, ◌*◌, ◌≤◌, ◌++◌, length}
-use Rattle.session_script.specs.Script.{lines_marked}
-use Rattle.session_script.proofs.script.put_lines.Given as goal
+use Rattle.script_lines.specs.StepText.{lines_marked}
+use Rattle.script_lines.proofs.step_text.put_lines.Given as goal
 
 abbrev pub invariant-loop-rest : goal.invariant-loop-rest
 invariant-loop-rest l = record {

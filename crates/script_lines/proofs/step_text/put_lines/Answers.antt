@@ -1,9 +1,9 @@
 use Rattle.std.proofs.Common.{◌<◌, ◌++◌, ◌∷◌, [], ◌∙◌, ap, sym, length, arith, length-append}
 use Rattle.line_io.specs.Out.{Text}
-use Rattle.line_io.specs.Marks.{line_marked}
-use Rattle.session_script.specs.Script.{lines_marked}
-use Rattle.session_script.proofs.Rooms.{lines_more, cut_room, not_zero}
-use Rattle.session_script.proofs.script.put_lines.Goals as goal
+use Rattle.script_lines.specs.Marks.{line_marked}
+use Rattle.script_lines.specs.StepText.{lines_marked}
+use Rattle.script_lines.proofs.Rooms.{lines_more, cut_room, not_zero}
+use Rattle.script_lines.proofs.step_text.put_lines.Goals as goal
 
 pub put_line-requires : goal.put_line-requires
 put_line-requires c =

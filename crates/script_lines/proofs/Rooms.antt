@@ -3,10 +3,10 @@ use Rattle.std.proofs.Common.{◌≡◌, ℕ, ◌+◌, ◌-◌, ◌*◌, min, �
 use Rattle.std.proofs.lemmas.Bool.Decides.{nat_tests}
 use Rattle.std.specs.List.{flat_map, before_first, after_first}
 use Rattle.line_io.specs.Lines.{is_feed, feed_at}
-use Rattle.line_io.specs.Marks.{line_marked}
+use Rattle.script_lines.specs.Marks.{line_marked}
 use Rattle.line_io.proofs.Parts.{parts_first}
 use Rattle.line_io.proofs.Found.{feed_le}
-use Rattle.session_script.specs.Script.{lines_marked}
+use Rattle.script_lines.specs.StepText.{lines_marked}
 
 pub lines_first : (letter : ℕ) (xs : List ℕ) → 0 < length xs → lines_marked letter xs ≡ line_marked letter (before_first is_feed xs) ++ lines_marked letter (after_first is_feed xs)
 lines_first letter [] h = absurd (omega arith)

@@ -1,0 +1,75 @@
+-- No line is of two kinds.
+use Rattle.std.proofs.Common.{◌≡◌, ℕ, ◌<◌, ◌^◌, List, [], ◌∷◌, ◌++◌, Bool, true, false, ◌||◌, decimal, refl, sym, ap, ◌∙◌, arith}
+use Rattle.std.specs.Prelude.{◌==◌}
+use Rattle.std.specs.List.{list_all}
+use Rattle.std.specs.Char.{is_ascii_digit}
+use Rattle.std.proofs.lemmas.Bool.Decides.{nat_tests}
+use Rattle.peer_words.proofs.Trims.{and_true}
+use Rattle.peer_words.proofs.Written.{decimal_digits}
+use Rattle.line_io.specs.Event.{has_feed}
+use Rattle.policy_rules.specs.declared.settings.Settings.{Settings}
+use Rattle.policy_rules.specs.Policy.{IsProper}
+use Rattle.script_lines.specs.Marks.{SpellsNone, mark_of}
+use Rattle.script_lines.specs.Header.{header_text, truth_text}
+use Rattle.script_lines.specs.StepLine.{step_line}
+use Rattle.script_lines.specs.Kinds.{LinesAreOfOneKind, HeadersAreLines, StepLinesAreLines}
+use Rattle.script_lines.proofs.Spelled.{read_of, none_some}
+use Rattle.script_lines.proofs.Numerals.{step_length}
+use Rattle.script_lines.proofs.Headers.{header_words, header_pieces, header_length, words_of}
+
+-- a line that begins so has no mark
+no_mark : (line rest : List ℕ) (sign : ℕ) → line ≡ 35 ∷ sign ∷ rest → SpellsNone line
+no_mark line rest sign e = λ mark s. none_some (sym (ap mark_of e) ∙ read_of line mark s)
+
+signs_differ : (a b : List ℕ) → 35 ∷ 50 ∷ a ≡ 35 ∷ 32 ∷ b → ⊥
+signs_differ a b e = absurd (cc)
+
+pub one_kind : LinesAreOfOneKind
+one_kind line = record {
+  header_is_no_mark = λ s h. no_mark line (32 ∷ words_of s) 50 (h.text ∙ header_words s);
+  step_line_is_no_mark = λ n h. no_mark line (decimal n) 32 h.text;
+  header_is_no_step_line = λ s n h k. signs_differ (32 ∷ words_of s) (decimal n) (sym (h.text ∙ header_words s) ∙ k.text);
+}
+
+pub or_false : (a b : Bool) → a ≡ false → b ≡ false → (a || b) ≡ false
+or_false true b e f = absurd (cc)
+or_false false b e f = f
+
+digit_feed : (c : ℕ) → is_ascii_digit c ≡ true → (c == 10) ≡ false
+digit_feed c h = grind (arith, nat_tests)
+
+digits_fed : (ds : List ℕ) → list_all is_ascii_digit ds ≡ true → has_feed ds ≡ false
+digits_fed [] h = refl
+digits_fed (d ∷ ds) h = let both = and_true (is_ascii_digit d) (list_all is_ascii_digit ds) h in or_false (d == 10) (has_feed ds) (digit_feed d both.0) (digits_fed ds both.1)
+
+number_fed : (n : ℕ) → n < 2 ^ 64 → has_feed (decimal n) ≡ false
+number_fed n h = digits_fed (decimal n) (decimal_digits n h)
+
+truth_fed : (b : Bool) → has_feed (truth_text b) ≡ false
+truth_fed true = refl
+truth_fed false = refl
+
+both_fed : (a b : List ℕ) → has_feed a ≡ false → has_feed b ≡ false → has_feed (a ++ b) ≡ false
+both_fed [] b e f = f
+both_fed (x ∷ xs) b e f = by (x == 10) (has_feed xs) e (λ h. both_fed xs b h f)
+  where
+    by : (v t : Bool) → (v || t) ≡ false → (t ≡ false → has_feed (xs ++ b) ≡ false) → (v || has_feed (xs ++ b)) ≡ false
+    by true t e g = absurd (cc)
+    by false t e g = g e
+
+pub step_fed : (n : ℕ) → n < 10 ^ 18 → has_feed (step_line n) ≡ false
+step_fed n h = number_fed n (omega arith)
+
+pub header_fed : (s : Settings) → IsProper s → has_feed (header_text s) ≡ false
+header_fed s p =
+    let moves = number_fed s.resign_moves (let m = p.few_moves in omega arith) in
+    let score = number_fed s.resign_score (let m = p.low_score in omega arith) in
+    ap has_feed (header_pieces s)
+    ∙ both_fed (truth_text s.resign) _ (truth_fed s.resign)
+    (both_fed (decimal s.resign_moves) _ moves (both_fed (decimal s.resign_score) _ score (truth_fed s.show_ponder)))
+
+pub headers_are_lines : HeadersAreLines
+headers_are_lines s p = record { one_line = header_fed s p; short = (let l = header_length s p in omega arith) }
+
+pub step_lines_are_lines : StepLinesAreLines
+step_lines_are_lines n h = record { one_line = step_fed n h; short = (let l = step_length n h in omega arith) }

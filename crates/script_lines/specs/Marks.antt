@@ -1,0 +1,111 @@
+-- Marks: the lines of a script.
+use Rattle.std.specs.Prelude.{◌≡◌, ℕ, List, [], ◌∷◌, ◌++◌, length, Bool, not, ◌&&◌, if◌then◌else◌, ◌==◌, nat_le, Option, Some, None, Result, Ok, Err, codes, IsTrue}
+use Rattle.line_io.specs.Event.{Event, Open, Iface, IfaceLong, IfaceEnd, IfaceLost, Engine, EngineLong, EngineEnd, EngineLost, event_of, is_line, has_feed}
+use Rattle.line_io.specs.declared.events.Event as event
+use Rattle.script_lines.specs.declared.marks.BadMark.{BadMark}
+use Rattle.script_lines.specs.declared.marks.Mark as code
+use Rattle.script_lines.specs.declared.marks.Mark.TheVariants as marks
+
+-- a mark, whatever memory its line lies in
+pub data Mark : Type 0 where
+  Happens : (event : Event) → Mark
+  ToIface : (line : List ℕ) → Mark
+  ToEngine : (line : List ℕ) → Mark
+
+abbrev pub plain : code.Mark → Mark
+plain (marks.Event e) = Happens (event_of e)
+plain (marks.ToIface line) = ToIface line.now
+plain (marks.ToEngine line) = ToEngine line.now
+
+-- what a reading of a mark answers
+abbrev pub marked : Result code.Mark BadMark → Option Mark
+marked (Ok m) = Some (plain m)
+marked (Err e) = None
+
+abbrev pub told : Option event.Event → Option Event
+told (Some e) = Some (event_of e)
+told None = None
+
+-- a line that was written, and whose mark has at most 131,072 bytes
+abbrev pub is_written : List ℕ → Bool
+is_written line = nat_le (length line) 131070 && not (has_feed line)
+
+-- the text of an event's mark: Open has none
+abbrev pub event_text : Event → List ℕ
+event_text Open = []
+event_text (Iface line) = codes "x " ++ line
+event_text IfaceLong = codes "x!"
+event_text IfaceEnd = codes "x."
+event_text IfaceLost = codes "x?"
+event_text (Engine line) = codes "u " ++ line
+event_text EngineLong = codes "u!"
+event_text EngineEnd = codes "u."
+event_text EngineLost = codes "u?"
+
+abbrev pub mark_text : Mark → List ℕ
+mark_text (Happens event) = event_text event
+mark_text (ToIface line) = codes "X " ++ line
+mark_text (ToEngine line) = codes "U " ++ line
+
+-- a mark that stands in scripts
+abbrev pub IsSpelled : Mark → Type 0
+IsSpelled (Happens Open) = ⊥
+IsSpelled (Happens (Iface line)) = IsTrue (is_line line)
+IsSpelled (Happens (Engine line)) = IsTrue (is_line line)
+IsSpelled (Happens event) = Unit {0}
+IsSpelled (ToIface line) = IsTrue (is_written line)
+IsSpelled (ToEngine line) = IsTrue (is_written line)
+
+-- The line spells the mark.
+abbrev pub SpellsMark : List ℕ → Mark → Type 0
+SpellsMark line mark = IsSpelled mark × (line ≡ mark_text mark)
+
+abbrev pub SpellsNone : List ℕ → Type 0
+SpellsNone line = (mark : Mark) → SpellsMark line mark → ⊥
+
+abbrev pub is_empty : List ℕ → Bool
+is_empty bytes = length bytes == 0
+
+-- the event of the interface that a sign and what follows it tell
+abbrev pub iface_event : ℕ → List ℕ → Option Event
+iface_event sign rest =
+    if sign == 32 && is_line rest then Some (Iface rest)
+    else (if sign == 33 && is_empty rest then Some IfaceLong
+    else (if sign == 46 && is_empty rest then Some IfaceEnd
+    else (if sign == 63 && is_empty rest then Some IfaceLost else None)))
+
+abbrev pub engine_event : ℕ → List ℕ → Option Event
+engine_event sign rest =
+    if sign == 32 && is_line rest then Some (Engine rest)
+    else (if sign == 33 && is_empty rest then Some EngineLong
+    else (if sign == 46 && is_empty rest then Some EngineEnd
+    else (if sign == 63 && is_empty rest then Some EngineLost else None)))
+
+abbrev pub happens : Option Event → Option Mark
+happens (Some e) = Some (Happens e)
+happens None = None
+
+-- the mark that a line spells
+abbrev pub mark_of : List ℕ → Option Mark
+mark_of (letter ∷ sign ∷ rest) =
+    if letter == 120 then happens (iface_event sign rest)
+    else (if letter == 117 then happens (engine_event sign rest)
+    else (if letter == 88 && (sign == 32 && is_written rest) then Some (ToIface rest)
+    else (if letter == 85 && (sign == 32 && is_written rest) then Some (ToEngine rest) else None)))
+mark_of line = None
+
+-- what stands behind a mark's text in a script
+abbrev pub line_end : Mark → List ℕ
+line_end (Happens Open) = []
+line_end mark = 10 ∷ []
+
+-- a mark as a line of a script: Open has none
+abbrev pub mark_line : Mark → List ℕ
+mark_line mark = mark_text mark ++ line_end mark
+
+abbrev pub event_marked : Event → List ℕ
+event_marked event = mark_line (Happens event)
+
+-- a line that was written, behind the letter of its mark
+abbrev pub line_marked : ℕ → List ℕ → List ℕ
+line_marked letter line = letter ∷ 32 ∷ line ++ 10 ∷ []

@@ -1,0 +1,36 @@
+-- Step lines: the lines that number the steps of a script of version 2.
+use Rattle.std.specs.Prelude.{◌≡◌, ℕ, ◌%◌, ◌^◌, ◌<◌, List, ◌∷◌, ◌++◌, ◌==◌, ◌&&◌, codes, decimal, if◌then◌else◌, Option, Some, None}
+use Rattle.std.specs.Str.{bytes_eq}
+use Rattle.peer_words.specs.Numbers.{digits}
+
+abbrev pub hash : ℕ
+hash = 35
+
+abbrev pub blank : ℕ
+blank = 32
+
+-- the line that numbers a step, without its line feed
+abbrev pub step_line : ℕ → List ℕ
+step_line number = codes "# " ++ decimal number
+
+-- The line numbers a step so; the number has at most 18 digits.
+pub record SpellsStep (line : List ℕ) (number : ℕ) : Type 0 where
+  pub below : number < 10 ^ 18
+  pub text : line ≡ step_line number
+
+abbrev pub as_written : Option ℕ → List ℕ → Option ℕ
+as_written None text = None
+as_written (Some number) text = if bytes_eq (decimal number) text then Some number else None
+
+-- the number of so many digits at most that is written so, without leading zeros
+abbrev pub numeral : ℕ → List ℕ → Option ℕ
+numeral most text = as_written (digits most text) text
+
+-- the number in a step line
+abbrev pub step_of : List ℕ → Option ℕ
+step_of (first ∷ second ∷ text) = if first == hash && second == blank then numeral 18 text else None
+step_of line = None
+
+-- the number of step k, counted from 0: the last 18 digits of k
+abbrev pub step_number : ℕ → ℕ
+step_number k = k % 10 ^ 18

@@ -1,0 +1,23 @@
+-- The text of a step: the marks of what happened and of what was written.
+use Rattle.std.specs.Prelude.{ℕ, List, ◌∷◌, ◌++◌}
+use Rattle.std.specs.List.{flat_map}
+use Rattle.line_io.specs.Event.{Event}
+use Rattle.line_io.specs.Lines.{parts}
+use Rattle.script_lines.specs.Marks.{event_marked, line_marked}
+use Rattle.script_lines.specs.StepLine.{step_line}
+
+-- the lines of a text, each behind the letter of its mark
+abbrev pub lines_marked : ℕ → List ℕ → List ℕ
+lines_marked letter text = flat_map (line_marked letter) (parts text)
+
+-- the marks of the lines that were written in two texts, to the interface and to the engine
+abbrev pub written_marks : List ℕ → List ℕ → List ℕ
+written_marks iface engine = lines_marked 88 iface ++ lines_marked 85 engine
+
+-- the marks of an event and of what was written
+abbrev pub step_marks : Event → List ℕ → List ℕ → List ℕ
+step_marks event iface engine = event_marked event ++ written_marks iface engine
+
+-- the same behind the line that numbers the step
+abbrev pub numbered_marks : ℕ → Event → List ℕ → List ℕ → List ℕ
+numbered_marks number event iface engine = step_line number ++ 10 ∷ step_marks event iface engine
