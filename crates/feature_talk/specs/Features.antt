@@ -29,7 +29,7 @@ fixed =
     ∷ Feature (codes "sigterm") (codes "0") ∷ Feature (codes "reuse") (codes "1") ∷ Feature (codes "analyze") (codes "1")
     ∷ Feature (codes "variants") (in_quotes (codes "normal")) ∷ Feature (codes "colors") (codes "0") ∷ []
 
--- the feature of endgame tables, where it is told
+-- the feature of endgame tables, if it is in the list
 abbrev pub tables : Bool → List Told
 tables true = Feature (codes "egt") (in_quotes (codes "nalimov")) ∷ []
 tables false = []

@@ -7,7 +7,7 @@ ghost use Rattle.feature_talk.specs.Features.{shown_name, in_quotes, bit, fixed,
 use line_io::Out;
 use option_map::Options;
 
-/// The name that is shown of an engine: what it said last, or `UCI engine` where it said nothing or a name
+/// The name that is shown of an engine: what it said last, or `UCI engine` if it said nothing or a name
 /// that is empty, has more than 256 bytes or holds a quote.
 pub fn shown_name(said: &[u8]) -> &[u8]
     ensures name { result.now ≡ shown_name said.now }
@@ -91,7 +91,7 @@ pub fn write_list(options: &Options, name: &[u8], out: &mut Out)
     out.put(b"feature done=1\n");
 }
 
-/// Writes the list of features where no options count as declared.
+/// Writes the list of features when no options count as declared.
 pub fn write_bare_list(name: &[u8], out: &mut Out)
     requires { length out.old.text + length (told_lines (feature_list [] name.now)) ≤ out.old.room }
     ensures { out.new ≡ with out.old (told_lines (feature_list [] name.now)) }

@@ -1,4 +1,4 @@
-//! The features that are told to a chess interface, and when (Chess Engine Communication Protocol, version 2,
+//! The features that a chess interface is offered, and when (Chess Engine Communication Protocol, version 2,
 //! `feature`).
 #![tactic(auto)]
 

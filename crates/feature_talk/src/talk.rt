@@ -7,7 +7,7 @@ use std::marker::Model;
 /// What `protover` is answered by.
 #[derive(Clone, Copy, Debug, PartialEq, Eq)]
 pub enum Say {
-    /// `feature done=0`: the list comes once the engine has told its options.
+    /// `feature done=0`: the list comes once the engine has declared its options.
     Wait,
     /// The list.
     List,
@@ -44,7 +44,7 @@ impl Talk {
         self.due
     }
 
-    /// The interface sent `protover`; `boot` tells whether the engine has not told its options yet.
+    /// The interface sent `protover`; `boot` says whether the engine is still declaring its options.
     pub fn protover(&mut self, boot: bool) -> Say
         ensures answer { result ≡ answer boot }
         ensures due { self.new ≡ due_after boot self.old }
@@ -57,7 +57,7 @@ impl Talk {
         }
     }
 
-    /// The engine has told its options, or ended before: whether the list is due. It is due no longer.
+    /// The engine has declared its options, or ended before: whether the list is due. It is due no longer.
     pub fn left_boot(&mut self) -> bool
         ensures was { result ≡ self.old }
         ensures due { self.new ≡ false }

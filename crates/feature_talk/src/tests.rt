@@ -1,4 +1,4 @@
-//! Engines by their options, and the features that are told of them.
+//! Engines by their options, and the features that are offered of them.
 use crate::{Say, Talk, feature_lists_are_short, shown_name, write_bare_list, write_list};
 use line_io::Out;
 use option_map::{Declared, Options};
@@ -18,7 +18,7 @@ fn declared(rt: &impl Abort, alloc: Global, lines: &[&str]) -> Result<Options, F
     Ok(options)
 }
 
-/// Writes the list, where the room is enough.
+/// Writes the list, if there is room enough.
 fn write(options: &Options, name: &str, out: &mut Out) {
     feature_lists_are_short();
     out.clear();
@@ -205,7 +205,7 @@ fn shows_names_that_fit(rt: HostRuntime) -> Result<(), Fail> {
 fn tells_the_list_once_the_engine_has_started(rt: HostRuntime) {
     let mut talk = Talk::new();
     assert!(rt; !talk.is_due());
-    // before the options were told, twice
+    // before the options were declared, twice
     assert_eq!(rt; talk.protover(true), Say::Wait);
     assert_eq!(rt; talk.protover(true), Say::Wait);
     assert!(rt; talk.is_due());
@@ -215,7 +215,7 @@ fn tells_the_list_once_the_engine_has_started(rt: HostRuntime) {
     assert_eq!(rt; talk.protover(false), Say::List);
     assert!(rt; !talk.is_due());
 
-    // an engine that told its options before `protover` came
+    // an engine that declared its options before `protover` came
     let mut talk = Talk::new();
     assert!(rt; !talk.left_boot());
     assert_eq!(rt; talk.protover(false), Say::List);

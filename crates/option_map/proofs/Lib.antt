@@ -3,7 +3,6 @@ pub mod Kept
 pub mod Measured
 pub mod Rooms
 pub mod Lines
-pub mod Joins
 pub mod Orders
 pub mod Values
 pub mod ValueTokens
@@ -11,3 +10,4 @@ pub mod HeardOptions
 pub mod Usable
 pub mod Asking
 pub mod Short
+pub mod KeptOrders

@@ -6,5 +6,5 @@ pub mod Stored
 pub mod Asked
 pub mod Spelled
 pub mod Held
-pub mod Queue
-pub mod Slots
+pub mod Data
+pub mod KeptOrders

@@ -7,12 +7,13 @@ mod declaring;
 mod fault;
 mod features;
 mod held;
+mod keeping;
 mod laws;
 mod measure;
 mod names;
 mod options;
+mod order;
 mod setting;
-mod slots;
 mod stored;
 mod storing;
 #[cfg(test)]
@@ -21,6 +22,7 @@ mod translate;
 
 pub use declared::Declared;
 pub use fault::OptFault;
-pub use held::Held;
+pub use held::{Held, MOST_BYTES, MOST_ORDERS};
 pub use laws::{asked_orders_are_spelled, last_orders_are_held};
 pub use options::Options;
+pub use order::{Asked, Setup, Value};

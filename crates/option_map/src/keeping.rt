@@ -1,0 +1,112 @@
+// Orders whose texts stand in a buffer.
+ghost use Rattle.std.specs.Prelude.{◌≡◌, ◌≤◌, ◌+◌, ◌∷◌, [], length, MatchOption};
+ghost use Rattle.std.specs.Option.{option_map};
+ghost use Rattle.line_io.specs.Out.{with};
+ghost use Rattle.option_map.specs.Data.{value_seen, setup_seen};
+ghost use Rattle.option_map.specs.Stored.{text_at, IsSpanIn};
+ghost use Rattle.option_map.specs.KeptOrders.{value_in, order_in, IsValueIn, IsOrderIn, value_bytes, setup_bytes};
+
+use crate::order::{Asked, Setup, Value};
+use crate::setting::Span;
+use line_io::Out;
+
+#[derive(Clone, Copy)]
+pub(crate) enum KeptValue {
+    Nothing,
+    Text(Span),
+    Number(i64),
+}
+
+/// An order whose texts stand in a buffer.
+#[derive(Clone, Copy, Default)]
+pub(crate) enum KeptOrder {
+    #[default]
+    NewGame,
+    Set { name: Span, value: KeptValue },
+}
+
+fn part(texts: &[u8], span: Span) -> &[u8]
+    requires { IsSpanIn (length texts.now) span }
+    ensures { result.now ≡ text_at texts.now span }
+{
+    &texts[span.at..span.at + span.len]
+}
+
+fn value_in(texts: &[u8], value: KeptValue) -> Option<Value<'_>>
+    requires { IsValueIn (length texts.now) value }
+    ensures { option_map value_seen result ≡ value_in texts.now value }
+{
+    match value {
+        KeptValue::Nothing => None,
+        KeptValue::Text(span) => Some(Value::Text(part(texts, span))),
+        KeptValue::Number(n) => Some(Value::Number(n)),
+    }
+}
+
+/// A kept order with its texts.
+pub(crate) fn setup_in(texts: &[u8], order: KeptOrder) -> Setup<'_>
+    requires { IsOrderIn (length texts.now) order }
+    ensures { setup_seen result ≡ order_in texts.now order }
+{
+    match order {
+        KeptOrder::NewGame => Setup::NewGame,
+        KeptOrder::Set { name, value } => Setup::Set(Asked {
+            name: part(texts, name),
+            value: value_in(texts, value),
+        }),
+    }
+}
+
+fn keep_text(text: &[u8], texts: &mut Out) -> Span
+    requires { length texts.old.text + length text.now ≤ texts.old.room }
+    ensures texts { texts.new ≡ with texts.old text.now }
+    ensures text { text_at texts.new.text result ≡ text.now }
+    ensures within { IsSpanIn (length texts.new.text) result }
+{
+    let at = texts.bytes().len();
+    texts.put(text);
+    Span {
+        at,
+        len: text.len(),
+    }
+}
+
+fn keep_value(value: Option<Value>, texts: &mut Out) -> KeptValue
+    requires { length texts.old.text + length (value_bytes value) ≤ texts.old.room }
+    ensures texts { texts.new ≡ with texts.old (value_bytes value.entry) }
+    ensures value { value_in texts.new.text result ≡ option_map value_seen value.entry }
+    ensures within { IsValueIn (length texts.new.text) result }
+{
+    match value {
+        None => KeptValue::Nothing,
+        Some(Value::Text(text)) => KeptValue::Text(keep_text(text, texts)),
+        Some(Value::Number(n)) => KeptValue::Number(n),
+    }
+}
+
+/// Keeps an order, its texts behind those of the others.
+pub(crate) fn keep(setup: Setup, texts: &mut Out) -> KeptOrder
+    requires { length texts.old.text + length (setup_bytes setup) ≤ texts.old.room }
+    ensures texts { texts.new ≡ with texts.old (setup_bytes setup.entry) }
+    ensures order { order_in texts.new.text result ≡ setup_seen setup.entry }
+    ensures within { IsOrderIn (length texts.new.text) result }
+{
+    match setup {
+        Setup::NewGame => KeptOrder::NewGame,
+        Setup::Set(asked) => {
+            let name = keep_text(asked.name, texts);
+            let value = keep_value(asked.value, texts);
+            KeptOrder::Set { name, value }
+        }
+    }
+}
+
+/// The first of kept orders, and the others.
+pub(crate) fn next_order(orders: &[KeptOrder]) -> Option<(KeptOrder, &[KeptOrder])>
+    ensures { MatchOption result (orders.now ≡ []) (λ p. orders.now ≡ p.0 ∷ p.1.now) }
+{
+    match orders {
+        [] => None,
+        [order, after @ ..] => Some((*order, after)),
+    }
+}

@@ -1,0 +1,198 @@
+// Orders that set up the engine, as data.
+ghost use Rattle.std.specs.Prelude.{◌≡◌, ◌≤◌, ◌+◌, length, nat_le, None, Some};
+ghost use Rattle.std.specs.Fmt.{signed_decimal};
+ghost use Rattle.line_io.specs.Out.{with};
+ghost use Rattle.uci_lines.specs.Orders.{command_text};
+ghost use Rattle.uci_lines.specs.Orders as orders;
+ghost use Rattle.option_map.specs.Held.{are_for_same, order_line};
+
+use crate::held::MOST_BYTES;
+use itoa::Buffer;
+use line_io::Out;
+use uci_lines::{Order, write_order};
+
+/// The bytes of an order beside the name that it sets, and beside name and value.
+const BUTTON_BYTES: usize = 15;
+
+const SETTING_BYTES: usize = 22;
+
+/// What an option is set to.
+#[derive(Clone, Copy, Debug, PartialEq, Eq)]
+pub enum Value<'a> {
+    Text(&'a [u8]),
+    Number(i64),
+}
+
+/// An order that sets an option, by its declared name. A button is set to no value.
+#[derive(Clone, Copy, Debug, PartialEq, Eq)]
+pub struct Asked<'a> {
+    pub name: &'a [u8],
+    pub value: Option<Value<'a>>,
+}
+
+/// An order that sets up the engine.
+#[derive(Clone, Copy, Debug, PartialEq, Eq)]
+pub enum Setup<'a> {
+    NewGame,
+    Set(Asked<'a>),
+}
+
+fn put_setting(name: &[u8], value: &[u8], out: &mut Out)
+    requires { length out.old.text
+        + length (command_text (orders.SetOption name.now (Some value.now))) ≤ out.old.room }
+    ensures { out.new ≡ with out.old (command_text (orders.SetOption name.now (Some value.now))) }
+{
+    write_order(
+        &Order::SetOption {
+            name,
+            value: Some(value),
+        },
+        out,
+    );
+}
+
+fn put_button(name: &[u8], out: &mut Out)
+    requires { length out.old.text + length (command_text (orders.SetOption name.now None))
+        ≤ out.old.room }
+    ensures { out.new ≡ with out.old (command_text (orders.SetOption name.now None)) }
+{
+    write_order(&Order::SetOption { name, value: None }, out);
+}
+
+fn put_number(name: &[u8], n: i64, out: &mut Out)
+    requires { length out.old.text
+        + length (command_text (orders.SetOption name.now (Some (signed_decimal n))))
+        ≤ out.old.room }
+    ensures { out.new
+        ≡ with out.old (command_text (orders.SetOption name.now (Some (signed_decimal n)))) }
+{
+    put_setting(name, Buffer::new().format(n).as_bytes(), out);
+}
+
+fn number_length(n: i64) -> usize
+    ensures { result ≡ length (signed_decimal n) }
+{
+    Buffer::new().format(n).len()
+}
+
+// Whether three lengths have a sum within a length.
+fn is_sum_within(first: usize, second: usize, third: usize, most: usize) -> bool
+    ensures { result ≡ nat_le (first + second + third) most }
+{
+    first <= most && second <= most - first && third <= most - first - second
+}
+
+impl Asked<'_> {
+    ghost use Rattle.option_map.specs.Data.{order_seen, order_size};
+
+    /// Writes the order, with no line feed.
+    pub fn write(&self, out: &mut Out)
+        requires { length out.old.text + length (command_text (order_seen self.now))
+            ≤ out.old.room }
+        ensures { out.new ≡ with out.old (command_text (order_seen self.now)) }
+    {
+        match self.value {
+            None => put_button(self.name, out),
+            Some(Value::Text(text)) => put_setting(self.name, text, out),
+            Some(Value::Number(n)) => put_number(self.name, n, out),
+        }
+    }
+
+    // Whether its text has at most so many bytes.
+    fn is_within(&self, most: usize) -> bool
+        ensures { result ≡ nat_le (order_size self.now.name.now self.now.value) most }
+    {
+        match self.value {
+            None => is_sum_within(BUTTON_BYTES, self.name.len(), 0, most),
+            Some(Value::Text(text)) => {
+                is_sum_within(SETTING_BYTES, self.name.len(), text.len(), most)
+            }
+            Some(Value::Number(n)) => {
+                is_sum_within(SETTING_BYTES, self.name.len(), number_length(n), most)
+            }
+        }
+    }
+
+    // How many bytes its text has.
+    fn size(&self) -> usize
+        requires { order_size self.now.name.now self.now.value ≤ MOST_BYTES }
+        ensures { result ≡ order_size self.now.name.now self.now.value }
+    {
+        match self.value {
+            None => BUTTON_BYTES + self.name.len(),
+            Some(Value::Text(text)) => SETTING_BYTES + self.name.len() + text.len(),
+            Some(Value::Number(n)) => SETTING_BYTES + self.name.len() + number_length(n),
+        }
+    }
+}
+
+impl Setup<'_> {
+    ghost use Rattle.option_map.specs.Data.{setup_seen};
+
+    fn write(&self, out: &mut Out)
+        requires { length out.old.text + length (command_text (setup_seen self.now))
+            ≤ out.old.room }
+        ensures { out.new ≡ with out.old (command_text (setup_seen self.now)) }
+    {
+        match self {
+            Setup::NewGame => write_order(&Order::NewGame, out),
+            Setup::Set(asked) => asked.write(out),
+        }
+    }
+
+    /// Writes the order and its line feed.
+    pub(crate) fn write_line(&self, out: &mut Out)
+        requires { length out.old.text + length (order_line (setup_seen self.now)) ≤ out.old.room }
+        ensures { out.new ≡ with out.old (order_line (setup_seen self.now)) }
+    {
+        self.write(out);
+        out.put(b"\n");
+    }
+
+    /// Whether its text has at most so many bytes.
+    #[tactic(auto, unfolding(uci_lines::specs::Orders::command_text))]
+    pub(crate) fn is_within(&self, most: usize) -> bool
+        ensures { result ≡ nat_le (length (command_text (setup_seen self.now))) most }
+    {
+        match self {
+            Setup::NewGame => b"ucinewgame".len() <= most,
+            Setup::Set(asked) => asked.is_within(most),
+        }
+    }
+
+    /// How many bytes its text has.
+    #[tactic(auto, unfolding(uci_lines::specs::Orders::command_text))]
+    pub(crate) fn size(&self) -> usize
+        requires { length (command_text (setup_seen self.now)) ≤ MOST_BYTES }
+        ensures { result ≡ length (command_text (setup_seen self.now)) }
+    {
+        match self {
+            Setup::NewGame => b"ucinewgame".len(),
+            Setup::Set(asked) => asked.size(),
+        }
+    }
+
+    /// Whether both are for a game, or for the value of the same option.
+    pub(crate) fn is_for_same(&self, other: &Setup) -> bool
+        ensures { result ≡ are_for_same (setup_seen self.now) (setup_seen other.now) }
+    {
+        match (self, other) {
+            (Setup::NewGame, Setup::NewGame) => true,
+            (
+                Setup::Set(
+                    Asked {
+                        name: a,
+                        value: Some(_),
+                    },
+                ),
+                Setup::Set(
+                    Asked {
+                        name: b,
+                        value: Some(_),
+                    },
+                ),
+            ) => a == b,
+            _ => false,
+        }
+    }
+}
