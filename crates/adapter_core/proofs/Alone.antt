@@ -10,7 +10,7 @@ use Rattle.cecp_lines.specs.Replies as told
 use Rattle.cecp_lines.specs.declared.iface.IfaceFault.{IfaceFault}
 use Rattle.cecp_lines.specs.declared.iface.IfaceFault.TheVariants as faults
 use Rattle.cecp_lines.specs.declared.reply.Reason.TheVariants as reasons
-use Rattle.uci_lines.specs.Orders.{Command, command_text}
+use Rattle.uci_lines.specs.Orders.{Command}
 use Rattle.option_map.specs.declared.fault.OptFault.{OptFault}
 use Rattle.option_map.specs.declared.fault.OptFault.TheVariants.{UnknownOption, BadValue}
 use Rattle.option_map.specs.Settings.{Setting}
@@ -65,7 +65,7 @@ tells_setting (says.Cores n) p = refl
 tells_setting (says.EgtPath kind path) p = refl
 tells_setting m p = cc
 
-setting_refusal : (h : Here) (held : List (List ℕ)) (m : Message) → is_setting m ≡ true → refusal h held m ≡ or_else (option_refusal h m) (or_else (fit_refusal h held m) None)
+setting_refusal : (h : Here) (held : List Command) (m : Message) → is_setting m ≡ true → refusal h held m ≡ or_else (option_refusal h m) (or_else (fit_refusal h held m) None)
 unfolding refusal
 setting_refusal h held (says.SetOption name value) p = refl
 setting_refusal h held (says.Memory n) p = refl
@@ -148,8 +148,8 @@ module _ (o : Settings) (s : State) (a : Alone) (holds : Lasts s) (alike : Alike
   abbrev g : Here
   g = lone_here o a
 
-  abbrev held : List (List ℕ)
-  held = map command_text s.held
+  abbrev held : List Command
+  held = s.held
 
   owes_alike : owes_move h ≡ owes_move g
   owes_alike = owed_unspent h.spent (call_before h) holds.unspent ∙ calls_alike s.ends.closed a.ends.closed (is_gone h.engine) false s.desk a.desk alike.closed there alike.parts

@@ -7,6 +7,7 @@ use Rattle.cecp_lines.specs.Messages as says
 use Rattle.cecp_lines.specs.Reading.{reading}
 use Rattle.cecp_lines.specs.declared.iface.IfaceFault.{IfaceFault}
 use Rattle.cecp_lines.specs.declared.iface.IfaceFault.TheVariants as faults
+use Rattle.uci_lines.specs.Orders.{Command}
 use Rattle.uci_lines.specs.Engine.{engine_message}
 use Rattle.desk_rules.specs.declared.deed.Refusal.{Refusal}
 use Rattle.desk_rules.specs.Desk.{Here, is_gone}
@@ -14,7 +15,8 @@ use Rattle.desk_rules.specs.Lines.{verdict, judged, refusal, is_epoch_line}
 use Rattle.desk_rules.specs.Steps.{Deed, Nothing, LongLine, Accepts, Boots, Dies, comes, line_deed, engine_says, rises}
 use Rattle.desk_rules.specs.Fits.{IsLineEvent}
 use Rattle.adapter_core.specs.declared.ends.Ends.{Ends}
-use Rattle.adapter_core.specs.Ends.{may, ends_after, is_open, is_quit, is_quit_message}
+use Rattle.adapter_core.specs.Ends.{may, ends_after, is_open}
+use Rattle.cecp_lines.specs.Quit.{is_quit, is_quit_message}
 
 pub first_true : (a b : Bool) → (a && b) ≡ true → a ≡ true
 first_true true b e = refl
@@ -79,14 +81,14 @@ unfolding is_epoch_line
 quit_rises h line None = refl
 quit_rises h line (Some r) = refl
 
-line_rises : (h : Here) (held : List (List ℕ)) (line : List ℕ) (r : Result Message IfaceFault) → is_quit_message r ≡ true → rises h (line_deed (verdict h held r) line) ≡ false
+line_rises : (h : Here) (held : List Command) (line : List ℕ) (r : Result Message IfaceFault) → is_quit_message r ≡ true → rises h (line_deed (verdict h held r) line) ≡ false
 unfolding verdict
 line_rises h held line (Err faults.UnknownCommand) q = cc
 line_rises h held line (Err faults.BadArgument) q = cc
 line_rises h held line (Ok says.Quit) q = quit_rises h line (refusal h held says.Quit)
 line_rises h held line (Ok m) q = cc
 
-either_rises : (h : Here) (held : List (List ℕ)) (b q : Bool) (line : List ℕ) (r : Result Message IfaceFault) → is_quit_message r ≡ q → (b || q) ≡ true
+either_rises : (h : Here) (held : List Command) (b q : Bool) (line : List ℕ) (r : Result Message IfaceFault) → is_quit_message r ≡ q → (b || q) ≡ true
     → rises h (cond b Nothing (line_deed (verdict h held r) line)) ≡ false
 either_rises h held true q line r e c = refl
 either_rises h held false true line r e c = line_rises h held line r e
@@ -96,7 +98,7 @@ dead_rises : (h : Here) (b : Bool) → rises h (cond b Nothing Dies) ≡ false
 dead_rises h true = refl
 dead_rises h false = refl
 
-pub closed_rises : (ends : Ends) (h : Here) (held : List (List ℕ)) (e : Event) → h.closed ≡ ends.closed → (ends_after ends e).closed ≡ true → rises h (comes h held e) ≡ false
+pub closed_rises : (ends : Ends) (h : Here) (held : List Command) (e : Event) → h.closed ≡ ends.closed → (ends_after ends e).closed ≡ true → rises h (comes h held e) ≡ false
 unfolding comes
 closed_rises ends h held events.Open same c = refl
 closed_rises ends h held (events.Iface line) same c = either_rises h held h.closed (is_quit line) line (reading line) refl (rw same c)
@@ -109,7 +111,7 @@ closed_rises ends h held events.EngineEnd same c = dead_rises h (is_gone h.engin
 closed_rises ends h held events.EngineLost same c = dead_rises h (is_gone h.engine)
 
 -- nor at Open
-pub open_rises : (h : Here) (held : List (List ℕ)) (e : Event) → is_open e ≡ true → rises h (comes h held e) ≡ false
+pub open_rises : (h : Here) (held : List Command) (e : Event) → is_open e ≡ true → rises h (comes h held e) ≡ false
 unfolding comes
 open_rises h held events.Open o = refl
 open_rises h held (events.Iface line) o = cc
@@ -134,7 +136,7 @@ quit_closes : (line : List ℕ) (r : Option Refusal) → Closes (line_deed (judg
 quit_closes line None = tt
 quit_closes line (Some r) = tt
 
-line_closes : (h : Here) (held : List (List ℕ)) (line : List ℕ) (r : Result Message IfaceFault) → is_quit_message r ≡ true → Closes (line_deed (verdict h held r) line)
+line_closes : (h : Here) (held : List Command) (line : List ℕ) (r : Result Message IfaceFault) → is_quit_message r ≡ true → Closes (line_deed (verdict h held r) line)
 unfolding verdict
 line_closes h held line (Err faults.UnknownCommand) q = cc
 line_closes h held line (Err faults.BadArgument) q = cc
@@ -145,7 +147,7 @@ cond_closes : (b : Bool) (d : Deed) → b ≡ true → Closes (cond b Nothing d)
 cond_closes true d e = tt
 cond_closes false d e = cc
 
-either_closes : (h : Here) (held : List (List ℕ)) (b q : Bool) (line : List ℕ) (r : Result Message IfaceFault) → is_quit_message r ≡ q → (b || q) ≡ true → Closes (cond b Nothing (line_deed (verdict h held r) line))
+either_closes : (h : Here) (held : List Command) (b q : Bool) (line : List ℕ) (r : Result Message IfaceFault) → is_quit_message r ≡ q → (b || q) ≡ true → Closes (cond b Nothing (line_deed (verdict h held r) line))
 either_closes h held true q line r e c = tt
 either_closes h held false true line r e c = line_closes h held line r e
 either_closes h held false false line r e c = cc
@@ -154,7 +156,7 @@ dead_closes : (b : Bool) → Closes (cond b Nothing Dies)
 dead_closes true = tt
 dead_closes false = tt
 
-pub closing : (ends : Ends) (h : Here) (held : List (List ℕ)) (e : Event) → h.closed ≡ ends.closed → (ends_after ends e).closed ≡ true → Closes (comes h held e)
+pub closing : (ends : Ends) (h : Here) (held : List Command) (e : Event) → h.closed ≡ ends.closed → (ends_after ends e).closed ≡ true → Closes (comes h held e)
 unfolding comes
 closing ends h held events.Open same c = tt
 closing ends h held (events.Iface line) same c = either_closes h held h.closed (is_quit line) line (reading line) refl (rw same c)

@@ -3,7 +3,7 @@ use Rattle.std.proofs.Common.{◌≡◌, ℕ, List, [], ◌∷◌, length, Bool,
 use Rattle.cecp_lines.specs.Messages.{Message}
 use Rattle.cecp_lines.specs.Messages as says
 use Rattle.cecp_lines.specs.declared.reply.Reason.TheVariants as reasons
-use Rattle.uci_lines.specs.Orders.{command_text}
+use Rattle.uci_lines.specs.Orders.{Command, command_text}
 use Rattle.game_record.specs.Course.{Course, begun}
 use Rattle.option_map.specs.Settings.{Setting}
 use Rattle.option_map.specs.Asked.{asked}
@@ -87,10 +87,10 @@ refused_by gone g mode pings owes option fit m =
 abbrev pub option_refusal : Here → Message → Option Refusal
 option_refusal h m = refused_option (asked (table h.desk) m)
 
-abbrev pub fit_refusal : Here → List (List ℕ) → Message → Option Refusal
+abbrev pub fit_refusal : Here → List Command → Message → Option Refusal
 fit_refusal h held m = where_true (does_not_fit held (asks (is_gone h.engine) h.desk m)) reasons.TooManySettings
 
-pub refusal_is : (h : Here) (held : List (List ℕ)) (m : Message)
+pub refusal_is : (h : Here) (held : List Command) (m : Message)
     → refusal h held m ≡ refused_by (is_gone h.engine) h.desk.game h.desk.mode h.desk.pings (owes_move h) (option_refusal h m) (fit_refusal h held m) m
 unfolding refusal refused_by
 refusal_is h held m =

@@ -16,7 +16,8 @@ use Rattle.search_epochs.specs.declared.words.Said.{Said}
 use Rattle.search_epochs.specs.declared.words.Said.TheVariants as said
 use Rattle.uci_lines.specs.Orders as orders
 use Rattle.adapter_core.specs.declared.ends.Ends.{Ends}
-use Rattle.adapter_core.specs.Ends.{may, ends_after, is_open, is_quit}
+use Rattle.adapter_core.specs.Ends.{may, ends_after, is_open}
+use Rattle.cecp_lines.specs.Quit.{is_quit}
 use Rattle.adapter_core.specs.Trace.{State, Step, Lawful, state, deed, turn, mid, closed_after, gone_after, last_orders}
 use Rattle.adapter_core.specs.Stands.{IsSilentToIface, IsSilentToEngine}
 use Rattle.adapter_core.proofs.Closing.{opened_later}

@@ -1,5 +1,6 @@
 -- Before `uciok` no more than a new game is held, and no option counts.
 use Rattle.std.proofs.Common.{◌≡◌, ℕ, List, [], Bool, true, false, cond, refl, ◌∙◌, inl}
+use Rattle.uci_lines.specs.Orders.{Command}
 use Rattle.search_epochs.specs.declared.words.Said.TheVariants as said
 use Rattle.search_epochs.specs.declared.words.EngineState.{EngineState}
 use Rattle.search_epochs.specs.declared.words.EngineState.TheVariants as states
@@ -10,9 +11,9 @@ use Rattle.search_epochs.specs.View as dialogue
 use Rattle.search_epochs.specs.View.{after_what, mid_view, stale_state, heard_state, settled_state}
 use Rattle.desk_rules.specs.Desk.{Here}
 use Rattle.desk_rules.specs.Steps.{Deed, Boots, what_of, desk_after_deed}
+use Rattle.desk_rules.specs.Orders.{waiting}
 use Rattle.desk_rules.specs.Fits.{IsFirst}
-use Rattle.desk_rules.proofs.Firsts.{IsBoots, lines_first, deed_booted}
-use Rattle.adapter_core.specs.View.{lines_after}
+use Rattle.desk_rules.proofs.Firsts.{IsBoots, orders_first, deed_booted}
 
 -- BOOT IS NEVER ENTERED AGAIN
 
@@ -77,15 +78,15 @@ was_settled states.Getting chosen.Stop x = x
 was_settled states.Idle chosen.Stop x = x
 was_settled states.Gone chosen.Stop x = x
 
-batch_first : (b : Bool) (ls : List (List ℕ)) → IsFirst ls → IsFirst (cond b [] ls)
+batch_first : (b : Bool) (ls : List Command) → IsFirst ls → IsFirst (cond b [] ls)
 batch_first true ls f = inl refl
 batch_first false ls f = f
 
 -- what is held after the step, and whether options count, where the engine is in Boot then
-pub first_after : (h : Here) (held : List (List ℕ)) (d : Deed) (v : dialogue.View) (r b : Bool) (o : Orders) → (v.state ≡ states.Boot → IsFirst held × (h.desk.booted ≡ false))
-    → settled_state (mid_view v (what_of d) r).state o ≡ states.Boot → IsFirst (cond b [] (lines_after h held d)) × ((desk_after_deed h d).booted ≡ false)
+pub first_after : (h : Here) (held : List Command) (d : Deed) (v : dialogue.View) (r b : Bool) (o : Orders) → (v.state ≡ states.Boot → IsFirst held × (h.desk.booted ≡ false))
+    → settled_state (mid_view v (what_of d) r).state o ≡ states.Boot → IsFirst (cond b [] (waiting h held d)) × ((desk_after_deed h d).booted ≡ false)
 first_after h held d v r b o f x =
     let said = risen v d r (was_settled (mid_view v (what_of d) r).state o x) in
     let none = no_boots v d said in
     let before = f (was_what v (what_of d) said) in
-    (batch_first b (lines_after h held d) (lines_first h held d none before.1 before.0), deed_booted h d none ∙ before.1)
+    (batch_first b (waiting h held d) (orders_first h held d none before.1 before.0), deed_booted h d none ∙ before.1)

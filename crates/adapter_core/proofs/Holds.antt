@@ -14,18 +14,15 @@ use Rattle.search_epochs.proofs.Within.{all_within, turned_within, turned_last}
 use Rattle.desk_rules.specs.declared.desk.Desk.{Desk}
 use Rattle.desk_rules.specs.Desk.{Here, is_gone}
 use Rattle.desk_rules.specs.Steps.{Deed, comes, what_of, rises, call_after, is_death}
-use Rattle.desk_rules.specs.Orders.{waiting, word_of, AreHeld, AreHeldLines}
+use Rattle.desk_rules.specs.Orders.{waiting, word_of, AreHeld}
 use Rattle.desk_rules.specs.Texts.{command_lines}
 use Rattle.desk_rules.specs.Fits.{IsSound}
-use Rattle.desk_rules.proofs.Deeds.{comes_fits}
-use Rattle.desk_rules.proofs.Waits.{lines_held}
 use Rattle.adapter_core.specs.Ends.{may, ends_after, is_open}
 use Rattle.adapter_core.specs.Trace.{State, Step, Lawful, state, state_after, here, deed, turn, mid, has_ready, iface_text, engine_text}
 use Rattle.adapter_core.specs.View as view
-use Rattle.adapter_core.specs.View.{View, advance, advance_from, choice, desk_with, lines_after, orders_text}
-use Rattle.adapter_core.specs.Stands.{view_of, Holds, Keeps, TicketIsWithin, Stands, Extends, step_by, step_from, orders_of}
+use Rattle.adapter_core.specs.View.{View, advance}
+use Rattle.adapter_core.specs.Stands.{view_of, Holds, Keeps, TicketIsWithin, Stands, Extends, step_by}
 use Rattle.adapter_core.proofs.Closing.{opened_later, line_event}
-use Rattle.adapter_core.proofs.Orders.{orders_are_text}
 use Rattle.adapter_core.proofs.Square.{within, held, lawful, stands, step_here, step_is}
 
 back : (epoch : ℕ) (e : Engine) → TicketWithin epoch e → TicketIsWithin epoch e
@@ -65,14 +62,14 @@ holds_on s step holds a m =
     }
 
 -- each step of a core extends each lawful trace that it stands for
-same_step : (o : Settings) (t : List Step) (asked told ordered : Text) (e : Event) → may (state o t).ends e ≡ true → IsSound (state o t).desk → Lawful o t → Holds (state o t)
-    → (let old = view_of (state o t) asked told ordered in Lawful o (step_by old e ∷ t) × Stands o (advance old e) (step_by old e ∷ t))
-same_step o t asked told ordered e m d l h =
+same_step : (o : Settings) (t : List Step) (told ordered : Text) (e : Event) → may (state o t).ends e ≡ true → IsSound (state o t).desk → Lawful o t → Holds (state o t)
+    → (let old = view_of (state o t) told ordered in Lawful o (step_by old e ∷ t) × Stands o (advance old e) (step_by old e ∷ t))
+same_step o t told ordered e m d l h =
     let s = state o t in
-    let old = view_of s asked told ordered in
+    let old = view_of s told ordered in
     let i = line_event s.ends e m in
-    subst (λ (x : Step). Lawful o (x ∷ t) × Stands o (advance old e) (x ∷ t)) (sym (step_is s asked told ordered e h d i))
-    ((l, lawful s asked told ordered e h d i m), (stands s asked told ordered e h d i m, holds_on s (step_here s asked told ordered e h d i) h (held s asked told ordered e h d i) m))
+    subst (λ (x : Step). Lawful o (x ∷ t) × Stands o (advance old e) (x ∷ t)) (sym (step_is s told ordered e h d i))
+    ((l, lawful s told ordered e h d i m), (stands s told ordered e h d i m, holds_on s (step_here s told ordered e h d i) h (held s told ordered e h d i) m))
 
 pub extended : (o : Settings) (core : View) (t : List Step) (e : Event) → may core.ends e ≡ true → IsSound core.desk → Lawful o t → Stands o core t
     → Lawful o (step_by core e ∷ t) × Stands o (advance core e) (step_by core e ∷ t)
@@ -80,7 +77,7 @@ extended o core t e m d l st =
     let m' : may (state o t).ends e ≡ true = subst (λ (w : View). may w.ends e ≡ true) st.0 m in
     let d' : IsSound (state o t).desk = subst (λ (w : View). IsSound w.desk) st.0 d in
     subst (λ (w : View). Lawful o (step_by w e ∷ t) × Stands o (advance w e) (step_by w e ∷ t)) (sym st.0)
-    (same_step o t core.asked core.told core.ordered e m' d' l st.1)
+    (same_step o t core.told core.ordered e m' d' l st.1)
 
 -- TEXTS
 
@@ -88,28 +85,9 @@ pub told_text_is : (core : View) (e : Event) → (advance core e).told.text ≡ 
 unfolding advance step_by
 told_text_is core e = refl
 
--- what a core holds after a deed
-pub lines_kept : (core : View) (e : Event) → Keeps core → may core.ends e ≡ true → AreHeldLines (lines_after (view.here core) core.held (comes (view.here core) core.held e))
-lines_kept core e k m = lines_held (view.here core) core.held (comes (view.here core) core.held e) k.sound (comes_fits (view.here core) core.held e (line_event core.ends e m)) k.orders
-
-text_of : (lines : List (List ℕ)) (opens closed closed_now gone : Bool) (d : Desk) (o : Orders) → AreHeldLines lines
-    → orders_text opens closed closed_now gone lines d o ≡ command_lines (orders_of opens closed closed_now gone lines d o)
-text_of lines opens closed closed_now gone d o a =
-    subst (λ (ls : List (List ℕ)). orders_text opens closed closed_now gone ls d o ≡ command_lines (orders_of opens closed closed_now gone ls d o)) (sym a.lines_are)
-    (orders_are_text opens closed closed_now gone a.orders d o a.held)
-
-text_from : (h : Here) (d : Deed) (v : View) (e : Event) (m : dialogue.View) → AreHeldLines (lines_after h v.held d) → (advance_from h d e v m).ordered.text ≡ engine_text (step_from h d v e m)
-text_from h d v e m a =
-    let owes = is_move (owed_view m (call_after (ends_after v.ends e).closed h d)) in
-    let o = choice (is_open e) (ends_after v.ends e).closed h (lines_after h v.held d) d m in
-    text_of (lines_after h v.held d) (is_open e) v.ends.closed (ends_after v.ends e).closed (is_gone h.engine || is_death d) (desk_with h d e v owes o) o a
-
-pub ordered_text_is : (core : View) (e : Event) → Keeps core → may core.ends e ≡ true → (advance core e).ordered.text ≡ engine_text (step_by core e)
+pub ordered_text_is : (core : View) (e : Event) → (advance core e).ordered.text ≡ engine_text (step_by core e)
 unfolding advance step_by
-ordered_text_is core e k m =
-    let h = view.here core in
-    let d = comes h core.held e in
-    text_from h d core e (mid_view core.talk (what_of d) (rises h d)) (lines_kept core e k m)
+ordered_text_is core e = refl
 
 -- THE STEP
 
@@ -124,7 +102,7 @@ extends_to core new e iface engine k m n i g = record {
   step = step_by core e;
   event = event_is core e;
   iface_is = i ∙ ap (λ (v : View). v.told.text) n ∙ told_text_is core e;
-  engine_is = g ∙ ap (λ (v : View). v.ordered.text) n ∙ ordered_text_is core e k m;
+  engine_is = g ∙ ap (λ (v : View). v.ordered.text) n ∙ ordered_text_is core e;
   extends = λ o t l st. subst (λ (v : View). Lawful o (step_by core e ∷ t) × Stands o v (step_by core e ∷ t)) (sym n) (extended o core t e m k.sound l st);
 }
 

@@ -3,6 +3,7 @@ use Rattle.std.proofs.Common.{◌≡◌, ℕ, ◌≤◌, List, [], length, Bool,
 use Rattle.line_io.specs.Event.{Event}
 use Rattle.peer_words.specs.declared.kinds.GoKind.{GoKind}
 use Rattle.cecp_lines.specs.Messages as says
+use Rattle.uci_lines.specs.Orders.{Command}
 use Rattle.clock_map.specs.Clocks.{AreShort, first_clocks}
 use Rattle.policy_rules.specs.declared.settings.Settings.{Settings}
 use Rattle.policy_rules.specs.Policy.{IsProper}
@@ -17,15 +18,14 @@ use Rattle.search_epochs.specs.View.{mid_view, owed_view, played_of, is_pondered
 use Rattle.desk_rules.specs.Desk.{Here, current, call_of, is_gone, is_boot, owes_move, owed_at}
 use Rattle.desk_rules.specs.Lines.{is_epoch_line}
 use Rattle.desk_rules.specs.Steps.{Deed, Accepts, Boots, comes, what_of, rises, call_after, desk_after_deed, is_death, answers_pings}
-use Rattle.desk_rules.specs.Orders.{AreHeldLines}
+use Rattle.desk_rules.specs.Orders.{waiting}
 use Rattle.desk_rules.specs.Fits.{Fits, IsFirst, CanHold}
 use Rattle.desk_rules.proofs.Serves.{not_gone}
 use Rattle.desk_rules.proofs.Sound.{stays_sound, step_sound}
 use Rattle.desk_rules.proofs.Deeds.{comes_fits}
-use Rattle.desk_rules.proofs.Waits.{lines_held}
 use Rattle.desk_rules.proofs.Quiet.{quiet_pings, deed_pings, owed_ping, ping_call}
 use Rattle.adapter_core.specs.Ends.{may, ends_after, is_open}
-use Rattle.adapter_core.specs.View.{View, here, advance, opening, choice, lines_after, is_unsent, IsReadyFor}
+use Rattle.adapter_core.specs.View.{View, here, advance, opening, choice, is_unsent, IsReadyFor}
 use Rattle.adapter_core.specs.Stands.{Keeps}
 use Rattle.adapter_core.proofs.Closing.{line_event, open_before, Closes, closing}
 use Rattle.adapter_core.proofs.Serving.{still, chosen_serves, not_gone_served, call_settled}
@@ -37,7 +37,7 @@ none_left : (b : Bool) (n : ℕ) (ps : List ℕ) → length ps ≤ n → length 
 none_left true n ps l = omega arith
 none_left false n ps l = l
 
-ping_left : (h : Here) (held : List (List ℕ)) (n : ℕ) (owes : Bool) → Fits h held (Accepts (says.Ping n)) → owes_move h ≡ owes
+ping_left : (h : Here) (held : List Command) (n : ℕ) (owes : Bool) → Fits h held (Accepts (says.Ping n)) → owes_move h ≡ owes
     → length (cond (answers_pings false owes) [] (desk_after_deed h (Accepts (says.Ping n))).pings) ≤ 64
 ping_left h held n true f o = owed_ping h held n f o
 ping_left h held n false f o = omega arith
@@ -49,7 +49,7 @@ owes_after closed h t d = is_move (owed_view (mid_view t (what_of d) (rises h d)
 other_left : (h : Here) (d : Deed) (b : Bool) → (desk_after_deed h d).pings ≡ h.desk.pings → length h.desk.pings ≤ 64 → length (cond b [] (desk_after_deed h d).pings) ≤ 64
 other_left h d b e l = none_left b 64 (desk_after_deed h d).pings (omega (arith, ap length e))
 
-few_pings : (h : Here) (held : List (List ℕ)) (t : dialogue.View) (d : Deed) (closed : Bool) → h.spent ≡ t.spent → (closed ≡ true → Closes d) → Fits h held d → length h.desk.pings ≤ 64
+few_pings : (h : Here) (held : List Command) (t : dialogue.View) (d : Deed) (closed : Bool) → h.spent ≡ t.spent → (closed ≡ true → Closes d) → Fits h held d → length h.desk.pings ≤ 64
     → (closed ≡ false → h.closed ≡ false)
     → length (cond (answers_pings closed (owes_after closed h t d)) [] (desk_after_deed h d).pings) ≤ 64
 unfolding is_epoch_line
@@ -61,15 +61,6 @@ few_pings h held t (Accepts (says.Ping n)) false same q f l o =
 few_pings h held t (Accepts m) closed same q f l o = other_left h (Accepts m) (answers_pings closed (owes_after closed h t (Accepts m))) (quiet_pings h (Accepts m) (λ x. x)) l
 few_pings h held t d closed same q f l o = other_left h d (answers_pings closed (owes_after closed h t d)) (quiet_pings h d (λ x. x)) l
 
--- HELD LINES
-
-none_held : AreHeldLines []
-none_held = record { orders = []; lines_are = refl; held = tt }
-
-batch_held : (b : Bool) (ls : List (List ℕ)) → AreHeldLines ls → AreHeldLines (cond b [] ls)
-batch_held true ls a = none_held
-batch_held false ls a = a
-
 -- WHAT THE CORE NEEDS
 
 in_boot : (s : EngineState) → is_boot s ≡ true → s ≡ states.Boot
@@ -79,7 +70,7 @@ in_boot states.Idle b = cc
 in_boot (states.Search k stale stopped) b = cc
 in_boot states.Gone b = cc
 
-holds : (h : Here) (held : List (List ℕ)) (d : Deed) → (h.engine ≡ states.Boot → IsFirst held) → Fits h held d → CanHold held d
+holds : (h : Here) (held : List Command) (d : Deed) → (h.engine ≡ states.Boot → IsFirst held) → Fits h held d → CanHold held d
 holds h held Boots b f = b (in_boot h.engine f.1)
 holds h held d b f = tt
 
@@ -97,7 +88,7 @@ module _ (v : View) (e : Event) (k : Keeps v) (m : may v.ends e ≡ true) where
   closed_now = (ends_after v.ends e).closed
 
   abbrev o : Orders
-  o = choice (is_open e) closed_now h (lines_after h v.held d) d mid
+  o = choice (is_open e) closed_now h (waiting h v.held d) d mid
 
   fits : Fits h v.held d
   fits = comes_fits h v.held e (line_event v.ends e m)
@@ -108,10 +99,10 @@ module _ (v : View) (e : Event) (k : Keeps v) (m : may v.ends e ≡ true) where
       subst (λ (z : Bool). Serves g (call_after z h d)) (b ∙ sym c) (still h v.held d v.talk refl fits (k.serves b) g x)
 
   served : (rests : Bool) → closed_now ≡ false → (g : GoKind)
-      → current (settled_state mid.state (cond rests chosen.None (dialogue.settle mid (call_after closed_now h d) (is_unsent (lines_after h v.held d) d) (played_of (what_of d)) (is_hurry (what_of d))))) ≡ Some g → Serves g (call_after closed_now h d)
+      → current (settled_state mid.state (cond rests chosen.None (dialogue.settle mid (call_after closed_now h d) (is_unsent (waiting h v.held d) d) (played_of (what_of d)) (is_hurry (what_of d))))) ≡ Some g → Serves g (call_after closed_now h d)
   served true c g x = still_here c g x
   served false c g x =
-      chosen_serves mid.state mid.spent (call_after closed_now h d) (is_unsent (lines_after h v.held d) d) (is_pondered mid.pondered (played_of (what_of d))) (is_hurry (what_of d)) (still_here c) g x
+      chosen_serves mid.state mid.spent (call_after closed_now h d) (is_unsent (waiting h v.held d) d) (is_pondered mid.pondered (played_of (what_of d))) (is_hurry (what_of d)) (still_here c) g x
 
   serves_after : closed_now ≡ false → (g : GoKind) → current (settled_state mid.state o) ≡ Some g → Serves g (call_of closed_now (is_gone (settled_state mid.state o)) (advance v e).desk)
   unfolding advance
@@ -124,14 +115,16 @@ module _ (v : View) (e : Event) (k : Keeps v) (m : may v.ends e ≡ true) where
   -- what the core needs to take the event
   pub is_ready : IsReadyFor h v d
   is_ready = record {
-    sound = k.sound;
+    follow = record {
+      sound = k.sound;
+      fits = (v.held, fits);
+      served = k.serves;
+      pings = k.pings;
+      sound_then = stays_sound h v.held d k.sound fits;
+      pings_then = omega (arith, deed_pings h d, k.pings);
+    };
     fits = fits;
-    served = k.serves;
-    pings = k.pings;
     holds = holds h v.held d (λ b. (k.first b).0) fits;
-    sound_then = stays_sound h v.held d k.sound fits;
-    pings_then = omega (arith, deed_pings h d, k.pings);
-    asked = k.asked;
     told = k.told;
     ordered = k.ordered;
   }
@@ -144,8 +137,6 @@ module _ (v : View) (e : Event) (k : Keeps v) (m : may v.ends e ≡ true) where
     serves = serves_after;
     pings = few_pings h v.held v.talk d closed_now refl (closing v.ends h v.held e refl) fits k.pings (λ c. open_before v.ends e c);
     first = first_after h v.held d v.talk (rises h d) (is_batch_order o) o k.first;
-    orders = batch_held (is_batch_order o) (lines_after h v.held d) (lines_held h v.held d k.sound fits k.orders);
-    asked = k.asked;
     told = k.told;
     ordered = k.ordered;
   }
@@ -161,9 +152,7 @@ opening_keeps settings p = record {
   sound = record { hint = tt; clocks = first_short; current = tt; options = tt };
   serves = λ c g x. absurd (cc);
   pings = omega arith;
-  orders = none_held;
   first = λ b. (inl refl, refl);
-  asked = refl;
   told = refl;
   ordered = refl;
 }

@@ -1,20 +1,17 @@
--- The words, the lines and the texts of the orders that are written.
+-- The words of the orders that are written.
 use Rattle.std.proofs.Common.{◌≡◌, ℕ, List, [], ◌∷◌, ◌++◌, map, codes, Bool, true, false, cond, ◌||◌, Option, refl, sym, ap, ◌∙◌}
-use Rattle.std.proofs.lemmas.List.{append_assoc}
-use Rattle.std.specs.Option.{option_to_list}
 use Rattle.chess_board.specs.declared.board.Side.{Side}
 use Rattle.chess_board.specs.declared.board.Side.TheVariants.{White, Black}
 use Rattle.peer_words.specs.declared.kinds.GoKind.{GoKind}
 use Rattle.peer_words.specs.declared.kinds.GoKind.TheVariants as kinds
 use Rattle.cecp_lines.specs.Messages.{Message}
 use Rattle.cecp_lines.specs.Messages as says
-use Rattle.uci_lines.specs.Orders.{Command, command_text}
+use Rattle.uci_lines.specs.Orders.{Command}
 use Rattle.uci_lines.specs.Orders as orders
 use Rattle.clock_map.specs.declared.clocks.Clocks.{Clocks}
 use Rattle.clock_map.specs.declared.clocks.Control.{Control}
 use Rattle.clock_map.specs.declared.clocks.Control.TheVariants.{Session, Fixed}
 use Rattle.clock_map.specs.Search.{search_order, time_of}
-use Rattle.option_map.specs.Held.{lines_text, line_fed}
 use Rattle.search_epochs.specs.declared.words.Orders.{Orders}
 use Rattle.search_epochs.specs.declared.words.Orders.TheVariants as chosen
 use Rattle.search_epochs.specs.declared.words.Said.TheVariants as said
@@ -22,15 +19,11 @@ use Rattle.search_epochs.specs.Talk.{Engine, Boot, Getting, Idle, Search, Gone, 
 use Rattle.search_epochs.specs.View.{words, is_batch_order, forget}
 use Rattle.desk_rules.specs.declared.desk.Desk.{Desk}
 use Rattle.desk_rules.specs.Desk.{Here, is_boot, on_move, plies}
-use Rattle.desk_rules.specs.Steps.{Deed, Nothing, Opens, LongLine, Refuses, Accepts, Names, Declares, Boots, Readies, Thinks, Shows, Forfeits, Answers, Dies, what_of, what_accepted}
-use Rattle.desk_rules.specs.Orders.{order_list, searched, word_of, kind_named, AreHeld}
-use Rattle.desk_rules.specs.Texts.{command_lines, chosen_text}
+use Rattle.desk_rules.specs.Steps.{Deed, Nothing, Opens, LongLine, Refuses, Accepts, Names, Declares, Boots, Readies, Thinks, Shows, Forfeits, Answers, Dies, what_of, what_accepted, is_boots}
+use Rattle.desk_rules.specs.Orders.{order_list, searched, word_of, kind_named}
 use Rattle.desk_rules.specs.Fits.{Fits}
-use Rattle.desk_rules.proofs.Waits.{held_order}
-use Rattle.option_map.proofs.Orders.{reads_back}
 use Rattle.adapter_core.specs.Trace.{has_ready}
-use Rattle.adapter_core.specs.View.{is_boots, no_lines, orders_in, orders_text}
-use Rattle.adapter_core.specs.Stands.{orders_of}
+use Rattle.adapter_core.specs.View.{none_held}
 
 -- WORDS
 
@@ -75,7 +68,7 @@ ready_words ws (chosen.Begin c) a = refl
 ready_words ws chosen.Hit a = refl
 ready_words ws chosen.Stop a = refl
 
-pub no_words : (ws : List Command) → no_lines (map command_text ws) ≡ is_empty (map word_of ws)
+pub no_words : (ws : List Command) → none_held ws ≡ is_empty (map word_of ws)
 no_words [] = refl
 no_words (w ∷ ws) = refl
 
@@ -111,7 +104,7 @@ in_boot epoch Gone b = cc
 in_boot epoch (Search k t s) b = cc
 
 -- Boot is left exactly by its deed
-pub boots_are : (epoch : ℕ) (e : Engine) (h : Here) (held : List (List ℕ)) (d : Deed) → h.engine ≡ forget epoch e → Fits h held d → is_boots d ≡ leaves_boot e (what_of d)
+pub boots_are : (epoch : ℕ) (e : Engine) (h : Here) (held : List Command) (d : Deed) → h.engine ≡ forget epoch e → Fits h held d → is_boots d ≡ leaves_boot e (what_of d)
 boots_are epoch e h held Boots same f = in_boot epoch e (rw (← same) (f.1))
 boots_are epoch e h held (Accepts m) same f = not_boots e (what_accepted m) (line_boots m)
 boots_are epoch e h held Nothing same f = not_boots e Quiet refl
@@ -126,37 +119,3 @@ boots_are epoch e h held (Shows best hint) same f = not_boots e (Says said.Best)
 boots_are epoch e h held Forfeits same f = not_boots e (Says said.Best) refl
 boots_are epoch e h held Answers same f = not_boots e (Says said.Best) refl
 boots_are epoch e h held Dies same f = not_boots e (Says said.Ended) refl
-
--- LINES
-
--- the lines of orders that may be held are read back
-pub read_back : (ws : List Command) → AreHeld ws → orders_in (map command_text ws) ≡ ws
-read_back [] a = refl
-read_back (w ∷ ws) a = ap (λ (o : Option Command). option_to_list o ++ orders_in (map command_text ws)) ((reads_back w (held_order w a.0)).0) ∙ ap (λ xs. w ∷ xs) (read_back ws a.1)
-
-batch_text : (ws : List Command) → (lines_text (map command_text ws) ++ codes "isready" ++ 10 ∷ []) ≡ command_lines (ws ++ orders.IsReady ∷ [])
-unfolding command_text
-batch_text [] = refl
-batch_text (w ∷ ws) =
-    let line = line_fed (command_text w) in
-    let rest = lines_text (map command_text ws) in
-    ap (λ (t : List ℕ). t ++ 10 ∷ []) (append_assoc line rest (codes "isready")) ∙ append_assoc line (rest ++ codes "isready") (10 ∷ []) ∙ ap (λ (t : List ℕ). line ++ t) (batch_text ws)
-
--- the text of the chosen orders
-pub text_of_chosen : (ws : List Command) (d : Desk) (o : Orders) → AreHeld ws → chosen_text (map command_text ws) d o ≡ command_lines (order_list (orders_in (map command_text ws)) d o)
-text_of_chosen ws d chosen.None a = refl
-text_of_chosen ws d chosen.Batch a = batch_text ws ∙ ap (λ (xs : List Command). command_lines (xs ++ orders.IsReady ∷ [])) (sym (read_back ws a))
-text_of_chosen ws d (chosen.Begin c) a = refl
-text_of_chosen ws d chosen.Hit a = refl
-text_of_chosen ws d chosen.Stop a = refl
-
-last_text : (b : Bool) → cond b [] (command_lines (orders.Quit ∷ [])) ≡ command_lines (cond b [] (orders.Quit ∷ []))
-last_text true = refl
-last_text false = refl
-
--- the text to the engine is that of the orders
-pub orders_are_text : (opens closed closed_now gone : Bool) (ws : List Command) (d : Desk) (o : Orders) → AreHeld ws
-    → orders_text opens closed closed_now gone (map command_text ws) d o ≡ command_lines (orders_of opens closed closed_now gone (map command_text ws) d o)
-orders_are_text true closed closed_now gone ws d o a = refl
-orders_are_text false closed true gone ws d o a = last_text (closed || gone)
-orders_are_text false closed false gone ws d o a = text_of_chosen ws d o a

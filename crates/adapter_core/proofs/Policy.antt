@@ -7,16 +7,15 @@ use Rattle.policy_rules.specs.Scores.{Score, no_scores, counted}
 use Rattle.policy_rules.proofs.Counts.{counts_tell, settings_kept}
 use Rattle.desk_rules.specs.Desk.{Here}
 use Rattle.desk_rules.specs.Lines.{clears_scores}
-use Rattle.desk_rules.specs.Steps.{Deed, Accepts, Shows, scores_after}
+use Rattle.desk_rules.specs.Steps.{Deed, Accepts, Shows, scores_after, counts_after}
 use Rattle.adapter_core.specs.View as view
-use Rattle.adapter_core.specs.View.{counts_after}
 use Rattle.adapter_core.specs.Trace.{State, here}
 use Rattle.adapter_core.specs.Stands.{view_of}
 
 -- what stands is the same for both
-pub here_kept : (s : State) (asked told ordered : Text) → IsProper s.settings → view.here (view_of s asked told ordered) ≡ here s
-here_kept s asked told ordered p =
-    ap (λ (b : Bool). let h : Here = record (view.here (view_of s asked told ordered)) { resigns = b } in h) ((counts_tell s.settings (s.desk.seen.score ∷ s.scores) p).0)
+pub here_kept : (s : State) (told ordered : Text) → IsProper s.settings → view.here (view_of s told ordered) ≡ here s
+here_kept s told ordered p =
+    ap (λ (b : Bool). let h : Here = record (view.here (view_of s told ordered)) { resigns = b } in h) ((counts_tell s.settings (s.desk.seen.score ∷ s.scores) p).0)
     ∙ ap (λ (b : Bool). let h : Here = record (here s) { accepts = b } in h) ((counts_tell s.settings s.scores p).1)
 
 cleared : (o : Settings) (xs : List Score) (b : Bool) → cond b (no_scores (counted o xs).settings) (counted o xs) ≡ counted o (cond b [] xs)

@@ -15,7 +15,7 @@ use Rattle.cecp_lines.specs.declared.iface.IfaceFault.TheVariants as faults
 use Rattle.uci_lines.specs.Says.{Says, Facts}
 use Rattle.uci_lines.specs.Says as hears
 use Rattle.uci_lines.specs.Engine.{engine_message}
-use Rattle.uci_lines.specs.Orders.{Command, command_text}
+use Rattle.uci_lines.specs.Orders.{Command}
 use Rattle.game_record.specs.Course.{Course, now_of}
 use Rattle.chess_board.specs.Place.{legal}
 use Rattle.policy_rules.specs.declared.settings.Settings.{Settings}
@@ -32,7 +32,8 @@ use Rattle.desk_rules.specs.Lines.{verdict, judged, refusal, or_else, where_true
 use Rattle.desk_rules.specs.Steps.{Deed, Nothing, LongLine, Refuses, Names, Declares, Boots, Readies, Shows, Forfeits, Dies, comes, line_deed, engine_says, answers, shows, thinks, rises, call_after, desk_after, desk_after_deed, answers_pings, scores_after, what_of}
 use Rattle.desk_rules.specs.Orders.{word_of, waiting, asked_by_deed}
 use Rattle.adapter_core.specs.declared.ends.Ends.{Ends}
-use Rattle.adapter_core.specs.Ends.{ends_after, is_open, is_quit, is_quit_message}
+use Rattle.adapter_core.specs.Ends.{ends_after, is_open}
+use Rattle.cecp_lines.specs.Quit.{is_quit, is_quit_message}
 use Rattle.adapter_core.specs.Trace.{State, Step, IsLawful, state, state_after, here, deed, turn, mid, owing, closed_after, desk_of, still_held}
 use Rattle.adapter_core.specs.Shown.{RefusedLinesChangeNothing}
 use Rattle.adapter_core.proofs.Traces.{Lasts, lasts, other_ticket, owed_is}
@@ -47,7 +48,7 @@ record IsLine (s : State) (e : Event) : Type 0 where
   stays : is_quit line ≡ false
 
 -- `quit` is never refused
-quit_passes : (h : Here) (held : List (List ℕ)) → refusal h held says.Quit ≡ None
+quit_passes : (h : Here) (held : List Command) → refusal h held says.Quit ≡ None
 unfolding refusal asks
 quit_passes h held = by_gone (is_gone h.engine) where
   by_gone : (b : Bool) → or_else (where_true (does_not_fit held (cond b None None)) reasons.TooManySettings) None ≡ None
@@ -58,7 +59,7 @@ judged_back : (m : Message) (o : Option Refusal) (line : List ℕ) (r : Refusal)
 judged_back m None line r text e = absurd (cc)
 judged_back m (Some x) line r text e = cc
 
-refused_stays : (h : Here) (held : List (List ℕ)) (line : List ℕ) (a : Result Message IfaceFault) (r : Refusal) (text : List ℕ) → line_deed (verdict h held a) line ≡ Refuses r text → is_quit_message a ≡ false
+refused_stays : (h : Here) (held : List Command) (line : List ℕ) (a : Result Message IfaceFault) (r : Refusal) (text : List ℕ) → line_deed (verdict h held a) line ≡ Refuses r text → is_quit_message a ≡ false
 unfolding verdict
 refused_stays h held line (Err faults.UnknownCommand) r text e = refl
 refused_stays h held line (Err faults.BadArgument) r text e = refl
@@ -111,7 +112,7 @@ refused_line : (s : State) (e : Event) (r : Refusal) (text : List ℕ) → deed 
 unfolding comes
 refused_line s (events.Iface line) r text e =
     let o = open_back s.ends.closed _ r text e in
-    record { line = line; event = refl; is_open = o.0; stays = refused_stays (here s) (map command_text s.held) line (reading line) r text o.1 }
+    record { line = line; event = refl; is_open = o.0; stays = refused_stays (here s) s.held line (reading line) r text o.1 }
 refused_line s events.Open r text e = absurd (cc)
 refused_line s events.IfaceLong r text e = absurd (not_where s.ends.closed LongLine r text (λ x. cc) e)
 refused_line s events.IfaceEnd r text e = absurd (cc)

@@ -2,6 +2,7 @@
 use Rattle.std.proofs.Common.{◌≡◌, ℕ, List, Bool, true, false, cond, ◌||◌, Some, refl, ap, subst, ◌∙◌}
 use Rattle.peer_words.specs.declared.kinds.GoKind.{GoKind}
 use Rattle.peer_words.specs.declared.kinds.GoKind.TheVariants as kinds
+use Rattle.uci_lines.specs.Orders.{Command}
 use Rattle.search_epochs.specs.declared.words.Call.{Call}
 use Rattle.search_epochs.specs.declared.words.Call.TheVariants as calls
 use Rattle.search_epochs.specs.declared.words.Said.TheVariants as said
@@ -86,7 +87,7 @@ no_answer v Answers k c = no_best v.state k c
 no_answer v Dies k c = no_end v.state k c
 no_answer v d k c = tt
 
-still_by : (h : Here) (held : List (List ℕ)) (d : Deed) (v : dialogue.View) (r : Bool) (k : GoKind) → h.engine ≡ v.state → rises h d ≡ r → Fits h held d → (current h.engine ≡ Some k → Serves k (call_before h))
+still_by : (h : Here) (held : List Command) (d : Deed) (v : dialogue.View) (r : Bool) (k : GoKind) → h.engine ≡ v.state → rises h d ≡ r → Fits h held d → (current h.engine ≡ Some k → Serves k (call_before h))
     → current (mid_view v (what_of d) r).state ≡ Some k → Serves k (call_after h.closed h d)
 still_by h held d v true k same r f s c = absurd (never_stale (after_what v (what_of d)).state k c)
 still_by h held d v false k same r f s c =
@@ -94,7 +95,7 @@ still_by h held d v false k same r f s c =
     still_serves h held d k f (no_answer v d k c) r b (s b)
 
 -- a search that is current after the event was so before, and serves the call still
-pub still : (h : Here) (held : List (List ℕ)) (d : Deed) (v : dialogue.View) → h.engine ≡ v.state → Fits h held d → ((k : GoKind) → current h.engine ≡ Some k → Serves k (call_before h))
+pub still : (h : Here) (held : List Command) (d : Deed) (v : dialogue.View) → h.engine ≡ v.state → Fits h held d → ((k : GoKind) → current h.engine ≡ Some k → Serves k (call_before h))
     → (k : GoKind) → current (mid_view v (what_of d) (rises h d)).state ≡ Some k → Serves k (call_after h.closed h d)
 still h held d v same f s k c = still_by h held d v (rises h d) k same refl f (s k) c
 

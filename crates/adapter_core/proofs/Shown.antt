@@ -18,6 +18,7 @@ use Rattle.cecp_lines.specs.Replies.{Told}
 use Rattle.cecp_lines.specs.Replies as told
 use Rattle.cecp_lines.specs.declared.iface.IfaceFault.{IfaceFault}
 use Rattle.cecp_lines.specs.declared.iface.IfaceFault.TheVariants as faults
+use Rattle.uci_lines.specs.Orders.{Command}
 use Rattle.uci_lines.specs.Says.{Says, Facts}
 use Rattle.uci_lines.specs.Says as hears
 use Rattle.uci_lines.specs.Engine.{engine_message}
@@ -270,7 +271,7 @@ open_back : (b : Bool) (d : Deed) (m : AnyMove) (hint : Option AnyMove) → cond
 open_back true d m hint e = absurd (cc)
 open_back false d m hint e = (refl, e)
 
-line_not : (h : Here) (held : List (List ℕ)) (line : List ℕ) (r : Result Message IfaceFault) (m : AnyMove) (hint : Option AnyMove) → line_deed (verdict h held r) line ≡ Shows m hint → ⊥
+line_not : (h : Here) (held : List Command) (line : List ℕ) (r : Result Message IfaceFault) (m : AnyMove) (hint : Option AnyMove) → line_deed (verdict h held r) line ≡ Shows m hint → ⊥
 unfolding verdict
 line_not h held line (Err faults.UnknownCommand) m hint e = cc
 line_not h held line (Err faults.BadArgument) m hint e = cc

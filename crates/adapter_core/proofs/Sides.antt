@@ -11,6 +11,7 @@ use Rattle.cecp_lines.specs.declared.iface.IfaceFault.{IfaceFault}
 use Rattle.cecp_lines.specs.declared.iface.IfaceFault.TheVariants as faults
 use Rattle.peer_words.specs.declared.kinds.GoKind.{GoKind}
 use Rattle.peer_words.specs.declared.kinds.GoKind.TheVariants as kinds
+use Rattle.uci_lines.specs.Orders.{Command}
 use Rattle.uci_lines.specs.Says.{Says, Facts}
 use Rattle.uci_lines.specs.Says as hears
 use Rattle.uci_lines.specs.Engine.{engine_message}
@@ -24,7 +25,8 @@ use Rattle.desk_rules.specs.Desk.{Here, is_gone, is_boot, is_getting, current}
 use Rattle.desk_rules.specs.Lines.{verdict, judged, refusal, at_position, change}
 use Rattle.desk_rules.specs.Steps.{Deed, Nothing, Opens, LongLine, Refuses, Accepts, Names, Declares, Boots, Readies, Thinks, Shows, Forfeits, Answers, Dies, comes, line_deed, engine_says, answers, shows, thinks, desk_after_deed, answers_pings, scores_after, is_death}
 use Rattle.adapter_core.specs.declared.ends.Ends.{Ends}
-use Rattle.adapter_core.specs.Ends.{ends_after, is_quit}
+use Rattle.adapter_core.specs.Ends.{ends_after}
+use Rattle.cecp_lines.specs.Quit.{is_quit}
 use Rattle.adapter_core.specs.Alone.{Commanded, commanded, is_of_iface, is_answer}
 
 -- DEEDS OF THE INTERFACE
@@ -40,7 +42,7 @@ judged_iface : (m : Message) (o : Option Refusal) (line : List ℕ) → IsIfaceD
 judged_iface m None line = tt
 judged_iface m (Some r) line = tt
 
-line_iface : (h : Here) (held : List (List ℕ)) (line : List ℕ) (r : Result Message IfaceFault) → IsIfaceDeed (line_deed (verdict h held r) line)
+line_iface : (h : Here) (held : List Command) (line : List ℕ) (r : Result Message IfaceFault) → IsIfaceDeed (line_deed (verdict h held r) line)
 unfolding verdict
 line_iface h held line (Err faults.UnknownCommand) = tt
 line_iface h held line (Err faults.BadArgument) = tt
@@ -50,7 +52,7 @@ unless_closed : (b : Bool) (d : Deed) → IsIfaceDeed d → IsIfaceDeed (cond b 
 unless_closed true d i = tt
 unless_closed false d i = i
 
-pub iface_deed : (h : Here) (held : List (List ℕ)) (e : Event) → is_of_iface e ≡ true → IsIfaceDeed (comes h held e)
+pub iface_deed : (h : Here) (held : List Command) (e : Event) → is_of_iface e ≡ true → IsIfaceDeed (comes h held e)
 unfolding comes
 iface_deed h held (events.Iface line) i = unless_closed h.closed _ (line_iface h held line (reading line))
 iface_deed h held events.IfaceLong i = unless_closed h.closed LongLine tt
@@ -200,7 +202,7 @@ quiet_dies true n = tt
 quiet_dies false n = cc
 
 -- an event of the engine that answers no search and is not its end
-pub engine_deed : (h : Here) (held : List (List ℕ)) (e : Event) → is_of_iface e ≡ false → is_answer (comes h held e) ≡ false → is_death (comes h held e) ≡ false → IsQuietDeed (comes h held e)
+pub engine_deed : (h : Here) (held : List Command) (e : Event) → is_of_iface e ≡ false → is_answer (comes h held e) ≡ false → is_death (comes h held e) ≡ false → IsQuietDeed (comes h held e)
 unfolding comes
 engine_deed h held events.Open i n m = tt
 engine_deed h held (events.Engine line) i n m = quiet_open h.closed _ (quiet_says h (engine_message line)) n

@@ -4,7 +4,7 @@ use Rattle.line_io.specs.Event.{Event}
 use Rattle.line_io.specs.Event as events
 use Rattle.line_io.specs.Out.{Text, empty, with}
 use Rattle.chess_board.specs.declared.board.Move.{Move}
-use Rattle.uci_lines.specs.Orders.{Command, command_text}
+use Rattle.uci_lines.specs.Orders.{Command}
 use Rattle.uci_lines.specs.Orders as orders
 use Rattle.policy_rules.specs.declared.scores.Scores.{Scores}
 use Rattle.policy_rules.specs.Scores.{counted}
@@ -24,19 +24,20 @@ use Rattle.desk_rules.specs.declared.desk.Desk.{Desk}
 use Rattle.desk_rules.specs.Desk.{Here}
 use Rattle.desk_rules.specs.Steps.{comes, what_of, rises, desk_after_deed, answers_pings, scores_after}
 use Rattle.desk_rules.specs.Orders.{waiting, order_list, word_of}
+use Rattle.desk_rules.specs.Texts.{command_lines}
 use Rattle.desk_rules.specs.Fits.{Fits, IsSound, IsLineEvent}
 use Rattle.desk_rules.proofs.Deeds.{comes_fits}
 use Rattle.desk_rules.proofs.Hints.{hint_kept, call_hint}
-use Rattle.desk_rules.proofs.Waits.{all_setup, all_held, lines_wait}
+use Rattle.desk_rules.proofs.Waits.{all_setup, all_held}
 use Rattle.desk_rules.specs.Orders.{AreHeld}
 use Rattle.adapter_core.specs.Ends.{may, ends_after, is_open}
 use Rattle.adapter_core.specs.Trace.{State, Step, IsLawful, AreSettled, state_after, here, deed, turn, mid, owing, closed_after, desk_of, gone_after, replies, still_held, has_ready, last_orders}
 use Rattle.adapter_core.specs.View as view
-use Rattle.adapter_core.specs.View.{View, advance, advance_at, advance_from, finish, choice, lines_after, desk_with, no_lines, orders_in, orders_text}
-use Rattle.adapter_core.specs.Stands.{view_of, Holds, TicketIsWithin, orders_of, step_from, step_at, step_by}
+use Rattle.adapter_core.specs.View.{View, advance, advance_at, advance_from, finish, choice, desk_with, none_held, orders_of}
+use Rattle.adapter_core.specs.Stands.{view_of, Holds, TicketIsWithin, step_from, step_at, step_by}
 use Rattle.adapter_core.proofs.Policy.{here_kept, counts_kept}
 use Rattle.adapter_core.proofs.Closing.{closed_stays, closes_later, closed_rises, open_rises}
-use Rattle.adapter_core.proofs.Orders.{words_are, ready_words, no_words, boots_are, read_back}
+use Rattle.adapter_core.proofs.Orders.{words_are, ready_words, no_words, boots_are}
 
 pub within : (epoch : ℕ) (e : Engine) → TicketIsWithin epoch e → TicketWithin epoch e
 within epoch Boot w = tt
@@ -77,11 +78,6 @@ for_owed : (b : Bool) (c : Call) (g : Move) → cond b calls.Nothing c ≡ calls
 for_owed true c g x = cc
 for_owed false c g x = x
 
--- held orders and their lines are cleared together
-cleared_lines : (b : Bool) (ws : List Command) → cond b [] (map command_text ws) ≡ map command_text (cond b [] ws)
-cleared_lines true ws = refl
-cleared_lines false ws = refl
-
 -- the dialogue where no orders are chosen
 rest : (t : Talk) (u : Turn) (h' : Option Move) (ws : List Word) → TicketWithin t.epoch t.engine → (u.rises ≡ false → h' ≡ u.hint)
     → sent_all (turned t u).epoch (turned t u).engine ws ≡ (turned t u).engine
@@ -103,9 +99,9 @@ open_engine s events.EngineLong o m b = cc
 open_engine s events.EngineEnd o m b = cc
 open_engine s events.EngineLost o m b = cc
 
-module _ (s : State) (asked told ordered : Text) (e : Event) (holds : Holds s) (sound : IsSound s.desk) (line : IsLineEvent e) where
+module _ (s : State) (told ordered : Text) (e : Event) (holds : Holds s) (sound : IsSound s.desk) (line : IsLineEvent e) where
   abbrev old : View
-  old = view_of s asked told ordered
+  old = view_of s told ordered
 
   abbrev dialogue_mid : dialogue.View
   dialogue_mid = kept_mid s.talk (turn s e)
@@ -116,45 +112,36 @@ module _ (s : State) (asked told ordered : Text) (e : Event) (holds : Holds s) (
   abbrev waits : List Command
   waits = waiting (here s) s.held (deed s e)
 
-  abbrev lines : List (List ℕ)
-  lines = lines_after (here s) (map command_text s.held) (deed s e)
-
   abbrev choice_here : Orders
-  choice_here = choice (is_open e) (closed_after s e) (here s) lines (deed s e) dialogue_mid
+  choice_here = choice (is_open e) (closed_after s e) (here s) waits (deed s e) dialogue_mid
 
   ticket : TicketWithin s.talk.epoch s.talk.engine
   ticket = within s.talk.epoch s.talk.engine holds.ticket
 
-  fits : Fits (here s) (map command_text s.held) (deed s e)
-  fits = comes_fits (here s) (map command_text s.held) e line
+  fits : Fits (here s) s.held (deed s e)
+  fits = comes_fits (here s) s.held e line
 
   pub held : AreHeld waits
-  held = all_held (here s) (map command_text s.held) s.held (deed s e) sound fits holds.held
+  held = all_held (here s) s.held (deed s e) sound fits holds.held
 
   setup : AllSetup (map word_of waits)
   setup = all_setup waits held
 
-  lines_are : lines ≡ map command_text waits
-  lines_are = lines_wait (here s) (map command_text s.held) s.held (deed s e) sound fits holds.held
-
-  ordered_back : orders_in lines ≡ waits
-  ordered_back = ap orders_in lines_are ∙ read_back waits held
-
-  unsent_kept : view.is_unsent lines (deed s e) ≡ is_unsent s.talk (turn s e)
+  unsent_kept : view.is_unsent waits (deed s e) ≡ is_unsent s.talk (turn s e)
   unsent_kept =
-      ap (λ b. b || not (no_lines lines)) (boots_are s.talk.epoch s.talk.engine (here s) (map command_text s.held) (deed s e) refl fits)
-      ∙ ap (λ b. leaves_boot s.talk.engine (what_of (deed s e)) || not b) (ap no_lines lines_are ∙ no_words waits)
+      ap (λ b. b || not (none_held waits)) (boots_are s.talk.epoch s.talk.engine (here s) s.held (deed s e) refl fits)
+      ∙ ap (λ b. leaves_boot s.talk.engine (what_of (deed s e)) || not b) (no_words waits)
 
   -- in an open session the choice is the dialogue's
   chosen_by : is_open e ≡ false → closed_after s e ≡ false → choice_here ≡ settled_by s.talk (turn s e)
   chosen_by o c =
-      not_skipped (is_open e) (closed_after s e) (settle dialogue_mid (turn s e).call (view.is_unsent lines (deed s e)) (played_of (what_of (deed s e))) (is_hurry (what_of (deed s e)))) o c
+      not_skipped (is_open e) (closed_after s e) (settle dialogue_mid (turn s e).call (view.is_unsent waits (deed s e)) (played_of (what_of (deed s e))) (is_hurry (what_of (deed s e)))) o c
       ∙ ap (λ b. settle dialogue_mid (turn s e).call b (played_of (what_of (deed s e))) (is_hurry (what_of (deed s e)))) unsent_kept
 
   hit_here : rises (here s) (deed s e) ≡ true → is_hit_order choice_here ≡ is_hit s.talk (turn s e)
   hit_here r =
-      let o : is_open e ≡ false = false_if (is_open e) (λ x. differ (rises (here s) (deed s e)) (open_rises (here s) (map command_text s.held) e x) r) in
-      let c : closed_after s e ≡ false = false_if (closed_after s e) (λ x. differ (rises (here s) (deed s e)) (closed_rises s.ends (here s) (map command_text s.held) e refl x) r) in
+      let o : is_open e ≡ false = false_if (is_open e) (λ x. differ (rises (here s) (deed s e)) (open_rises (here s) s.held e x) r) in
+      let c : closed_after s e ≡ false = false_if (closed_after s e) (λ x. differ (rises (here s) (deed s e)) (closed_rises s.ends (here s) s.held e refl x) r) in
       let m = mid s e in
       ap is_hit_order (chosen_by o c)
       ∙ hit_chosen m.epoch m.engine (owing s e) (is_unsent s.talk (turn s e)) (is_pondered (cond (ponders s.talk) s.desk.hint None) (played_of (turn s e).what)) (is_hurry (turn s e).what)
@@ -170,19 +157,19 @@ module _ (s : State) (asked told ordered : Text) (e : Event) (holds : Holds s) (
   -- THE CORE AFTER THE EVENT
 
   -- but for the desk
-  advanced : advance old e ≡ finish (here s) (deed s e) e old dialogue_mid owes choice_here (desk_with (here s) (deed s e) e old owes choice_here)
+  advanced : advance old e ≡ finish (here s) (deed s e) e old waits dialogue_mid owes choice_here (desk_with (here s) (deed s e) e old owes choice_here)
   unfolding advance
   advanced =
-      ap (λ (h : Here). advance_at h (comes h old.held e) old e) (here_kept s asked told ordered holds.proper)
-      ∙ ap (λ (m : dialogue.View). advance_from (here s) (deed s e) e old m) (mid_kept s.talk s.desk.hint (turn s e) ticket holds.last)
+      ap (λ (h : Here). advance_at h (comes h old.held e) old e) (here_kept s told ordered holds.proper)
+      ∙ ap (λ (m : dialogue.View). advance_from (here s) (deed s e) e old waits m) (mid_kept s.talk s.desk.hint (turn s e) ticket holds.last)
 
-  pub advanced_to : advance old e ≡ finish (here s) (deed s e) e old dialogue_mid owes choice_here (desk_of s e)
-  advanced_to = advanced ∙ ap (λ (d : Desk). finish (here s) (deed s e) e old dialogue_mid owes choice_here d) desk_kept
+  pub advanced_to : advance old e ≡ finish (here s) (deed s e) e old waits dialogue_mid owes choice_here (desk_of s e)
+  advanced_to = advanced ∙ ap (λ (d : Desk). finish (here s) (deed s e) e old waits dialogue_mid owes choice_here d) desk_kept
 
   -- THE STEP
 
   abbrev orders_here : List Command
-  orders_here = orders_of (is_open e) s.ends.closed (closed_after s e) (gone_after s e) lines (desk_of s e) choice_here
+  orders_here = orders_of (is_open e) s.ends.closed (closed_after s e) (gone_after s e) waits (desk_of s e) choice_here
 
   -- the step that the event gives
   abbrev pub step_here : Step
@@ -192,12 +179,12 @@ module _ (s : State) (asked told ordered : Text) (e : Event) (holds : Holds s) (
   pub step_is : step_by old e ≡ step_here
   unfolding step_by
   step_is =
-      ap (λ (h : Here). step_at h (comes h old.held e) old e) (here_kept s asked told ordered holds.proper)
-      ∙ ap (λ (m : dialogue.View). step_from (here s) (deed s e) old e m) (mid_kept s.talk s.desk.hint (turn s e) ticket holds.last)
+      ap (λ (h : Here). step_at h (comes h old.held e) old e) (here_kept s told ordered holds.proper)
+      ∙ ap (λ (m : dialogue.View). step_from (here s) (deed s e) old e waits m) (mid_kept s.talk s.desk.hint (turn s e) ticket holds.last)
       ∙ ap (λ (d : Desk). let x : Step = record {
         event = e;
         replies = replies s e;
-        orders = orders_of (is_open e) s.ends.closed (closed_after s e) (gone_after s e) lines d choice_here;
+        orders = orders_of (is_open e) s.ends.closed (closed_after s e) (gone_after s e) waits d choice_here;
       } in x) desk_kept
 
   same_hint : rises (here s) (deed s e) ≡ false → (desk_of s e).hint ≡ s.desk.hint
@@ -218,8 +205,8 @@ module _ (s : State) (asked told ordered : Text) (e : Event) (holds : Holds s) (
 
   -- the orders of a step that neither opens nor closes
   orders_settled : is_open e ≡ false → closed_after s e ≡ false → orders_here ≡ order_list waits (desk_of s e) choice_here
-  orders_settled o c = skipped (is_open e) (closed_after s e) choice_here o c ∙ ap (λ (ws : List Command). order_list ws (desk_of s e) choice_here) ordered_back where
-    skipped : (o c : Bool) (x : Orders) → o ≡ false → c ≡ false → orders_of o s.ends.closed c (gone_after s e) lines (desk_of s e) x ≡ order_list (orders_in lines) (desk_of s e) x
+  orders_settled o c = skipped (is_open e) (closed_after s e) choice_here o c where
+    skipped : (o c : Bool) (x : Orders) → o ≡ false → c ≡ false → orders_of o s.ends.closed c (gone_after s e) waits (desk_of s e) x ≡ order_list waits (desk_of s e) x
     skipped true c x a b = cc
     skipped false true x a b = cc
     skipped false false x a b = refl
@@ -246,7 +233,7 @@ module _ (s : State) (asked told ordered : Text) (e : Event) (holds : Holds s) (
   }
 
   abbrev orders_by : Bool → Bool → Bool → Orders → List Command
-  orders_by o before after x = orders_of o before after (gone_after s e) lines (desk_of s e) x
+  orders_by o before after x = orders_of o before after (gone_after s e) waits (desk_of s e) x
 
   opens_with : (o before after : Bool) (x : Orders) → o ≡ true → orders_by o before after x ≡ orders.Uci ∷ []
   opens_with true before after x p = refl
@@ -281,7 +268,7 @@ module _ (s : State) (asked told ordered : Text) (e : Event) (holds : Holds s) (
   GoesOn ws o = after_settled dialogue_mid o ≡ kept (after (mid s e) ws) (desk_of s e).hint
 
   abbrev choice_by : Bool → Bool → Orders
-  choice_by o after = choice o after (here s) lines (deed s e) dialogue_mid
+  choice_by o after = choice o after (here s) waits (deed s e) dialogue_mid
 
   opens_on : (opens closed : Bool) → opens ≡ true → may s.ends e ≡ true → is_open e ≡ true → GoesOn (map word_of (orders_by opens s.ends.closed closed (choice_by opens closed))) (choice_by opens closed)
   opens_on true closed x m o =
@@ -306,7 +293,7 @@ module _ (s : State) (asked told ordered : Text) (e : Event) (holds : Holds s) (
   ready_case false true o c = rw (o, c) (elim (s.ends.closed || gone_after s e) as (λ b. false ≡ has_ready (map word_of (cond b [] (orders.Quit ∷ [])))) [ true ↦ refl | false ↦ refl ])
   ready_case false false o c = sym (ready_words (map word_of waits) choice_here setup) ∙ ap has_ready (sym (words_settled o c))
 
-  abbrev part : Scores → List (List ℕ) → dialogue.View → View
+  abbrev part : Scores → List Command → dialogue.View → View
   part scores held talk = record {
     settings = s.settings;
     ends = ends_after s.ends e;
@@ -314,25 +301,21 @@ module _ (s : State) (asked told ordered : Text) (e : Event) (holds : Holds s) (
     scores = scores;
     held = held;
     talk = talk;
-    asked = empty asked.room;
     told = with (empty told.room) (told_lines (replies s e));
-    ordered = with (empty ordered.room) (orders_text (is_open e) s.ends.closed (closed_after s e) (gone_after s e) lines (desk_of s e) choice_here);
+    ordered = with (empty ordered.room) (command_lines orders_here);
   }
 
   abbrev StandsAfter : View → Type 0
-  StandsAfter v = v ≡ view_of (state_after s step_here) v.asked v.told v.ordered
+  StandsAfter v = v ≡ view_of (state_after s step_here) v.told v.ordered
 
-  held_kept : cond (is_batch_order choice_here) [] lines ≡ map command_text (still_held waits (map word_of orders_here))
-  held_kept =
-      ap (λ (ls : List (List ℕ)). cond (is_batch_order choice_here) [] ls) lines_are
-      ∙ cleared_lines (is_batch_order choice_here) waits
-      ∙ ap (λ b. map command_text (cond b [] waits)) (ready_case (is_open e) (closed_after s e) refl refl)
+  held_kept : cond (is_batch_order choice_here) [] waits ≡ still_held waits (map word_of orders_here)
+  held_kept = ap (λ b. cond b [] waits) (ready_case (is_open e) (closed_after s e) refl refl)
 
-  parts_stand : may s.ends e ≡ true → StandsAfter (finish (here s) (deed s e) e old dialogue_mid owes choice_here (desk_of s e))
+  parts_stand : may s.ends e ≡ true → StandsAfter (finish (here s) (deed s e) e old waits dialogue_mid owes choice_here (desk_of s e))
   parts_stand m =
-      ap (λ (c : Scores). part c (cond (is_batch_order choice_here) [] lines) (after_settled dialogue_mid choice_here)) (counts_kept s.settings (here s) (deed s e) s.scores)
-      ∙ ap (λ (ls : List (List ℕ)). part (counted s.settings (scores_after (here s) (deed s e) s.scores)) ls (after_settled dialogue_mid choice_here)) held_kept
-      ∙ ap (λ (t : dialogue.View). part (counted s.settings (scores_after (here s) (deed s e) s.scores)) (map command_text (still_held waits (map word_of orders_here))) t)
+      ap (λ (c : Scores). part c (cond (is_batch_order choice_here) [] waits) (after_settled dialogue_mid choice_here)) (counts_kept s.settings (here s) (deed s e) s.scores)
+      ∙ ap (λ (os : List Command). part (counted s.settings (scores_after (here s) (deed s e) s.scores)) os (after_settled dialogue_mid choice_here)) held_kept
+      ∙ ap (λ (t : dialogue.View). part (counted s.settings (scores_after (here s) (deed s e) s.scores)) (still_held waits (map word_of orders_here)) t)
       (goes_on (is_open e) (closed_after s e) refl refl m)
 
   -- the core stands for the longer trace

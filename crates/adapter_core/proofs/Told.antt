@@ -5,7 +5,8 @@ use Rattle.line_io.specs.Event.{Event}
 use Rattle.cecp_lines.specs.Replies.{Told, told_text}
 use Rattle.uci_lines.specs.Orders.{Command, command_text}
 use Rattle.feature_talk.specs.Features.{told_lines, told_line}
-use Rattle.desk_rules.specs.Texts.{command_lines, command_line}
+use Rattle.option_map.specs.Held.{order_line}
+use Rattle.desk_rules.specs.Texts.{command_lines}
 use Rattle.adapter_core.specs.View.{View}
 use Rattle.adapter_core.specs.Stands.{AreLines, Extends}
 
@@ -15,7 +16,7 @@ told_each (t ∷ ts) = ap (λ l. told_line t ++ l) (told_each ts)
 
 ordered_each : (cs : List Command) → command_lines cs ≡ flat_map (λ line. line ++ 10 ∷ []) (map command_text cs)
 ordered_each [] = refl
-ordered_each (c ∷ cs) = ap (λ l. command_line c ++ l) (ordered_each cs)
+ordered_each (c ∷ cs) = ap (λ l. order_line c ++ l) (ordered_each cs)
 
 -- texts of replies and orders are whole lines
 told_are_lines : (ts : List Told) (text : List ℕ) → text ≡ told_lines ts → AreLines text

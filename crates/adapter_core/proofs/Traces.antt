@@ -6,7 +6,7 @@ use Rattle.peer_words.specs.declared.kinds.GoKind.{GoKind}
 use Rattle.peer_words.specs.declared.kinds.GoKind.TheVariants as kinds
 use Rattle.cecp_lines.specs.Messages.{Message}
 use Rattle.cecp_lines.specs.Messages as says
-use Rattle.uci_lines.specs.Orders.{Command, command_text}
+use Rattle.uci_lines.specs.Orders.{Command}
 use Rattle.policy_rules.specs.declared.settings.Settings.{Settings}
 use Rattle.search_epochs.specs.declared.words.Call.{Call}
 use Rattle.search_epochs.specs.declared.words.Call.TheVariants as calls
@@ -235,11 +235,11 @@ module _ (s : State) (step : Step) (lasts : Lasts s) (l : IsLawful s step) where
   abbrev ws : List Word
   ws = map word_of step.orders
 
-  pub fits : Fits h (map command_text s.held) d
-  fits = comes_fits h (map command_text s.held) e (line_event s.ends e l.may_come)
+  pub fits : Fits h s.held d
+  fits = comes_fits h s.held e (line_event s.ends e l.may_come)
 
   waits_held : AreHeld (waiting h s.held d)
-  waits_held = all_held h (map command_text s.held) s.held d lasts.sound fits lasts.held
+  waits_held = all_held h s.held d lasts.sound fits lasts.held
 
   setup : AllSetup u.waiting
   setup = all_setup (waiting h s.held d) waits_held
@@ -264,7 +264,7 @@ module _ (s : State) (step : Step) (lasts : Lasts s) (l : IsLawful s step) where
   spent_before : (x : Deed) → is_best (said_of (what_of x)) ≡ false → is_some_equal (closed_ticket s.talk.engine (said_of (what_of x)) s.talk.last) s.talk.epoch ≡ true → is_move (call_before h) ≡ false
   spent_before x n y = lasts.unspent (ap (λ (o : Option ℕ). is_some_equal o s.talk.epoch) (sym (other_ticket s.talk.engine (said_of (what_of x)) s.talk.last n)) ∙ y)
 
-  by_deed : (x : Deed) → Fits h (map command_text s.held) x → closed_after s e ≡ false → rises h x ≡ false
+  by_deed : (x : Deed) → Fits h s.held x → closed_after s e ≡ false → rises h x ≡ false
       → is_some_equal (closed_ticket s.talk.engine (said_of (what_of x)) s.talk.last) s.talk.epoch ≡ true → is_move (call_after (closed_after s e) h x) ≡ false
   by_deed (Shows best hint) f c r n = cc
   by_deed Forfeits f c r n = over_calls (closed_after s e) (is_gone h.engine || false) (desk_after_deed h Forfeits) (forfeited h)
@@ -296,7 +296,7 @@ module _ (s : State) (step : Step) (lasts : Lasts s) (l : IsLawful s step) where
       let b : s.ends.closed ≡ false = open_before s.ends e c in
       let v = kept s.talk s.desk.hint in
       let x' : current (mid_view v u.what u.rises).state ≡ Some k = ap (λ (w : dialogue.View). current w.state) (mid_kept s.talk s.desk.hint u lasts.ticket lasts.last) ∙ x in
-      subst (λ (z : Bool). Serves k (call_after z h d)) (b ∙ sym c) (still h (map command_text s.held) d v refl fits (lasts.served b) k x')
+      subst (λ (z : Bool). Serves k (call_after z h d)) (b ∙ sym c) (still h s.held d v refl fits (lasts.served b) k x')
 
   words_are : is_open e ≡ false → closed_after s e ≡ false → ws ≡ words u.waiting (settled_by s.talk u)
   words_are o c = same m.engine m.epoch (owing s e) u.waiting (is_due s.talk u) (is_hit s.talk u) (is_hurry u.what) ws (words u.waiting (settled_by s.talk u)) (l.settled o c).words (settled_mid s.talk u setup)
@@ -345,7 +345,7 @@ module _ (s : State) (step : Step) (lasts : Lasts s) (l : IsLawful s step) where
 
   pub lasts_on : Lasts (state_after s step)
   lasts_on = record {
-    sound = step_sound (closed_after s e) (is_move (owing s e)) (is_hit s.talk u) h (map command_text s.held) d lasts.sound fits;
+    sound = step_sound (closed_after s e) (is_move (owing s e)) (is_hit s.talk u) h s.held d lasts.sound fits;
     held = left_held (has_ready ws) (waiting h s.held d) waits_held;
     begins = λ no. absurd (differ _ no (opened_later s.ends e l.may_come));
     ticket = all_within m.epoch m.engine ws (turned_within s.talk u lasts.ticket);

@@ -1,20 +1,9 @@
 -- Which events may come.
-use Rattle.std.specs.Prelude.{ℕ, List, Bool, true, false, not, ◌&&◌, ◌||◌, Result, Ok}
+use Rattle.std.specs.Prelude.{Bool, true, false, not, ◌&&◌, ◌||◌}
 use Rattle.line_io.specs.Event.{Event, is_line}
 use Rattle.line_io.specs.Event as events
-use Rattle.cecp_lines.specs.Messages.{Message}
-use Rattle.cecp_lines.specs.Messages as says
-use Rattle.cecp_lines.specs.Reading.{reading}
-use Rattle.cecp_lines.specs.declared.iface.IfaceFault.{IfaceFault}
+use Rattle.cecp_lines.specs.Quit.{is_quit}
 use Rattle.adapter_core.specs.declared.ends.Ends.{Ends}
-
-abbrev pub is_quit_message : Result Message IfaceFault → Bool
-is_quit_message (Ok says.Quit) = true
-is_quit_message r = false
-
--- the line spells `quit`
-abbrev pub is_quit : List ℕ → Bool
-is_quit line = is_quit_message (reading line)
 
 -- The event may come: Open is the first event and only the first, no event of a side follows that side's end, no side is lost twice, and
 -- a line has at most 65,536 bytes and no line feed.

@@ -3,37 +3,34 @@ use Rattle.std.specs.Prelude.{◌≡◌, ℕ, ◌≤◌, List, [], ◌∷◌, �
 use Rattle.std.specs.List.{flat_map}
 use Rattle.line_io.specs.Event.{Event}
 use Rattle.line_io.specs.Out.{Text}
-use Rattle.uci_lines.specs.Orders.{Command, command_text}
-use Rattle.uci_lines.specs.Orders as orders
+use Rattle.uci_lines.specs.Orders.{Command}
 use Rattle.policy_rules.specs.declared.settings.Settings.{Settings}
 use Rattle.policy_rules.specs.Policy.{IsProper}
 use Rattle.policy_rules.specs.Scores.{counted}
 use Rattle.search_epochs.specs.declared.words.EngineState.TheVariants as states
-use Rattle.search_epochs.specs.declared.words.Orders.{Orders}
 use Rattle.search_epochs.specs.Talk.{Engine, Boot, Search, is_move}
 use Rattle.search_epochs.specs.View as dialogue
 use Rattle.search_epochs.specs.View.{kept, mid_view, owed_view}
-use Rattle.desk_rules.specs.declared.desk.Desk.{Desk}
 use Rattle.desk_rules.specs.Desk.{Here, is_gone}
 use Rattle.desk_rules.specs.Steps.{Deed, comes, what_of, rises, call_after, is_death}
-use Rattle.desk_rules.specs.Orders.{order_list, AreHeld, AreHeldLines}
+use Rattle.desk_rules.specs.Orders.{waiting, AreHeld}
 use Rattle.desk_rules.specs.Replies.{replies_of}
 use Rattle.desk_rules.specs.Fits.{IsSound, IsFirst, IsServed}
+use Rattle.adapter_core.specs.declared.session.TheConstants.{ROOM}
 use Rattle.adapter_core.specs.Ends.{ends_after, is_open}
 use Rattle.adapter_core.specs.View as view
-use Rattle.adapter_core.specs.View.{View, choice, lines_after, desk_with, orders_in}
+use Rattle.adapter_core.specs.View.{View, choice, desk_with, orders_of}
 use Rattle.adapter_core.specs.Trace.{State, Step, Lawful, state, event_in, iface_text, engine_text}
 
 -- what the core keeps of a state, where these are its buffers
-abbrev pub view_of : State → Text → Text → Text → View
-view_of s asked told ordered = record {
+abbrev pub view_of : State → Text → Text → View
+view_of s told ordered = record {
   settings = s.settings;
   ends = s.ends;
   desk = s.desk;
   scores = counted s.settings s.scores;
-  held = map command_text s.held;
+  held = s.held;
   talk = kept s.talk s.desk.hint;
-  asked = asked;
   told = told;
   ordered = ordered;
 }
@@ -53,7 +50,7 @@ pub record Holds (s : State) : Type 0 where
 
 -- The core stands for the trace.
 abbrev pub Stands : Settings → View → List Step → Type 0
-Stands o core trace = (core ≡ view_of (state o trace) core.asked core.told core.ordered) × Holds (state o trace)
+Stands o core trace = (core ≡ view_of (state o trace) core.told core.ordered) × Holds (state o trace)
 
 -- What holds of the core itself, whatever it stands for.
 pub record Keeps (v : View) : Type 0 where
@@ -62,31 +59,23 @@ pub record Keeps (v : View) : Type 0 where
   -- a current search serves the call
   pub serves : IsServed (view.here v)
   pub pings : length v.desk.pings ≤ 64
-  pub orders : AreHeldLines v.held
   pub first : v.talk.state ≡ states.Boot → IsFirst v.held × (v.desk.booted ≡ false)
-  pub asked : v.asked.room ≡ 131072
-  pub told : v.told.room ≡ 131072
-  pub ordered : v.ordered.room ≡ 131072
+  pub told : v.told.room ≡ ROOM
+  pub ordered : v.ordered.room ≡ ROOM
 
--- the orders of a step, where these lines are held
-abbrev pub orders_of : Bool → Bool → Bool → Bool → List (List ℕ) → Desk → Orders → List Command
-orders_of opens closed closed_now gone held desk choice =
-    if opens then orders.Uci ∷ []
-    else (if closed_now then (if closed || gone then [] else orders.Quit ∷ []) else order_list (orders_in held) desk choice)
-
--- the step that an event gives, by what stood, what came of the event and what the dialogue is then
-abbrev pub step_from : Here → Deed → View → Event → dialogue.View → Step
-step_from h d v e m =
+-- the step that an event gives, by what stood, what came of the event, what is held then and what the dialogue is then
+abbrev pub step_from : Here → Deed → View → Event → List Command → dialogue.View → Step
+step_from h d v e held m =
     let owes = is_move (owed_view m (call_after (ends_after v.ends e).closed h d)) in
-    let o = choice (is_open e) (ends_after v.ends e).closed h (lines_after h v.held d) d m in
+    let o = choice (is_open e) (ends_after v.ends e).closed h held d m in
     record {
       event = e;
       replies = replies_of (ends_after v.ends e).closed owes h d;
-      orders = orders_of (is_open e) v.ends.closed (ends_after v.ends e).closed (is_gone h.engine || is_death d) (lines_after h v.held d) (desk_with h d e v owes o) o;
+      orders = orders_of (is_open e) v.ends.closed (ends_after v.ends e).closed (is_gone h.engine || is_death d) held (desk_with h d e v owes o) o;
     }
 
 abbrev pub step_at : Here → Deed → View → Event → Step
-step_at h d v e = step_from h d v e (mid_view v.talk (what_of d) (rises h d))
+step_at h d v e = step_from h d v e (waiting h v.held d) (mid_view v.talk (what_of d) (rises h d))
 
 unfoldable pub step_by : View → Event → Step
 step_by v e = step_at (view.here v) (comes (view.here v) v.held e) v e

@@ -2,7 +2,7 @@
 use Rattle.std.specs.Prelude.{◌≡◌, ℕ, List, [], ◌∷◌, ◌++◌, map, Bool, true, false, ◌||◌, if◌then◌else◌, None}
 use Rattle.line_io.specs.Event.{Event}
 use Rattle.cecp_lines.specs.Replies.{Told}
-use Rattle.uci_lines.specs.Orders.{Command, command_text}
+use Rattle.uci_lines.specs.Orders.{Command}
 use Rattle.uci_lines.specs.Orders as orders
 use Rattle.policy_rules.specs.declared.settings.Settings.{Settings}
 use Rattle.policy_rules.specs.Scores.{Score, does_resign, does_accept}
@@ -70,7 +70,7 @@ here s = record {
 }
 
 abbrev pub deed : State → Event → Deed
-deed s e = comes (here s) (map command_text s.held) e
+deed s e = comes (here s) s.held e
 
 abbrev pub closed_after : State → Event → Bool
 closed_after s e = (ends_after s.ends e).closed

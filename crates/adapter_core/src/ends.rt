@@ -1,9 +1,9 @@
 // Which sides have begun and ended.
 ghost use Rattle.std.specs.Prelude.{◌≡◌};
 ghost use Rattle.line_io.specs.Event.{event_of, is_line};
-ghost use Rattle.adapter_core.specs.Ends.{may, is_quit, ends_after};
+ghost use Rattle.desk_rules.specs.Steps.{quits as quits_by};
+ghost use Rattle.adapter_core.specs.Ends.{may, ends_after};
 
-use cecp_lines::{IfaceMsg, read_iface};
 use line_io::Event;
 
 /// Which sides have begun and ended.
@@ -17,12 +17,6 @@ pub struct Ends {
     pub engine_lost: bool,
     /// Nothing more is written.
     pub closed: bool,
-}
-
-fn is_quit(line: &[u8]) -> bool
-    ensures { result ≡ is_quit line.now }
-{
-    matches!(read_iface(line), Ok(IfaceMsg::Quit))
 }
 
 fn is_line(line: &[u8]) -> bool
@@ -47,16 +41,16 @@ impl Ends {
         }
     }
 
-    /// After the event.
-    pub fn after(mut self, event: &Event) -> Ends
+    /// After the event, by which the interface sends `quit` or not.
+    pub fn after(mut self, event: &Event, quits: bool) -> Ends
+        requires { quits ≡ quits_by (event_of event.now) }
         ensures { result ≡ ends_after self (event_of event.now) }
     {
         match event {
             Event::Open => self.opened = true,
-            Event::Iface(line) => {
-                let quit = is_quit(line);
-                self.iface = self.iface || quit;
-                self.closed = self.closed || quit;
+            Event::Iface(_) => {
+                self.iface = self.iface || quits;
+                self.closed = self.closed || quits;
             }
             Event::IfaceEnd => {
                 self.iface = true;

@@ -5,17 +5,15 @@ ghost use Rattle.line_io.specs.Event.{event_of};
 ghost use Rattle.line_io.specs.Out.{empty};
 ghost use Rattle.policy_rules.specs.Policy.{IsProper};
 ghost use Rattle.desk_rules.specs.Desk.{at};
-ghost use Rattle.desk_rules.specs.Steps.{deed_of, rises as epoch_rises, comes};
-ghost use Rattle.desk_rules.specs.Fits.{IsLineEvent};
+ghost use Rattle.desk_rules.specs.Steps.{deed_of, rises, comes, quits as quits_by};
 ghost use Rattle.adapter_core.specs.Ends.{may, is_over};
-ghost use Rattle.adapter_core.specs.View.{opening, here, IsReadyFor};
+ghost use Rattle.adapter_core.specs.View.{opening, here, CanFollow, IsReadyFor};
+ghost use Rattle.adapter_core.specs.declared.session.TheConstants.{ALL_REPLIES, ROOM};
+ghost use Rattle.desk_rules.specs.declared.sizes.TheConstants.{STEP_ORDERS};
 
 use crate::Ends;
-use crate::steps::{
-    Stage, choose, clears_seen, count, hear, is_lost, is_move, is_open, is_unsent, put_orders,
-    release, settle_desk, tell,
-};
-use desk_rules::{Deed, Desk, Sight};
+use crate::steps::{Stage, choose, is_hit, is_move, is_open, is_unsent, put_orders, release};
+use desk_rules::{Desk, Ruling, Sight, is_gone};
 use game_record::Game;
 use line_io::{Event, NoMemory, Out};
 use option_map::Held;
@@ -24,7 +22,11 @@ use search_epochs::{Dialogue, EngineState};
 use std::alloc::Global;
 use std::marker::Model;
 
-const ROOM: usize = 131_072;
+/// The room of the lines to a peer.
+pub(crate) const ROOM: usize = 131_072;
+
+/// The replies of a step with its pongs have at most so many bytes.
+pub(crate) const ALL_REPLIES: usize = 72_000;
 
 // The parts of the core.
 #[derive(Drop)]
@@ -35,8 +37,6 @@ pub(crate) struct Parts {
     scores: Scores,
     held: Held,
     talk: Dialogue,
-    // the order that a line asks for, while the line is looked at
-    asked: Out,
     told: Out,
     ordered: Out,
 }
@@ -60,55 +60,58 @@ impl Parts {
         }
     }
 
-    // Takes an event.
+    // Takes an event: what comes of it is decided, and what it asks for joins what is held.
     #[tactic(auto, unfolding(crate::specs::View::advance))]
     fn take(&mut self, event: &Event)
-        requires line { IsLineEvent (event_of event.now) }
-        requires ready { IsReadyFor (here self.old) self.old (comes (here self.old) self.old.held (event_of event.now)) }
+        requires ready { IsReadyFor (here self.old) self.old
+            (comes (here self.old) self.old.held (event_of event.now)) }
         ensures after { self.new ≡ advance self.old (event_of event.now) }
-        ensures iface { length self.new.told.text ≤ 72000 }
-        ensures engine { length self.new.ordered.text ≤ 72300 }
+        ensures iface { length self.new.told.text ≤ ALL_REPLIES }
+        ensures engine { length self.new.ordered.text ≤ STEP_ORDERS }
     {
         self.told.clear();
         self.ordered.clear();
         let sight = self.sight();
-        let deed = self.desk.comes(sight, &self.held, event, &mut self.asked);
-        let rises = self.desk.rises(sight, &deed, &mut self.asked);
-        hear(&mut self.talk, &deed, rises);
-        self.go_on(sight, &deed, rises, event);
+        let decision = self.desk.decide(sight, &self.held, event);
+        decision.asks.hold(&mut self.held);
+        let ruling = decision.ruling;
+        ruling.hear(&mut self.talk);
+        self.go_on(sight, &ruling, event);
     }
 
-    // Goes on from what came of the event, and what the dialogue is then.
-    fn go_on(&mut self, sight: Sight, deed: &Deed, rises: bool, event: &Event)
-        requires ready { IsReadyFor (at sight self.old.desk) self.old (deed_of deed.now) }
-        requires told { self.old.told ≡ empty 131072 }
-        requires ordered { self.old.ordered ≡ empty 131072 }
-        requires rise { rises ≡ epoch_rises (at sight self.old.desk) (deed_of deed.now) }
-        ensures after { self.new ≡ advance_from (at sight self.old.desk) (deed_of deed.now) (event_of event.now) self.old self.old.talk }
-        ensures iface { length self.new.told.text ≤ 72000 }
-        ensures engine { length self.new.ordered.text ≤ 72300 }
+    // Goes on from what was decided, what is held and what the dialogue is then.
+    fn go_on(&mut self, sight: Sight, ruling: &Ruling, event: &Event)
+        requires follow { CanFollow (at sight self.old.desk) (deed_of ruling.now.deed) }
+        requires told { self.old.told ≡ empty ROOM }
+        requires ordered { self.old.ordered ≡ empty ROOM }
+        requires epoch { ruling.now.begins_epoch
+            ≡ rises (at sight self.old.desk) (deed_of ruling.now.deed) }
+        requires quits { ruling.now.quits ≡ quits_by (event_of event.now) }
+        ensures after { self.new
+            ≡ advance_from (at sight self.old.desk) (deed_of ruling.now.deed)
+            (event_of event.now) self.old self.old.held self.old.talk }
+        ensures iface { length self.new.told.text ≤ ALL_REPLIES }
+        ensures engine { length self.new.ordered.text ≤ STEP_ORDERS }
     {
+        let deed = &ruling.deed;
         let closed_before = self.ends.closed;
-        self.ends = self.ends.after(event);
+        self.ends = self.ends.after(event, ruling.quits);
         let stage = Stage {
             opens: is_open(event),
             closed_before,
             closed: self.ends.closed,
-            gone: is_lost(sight.engine, deed),
+            gone: is_gone(sight.engine) || deed.is_death(),
         };
-        tell(&self.desk, sight, deed, stage.closed, &mut self.told);
-        count(&mut self.scores, self.desk.seen.score, deed);
-        self.desk.hold(sight, &mut self.held, deed, &mut self.asked);
-        self.desk.take(sight, deed);
+        deed.count(&mut self.scores, self.desk.seen.score);
+        self.desk.commit(sight, deed, stage.closed, &mut self.told);
         let call = self.desk.call(stage.closed, stage.gone);
         let owes = is_move(self.talk.owed(call));
         let unsent = is_unsent(&self.held, deed);
         let orders = choose(&mut self.talk, stage, call, unsent, deed);
-        let clears = clears_seen(rises, orders);
-        settle_desk(&mut self.desk, stage.closed, owes, clears, &mut self.told);
+        let clears = ruling.begins_epoch && !is_hit(orders);
+        self.desk.finish(stage.closed, owes, clears, &mut self.told);
         put_orders(stage, &self.held, &self.desk, orders, &mut self.ordered);
         release(&mut self.held, orders);
-        self.asked.clear();
     }
 }
 
@@ -148,6 +151,24 @@ impl Core {
     {
         let parts = make_parts(alloc, *settings)?;
         Ok(Core { parts })
+    }
+
+    /// The settings.
+    pub fn settings(&self) -> Settings
+        ensures { result ≡ self.now.settings }
+    {
+        self.parts.settings
+    }
+
+    /// Chooses other settings, before the first step.
+    pub fn set(&mut self, settings: &Settings)
+        requires proper { IsProper settings.now }
+        requires new { Stands self.old.settings self.old [] }
+        ensures settings { self.new.settings ≡ settings.now }
+        ensures stands { Stands settings.now self.new [] }
+    {
+        self.parts.settings = *settings;
+        self.parts.scores = Scores::new(settings);
     }
 
     /// Whether the event may come.
@@ -193,9 +214,10 @@ impl Core {
 
     fn take(&mut self, event: &Event)
         requires { may self.old.ends (event_of event.now) ≡ true }
-        ensures extends { Extends self.old self.new (event_of event.now) self.new.told.text self.new.ordered.text }
-        ensures iface { length self.new.told.text ≤ 72000 }
-        ensures engine { length self.new.ordered.text ≤ 72300 }
+        ensures extends { Extends self.old self.new
+            (event_of event.now) self.new.told.text self.new.ordered.text }
+        ensures iface { length self.new.told.text ≤ ALL_REPLIES }
+        ensures engine { length self.new.ordered.text ≤ STEP_ORDERS }
     {
         self.parts.take(event);
     }
@@ -228,7 +250,6 @@ fn make_parts(alloc: Global, settings: Settings) -> Result<Parts, NoMemory>
         scores: Scores::new(&settings),
         held: Held::make(alloc)?,
         talk: Dialogue::new(),
-        asked: Out::make(alloc, ROOM)?,
         told: Out::make(alloc, ROOM)?,
         ordered: Out::make(alloc, ROOM)?,
     })

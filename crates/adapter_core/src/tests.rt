@@ -1,12 +1,17 @@
 // Short sessions, step by step.
+ghost use Rattle.std.specs.Prelude.{◌≡◌};
+ghost use Rattle.line_io.specs.Event.{event_of};
 ghost use Rattle.policy_rules.specs.Policy.{IsProper};
+ghost use Rattle.desk_rules.specs.Steps.{quits as quits_by};
 
 use crate::{
     Core, Ends, ended_sides_get_nothing, interface_alone, moves_are_shown_in_time, one_dialogue,
 };
-use line_io::{Event, Mark, NoMemory, read_mark};
+use cecp_lines::is_quit;
+use line_io::{Event, NoMemory};
 use peer_words::GoKind;
 use policy_rules::Settings;
+use script_lines::{Mark, read_mark};
 use search_epochs::EngineState;
 use std::alloc::Global;
 use std::process::Abort;
@@ -32,6 +37,15 @@ fn event_in<'a>(rt: &impl Abort, mark: &'a str) -> Event<'a> {
     match read_mark(mark.as_bytes()) {
         Ok(Mark::Event(event)) => event,
         _ => panic!(rt; "no event: {mark}"),
+    }
+}
+
+fn quits(event: &Event) -> bool
+    ensures { result ≡ quits_by (event_of event.now) }
+{
+    match event {
+        Event::Iface(line) => is_quit(line),
+        _ => false,
     }
 }
 
@@ -173,7 +187,7 @@ fn tells_which_events_may_come(rt: HostRuntime) -> Result<(), Fail> {
 
 #[test]
 fn keeps_which_sides_have_ended(rt: HostRuntime) -> Result<(), Fail> {
-    let opened = AT_START.after(&Event::Open);
+    let opened = AT_START.after(&Event::Open, false);
     assert_eq!(rt;
         opened,
         Ends {
@@ -214,7 +228,21 @@ fn keeps_which_sides_have_ended(rt: HostRuntime) -> Result<(), Fail> {
         ("u!", opened),
     ];
     for (mark, want) in events {
-        assert_eq!(rt; opened.after(&event_in(&rt, mark)), want, "{mark}");
+        let event = event_in(&rt, mark);
+        let quits = quits(&event);
+        assert_eq!(rt; opened.after(&event, quits), want, "{mark}");
     }
+    Ok(())
+}
+
+#[test]
+fn settings_are_chosen_before_the_first_step(rt: HostRuntime) -> Result<(), Fail> {
+    let mut core = Core::make(rt.alloc(), &Settings::usual())?;
+    let chosen = Settings {
+        resign: true,
+        ..Settings::usual()
+    };
+    core.set(&chosen);
+    assert_eq!(rt; core.settings(), chosen);
     Ok(())
 }

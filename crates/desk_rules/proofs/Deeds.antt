@@ -85,7 +85,7 @@ option_tells (Ok order) = tt
 option_tells (Err UnknownOption) = tt
 option_tells (Err BadValue) = tt
 
-refusal_tells : (h : Here) (held : List (List ℕ)) (m : Message) → IsWritten m → IfSome (refusal h held m) IsTellable
+refusal_tells : (h : Here) (held : List Command) (m : Message) → IsWritten m → IfSome (refusal h held m) IsTellable
 unfolding refusal
 refusal_tells h held m w =
     first_tells _ _ (reason_tells (needs_engine m && is_gone h.engine) reasons.EngineEnded)
@@ -103,12 +103,12 @@ refusal_tells h held m w =
 some_tells : (o : Option Refusal) (r : Refusal) → o ≡ Some r → IfSome o IsTellable → IsTellable r
 some_tells o r e f = let g : IfSome (Some r) IsTellable = subst (λ (x : Option Refusal). IfSome x IsTellable) e f in g
 
-judged_fits : (h : Here) (held : List (List ℕ)) (line : List ℕ) (m : Message) (r : Option Refusal) → h.closed ≡ false → is_line line ≡ true → reading line ≡ Ok m
+judged_fits : (h : Here) (held : List Command) (line : List ℕ) (m : Message) (r : Option Refusal) → h.closed ≡ false → is_line line ≡ true → reading line ≡ Ok m
     → refusal h held m ≡ r → Fits h held (line_deed (judged m r) line)
 judged_fits h held line m None c l reads e = record { line = line; is_line = l; reads = reads; is_open = c; passes = e }
 judged_fits h held line m (Some r) c l reads e = record { is_open = c; tellable = some_tells (refusal h held m) r e (refusal_tells h held m (written line m reads)); is_line = l }
 
-line_fits : (h : Here) (held : List (List ℕ)) (line : List ℕ) (r : Result Message IfaceFault) → h.closed ≡ false → is_line line ≡ true → reading line ≡ r
+line_fits : (h : Here) (held : List Command) (line : List ℕ) (r : Result Message IfaceFault) → h.closed ≡ false → is_line line ≡ true → reading line ≡ r
     → Fits h held (line_deed (verdict h held r) line)
 unfolding verdict
 line_fits h held line (Err faults.UnknownCommand) c l e = record { is_open = c; tellable = tt; is_line = l }
@@ -117,23 +117,23 @@ line_fits h held line (Ok m) c l e = judged_fits h held line m (refusal h held m
 
 -- LINES OF THE ENGINE
 
-thinks_fits : (h : Here) (held : List (List ℕ)) (facts : Facts) (k : Option GoKind) → h.closed ≡ false → current h.engine ≡ k → IsSaid (hears.Info facts) → Fits h held (thinks k facts)
+thinks_fits : (h : Here) (held : List Command) (facts : Facts) (k : Option GoKind) → h.closed ≡ false → current h.engine ≡ k → IsSaid (hears.Info facts) → Fits h held (thinks k facts)
 thinks_fits h held facts None c e s = tt
 thinks_fits h held facts (Some k) c e s = (c, e, s)
 
-shown_fits : (h : Here) (held : List (List ℕ)) (m : Move) (hint : Option Move) (b : Bool) → h.closed ≡ false → IsCurrentMove h.engine → legal (now_of h.desk.game) m ≡ b
+shown_fits : (h : Here) (held : List Command) (m : Move) (hint : Option Move) (b : Bool) → h.closed ≡ false → IsCurrentMove h.engine → legal (now_of h.desk.game) m ≡ b
     → Fits h held (cond b (Shows m hint) Forfeits)
 shown_fits h held m hint true c e l = (c, e, l)
 shown_fits h held m hint false c e l = (c, e)
 
-shows_fits : (h : Here) (held : List (List ℕ)) (best hint : Option Move) → h.closed ≡ false → IsCurrentMove h.engine → Fits h held (shows h.desk.game best hint)
+shows_fits : (h : Here) (held : List Command) (best hint : Option Move) → h.closed ≡ false → IsCurrentMove h.engine → Fits h held (shows h.desk.game best hint)
 shows_fits h held None hint c e = (c, e)
 shows_fits h held (Some m) hint c e = shown_fits h held m hint (legal (now_of h.desk.game) m) c e refl
 
 other_search : (e f : EngineState) → e ≡ f → IsOther f → IsOther e
 other_search e f p i = subst IsOther (sym p) i
 
-answers_fits : (h : Here) (held : List (List ℕ)) (e : EngineState) (best hint : Option Move) → h.closed ≡ false → h.engine ≡ e → Fits h held (answers e h.desk.game best hint)
+answers_fits : (h : Here) (held : List Command) (e : EngineState) (best hint : Option Move) → h.closed ≡ false → h.engine ≡ e → Fits h held (answers e h.desk.game best hint)
 answers_fits h held states.Boot best hint c e = tt
 answers_fits h held states.Getting best hint c e = tt
 answers_fits h held states.Idle best hint c e = tt
@@ -146,11 +146,11 @@ answers_fits h held (states.Search kinds.Analyse true stopped) best hint c e = (
 answers_fits h held (states.Search kinds.Analyse false stopped) best hint c e = (c, other_search h.engine _ e tt)
 
 -- a deed that comes only in one state
-only_in : (h : Here) (held : List (List ℕ)) (b : Bool) (d : Deed) (x : Bool) → x ≡ b → (x ≡ true → Fits h held d) → Fits h held (cond b d Nothing)
+only_in : (h : Here) (held : List Command) (b : Bool) (d : Deed) (x : Bool) → x ≡ b → (x ≡ true → Fits h held d) → Fits h held (cond b d Nothing)
 only_in h held true d x e f = f e
 only_in h held false d x e f = tt
 
-says_fits : (h : Here) (held : List (List ℕ)) (line : List ℕ) (m : Says) → h.closed ≡ false → is_line line ≡ true → engine_message line ≡ m → Fits h held (engine_says h m)
+says_fits : (h : Here) (held : List Command) (line : List ℕ) (m : Says) → h.closed ≡ false → is_line line ≡ true → engine_message line ≡ m → Fits h held (engine_says h m)
 says_fits h held line hears.Nothing c l e = tt
 says_fits h held line (hears.Name text) c l e = only_in h held (is_boot h.engine) (Names text) (is_boot h.engine) refl (λ b. (c, b))
 says_fits h held line (hears.OptionLine name shape) c l e =
@@ -162,15 +162,15 @@ says_fits h held line (hears.Best best hint) c l e = answers_fits h held h.engin
 
 -- EVENTS
 
-unless_closed : (h : Here) (held : List (List ℕ)) (b : Bool) (d : Deed) → h.closed ≡ b → (h.closed ≡ false → Fits h held d) → Fits h held (cond b Nothing d)
+unless_closed : (h : Here) (held : List Command) (b : Bool) (d : Deed) → h.closed ≡ b → (h.closed ≡ false → Fits h held d) → Fits h held (cond b Nothing d)
 unless_closed h held true d e f = tt
 unless_closed h held false d e f = f e
 
-dies_fits : (h : Here) (held : List (List ℕ)) (b : Bool) → is_gone h.engine ≡ b → Fits h held (cond b Nothing Dies)
+dies_fits : (h : Here) (held : List Command) (b : Bool) → is_gone h.engine ≡ b → Fits h held (cond b Nothing Dies)
 dies_fits h held true e = tt
 dies_fits h held false e = e
 
-pub comes_fits : (h : Here) (held : List (List ℕ)) (e : Event) → IsLineEvent e → Fits h held (comes h held e)
+pub comes_fits : (h : Here) (held : List Command) (e : Event) → IsLineEvent e → Fits h held (comes h held e)
 unfolding comes
 comes_fits h held events.Open l = tt
 comes_fits h held (events.Iface line) l =

@@ -6,18 +6,17 @@ use Rattle.fen_text.specs.declared.fault.FenFault.{FenFault}
 use Rattle.fen_text.specs.Fen.{position_of}
 use Rattle.cecp_lines.specs.Messages.{Message}
 use Rattle.cecp_lines.specs.Messages as says
-use Rattle.uci_lines.specs.Orders.{Command, command_text}
+use Rattle.uci_lines.specs.Orders.{Command}
 use Rattle.uci_lines.specs.Orders as orders
 use Rattle.option_map.specs.Names.{same_text}
 use Rattle.option_map.specs.Settings.{Setting}
 use Rattle.option_map.specs.Asked.{asked}
-use Rattle.option_map.specs.Held.{Slot, Game, slot_in, same_slot, joined, held_after}
-use Rattle.option_map.proofs.Orders.{reads_back}
+use Rattle.option_map.specs.Held.{with_order, with_orders}
 use Rattle.desk_rules.specs.declared.desk.Desk.{Desk}
 use Rattle.desk_rules.specs.Desk.{Here, table, analyses, is_boot, is_gone, ponder_name, analyse_name}
 use Rattle.desk_rules.specs.Lines.{tells, asks_for_mode, asked_by, asks_of, asks, change, at_position}
 use Rattle.desk_rules.specs.Steps.{Deed, Accepts, Boots, desk_after_deed}
-use Rattle.desk_rules.specs.Orders.{asked_by_deed}
+use Rattle.desk_rules.specs.Orders.{asked_by_deed, waiting}
 use Rattle.desk_rules.specs.Fits.{IsFirst}
 
 abbrev pub IsBoots : Deed → Type 0
@@ -77,20 +76,12 @@ asks_first gone d m e = gone_first gone (asks_of d m) (desk_first d m e)
 
 -- WHAT IS HELD THEN
 
-new_slot : slot_in (codes "ucinewgame") ≡ Some Game
-unfolding command_text
-new_slot = (reads_back orders.NewGame refl).1
-
 -- a new game takes the place of a new game
-again : joined (codes "ucinewgame" ∷ []) (codes "ucinewgame") ≡ codes "ucinewgame" ∷ []
-again = ap (λ (s : Option Slot). cond (not (same_slot s s)) (codes "ucinewgame" ∷ []) [] ++ codes "ucinewgame" ∷ []) new_slot
+joined_first : (held : List Command) → IsFirst held → IsFirst (with_order held orders.NewGame)
+joined_first held (inl e) = inr (ap (λ (os : List Command). with_order os orders.NewGame) e)
+joined_first held (inr e) = inr (ap (λ (os : List Command). with_order os orders.NewGame) e)
 
-joined_first : (held : List (List ℕ)) → IsFirst held → IsFirst (joined held (codes "ucinewgame"))
-joined_first held (inl e) = inr (ap (λ (ls : List (List ℕ)). joined ls (codes "ucinewgame")) e)
-joined_first held (inr e) = inr (ap (λ (ls : List (List ℕ)). joined ls (codes "ucinewgame")) e ∙ again)
-
-order_first : (held : List (List ℕ)) (o : Option Command) → IsFirst held → IsNewGame o → IsFirst (held_after held (map command_text (option_to_list o)))
-unfolding command_text
+order_first : (held : List Command) (o : Option Command) → IsFirst held → IsNewGame o → IsFirst (with_orders held (option_to_list o))
 order_first held None f n = f
 order_first held (Some orders.NewGame) f n = joined_first held f
 order_first held (Some order) f n = absurd n
@@ -100,11 +91,11 @@ no_table true os e = cc
 no_table false os e = refl
 
 -- what is held after a deed
-pub lines_first : (h : Here) (held : List (List ℕ)) (d : Deed) → (IsBoots d → ⊥) → h.desk.booted ≡ false → IsFirst held → IsFirst (held_after held (map command_text (asked_by_deed h d)))
+pub orders_first : (h : Here) (held : List Command) (d : Deed) → (IsBoots d → ⊥) → h.desk.booted ≡ false → IsFirst held → IsFirst (waiting h held d)
 unfolding asked_by_deed
-lines_first h held (Accepts m) n b f = order_first held (asks (is_gone h.engine) h.desk m) f (asks_first (is_gone h.engine) h.desk m (no_table h.desk.booted h.desk.options b))
-lines_first h held Boots n b f = absurd (n tt)
-lines_first h held d n b f = f
+orders_first h held (Accepts m) n b f = order_first held (asks (is_gone h.engine) h.desk m) f (asks_first (is_gone h.engine) h.desk m (no_table h.desk.booted h.desk.options b))
+orders_first h held Boots n b f = absurd (n tt)
+orders_first h held d n b f = f
 
 position_booted : (d : Desk) (r : Result Placement FenFault) → (at_position d r).booted ≡ d.booted
 position_booted d (Ok p) = refl

@@ -1,10 +1,12 @@
 pub mod Deeds
 pub mod Passes
-pub mod Asks
+pub mod Joins
 pub mod Waits
 pub mod Hints
 pub mod Searches
 pub mod Rooms
+pub mod Rows
+pub mod Batches
 pub mod Calls
 pub mod Plays
 pub mod Serves

@@ -7,6 +7,7 @@ use Rattle.fen_text.specs.Fen.{position_of}
 use Rattle.cecp_lines.specs.Messages.{Message}
 use Rattle.cecp_lines.specs.Messages as says
 use Rattle.search_epochs.specs.declared.words.Call.TheVariants as calls
+use Rattle.uci_lines.specs.Orders.{Command}
 use Rattle.desk_rules.specs.declared.desk.Desk.{Desk}
 use Rattle.desk_rules.specs.Desk.{Here, is_boot, is_gone, is_full, call_in, call_of, call_before, owes_move}
 use Rattle.desk_rules.specs.Lines.{change, at_position}
@@ -55,7 +56,7 @@ few true b n e q = grind (arith, nat_tests)
 few false b n e q = cc
 
 -- a ping is accepted while fewer than 64 are held
-pub owed_ping : (h : Here) (held : List (List ℕ)) (n : ℕ) → Fits h held (Accepts (says.Ping n)) → owes_move h ≡ true → length (desk_after_deed h (Accepts (says.Ping n))).pings ≤ 64
+pub owed_ping : (h : Here) (held : List Command) (n : ℕ) → Fits h held (Accepts (says.Ping n)) → owes_move h ≡ true → length (desk_after_deed h (Accepts (says.Ping n))).pings ≤ 64
 owed_ping h held n f o =
     let b = few (owes_move h) true (length h.desk.pings) (passes h held (says.Ping n) f.passes).pings o in
     omega (arith, ap length (added_ping h n), length-append h.desk.pings (n ∷ []))

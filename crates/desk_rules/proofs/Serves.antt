@@ -3,6 +3,7 @@ use Rattle.std.proofs.Common.{◌≡◌, ℕ, Bool, true, false, not, cond, ◌&
 use Rattle.std.specs.Option.{is_some}
 use Rattle.chess_board.specs.declared.board.Move.{Move}
 use Rattle.chess_board.specs.Board.{same_side}
+use Rattle.uci_lines.specs.Orders.{Command}
 use Rattle.game_record.specs.Course.{now_of}
 use Rattle.game_record.specs.Ending.{has_legal}
 use Rattle.peer_words.specs.declared.kinds.GoKind.{GoKind}
@@ -140,7 +141,7 @@ as_gone : (k : GoKind) (c : Bool) (g : Bool) (d : Desk) → Serves k (call_of c 
 as_gone k c g d s = subst (λ (b : Bool). Serves k (call_of c b d)) (or_false g) s
 
 -- the call goes on to be served
-pub still_serves : (h : Here) (held : List (List ℕ)) (d : Deed) (k : GoKind) → Fits h held d → IsNoAnswer d → rises h d ≡ false → current h.engine ≡ Some k → Serves k (call_before h) → Serves k (call_after h.closed h d)
+pub still_serves : (h : Here) (held : List Command) (d : Deed) (k : GoKind) → Fits h held d → IsNoAnswer d → rises h d ≡ false → current h.engine ≡ Some k → Serves k (call_before h) → Serves k (call_after h.closed h d)
 unfolding desk_after_deed
 still_serves h held (Accepts m) k f n r c s = as_gone k h.closed (is_gone h.engine) (change (is_boot h.engine) h.desk m) (line_serves h m k r s)
 still_serves h held Nothing k f n r c s = as_gone k h.closed (is_gone h.engine) h.desk s

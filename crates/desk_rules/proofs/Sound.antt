@@ -11,6 +11,7 @@ use Rattle.cecp_lines.specs.Messages as says
 use Rattle.cecp_lines.specs.Reading.{CanBeRead}
 use Rattle.cecp_lines.specs.Replies.{IsWritable}
 use Rattle.cecp_lines.proofs.Spellings.{reading_spells}
+use Rattle.uci_lines.specs.Orders.{Command}
 use Rattle.game_record.specs.Course.{Course, ply_of, now_of, IsPlayable}
 use Rattle.clock_map.specs.declared.clocks.Clocks.{Clocks}
 use Rattle.clock_map.specs.Clocks.{AreShort, after_new}
@@ -57,7 +58,7 @@ change_sound boot d (says.Otim n) r s = record { hint = s.hint; clocks = stay_sh
 change_sound boot d m r s = record { hint = s.hint; clocks = s.clocks; current = s.current; options = s.options }
 
 -- after a deed
-pub stays_sound : (h : Here) (held : List (List ℕ)) (d : Deed) → IsSound h.desk → Fits h held d → IsSound (desk_after_deed h d)
+pub stays_sound : (h : Here) (held : List Command) (d : Deed) → IsSound h.desk → Fits h held d → IsSound (desk_after_deed h d)
 unfolding desk_after_deed
 stays_sound h held (Accepts m) s f = change_sound (is_boot h.engine) h.desk m (f.line, reading_spells f.line m f.reads) s
 stays_sound h held (Declares name shape) s f =
@@ -72,7 +73,7 @@ cleared_sound true seen s = tt
 cleared_sound false seen s = s
 
 -- after the step
-pub step_sound : (closed owes hits : Bool) (h : Here) (held : List (List ℕ)) (d : Deed) → IsSound h.desk → Fits h held d → IsSound (desk_after closed owes hits h d)
+pub step_sound : (closed owes hits : Bool) (h : Here) (held : List Command) (d : Deed) → IsSound h.desk → Fits h held d → IsSound (desk_after closed owes hits h d)
 step_sound closed owes hits h held d s f =
     let t = stays_sound h held d s f in
     record { hint = t.hint; clocks = t.clocks; current = cleared_sound (clears_seen (rises h d) hits) (desk_after_deed h d).seen t.current; options = t.options }

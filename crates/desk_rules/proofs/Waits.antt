@@ -1,4 +1,4 @@
--- What waits for the engine: orders that may be held, and their lines.
+-- What waits for the engine: orders that may be held.
 use Rattle.std.proofs.Common.{◌≡◌, ℕ, ◌≤◌, List, [], ◌∷◌, ◌++◌, length, map, filter, codes, Bool, true, false, not, cond, Option, Some, None, IfSome, Result, Ok, Err, refl, ap, ◌∙◌, arith}
 use Rattle.std.specs.List.{AllByRecursion}
 use Rattle.std.specs.Option.{option_to_list, option_map}
@@ -7,7 +7,7 @@ use Rattle.cecp_lines.specs.Messages.{Message}
 use Rattle.cecp_lines.specs.Messages as says
 use Rattle.cecp_lines.specs.Reading.{reading}
 use Rattle.uci_lines.specs.Written.{is_text}
-use Rattle.uci_lines.specs.Orders.{Command, command_text}
+use Rattle.uci_lines.specs.Orders.{Command}
 use Rattle.uci_lines.specs.Orders as orders
 use Rattle.uci_lines.specs.Asked.{is_order}
 use Rattle.option_map.specs.declared.fault.OptFault.{OptFault}
@@ -15,37 +15,19 @@ use Rattle.option_map.specs.declared.fault.OptFault.TheVariants.{UnknownOption, 
 use Rattle.option_map.specs.Names.{same_text, is_hidden}
 use Rattle.option_map.specs.Shown.{check_named}
 use Rattle.option_map.specs.Asked.{asked}
-use Rattle.option_map.specs.Held.{IsLine, held_after, are_for_same, with_order, with_orders, AreOrders}
+use Rattle.option_map.specs.Held.{IsLine}
 use Rattle.option_map.specs.Spelled.{AreDeclared}
 use Rattle.option_map.specs.Settings.{Setting, Kind, Spin, Text, found}
 use Rattle.option_map.specs.Asked.{set_found, set_by, set_to, value_by, is_button, clamped, clamped_by, path_for, path_by}
-use Rattle.option_map.proofs.Orders.{joins}
+use Rattle.option_map.proofs.Orders.{all_stay}
 use Rattle.option_map.proofs.Asking.{asked_spelled, switches_spelled}
 use Rattle.search_epochs.specs.Talk.{AllSetup, Word}
 use Rattle.desk_rules.specs.declared.desk.Desk.{Desk}
 use Rattle.desk_rules.specs.Desk.{Here, table, analyses, is_gone, ponder_name, analyse_name}
 use Rattle.desk_rules.specs.Lines.{switch_text, switches, tells, asks_for_mode, asked_by, asks_of, asks}
 use Rattle.desk_rules.specs.Steps.{Deed, Accepts, Boots}
-use Rattle.desk_rules.specs.Orders.{ponder_at_boot, analysis_at_boot, asked_by_deed, waiting, word_of, IsHeld, AreHeld, AreHeldLines}
+use Rattle.desk_rules.specs.Orders.{ponder_at_boot, analysis_at_boot, asked_by_deed, waiting, word_of, IsHeld, AreHeld}
 use Rattle.desk_rules.specs.Fits.{Fits, IsSound}
-
--- WHAT HOLDS OF EACH ORDER STAYS
-
-left_step : (P : Command → Type 0) (b : Bool) (o : Command) (os : List Command) → P o → AllByRecursion P os → AllByRecursion P (cond b (o ∷ os) os)
-left_step P true o os p a = (p, a)
-left_step P false o os p a = a
-
-left : (P : Command → Type 0) (test : Command → Bool) (os : List Command) → AllByRecursion P os → AllByRecursion P (filter test os)
-left P test [] a = tt
-left P test (o ∷ os) a = left_step P (test o) o (filter test os) a.0 (left P test os a.1)
-
-one_more : (P : Command → Type 0) (os : List Command) (o : Command) → AllByRecursion P os → P o → AllByRecursion P (os ++ o ∷ [])
-one_more P [] o a p = (p, tt)
-one_more P (x ∷ os) o a p = (a.0, one_more P os o a.1 p)
-
-stay : (P : Command → Type 0) (held later : List Command) → AllByRecursion P held → AllByRecursion P later → AllByRecursion P (with_orders held later)
-stay P held [] a b = a
-stay P held (o ∷ later) a b = stay P (with_order held o) later (one_more P (filter (λ x. not (are_for_same o x)) held) o (left P (λ x. not (are_for_same o x)) held a) b.0) b.1
 
 -- SETTINGS
 
@@ -184,7 +166,7 @@ two_held (Some x) None f g = (f, tt)
 two_held (Some x) (Some y) f g = (f, (g, tt))
 
 -- what a deed asks may be held
-pub asked_held : (h : Here) (held : List (List ℕ)) (d : Deed) → IsSound h.desk → Fits h held d → AreHeld (asked_by_deed h d)
+pub asked_held : (h : Here) (held : List Command) (d : Deed) → IsSound h.desk → Fits h held d → AreHeld (asked_by_deed h d)
 unfolding asked_by_deed
 asked_held h held (Accepts m) s f = one_held (asks (is_gone h.engine) h.desk m) (asks_held (is_gone h.engine) h.desk f.line m s.options f.is_line f.reads)
 asked_held h held Boots s f =
@@ -193,8 +175,8 @@ asked_held h held Boots s f =
 asked_held h held d s f = tt
 
 -- what waits after a deed may be held
-pub all_held : (h : Here) (lines : List (List ℕ)) (held : List Command) (d : Deed) → IsSound h.desk → Fits h lines d → AreHeld held → AreHeld (waiting h held d)
-all_held h lines held d s f a = stay IsHeld held (asked_by_deed h d) a (asked_held h lines d s f)
+pub all_held : (h : Here) (held : List Command) (d : Deed) → IsSound h.desk → Fits h held d → AreHeld held → AreHeld (waiting h held d)
+all_held h held d s f a = all_stay IsHeld held (asked_by_deed h d) a (asked_held h held d s f)
 
 held_word : (o : Command) (ws : List Word) → IsHeld o → AllSetup ws → AllSetup (word_of o ∷ ws)
 held_word orders.NewGame ws h a = a
@@ -211,33 +193,3 @@ held_word orders.Quit ws h a = absurd h
 pub all_setup : (os : List Command) → AreHeld os → AllSetup (map word_of os)
 all_setup [] a = tt
 all_setup (o ∷ os) a = held_word o (map word_of os) a.0 (all_setup os a.1)
-
--- LINES
-
-pub held_order : (o : Command) → IsHeld o → is_order o ≡ true
-held_order orders.NewGame h = refl
-held_order (orders.SetOption name value) h = h
-held_order orders.Uci h = absurd h
-held_order orders.IsReady h = absurd h
-held_order (orders.Position fen moves) h = absurd h
-held_order (orders.Go ponder control depth) h = absurd h
-held_order orders.Stop h = absurd h
-held_order orders.PonderHit h = absurd h
-held_order orders.Quit h = absurd h
-
-pub held_orders : (os : List Command) → AreHeld os → AreOrders os
-held_orders [] a = tt
-held_orders (o ∷ os) a = (held_order o a.0, held_orders os a.1)
-
--- the lines that are held after a deed are those of what waits
-pub lines_wait : (h : Here) (lines : List (List ℕ)) (held : List Command) (d : Deed) → IsSound h.desk → Fits h lines d → AreHeld held
-    → held_after (map command_text held) (map command_text (asked_by_deed h d)) ≡ map command_text (waiting h held d)
-lines_wait h lines held d s f a = joins held (asked_by_deed h d) (held_orders held a) (held_orders (asked_by_deed h d) (asked_held h lines d s f))
-
--- lines of orders that may be held stay such lines
-pub lines_held : (h : Here) (held : List (List ℕ)) (d : Deed) → IsSound h.desk → Fits h held d → AreHeldLines held → AreHeldLines (held_after held (map command_text (asked_by_deed h d)))
-lines_held h held d s f a = record {
-  orders = waiting h a.orders d;
-  lines_are = ap (λ (ls : List (List ℕ)). held_after ls (map command_text (asked_by_deed h d))) a.lines_are ∙ lines_wait h held a.orders d s f a.held;
-  held = all_held h held a.orders d s f a.held;
-}

@@ -7,6 +7,7 @@ use Rattle.chess_board.specs.declared.board.Side.TheVariants.{White, Black}
 use Rattle.chess_board.specs.Board.{same_side}
 use Rattle.chess_board.specs.Play.{start_position}
 use Rattle.peer_words.specs.declared.kinds.GoKind.{GoKind}
+use Rattle.game_record.specs.declared.game.TheConstants.{MOST_PLIES}
 use Rattle.game_record.specs.declared.ending.End.{End}
 use Rattle.game_record.specs.declared.ending.End.TheVariants as ends
 use Rattle.game_record.specs.Course.{Course, ply_of, begun, with_ply, now_of}
@@ -69,7 +70,7 @@ plies g = length g.moves
 
 -- no further move can be kept
 abbrev pub is_full : Course → Bool
-is_full g = nat_le 12000 (plies g)
+is_full g = nat_le MOST_PLIES (plies g)
 
 abbrev pub played : Course → Move → Course
 played g m = with_ply g (ply_of m)

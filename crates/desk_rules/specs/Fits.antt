@@ -1,5 +1,5 @@
 -- What holds of the desk between steps, and what a deed tells.
-use Rattle.std.specs.Prelude.{◌≡◌, ◌⊎◌, ℕ, List, [], ◌∷◌, ◌*◌, ◌<◌, ◌≤◌, length, codes, true, false, Some, None, IfSome, Ok}
+use Rattle.std.specs.Prelude.{◌≡◌, ◌⊎◌, ℕ, List, [], ◌∷◌, ◌*◌, ◌<◌, ◌≤◌, length, true, false, Some, None, IfSome, Ok}
 use Rattle.line_io.specs.Event.{Event, is_line}
 use Rattle.line_io.specs.Event as events
 use Rattle.chess_board.specs.Place.{legal}
@@ -12,9 +12,11 @@ use Rattle.cecp_lines.specs.Replies.{IsWritable}
 use Rattle.uci_lines.specs.Says.{Says, Facts, Shape}
 use Rattle.uci_lines.specs.Says as hears
 use Rattle.uci_lines.specs.Engine.{engine_message}
+use Rattle.game_record.specs.declared.game.TheConstants.{MOST_PLIES}
 use Rattle.game_record.specs.Course.{Course, ply_of, now_of, IsPlayable}
 use Rattle.clock_map.specs.Clocks.{AreShort}
-use Rattle.option_map.specs.Held.{lines_text}
+use Rattle.option_map.specs.Held.{batch_text}
+use Rattle.uci_lines.specs.Orders.{Command, NewGame}
 use Rattle.option_map.specs.Spelled.{AreDeclared}
 use Rattle.search_epochs.specs.declared.words.Call.{Call}
 use Rattle.search_epochs.specs.declared.words.Call.TheVariants as calls
@@ -61,7 +63,7 @@ pub record IsRead (m : Message) : Type 0 where
   pub reads : reading line ≡ Ok m
 
 -- the line of an accepted message
-pub record IsAccepted (h : Here) (held : List (List ℕ)) (m : Message) : Type 0 where
+pub record IsAccepted (h : Here) (held : List Command) (m : Message) : Type 0 where
   pub line : List ℕ
   pub is_line : is_line line ≡ true
   pub reads : reading line ≡ Ok m
@@ -89,8 +91,18 @@ IsOther (states.Search kinds.Move false stopped) = ⊥
 IsOther (states.Search k stale stopped) = Unit {0}
 IsOther e = ⊥
 
+-- no line of the interface
+abbrev pub IsNoIfaceLine : Event → Type 0
+IsNoIfaceLine (events.Iface line) = ⊥
+IsNoIfaceLine e = Unit {0}
+
+-- no line is obeyed
+abbrev pub IsNoLine : Deed → Type 0
+IsNoLine (Accepts m) = ⊥
+IsNoLine d = Unit {0}
+
 -- what a deed tells of what stood when the event came
-abbrev pub Fits : Here → List (List ℕ) → Deed → Type 0
+abbrev pub Fits : Here → List Command → Deed → Type 0
 Fits h held (Refuses r line) = IsRefused h r line
 Fits h held (Accepts m) = IsAccepted h held m
 Fits h held (Names text) = (h.closed ≡ false) × (is_boot h.engine ≡ true)
@@ -106,7 +118,7 @@ Fits h held d = Unit {0}
 
 -- the same, whatever is held
 abbrev pub IsFit : Here → Deed → Type 0
-IsFit h d = (held : List (List ℕ)) × Fits h held d
+IsFit h d = (held : List Command) × Fits h held d
 
 -- a current search serves the call
 abbrev pub IsServed : Here → Type 0
@@ -114,24 +126,24 @@ IsServed h = h.closed ≡ false → (k : GoKind) → current h.engine ≡ Some k
 
 -- what the desk needs to change as a message wants
 abbrev pub CanChange : Desk → Message → Type 0
-CanChange d (says.UserMove m) = IsPlayable (now_of d.game) (ply_of m) × (plies d.game < 12000)
+CanChange d (says.UserMove m) = IsPlayable (now_of d.game) (ply_of m) × (plies d.game < MOST_PLIES)
 CanChange d says.Undo = 1 ≤ plies d.game
 CanChange d says.Remove = 2 ≤ plies d.game
 CanChange d (says.Ping n) = length d.pings < 65
 CanChange d m = Unit {0}
 
 -- before `uciok` no more than a new game is held
-abbrev pub IsFirst : List (List ℕ) → Type 0
-IsFirst held = (held ≡ []) ⊎ (held ≡ codes "ucinewgame" ∷ [])
+abbrev pub IsFirst : List Command → Type 0
+IsFirst held = (held ≡ []) ⊎ (held ≡ NewGame ∷ [])
 
 -- what is held leaves room for the orders of a deed
-abbrev pub CanHold : List (List ℕ) → Deed → Type 0
+abbrev pub CanHold : List Command → Deed → Type 0
 CanHold held Boots = IsFirst held
 CanHold held d = Unit {0}
 
--- at most so many lines, and 300 bytes for each
-abbrev pub AreFew : ℕ → List (List ℕ) → Type 0
-AreFew n held = (length held ≤ n) × (length (lines_text held) ≤ 300 * n)
+-- at most so many orders, and 300 bytes for each
+abbrev pub AreFew : ℕ → List Command → Type 0
+AreFew n held = (length held ≤ n) × (length (batch_text held) ≤ 300 * n)
 
 -- a move that is entered can be played
 abbrev pub CanEnter : Course → Message → Type 0

@@ -13,7 +13,7 @@ use Rattle.cecp_lines.specs.declared.iface.IfaceFault.{IfaceFault}
 use Rattle.cecp_lines.specs.declared.iface.IfaceFault.TheVariants as faults
 use Rattle.cecp_lines.specs.declared.reply.Reason.{Reason}
 use Rattle.cecp_lines.specs.declared.reply.Reason.TheVariants as reasons
-use Rattle.uci_lines.specs.Orders.{Command, command_text}
+use Rattle.uci_lines.specs.Orders.{Command}
 use Rattle.uci_lines.specs.Orders as orders
 use Rattle.game_record.specs.Course.{Course, begun, now_of, without_last}
 use Rattle.clock_map.specs.Clocks.{after_message, after_new}
@@ -120,17 +120,17 @@ refused_option (Ok order) = None
 refused_option (Err UnknownOption) = because reasons.UnknownOption
 refused_option (Err BadValue) = because reasons.BadValue
 
--- beside the held lines
-abbrev pub does_not_fit : List (List ℕ) → Option Command → Bool
+-- beside the held orders
+abbrev pub does_not_fit : List Command → Option Command → Bool
 does_not_fit held None = false
-does_not_fit held (Some order) = not (can_join held (command_text order))
+does_not_fit held (Some order) = not (can_join held order)
 
 abbrev pub pings_too_often : Here → Message → Bool
 pings_too_often h (says.Ping n) = owes_move h && nat_le 64 (length h.desk.pings)
 pings_too_often h m = false
 
 -- why a message is refused, if it is: the first that applies
-unfoldable pub refusal : Here → List (List ℕ) → Message → Option Refusal
+unfoldable pub refusal : Here → List Command → Message → Option Refusal
 refusal h held m =
     or_else (where_true (needs_engine m && is_gone h.engine) reasons.EngineEnded)
     (or_else (where_true (needs_analysis m && not (analyses h.desk.mode)) reasons.NotAnalyzing)
@@ -151,7 +151,7 @@ abbrev pub judged : Message → Option Refusal → Verdict
 judged m None = Accepted m
 judged m (Some r) = Refused r
 
-unfoldable pub verdict : Here → List (List ℕ) → Answer Message IfaceFault → Verdict
+unfoldable pub verdict : Here → List Command → Answer Message IfaceFault → Verdict
 verdict h held (Err faults.UnknownCommand) = Refused (refusals.Because reasons.UnknownCommand)
 verdict h held (Err faults.BadArgument) = Refused (refusals.Because reasons.BadArgument)
 verdict h held (Ok m) = judged m (refusal h held m)

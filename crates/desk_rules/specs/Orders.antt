@@ -1,6 +1,6 @@
 -- The orders that wait and the orders for a search.
 use Rattle.std.specs.Prelude.{◌≡◌, ℕ, List, [], ◌∷◌, ◌++◌, map, Bool, true, false, if◌then◌else◌, Option, Some, None}
-use Rattle.std.specs.Option.{option_to_list}
+use Rattle.std.specs.Option.{option_to_list, option_map}
 use Rattle.std.specs.List.{AllByRecursion, join_with_byte}
 use Rattle.chess_board.specs.declared.board.Move.{Move}
 use Rattle.chess_board.specs.Placement.{Placement}
@@ -9,22 +9,25 @@ use Rattle.peer_words.specs.declared.kinds.GoKind.TheVariants as kinds
 use Rattle.fen_text.specs.Written.{written}
 use Rattle.uci_lines.specs.declared.orders.GoControl.{GoControl}
 use Rattle.uci_lines.specs.declared.orders.GoControl.TheVariants.{Infinite}
-use Rattle.uci_lines.specs.Orders.{Command, command_text}
+use Rattle.uci_lines.specs.Orders.{Command}
 use Rattle.uci_lines.specs.Orders as orders
 use Rattle.uci_lines.specs.Asked.{is_order}
 use Rattle.game_record.specs.Course.{Course}
 use Rattle.game_record.specs.Line.{ply_text, is_standard}
 use Rattle.clock_map.specs.Search.{search_order}
-use Rattle.option_map.specs.Held.{with_orders}
+use Rattle.option_map.specs.Held.{with_order, with_orders, can_join}
+use Rattle.option_map.specs.Data.{setup_seen}
 use Rattle.search_epochs.specs.declared.words.Call.{Call}
 use Rattle.search_epochs.specs.declared.words.Call.TheVariants as calls
 use Rattle.search_epochs.specs.declared.words.Orders.{Orders}
 use Rattle.search_epochs.specs.declared.words.Orders.TheVariants as chosen
 use Rattle.search_epochs.specs.Talk.{Word, kind_of}
 use Rattle.search_epochs.specs.Talk as word
+use Rattle.desk_rules.specs.declared.deed.Asks.{Asks}
+use Rattle.desk_rules.specs.declared.deed.Asks.TheVariants as asks
 use Rattle.desk_rules.specs.declared.desk.Desk.{Desk}
 use Rattle.desk_rules.specs.Desk.{Here, is_gone, analyses, on_move, plies, played, ponder_name, analyse_name}
-use Rattle.desk_rules.specs.Lines.{tells, asks}
+use Rattle.desk_rules.specs.Lines.{tells, asks as asked_of}
 use Rattle.desk_rules.specs.Steps.{Deed, Accepts, Boots}
 
 -- WAITING
@@ -38,13 +41,23 @@ analysis_at_boot d = if analyses d.mode then tells d.options analyse_name true e
 
 -- the orders that an event asks for, in turn
 unfoldable pub asked_by_deed : Here → Deed → List Command
-asked_by_deed h (Accepts m) = option_to_list (asks (is_gone h.engine) h.desk m)
+asked_by_deed h (Accepts m) = option_to_list (asked_of (is_gone h.engine) h.desk m)
 asked_by_deed h Boots = option_to_list (ponder_at_boot h.desk) ++ option_to_list (analysis_at_boot h.desk)
 asked_by_deed h d = []
+
+-- what is asked for as data
+abbrev pub orders_asked : Asks → List Command
+orders_asked (asks.One order) = option_to_list (option_map setup_seen order)
+orders_asked (asks.Two first second) = option_to_list (option_map setup_seen first) ++ option_to_list (option_map setup_seen second)
 
 -- the orders that wait after an event
 abbrev pub waiting : Here → List Command → Deed → List Command
 waiting h held d = with_orders held (asked_by_deed h d)
+
+-- the orders may join one after the other
+abbrev pub AllJoin : List Command → List Command → Type 0
+AllJoin held [] = Unit {0}
+AllJoin held (order ∷ later) = (can_join held order ≡ true) × AllJoin (with_order held order) later
 
 -- the order may be written, and is a new game or sets an option
 abbrev pub IsHeld : Command → Type 0
@@ -54,12 +67,6 @@ IsHeld order = ⊥
 
 abbrev pub AreHeld : List Command → Type 0
 AreHeld os = AllByRecursion IsHeld os
-
--- the lines are those of such orders
-pub record AreHeldLines (lines : List (List ℕ)) : Type 0 where
-  pub orders : List Command
-  pub lines_are : lines ≡ map command_text orders
-  pub held : AreHeld orders
 
 -- SEARCHES
 

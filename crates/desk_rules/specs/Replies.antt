@@ -15,6 +15,7 @@ use Rattle.cecp_lines.specs.declared.reply.Reason.TheVariants as reasons
 use Rattle.cecp_lines.specs.declared.reply.Tell.TheVariants as tell
 use Rattle.cecp_lines.specs.declared.reply.Outcome.{Outcome}
 use Rattle.cecp_lines.specs.declared.reply.Outcome.TheVariants as outcomes
+use Rattle.uci_lines.specs.Says.{Facts}
 use Rattle.game_record.specs.declared.ending.End.{End}
 use Rattle.game_record.specs.declared.ending.End.TheVariants as ends
 use Rattle.game_record.specs.Course.{Course, now_of}
@@ -93,6 +94,20 @@ row_accepted h says.Hint = hint_row h.desk.hint
 row_accepted h says.Dot = stat01_of h.desk.seen (now_of h.desk.game) ∷ []
 row_accepted h m = []
 
+-- of these lines, what is said of the desk before the line, and of the desk after it
+abbrev pub row_before : Here → Message → List Told
+row_before h (says.Protover n) = protover_row (answer (is_boot h.engine)) h.desk
+row_before h says.Draw = draw_row h
+row_before h says.Hint = hint_row h.desk.hint
+row_before h says.Dot = stat01_of h.desk.seen (now_of h.desk.game) ∷ []
+row_before h m = []
+
+abbrev pub row_after : Desk → Message → List Told
+row_after d (says.UserMove m) = result_at d
+row_after d says.Go = result_at d
+row_after d says.PlayOther = result_at d
+row_after d m = []
+
 -- whether thinking lines of a search are written
 abbrev pub is_told : Here → GoKind → Bool
 is_told h kinds.Analyse = true
@@ -110,18 +125,34 @@ list_where b d = if b then feature_list (table d) d.name else []
 abbrev pub resign_where : Bool → List Told
 resign_where b = if b then told.Resign ∷ [] else []
 
+-- a thinking line, if it is shown
+abbrev pub thought : Here → GoKind → Facts → List Told
+thought h k facts =
+    if is_told h k then option_to_list (thinking_line facts (now_of (searched_by k h.desk.game h.desk.hint)) (named_hint k h.desk.hint)) else []
+
+-- a move that is shown
+abbrev pub shown_row : Here → Move → List Told
+shown_row h best = told.Move best ∷ (result_of (played h.desk.game best) ++ resign_where (resigns_after h best))
+
+-- the end of the engine
+abbrev pub end_row : Here → List Told
+end_row h = list_where h.desk.due h.desk ++ (told.TellError tell.Ended ∷ resign_where (resigns_at_end h))
+
 -- the lines of what comes of an event, but for pongs
 unfoldable pub row : Here → Deed → List Told
 row h (Refuses refusal line) = refused refusal line ∷ []
 row h LongLine = told.Error reasons.LineTooLong dots ∷ []
 row h (Accepts m) = row_accepted h m
 row h Boots = list_where h.desk.due (record h.desk { booted = true })
-row h (Thinks k facts) = if is_told h k then option_to_list (thinking_line facts (now_of (searched_by k h.desk.game h.desk.hint)) (named_hint k h.desk.hint)) else []
-row h (Shows best hint) = told.Move best ∷ (result_of (played h.desk.game best) ++ resign_where (resigns_after h best))
+row h (Thinks k facts) = thought h k facts
+row h (Shows best hint) = shown_row h best
 row h Forfeits = told.TellError tell.Move ∷ told.Resign ∷ []
-row h Dies = list_where h.desk.due h.desk ++ (told.TellError tell.Ended ∷ resign_where (resigns_at_end h))
+row h Dies = end_row h
 row h d = []
 
 -- all lines of a step: its row, then the pongs
 abbrev pub replies_of : Bool → Bool → Here → Deed → List Told
 replies_of closed owes h d = if closed then [] else row h d ++ (if owes then [] else map told.Pong (desk_after_deed h d).pings)
+
+abbrev pub pongs : Bool → List ℕ → List Told
+pongs b pings = if b then map told.Pong pings else []

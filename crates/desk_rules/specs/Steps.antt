@@ -9,6 +9,8 @@ use Rattle.peer_words.specs.declared.kinds.GoKind.TheVariants as kinds
 use Rattle.cecp_lines.specs.Messages.{Message, message_of}
 use Rattle.cecp_lines.specs.Messages as says
 use Rattle.cecp_lines.specs.Reading.{reading}
+use Rattle.cecp_lines.specs.Quit.{is_quit}
+use Rattle.uci_lines.specs.Orders.{Command}
 use Rattle.uci_lines.specs.Says.{Says, Facts, Shape, facts_of, shape_of}
 use Rattle.uci_lines.specs.Says as hears
 use Rattle.uci_lines.specs.Engine.{engine_message}
@@ -16,7 +18,8 @@ use Rattle.game_record.specs.Course.{Course, now_of}
 use Rattle.think_text.specs.Kept.{nothing_seen, after_info}
 use Rattle.option_map.specs.Settings.{after_declared}
 use Rattle.feature_talk.specs.Features.{shown_name}
-use Rattle.policy_rules.specs.Scores.{Score}
+use Rattle.policy_rules.specs.declared.scores.Scores.{Scores}
+use Rattle.policy_rules.specs.Scores.{Score, no_scores, after_shown}
 use Rattle.search_epochs.specs.declared.words.Call.{Call}
 use Rattle.search_epochs.specs.declared.words.Said.TheVariants as said
 use Rattle.search_epochs.specs.declared.words.EngineState.{EngineState}
@@ -98,8 +101,8 @@ engine_says h hears.Nothing = Nothing
 abbrev pub dies : EngineState → Deed
 dies e = if is_gone e then Nothing else Dies
 
--- The held lines tell only whether a line that asks fits.
-unfoldable pub comes : Here → List (List ℕ) → Event → Deed
+-- The held orders say only whether what a line asks for fits.
+unfoldable pub comes : Here → List Command → Event → Deed
 comes h held events.Open = Opens
 comes h held (events.Iface line) = if h.closed then Nothing else line_deed (verdict h held (reading line)) line
 comes h held events.IfaceLong = if h.closed then Nothing else LongLine
@@ -109,6 +112,11 @@ comes h held (events.Engine line) = if h.closed then Nothing else engine_says h 
 comes h held events.EngineLong = Nothing
 comes h held events.EngineEnd = dies h.engine
 comes h held events.EngineLost = dies h.engine
+
+-- the interface sends `quit`
+abbrev pub quits : Event → Bool
+quits (events.Iface line) = is_quit line
+quits e = false
 
 -- WHAT IT IS TO THE DIALOGUE
 
@@ -175,6 +183,10 @@ abbrev pub is_death : Deed → Bool
 is_death Dies = true
 is_death d = false
 
+abbrev pub is_boots : Deed → Bool
+is_boots Boots = true
+is_boots d = false
+
 -- the call after an event
 abbrev pub call_after : Bool → Here → Deed → Call
 call_after closed h d = call_of closed (is_gone h.engine || is_death d) (desk_after_deed h d)
@@ -199,3 +211,9 @@ abbrev pub scores_after : Here → Deed → List Score → List Score
 scores_after h (Accepts m) scores = if clears_scores m then [] else scores
 scores_after h (Shows best hint) scores = h.desk.seen.score ∷ scores
 scores_after h d scores = scores
+
+-- what is counted of them after a deed
+abbrev pub counts_after : Score → Deed → Scores → Scores
+counts_after score (Accepts m) scores = if clears_scores m then no_scores scores.settings else scores
+counts_after score (Shows best hint) scores = after_shown scores score
+counts_after score d scores = scores

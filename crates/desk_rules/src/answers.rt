@@ -7,19 +7,17 @@ ghost use Rattle.cecp_lines.specs.Replies.{told_of, HasWritableMoves, IsWritable
 ghost use Rattle.cecp_lines.specs.Replies as told;
 ghost use Rattle.cecp_lines.specs.declared.reply.Tell.TheVariants as tell;
 ghost use Rattle.uci_lines.specs.Says.{Info as SaysInfo, facts_of};
-ghost use Rattle.game_record.specs.Course.{now_of, ply_of, with_ply, IsPlayable};
 ghost use Rattle.think_text.specs.Line.{thinking_line};
 ghost use Rattle.think_text.specs.Kept.{stat01_of};
 ghost use Rattle.feature_talk.specs.Due.{answer};
 ghost use Rattle.feature_talk.specs.Features.{feature_list, told_line, told_lines};
 ghost use Rattle.desk_rules.specs.Desk.{at, table};
-ghost use Rattle.desk_rules.specs.Steps.{deed_of, searched_by, resigns_after, resigns_at_end};
-ghost use Rattle.desk_rules.specs.Replies.{refused, outcome_of, result_by, result_of, protover_row, offer_where, draw_row, hint_row, row_accepted, is_told, named_hint, list_where, resign_where, row};
-ghost use Rattle.desk_rules.specs.Fits.{IsHintPlayable, IsSound, IsFit, IsSaid, IsTellable, CanEnter};
+ghost use Rattle.desk_rules.specs.Replies.{refused, outcome_of, result_by, result_of, protover_row, offer_where, draw_row, hint_row, row_before, row_after, is_told, named_hint, list_where, resign_where};
+ghost use Rattle.desk_rules.specs.Fits.{IsSound, IsSaid, IsTellable};
+ghost use Rattle.desk_rules.specs.declared.sizes.TheConstants.{ENGINE_END, ERROR_REPLY, FEATURE_LIST, PEER_LINE, SHORT_REPLY, SHOWN_MOVE, THINKING_LINE};
 
-use crate::after::position_after;
 use crate::call::{has_ended, is_boot, on_move, plays};
-use crate::{Deed, Desk, Refusal, Sight};
+use crate::{Desk, Refusal, Sight};
 use cecp_lines::{IfaceMsg, Outcome, Reason, Reply, Tell, write_reply};
 use chess_board::{Move, Position, Side};
 use feature_talk::{write_bare_list, write_list};
@@ -44,29 +42,29 @@ fn put_short(reply: &Reply, out: &mut Out)
     requires moves { HasWritableMoves (told_of reply.now) }
     requires numbers { HasNumbers (told_of reply.now) }
     requires plain { borrowed (told_of reply.now) ≡ 0 }
-    requires room { length out.old.text + 129 ≤ out.old.room }
+    requires room { length out.old.text + SHORT_REPLY ≤ out.old.room }
     ensures line { out.new ≡ with out.old (told_lines (told_of reply.now ∷ [])) }
-    ensures short { length (told_lines (told_of reply.now ∷ [])) ≤ 129 }
+    ensures short { length (told_lines (told_of reply.now ∷ [])) ≤ SHORT_REPLY }
 {
     put_reply(reply, out);
 }
 
-fn put_error(reason: Reason, line: &[u8], out: &mut Out)
-    requires line { length line.now ≤ 65536 }
-    requires room { length out.old.text + 65600 ≤ out.old.room }
+pub(crate) fn put_error(reason: Reason, line: &[u8], out: &mut Out)
+    requires line { length line.now ≤ PEER_LINE }
+    requires room { length out.old.text + ERROR_REPLY ≤ out.old.room }
     ensures line { out.new ≡ with out.old (told_lines (told.Error reason line.now ∷ [])) }
-    ensures short { length (told_lines (told.Error reason line.now ∷ [])) ≤ 65600 }
+    ensures short { length (told_lines (told.Error reason line.now ∷ [])) ≤ ERROR_REPLY }
 {
     put_reply(&Reply::Error { reason, line }, out);
 }
 
 // Refuses a line.
-fn put_refused(refusal: Refusal, line: &[u8], out: &mut Out)
+pub(crate) fn put_refused(refusal: Refusal, line: &[u8], out: &mut Out)
     requires moves { IsTellable refusal }
-    requires line { length line.now ≤ 65536 }
-    requires room { length out.old.text + 65600 ≤ out.old.room }
+    requires line { length line.now ≤ PEER_LINE }
+    requires room { length out.old.text + ERROR_REPLY ≤ out.old.room }
     ensures line { out.new ≡ with out.old (told_lines (refused refusal line.now ∷ [])) }
-    ensures short { length (told_lines (refused refusal line.now ∷ [])) ≤ 65600 }
+    ensures short { length (told_lines (refused refusal line.now ∷ [])) ≤ ERROR_REPLY }
 {
     match refusal {
         Refusal::Because(reason) => put_error(reason, trim(line), out),
@@ -90,29 +88,28 @@ fn outcome_of(side: Side, end: End) -> Outcome
 }
 
 fn put_result(side: Side, end: Option<End>, out: &mut Out)
-    requires { length out.old.text + 129 ≤ out.old.room }
+    requires { length out.old.text + SHORT_REPLY ≤ out.old.room }
     ensures line { out.new ≡ with out.old (told_lines (result_by side end)) }
-    ensures short { length (told_lines (result_by side end)) ≤ 129 }
+    ensures short { length (told_lines (result_by side end)) ≤ SHORT_REPLY }
 {
     if let Some(end) = end {
         put_short(&Reply::Result(outcome_of(side, end)), out);
     }
 }
 
-// Puts the result that the game has after a move.
-fn put_result_after(game: &Game, m: Move, out: &mut Out)
-    requires legal { IsPlayable (now_of game.now) (ply_of m) }
-    requires room { length out.old.text + 129 ≤ out.old.room }
-    ensures line { out.new ≡ with out.old (told_lines (result_of (with_ply game.now (ply_of m)))) }
-    ensures short { length (told_lines (result_of (with_ply game.now (ply_of m)))) ≤ 129 }
+// Puts the result that a game has.
+pub(crate) fn put_result_of(game: &Game, out: &mut Out)
+    requires { length out.old.text + SHORT_REPLY ≤ out.old.room }
+    ensures line { out.new ≡ with out.old (told_lines (result_of game.now)) }
+    ensures short { length (told_lines (result_of game.now)) ≤ SHORT_REPLY }
 {
-    put_result(position_after(game, m).side(), game.ended_after(m), out);
+    put_result(on_move(game), game.ended(), out);
 }
 
 fn put_resign(resigns: bool, out: &mut Out)
-    requires { length out.old.text + 129 ≤ out.old.room }
+    requires { length out.old.text + SHORT_REPLY ≤ out.old.room }
     ensures line { out.new ≡ with out.old (told_lines (resign_where resigns)) }
-    ensures short { length (told_lines (resign_where resigns)) ≤ 129 }
+    ensures short { length (told_lines (resign_where resigns)) ≤ SHORT_REPLY }
 {
     if resigns {
         put_short(&Reply::Resign, out);
@@ -120,9 +117,9 @@ fn put_resign(resigns: bool, out: &mut Out)
 }
 
 fn put_offer(offers: bool, out: &mut Out)
-    requires { length out.old.text + 129 ≤ out.old.room }
+    requires { length out.old.text + SHORT_REPLY ≤ out.old.room }
     ensures line { out.new ≡ with out.old (told_lines (offer_where offers)) }
-    ensures short { length (told_lines (offer_where offers)) ≤ 129 }
+    ensures short { length (told_lines (offer_where offers)) ≤ SHORT_REPLY }
 {
     if offers {
         put_short(&Reply::OfferDraw, out);
@@ -131,9 +128,9 @@ fn put_offer(offers: bool, out: &mut Out)
 
 fn put_hint(hint: Option<Move>, out: &mut Out)
     requires hint { IfSome hint IsWritable }
-    requires room { length out.old.text + 129 ≤ out.old.room }
+    requires room { length out.old.text + SHORT_REPLY ≤ out.old.room }
     ensures line { out.new ≡ with out.old (told_lines (hint_row hint)) }
-    ensures short { length (told_lines (hint_row hint)) ≤ 129 }
+    ensures short { length (told_lines (hint_row hint)) ≤ SHORT_REPLY }
 {
     if let Some(hint) = hint {
         put_short(&Reply::Hint(hint), out);
@@ -142,10 +139,11 @@ fn put_hint(hint: Option<Move>, out: &mut Out)
 
 fn put_stat(seen: &Seen, at: &Position, out: &mut Out)
     requires current { IfSome seen.now.current IsWritable }
-    requires room { length out.old.text + 129 ≤ out.old.room }
+    requires room { length out.old.text + SHORT_REPLY ≤ out.old.room }
     ensures line { out.new ≡ with out.old (told_lines (stat01_of seen.now at.now ∷ [])) }
-    ensures short { length (told_lines (stat01_of seen.now at.now ∷ [])) ≤ 129 }
+    ensures short { length (told_lines (stat01_of seen.now at.now ∷ [])) ≤ SHORT_REPLY }
 {
+    // Read for the proof alone: each number fits its type, so the line is short.
     let _depth = seen.depth;
     let _time = seen.time;
     let _nodes = seen.nodes;
@@ -154,12 +152,15 @@ fn put_stat(seen: &Seen, at: &Position, out: &mut Out)
     out.put(b"\n");
 }
 
-fn put_thinking(info: &Info, at: &Position, hint: Option<Move>, out: &mut Out)
+pub(crate) fn put_thinking(info: &Info, at: &Position, hint: Option<Move>, out: &mut Out)
     requires said { IsSaid (SaysInfo (facts_of info.now)) }
     requires hint { IfSome hint IsWritable }
-    requires room { length out.old.text + 65700 ≤ out.old.room }
-    ensures line { out.new ≡ with out.old (told_lines (option_to_list (thinking_line (facts_of info.now) at.now hint))) }
-    ensures short { length (told_lines (option_to_list (thinking_line (facts_of info.now) at.now hint))) ≤ 65700 }
+    requires room { length out.old.text + THINKING_LINE ≤ out.old.room }
+    ensures line { out.new
+        ≡ with out.old
+        (told_lines (option_to_list (thinking_line (facts_of info.now) at.now hint))) }
+    ensures short { length (told_lines (option_to_list
+        (thinking_line (facts_of info.now) at.now hint))) ≤ THINKING_LINE }
 {
     if thinking(info, at, hint, out) {
         out.put(b"\n");
@@ -167,7 +168,7 @@ fn put_thinking(info: &Info, at: &Position, hint: Option<Move>, out: &mut Out)
 }
 
 // A thinking line of a Ponder search names the hint.
-fn named_hint(kind: GoKind, hint: Option<Move>) -> Option<Move>
+pub(crate) fn named_hint(kind: GoKind, hint: Option<Move>) -> Option<Move>
     ensures { result ≡ named_hint kind hint }
 {
     match kind {
@@ -178,11 +179,15 @@ fn named_hint(kind: GoKind, hint: Option<Move>) -> Option<Move>
 
 impl Desk {
     fn put_list(&self, booted: bool, out: &mut Out)
-        requires { length out.old.text + 67000 ≤ out.old.room }
-        ensures lines { out.new ≡ with out.old (told_lines (feature_list (table (record self.now { booted = booted })) self.now.name)) }
-        ensures short { length (told_lines (feature_list (table (record self.now { booted = booted })) self.now.name)) ≤ 67000 }
+        requires { length out.old.text + FEATURE_LIST ≤ out.old.room }
+        ensures lines { out.new
+            ≡ with out.old
+            (told_lines (feature_list (table (record self.now { booted = booted })) self.now.name)) }
+        ensures short { length (told_lines (feature_list
+            (table (record self.now { booted = booted })) self.now.name)) ≤ FEATURE_LIST }
     {
         if booted {
+            // Read for the proof alone: the list is short.
             let _few = (self.options.text(), self.options.count());
             write_list(&self.options, self.name.text(), out);
         } else {
@@ -190,10 +195,13 @@ impl Desk {
         }
     }
 
-    fn put_due_list(&self, booted: bool, out: &mut Out)
-        requires { length out.old.text + 67000 ≤ out.old.room }
-        ensures lines { out.new ≡ with out.old (told_lines (list_where self.now.due (record self.now { booted = booted }))) }
-        ensures short { length (told_lines (list_where self.now.due (record self.now { booted = booted }))) ≤ 67000 }
+    pub(crate) fn put_due_list(&self, booted: bool, out: &mut Out)
+        requires { length out.old.text + FEATURE_LIST ≤ out.old.room }
+        ensures lines { out.new
+            ≡ with out.old
+            (told_lines (list_where self.now.due (record self.now { booted = booted }))) }
+        ensures short { length (told_lines (list_where self.now.due
+            (record self.now { booted = booted }))) ≤ FEATURE_LIST }
     {
         if self.due.is_due() {
             self.put_list(booted, out);
@@ -201,9 +209,9 @@ impl Desk {
     }
 
     fn put_protover(&self, boot: bool, out: &mut Out)
-        requires { length out.old.text + 67000 ≤ out.old.room }
+        requires { length out.old.text + FEATURE_LIST ≤ out.old.room }
         ensures lines { out.new ≡ with out.old (told_lines (protover_row (answer boot) self.now)) }
-        ensures short { length (told_lines (protover_row (answer boot) self.now)) ≤ 67000 }
+        ensures short { length (told_lines (protover_row (answer boot) self.now)) ≤ FEATURE_LIST }
     {
         if boot {
             out.put(b"feature done=0\n");
@@ -212,25 +220,17 @@ impl Desk {
         }
     }
 
-    // Puts the lines of an accepted message.
-    #[tactic(auto, unfolding(crate::specs::Replies::row_accepted, crate::specs::Lines::change))]
-    fn put_accepted(&self, sight: Sight, message: &IfaceMsg, out: &mut Out)
+    // Puts the lines of an accepted message that tell of the desk before it.
+    pub(crate) fn put_before(&self, sight: Sight, message: &IfaceMsg, out: &mut Out)
         requires sound { IsSound self.now }
-        requires legal { CanEnter self.now.game (message_of message.now) }
-        requires room { length out.old.text + 67000 ≤ out.old.room }
-        ensures lines { out.new ≡ with out.old (told_lines (row_accepted (at sight self.now) (message_of message.now))) }
-        ensures short { length (told_lines (row_accepted (at sight self.now) (message_of message.now))) ≤ 67000 }
+        requires room { length out.old.text + FEATURE_LIST ≤ out.old.room }
+        ensures lines { out.new
+            ≡ with out.old (told_lines (row_before (at sight self.now) (message_of message.now))) }
+        ensures short { length (told_lines (row_before (at sight self.now)
+            (message_of message.now))) ≤ FEATURE_LIST }
     {
         match message {
             IfaceMsg::Protover(_) => self.put_protover(is_boot(sight.engine), out),
-            IfaceMsg::UserMove(m) => {
-                if plays(self.mode) {
-                    put_result_after(&self.game, *m, out);
-                }
-            }
-            IfaceMsg::Go | IfaceMsg::PlayOther => {
-                put_result(on_move(&self.game), self.game.ended(), out);
-            }
             IfaceMsg::Draw => put_offer(
                 plays(self.mode) && !has_ended(self.game.ended()) && sight.accepts,
                 out,
@@ -241,8 +241,25 @@ impl Desk {
         }
     }
 
+    // Puts the lines of an accepted message that tell of the desk after it: the result, if the desk plays.
+    pub(crate) fn put_after(&self, message: &IfaceMsg, out: &mut Out)
+        requires { length out.old.text + SHORT_REPLY ≤ out.old.room }
+        ensures lines { out.new
+            ≡ with out.old (told_lines (row_after self.now (message_of message.now))) }
+        ensures short { length (told_lines (row_after self.now (message_of message.now))) ≤ SHORT_REPLY }
+    {
+        match message {
+            IfaceMsg::UserMove(_) | IfaceMsg::Go | IfaceMsg::PlayOther => {
+                if plays(self.mode) {
+                    put_result_of(&self.game, out);
+                }
+            }
+            _ => {}
+        }
+    }
+
     // Whether thinking lines of a search are written.
-    fn is_told(&self, sight: Sight, kind: GoKind) -> bool
+    pub(crate) fn is_told(&self, sight: Sight, kind: GoKind) -> bool
         ensures { result ≡ is_told (at sight self.now) kind }
     {
         match kind {
@@ -252,69 +269,46 @@ impl Desk {
         }
     }
 
-    fn put_thought(&self, kind: GoKind, info: &Info, out: &mut Out)
-        requires sound { IsSound self.now }
-        requires said { IsSaid (SaysInfo (facts_of info.now)) }
-        requires room { length out.old.text + 65700 ≤ out.old.room }
-        ensures line { out.new ≡ with out.old (told_lines (option_to_list (thinking_line (facts_of info.now) (now_of (searched_by kind self.now.game self.now.hint)) (named_hint kind self.now.hint)))) }
-        ensures short { length (told_lines (option_to_list (thinking_line (facts_of info.now) (now_of (searched_by kind self.now.game self.now.hint)) (named_hint kind self.now.hint)))) ≤ 65700 }
-    {
-        let at = self.searched(kind);
-        put_thinking(info, &at, named_hint(kind, self.hint), out);
-    }
-
-    // Shows a move.
-    fn put_shown(&self, sight: Sight, best: Move, out: &mut Out)
-        requires legal { IsPlayable (now_of self.now.game) (ply_of best) }
-        requires room { length out.old.text + 400 ≤ out.old.room }
-        ensures lines { out.new ≡ with out.old (told_lines (told.Move best ∷ (result_of (with_ply self.now.game (ply_of best)) ++ resign_where (resigns_after (at sight self.now) best)))) }
-        ensures short { length (told_lines (told.Move best ∷ (result_of (with_ply self.now.game (ply_of best)) ++ resign_where (resigns_after (at sight self.now) best)))) ≤ 400 }
-    {
-        put_short(&Reply::Move(best), out);
-        put_result_after(&self.game, best, out);
-        put_resign(self.resigns_after(sight, best), out);
-    }
-
-    // Tells that the engine ended.
-    fn put_end(&self, sight: Sight, out: &mut Out)
-        requires hint { IsHintPlayable self.now }
-        requires room { length out.old.text + 67400 ≤ out.old.room }
-        ensures lines { out.new ≡ with out.old (told_lines (list_where self.now.due self.now ++ (told.TellError tell.Ended ∷ resign_where (resigns_at_end (at sight self.now))))) }
-        ensures short { length (told_lines (list_where self.now.due self.now ++ (told.TellError tell.Ended ∷ resign_where (resigns_at_end (at sight self.now))))) ≤ 67400 }
+    // Writes that the engine ended.
+    pub(crate) fn put_end(&self, resigns: bool, out: &mut Out)
+        requires { length out.old.text + ENGINE_END ≤ out.old.room }
+        ensures lines { out.new
+            ≡ with out.old
+            (told_lines (list_where self.now.due self.now
+            ++ (told.TellError tell.Ended ∷ resign_where resigns))) }
+        ensures short { length (told_lines (list_where self.now.due self.now
+            ++ (told.TellError tell.Ended ∷ resign_where resigns))) ≤ ENGINE_END }
     {
         self.put_due_list(self.booted, out);
         put_short(&Reply::TellError(Tell::Ended), out);
-        put_resign(self.resigns_at_end(sight), out);
+        put_resign(resigns, out);
     }
+}
 
-    /// Puts the lines of a deed, but for pongs.
-    #[tactic(auto, unfolding(crate::specs::Replies::row))]
-    pub fn put_row(&self, sight: Sight, deed: &Deed, out: &mut Out)
-        requires sound { IsSound self.now }
-        requires fits { IsFit (at sight self.now) (deed_of deed.now) }
-        requires room { length out.old.text + 70000 ≤ out.old.room }
-        ensures lines { out.new ≡ with out.old (told_lines (row (at sight self.now) (deed_of deed.now))) }
-        ensures short { length (told_lines (row (at sight self.now) (deed_of deed.now))) ≤ 70000 }
-    {
-        match deed {
-            Deed::Refuses { refusal, line } => put_refused(*refusal, line, out),
-            Deed::LongLine => put_error(Reason::LineTooLong, b"...", out),
-            Deed::Accepts(message) => self.put_accepted(sight, message, out),
-            Deed::Boots => self.put_due_list(true, out),
-            Deed::Thinks { kind, info } => {
-                if self.is_told(sight, *kind) {
-                    self.put_thought(*kind, info, out);
-                }
-            }
-            Deed::Shows { best, hint: _ } => self.put_shown(sight, *best, out),
-            Deed::Forfeits => {
-                put_short(&Reply::TellError(Tell::Move), out);
-                put_short(&Reply::Resign, out);
-            }
-            Deed::Dies => self.put_end(sight, out),
-            _ => {}
-        }
-    }
+// Shows a move, in the game after it.
+pub(crate) fn put_shown(best: Move, game: &Game, resigns: bool, out: &mut Out)
+    requires writable { IsWritable best }
+    requires room { length out.old.text + SHOWN_MOVE ≤ out.old.room }
+    ensures lines { out.new
+        ≡ with out.old
+        (told_lines (told.Move best ∷ (result_of game.now ++ resign_where resigns))) }
+    ensures short { length (told_lines (told.Move best
+        ∷ (result_of game.now ++ resign_where resigns))) ≤ SHOWN_MOVE }
+{
+    put_short(&Reply::Move(best), out);
+    put_result_of(game, out);
+    put_resign(resigns, out);
+}
+
+// Writes that the engine has lost by its answer.
+pub(crate) fn put_forfeit(out: &mut Out)
+    requires { length out.old.text + SHOWN_MOVE ≤ out.old.room }
+    ensures lines { out.new
+        ≡ with out.old (told_lines (told.TellError tell.Move ∷ told.Resign ∷ [])) }
+    ensures short { length (told_lines (told.TellError tell.Move ∷ told.Resign ∷ [])) ≤ SHOWN_MOVE }
+{
+    put_short(&Reply::TellError(Tell::Move), out);
+    put_short(&Reply::Resign, out);
 }
 
 fn put_pong(number: u32, out: &mut Out)

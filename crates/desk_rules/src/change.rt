@@ -1,16 +1,15 @@
 // What accepted lines of the interface change.
-ghost use Rattle.std.specs.Prelude.{◌≡◌, ◌<◌, ◌≤◌, length, Option, None};
-ghost use Rattle.std.specs.Option.{is_some};
+ghost use Rattle.std.specs.Prelude.{◌≡◌, ◌<◌, ◌≤◌, length, None};
 ghost use Rattle.chess_board.specs.Play.{start_position};
 ghost use Rattle.fen_text.specs.Fen.{position_of};
 ghost use Rattle.cecp_lines.specs.Messages.{message_of};
 ghost use Rattle.cecp_lines.specs.Reading.{CanBeRead};
-ghost use Rattle.uci_lines.specs.Orders.{Command};
 ghost use Rattle.game_record.specs.Course.{ply_of, begun, with_ply, without_last, now_of, IsPlayable};
 ghost use Rattle.clock_map.specs.Clocks.{after_new};
 ghost use Rattle.desk_rules.specs.Desk.{other};
-ghost use Rattle.desk_rules.specs.Lines.{is_epoch_line, new_mode, with_game, at_position, change, clears_scores};
+ghost use Rattle.desk_rules.specs.Lines.{new_mode, with_game, at_position, change, clears_scores};
 ghost use Rattle.desk_rules.specs.Fits.{CanChange};
+ghost use Rattle.game_record.specs.declared.game.TheConstants.{MOST_PLIES};
 
 use crate::call::on_move;
 use crate::{Desk, Mode};
@@ -20,7 +19,7 @@ use fen_text::read_fen;
 use game_record::Game;
 
 /// Whether an accepted line clears the scores of shown moves.
-pub fn clears_scores(message: &IfaceMsg) -> bool
+pub(crate) fn clears_scores(message: &IfaceMsg) -> bool
     ensures { result ≡ clears_scores (message_of message.now) }
 {
     matches!(
@@ -32,32 +31,6 @@ pub fn clears_scores(message: &IfaceMsg) -> bool
             | IfaceMsg::Remove
             | IfaceMsg::SetBoard(_)
     )
-}
-
-// Whether an accepted line begins an epoch, where a Move is owed or not before it, and it asks for an order or not.
-#[tactic(auto, unfolding(crate::specs::Lines::is_epoch_line))]
-pub(crate) fn is_epoch_line(owes: bool, asks: bool, message: &IfaceMsg) -> bool
-    ensures { (asked : Option Command) → asks ≡ is_some asked → result ≡ is_epoch_line owes asked (message_of message.now) }
-{
-    match message {
-        IfaceMsg::New
-        | IfaceMsg::Force
-        | IfaceMsg::Go
-        | IfaceMsg::PlayOther
-        | IfaceMsg::UserMove(_)
-        | IfaceMsg::Undo
-        | IfaceMsg::Remove
-        | IfaceMsg::SetBoard(_)
-        | IfaceMsg::Analyze
-        | IfaceMsg::Exit
-        | IfaceMsg::Result => true,
-        IfaceMsg::Hard | IfaceMsg::Easy => !owes,
-        IfaceMsg::SetOption { name: _, value: _ }
-        | IfaceMsg::Memory(_)
-        | IfaceMsg::Cores(_)
-        | IfaceMsg::EgtPath { kind: _, path: _ } => asks && !owes,
-        _ => false,
-    }
 }
 
 fn other(side: Side) -> Side
@@ -81,7 +54,7 @@ fn new_mode(mode: Mode) -> Mode
 /// Plays a move for which there is room.
 pub(crate) fn play(game: &mut Game, m: Move)
     requires legal { IsPlayable (now_of game.old) (ply_of m) }
-    requires room { length game.old.moves < 12000 }
+    requires room { length game.old.moves < MOST_PLIES }
     ensures { game.new ≡ with_ply game.old (ply_of m) }
 {
     let _ = game.push(m);
@@ -98,7 +71,7 @@ fn take_back(game: &mut Game, n: u32)
 impl Desk {
     fn enter(&mut self, m: Move)
         requires legal { IsPlayable (now_of self.old.game) (ply_of m) }
-        requires room { length self.old.game.moves < 12000 }
+        requires room { length self.old.game.moves < MOST_PLIES }
         ensures { self.new ≡ with_game self.old (with_ply self.old.game (ply_of m)) }
     {
         play(&mut self.game, m);
@@ -123,7 +96,13 @@ impl Desk {
     }
 
     fn begin_game(&mut self)
-        ensures { self.new ≡ record self.old { game = begun start_position; hint = None; mode = new_mode self.old.mode; clocks = after_new self.old.clocks } }
+        ensures { self.new
+            ≡ record self.old {
+              game = begun start_position;
+              hint = None;
+              mode = new_mode self.old.mode;
+              clocks = after_new self.old.clocks;
+            } }
     {
         self.game.reset(Position::start());
         self.hint = None;

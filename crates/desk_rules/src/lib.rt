@@ -14,15 +14,16 @@ mod name;
 mod orders;
 mod pings;
 mod refuse;
+mod sizes;
 #[cfg(test)]
 mod tests;
 
 pub use answers::put_pongs;
 pub use call::is_gone;
-pub use change::clears_scores;
-pub use deed::{Deed, Refusal, Sight};
+pub use deed::{Asks, Decision, Deed, Refusal, Ruling, Sight};
 pub use desk::Desk;
 pub use mode::Mode;
 pub use name::EngineName;
 pub use orders::put_chosen;
 pub use pings::Pings;
+pub use sizes::{STEP_ORDERS, STEP_REPLIES};

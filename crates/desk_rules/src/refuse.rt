@@ -1,12 +1,14 @@
 // Which lines of the interface are refused.
 ghost use Rattle.std.specs.Prelude.{◌≡◌};
+ghost use Rattle.std.specs.Option.{option_map};
 ghost use Rattle.chess_board.specs.Place.{legal};
 ghost use Rattle.cecp_lines.specs.Messages.{message_of};
 ghost use Rattle.game_record.specs.Course.{now_of};
 ghost use Rattle.option_map.specs.Asked.{asked};
-ghost use Rattle.desk_rules.specs.Desk.{at, table};
-ghost use Rattle.desk_rules.specs.Lines.{because, needs_engine, needs_analysis, lacks_moves, illegal_move, move_too_many, illegal_position, refused_option, does_not_fit, asks, pings_too_often, refusal};
-ghost use Rattle.desk_rules.specs.Fits.{IsHintPlayable, IsSound, IsRead};
+ghost use Rattle.option_map.specs.Data.{setup_seen, answer_seen};
+ghost use Rattle.desk_rules.specs.Desk.{at, table, is_gone};
+ghost use Rattle.desk_rules.specs.Lines.{because, needs_engine, needs_analysis, lacks_moves, illegal_move, move_too_many, illegal_position, refused_option, does_not_fit, asks as asks_for, pings_too_often, refusal};
+ghost use Rattle.desk_rules.specs.Fits.{IsHintPlayable};
 
 use crate::call::{analyses, is_full, is_gone};
 use crate::{Desk, Refusal, Sight};
@@ -14,8 +16,7 @@ use cecp_lines::{IfaceMsg, Reason};
 use chess_board::Move;
 use fen_text::read_fen;
 use game_record::Game;
-use line_io::Out;
-use option_map::{Held, OptFault};
+use option_map::{Asked, Held, OptFault, Setup};
 
 /// Whether a move is legal now.
 pub(crate) fn is_legal(game: &Game, m: Move) -> bool
@@ -97,31 +98,26 @@ fn illegal_position(message: &IfaceMsg) -> Option<Refusal>
     }
 }
 
+fn refused_option(answer: &Result<Option<Asked>, OptFault>) -> Option<Refusal>
+    ensures { result ≡ refused_option (answer_seen answer.now) }
+{
+    match answer {
+        Ok(_) => None,
+        Err(OptFault::UnknownOption) => because(Reason::UnknownOption),
+        Err(OptFault::BadValue) => because(Reason::BadValue),
+    }
+}
+
+fn does_not_fit(held: &Held, asks: &Option<Setup>) -> bool
+    ensures { result ≡ does_not_fit held.now (option_map setup_seen asks.now) }
+{
+    match asks {
+        Some(order) => !held.fits_order(order),
+        None => false,
+    }
+}
+
 impl Desk {
-    fn refused_option(&self, message: &IfaceMsg, scratch: &mut Out) -> Option<Refusal>
-        requires sound { IsSound self.now }
-        requires read { IsRead (message_of message.now) }
-        requires room { scratch.old.room ≡ 131072 }
-        ensures refusal { result ≡ refused_option (asked (table self.now) (message_of message.now)) }
-        ensures room { scratch.new.room ≡ scratch.old.room }
-    {
-        match self.translate(message, scratch) {
-            Ok(_) => None,
-            Err(OptFault::UnknownOption) => because(Reason::UnknownOption),
-            Err(OptFault::BadValue) => because(Reason::BadValue),
-        }
-    }
-
-    fn does_not_fit(&self, gone: bool, held: &Held, message: &IfaceMsg, scratch: &mut Out) -> bool
-        requires sound { IsSound self.now }
-        requires read { IsRead (message_of message.now) }
-        requires room { scratch.old.room ≡ 131072 }
-        ensures value { result ≡ does_not_fit held.now (asks gone self.now (message_of message.now)) }
-        ensures room { scratch.new.room ≡ scratch.old.room }
-    {
-        self.asks(gone, message, scratch) && !held.fits(scratch.bytes())
-    }
-
     fn pings_too_often(&self, sight: Sight, message: &IfaceMsg) -> bool
         requires { IsHintPlayable self.now }
         ensures { result ≡ pings_too_often (at sight self.now) (message_of message.now) }
@@ -132,20 +128,22 @@ impl Desk {
         }
     }
 
-    // Why a message is refused, if it is: the first that applies.
+    // Why a message is refused, if it is: the first that applies. `answer` is what sets an option by it, and `asks` what
+    // it asks for.
     #[tactic(auto, unfolding(crate::specs::Lines::refusal))]
     pub(crate) fn refusal(
         &self,
         sight: Sight,
         held: &Held,
         message: &IfaceMsg,
-        scratch: &mut Out,
+        answer: &Result<Option<Asked>, OptFault>,
+        asks: &Option<Setup>,
     ) -> Option<Refusal>
-        requires sound { IsSound self.now }
-        requires read { IsRead (message_of message.now) }
-        requires room { scratch.old.room ≡ 131072 }
-        ensures refusal { result ≡ refusal (at sight self.now) held.now (message_of message.now) }
-        ensures room { scratch.new.room ≡ scratch.old.room }
+        requires hint { IsHintPlayable self.now }
+        requires answer { answer_seen answer.now ≡ asked (table self.now) (message_of message.now) }
+        requires asks { option_map setup_seen asks.now
+            ≡ asks_for (is_gone sight.engine) self.now (message_of message.now) }
+        ensures { result ≡ refusal (at sight self.now) held.now (message_of message.now) }
     {
         if needs_engine(message) && is_gone(sight.engine) {
             return because(Reason::EngineEnded);
@@ -165,10 +163,10 @@ impl Desk {
         if let Some(refusal) = illegal_position(message) {
             return Some(refusal);
         }
-        if let Some(refusal) = self.refused_option(message, scratch) {
+        if let Some(refusal) = refused_option(answer) {
             return Some(refusal);
         }
-        if self.does_not_fit(is_gone(sight.engine), held, message, scratch) {
+        if does_not_fit(held, asks) {
             return because(Reason::TooManySettings);
         }
         if self.pings_too_often(sight, message) {

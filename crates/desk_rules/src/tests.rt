@@ -1,19 +1,21 @@
 // Events at a desk, one by one, with what comes of each and what follows.
-ghost use Rattle.std.specs.Prelude.{◌≡◌, ◌+◌, ◌≤◌, length, true, Some, IfOk};
+ghost use Rattle.std.specs.Prelude.{◌≡◌, ◌≤◌, length, true, Some, IfOk};
 ghost use Rattle.line_io.specs.Event.{event_of, is_line};
+ghost use Rattle.line_io.specs.Out.{empty};
 ghost use Rattle.peer_words.specs.declared.kinds.GoKind.{GoKind as AnyKind};
 ghost use Rattle.search_epochs.specs.Talk.{Serves};
 ghost use Rattle.desk_rules.specs.Desk.{at, current};
 ghost use Rattle.desk_rules.specs.Steps.{deed_of};
-ghost use Rattle.desk_rules.specs.Fits.{IsSound, IsHintPlayable, IsServed, IsLineEvent, Fits, CanHold};
+ghost use Rattle.desk_rules.specs.Fits.{IsSound, IsHintPlayable, IsServed, IsLineEvent, IsFit, CanHold};
 
 mod calls;
 mod turns;
 
-use crate::{Deed, Desk, Sight, is_gone};
-use line_io::{Event, Mark, NoMemory, Out, read_mark};
+use crate::{Deed, Desk, Ruling, Sight, is_gone};
+use line_io::{Event, NoMemory, Out};
 use option_map::Held;
 use peer_words::GoKind;
+use script_lines::{Mark, read_mark};
 use search_epochs::{Call, EngineState};
 use std::alloc::Global;
 use std::process::Abort;
@@ -45,7 +47,6 @@ const SIGHT: Sight = Sight {
 struct Bench {
     desk: Desk,
     held: Held,
-    scratch: Out,
     told: Out,
 }
 
@@ -120,9 +121,18 @@ fn can_hold(held: &Held, deed: &Deed) -> bool
     }
 }
 
-/// Whether the engine is Gone after a deed.
-fn is_lost(engine: EngineState, deed: &Deed) -> bool {
-    is_gone(engine) || matches!(deed, Deed::Dies)
+/// The line of an event is a line that a peer may send.
+fn expect_line_event(rt: &impl Abort, event: &Event)
+    ensures { IsLineEvent (event_of event.now) }
+{
+    assert!(rt; is_line_event(event));
+}
+
+/// There is room for the orders of a deed.
+fn expect_room(rt: &impl Abort, held: &Held, deed: &Deed)
+    ensures { CanHold held.now (deed_of deed.now) }
+{
+    assert!(rt; can_hold(held, deed));
 }
 
 fn word_of(deed: &Deed) -> &'static str {
@@ -144,23 +154,6 @@ fn word_of(deed: &Deed) -> &'static str {
     }
 }
 
-/// What comes of an event.
-fn seen<'a>(
-    desk: &Desk,
-    held: &Held,
-    sight: Sight,
-    event: &Event<'a>,
-    scratch: &mut Out,
-) -> Deed<'a>
-    requires sound { IsSound desk.now }
-    requires line { IsLineEvent (event_of event.now) }
-    requires room { scratch.old.room ≡ 131072 }
-    ensures fits { Fits (at sight desk.now) held.now (deed_of result) }
-    ensures room { scratch.new.room ≡ 131072 }
-{
-    desk.comes(sight, held, event, scratch)
-}
-
 impl Bench {
     fn make(alloc: Global) -> Result<Bench, NoMemory>
         ensures { IfOk result (λ bench. IsSound bench.desk) }
@@ -168,45 +161,52 @@ impl Bench {
         Ok(Bench {
             desk: Desk::make(alloc)?,
             held: Held::make(alloc)?,
-            scratch: Out::make(alloc, 131_072)?,
             told: Out::make(alloc, 131_072)?,
         })
     }
 
-    /// Sees an event, and does what comes of it. It gives the deed, whether the epoch rises and the call.
+    /// Decides what comes of an event, and does it. It gives the deed, whether an epoch begins and the call.
     fn take(&mut self, rt: &impl Abort, sight: Sight, event: &Event) -> (&'static str, bool, Call)
         requires { IsSound self.old.desk }
         ensures { IsSound self.new.desk }
     {
-        self.scratch.clear();
         self.told.clear();
-        assert!(rt; self.scratch.spare() == 131_072);
-        assert!(rt; self.told.spare() >= 70_000);
+        assert!(rt; self.told.spare() == 131_072);
         assert!(rt; self.desk.pings.len() <= 64);
-        assert!(rt; is_line_event(event));
+        expect_line_event(rt, event);
         assert!(rt; is_served(&self.desk, sight));
-        let deed = seen(&self.desk, &self.held, sight, event, &mut self.scratch);
-        assert!(rt; can_hold(&self.held, &deed));
-        self.follow(sight, &deed)
+        let decision = self.desk.decide(sight, &self.held, event);
+        expect_room(rt, &self.held, &decision.ruling.deed);
+        decision.asks.hold(&mut self.held);
+        let ruling = decision.ruling;
+        self.follow(sight, &ruling)
     }
 
-    fn follow(&mut self, sight: Sight, deed: &Deed) -> (&'static str, bool, Call)
-        requires sound { IsSound self.old.desk }
-        requires fits { Fits (at sight self.old.desk) self.old.held (deed_of deed.now) }
-        requires served { IsServed (at sight self.old.desk) }
-        requires pings { length self.old.desk.pings ≤ 64 }
-        requires holds { CanHold self.old.held (deed_of deed.now) }
-        requires scratch { self.old.scratch.room ≡ 131072 }
-        requires told { length self.old.told.text + 70000 ≤ self.old.told.room }
+    /// Compares the held orders.
+    fn check_held(&mut self, rt: &impl Abort, want: &str)
+        requires { IsSound self.old.desk }
         ensures { IsSound self.new.desk }
     {
-        let rises = self.desk.rises(sight, deed, &mut self.scratch);
-        self.desk.put_row(sight, deed, &mut self.told);
-        self.desk
-            .hold(sight, &mut self.held, deed, &mut self.scratch);
-        self.desk.take(sight, deed);
-        let call = self.desk.call(sight.closed, is_lost(sight.engine, deed));
-        (word_of(deed), rises, call)
+        self.told.clear();
+        self.held.facts();
+        assert!(rt; self.told.spare() == 131_072);
+        self.held.write(&mut self.told);
+        assert_eq!(rt; self.told.bytes(), want.as_bytes());
+    }
+
+    fn follow(&mut self, sight: Sight, ruling: &Ruling) -> (&'static str, bool, Call)
+        requires sound { IsSound self.old.desk }
+        requires fits { IsFit (at sight self.old.desk) (deed_of ruling.now.deed) }
+        requires served { IsServed (at sight self.old.desk) }
+        requires pings { length self.old.desk.pings ≤ 64 }
+        requires told { self.old.told ≡ empty 131072 }
+        ensures { IsSound self.new.desk }
+    {
+        let deed = &ruling.deed;
+        self.desk.commit(sight, deed, sight.closed, &mut self.told);
+        let gone = is_gone(sight.engine) || deed.is_death();
+        let call = self.desk.call(sight.closed, gone);
+        (word_of(deed), ruling.begins_epoch, call)
     }
 }
 

@@ -3,7 +3,8 @@ ghost use Rattle.std.specs.Prelude.{◌≡◌, true};
 ghost use Rattle.desk_rules.specs.Fits.{IsSound, CanSearch, CanWrite};
 
 use super::{Bench, MOVE, SIGHT, STALE, check_turns};
-use crate::{Desk, EngineName, Pings, clears_scores, is_gone, put_chosen, put_pongs};
+use crate::change::clears_scores;
+use crate::{Desk, EngineName, Pings, is_gone, put_chosen, put_pongs};
 use cecp_lines::read_iface;
 use chess_board::read_move;
 use game_record::Game;

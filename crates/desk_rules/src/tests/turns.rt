@@ -135,10 +135,7 @@ fn learns_what_the_engine_is(rt: HostRuntime) -> Result<(), Fail> {
     ];
     check_turns(&rt, &mut bench, SIGHT, &turns);
     assert!(rt; !bench.desk.due.is_due() && bench.desk.booted);
-    assert_eq!(rt;
-        bench.held.bytes(),
-        b"setoption name Ponder value true\n".as_slice()
-    );
+    bench.check_held(&rt, "setoption name Ponder value true\n");
     Ok(())
 }
 
@@ -288,10 +285,7 @@ fn ponders_on_the_hint(rt: HostRuntime) -> Result<(), Fail> {
     ];
     check_turns(&rt, &mut bench, SIGHT, &turns);
     // the value that was asked for last
-    assert_eq!(rt;
-        bench.held.bytes(),
-        b"setoption name Ponder value true\n".as_slice()
-    );
+    bench.check_held(&rt, "setoption name Ponder value true\n");
     let info = "u info depth 7 score cp 25 time 99 nodes 4000 pv b8c6 f1b5";
     let line = "7 25 9 4000 (g1f3) b8c6 f1b5\n";
     check_turns(
@@ -328,10 +322,7 @@ fn analyses(rt: HostRuntime) -> Result<(), Fail> {
         (Boot, "u uciok", "boots", false, Analyse, ""),
     ];
     check_turns(&rt, &mut bench, SIGHT, &turns);
-    assert_eq!(rt;
-        bench.held.bytes(),
-        b"setoption name UCI_AnalyseMode value true\n".as_slice()
-    );
+    bench.check_held(&rt, "setoption name UCI_AnalyseMode value true\n");
     let stat = "stat01: 420 900000 12 17 20 e2e4\n";
     let turns = [
         (searching, info, "thinks", false, Analyse, ""),
@@ -341,10 +332,7 @@ fn analyses(rt: HostRuntime) -> Result<(), Fail> {
         (Idle, "x exit", "accepts", true, Nothing, ""),
     ];
     check_turns(&rt, &mut bench, SIGHT, &turns);
-    assert_eq!(rt;
-        bench.held.bytes(),
-        b"setoption name UCI_AnalyseMode value false\n".as_slice()
-    );
+    bench.check_held(&rt, "setoption name UCI_AnalyseMode value false\n");
     assert_eq!(rt;
         (bench.desk.mode, bench.desk.game.plies()),
         (Mode::Force, 1)

@@ -3,18 +3,14 @@ use Rattle.line_io.specs.Event.{event_of}
 use Rattle.adapter_core.specs.Ends.{may}
 use Rattle.adapter_core.specs.View.{View}
 use Rattle.adapter_core.specs.Stands.{Keeps, Extends}
-use Rattle.adapter_core.proofs.Closing.{line_event}
 use Rattle.adapter_core.proofs.Holds.{extends_to}
 use Rattle.adapter_core.proofs.Keeps.{is_ready, keeps}
 use Rattle.adapter_core.proofs.session.Core.take.Goals as goal
 
-pub take-requires-clause-line : goal.take-requires-clause-line
-take-requires-clause-line c = line_event c.args.self.now.ends (event_of c.args.event.now) c.requires
-
-pub take-requires-clause-ready : goal.take-requires-clause-ready
-take-requires-clause-ready c =
+pub take-requires : goal.take-requires
+take-requires c =
     let m = subst (λ (v : View). may v.ends (event_of c.args.event.now) ≡ true) (sym c.self.view_is) c.requires in
-    is_ready c.self.inside.parts (event_of c.args.event.now) c.self.invariant m
+    record { ready = is_ready c.self.inside.parts (event_of c.args.event.now) c.self.invariant m }
 
 pub invariant_of-self : goal.invariant_of-self
 invariant_of-self c =

@@ -10,10 +10,10 @@ use Rattle.adapter_core.proofs.session.Parts.go_on.Goals as goal
 
 pub put_orders-requires-clause-search : goal.put_orders-requires-clause-search
 put_orders-requires-clause-search c =
-    let d = c.take.new.self in
-    let w = what_of (deed_of c.args.deed.now) in
-    let hint : IsHintPlayable d = subst IsHintPlayable (sym c.take.ensures) c.requires.ready.sound_then.hint in
+    let d = c.commit.new.self in
+    let w = what_of (deed_of c.args.ruling.now.deed) in
+    let hint : IsHintPlayable d = subst IsHintPlayable (sym c.commit.ensures.desk) c.requires.follow.sound_then.hint in
     let search : CanSearch d.game c.call-call.result = subst (CanSearch d.game) (sym c.call-call.ensures) (call_search _ _ d hint) in
     let written = settled_writes d.game c.args.self.now.talk c.call-call.result (c.is_open.result || c.after-self.result.closed) c.is_unsent-unsent.result (played_of w) (is_hurry w) search in
     let writes : CanWrite d.game c.choose-orders.result = subst (CanWrite d.game) (sym c.choose-orders.ensures.orders) written in
-    subst (λ (g : Course). CanWrite g c.choose-orders.result) (sym (ap (λ (x : Desk). x.game) c.settle_desk.ensures.desk)) writes
+    subst (λ (g : Course). CanWrite g c.choose-orders.result) (sym (ap (λ (x : Desk). x.game) c.finish.ensures.desk)) writes

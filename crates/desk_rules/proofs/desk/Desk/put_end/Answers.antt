@@ -1,4 +1,4 @@
-use Rattle.std.proofs.Common.{Bool, List, [], ◌∷◌, ◌++◌, ap, ◌∙◌, append_assoc}
+use Rattle.std.proofs.Common.{List, [], ◌∷◌, ◌++◌, ap, ◌∙◌, append_assoc}
 use Rattle.line_io.specs.Out.{with}
 use Rattle.cecp_lines.specs.Replies.{Told}
 use Rattle.cecp_lines.specs.Replies as told
@@ -13,6 +13,5 @@ returns-clause-lines c =
     let list = list_where c.args.self.now.due c.args.self.now in
     let ended : List Told = told.TellError tell.Ended ∷ [] in
     let front = two_lines c.args.out.now c.put_due_list.new.out c.put_short.new.out list ended c.put_due_list.ensures.lines c.put_short.ensures.line in
-    two_lines c.args.out.now c.put_short.new.out c.put_resign.new.out (list ++ ended) (resign_where c.resigns_at_end.result) front c.put_resign.ensures.line
-    ∙ ap (λ (ts : List Told). with c.args.out.now (told_lines ts)) (append_assoc list ended (resign_where c.resigns_at_end.result))
-    ∙ ap (λ (b : Bool). with c.args.out.now (told_lines (list ++ (told.TellError tell.Ended ∷ resign_where b)))) c.resigns_at_end.ensures
+    two_lines c.args.out.now c.put_short.new.out c.put_resign.new.out (list ++ ended) (resign_where c.args.resigns) front c.put_resign.ensures.line
+    ∙ ap (λ (ts : List Told). with c.args.out.now (told_lines ts)) (append_assoc list ended (resign_where c.args.resigns))

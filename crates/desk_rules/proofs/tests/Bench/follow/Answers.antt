@@ -8,10 +8,10 @@ use Rattle.desk_rules.proofs.tests.Bench.follow.Goals as goal
 pub call-call-requires : goal.call-call-requires
 call-call-requires c =
     let h = at c.args.sight c.args.self.now.desk in
-    let sound = subst IsSound (sym c.take.ensures) (stays_sound h c.args.self.now.held (deed_of c.args.deed.now) c.requires.sound c.requires.fits) in
+    let sound = subst IsSound (sym c.commit.ensures.desk) (stays_sound h c.requires.fits.0 (deed_of c.args.ruling.now.deed) c.requires.sound c.requires.fits.1) in
     sound.hint
 
 pub returns : goal.returns
 returns c =
     let h = at c.args.sight c.args.self.now.desk in
-    subst IsSound (sym c.take.ensures) (stays_sound h c.args.self.now.held (deed_of c.args.deed.now) c.requires.sound c.requires.fits)
+    subst IsSound (sym c.commit.ensures.desk) (stays_sound h c.requires.fits.0 (deed_of c.args.ruling.now.deed) c.requires.sound c.requires.fits.1)
