@@ -4,11 +4,20 @@ use Rattle.cecp_lines.specs.Messages.{Message, Level, St, Sd, Time, Otim}
 use Rattle.cecp_lines.specs.Reading.{CanBeRead}
 use Rattle.clock_map.specs.declared.clocks.Clocks.{Clocks}
 use Rattle.clock_map.specs.declared.clocks.Control.{Control}
+use Rattle.clock_map.specs.declared.clocks.TheConstants.{FIVE_MINUTES}
 use Rattle.clock_map.specs.declared.clocks.Control.TheVariants.{Session, Fixed}
 
 -- five minutes for the whole game
 abbrev pub first_clocks : Clocks
-first_clocks = record { control = Session; moves = 0; base = pos 300000; increment = 0; depth = None; engine = pos 300000; opponent = pos 300000 }
+first_clocks = record {
+  control = Session;
+  moves = 0;
+  base = FIVE_MINUTES;
+  increment = 0;
+  depth = None;
+  engine = FIVE_MINUTES;
+  opponent = FIVE_MINUTES;
+}
 
 -- both clocks show the base
 abbrev pub after_level : Clocks → ℕ → ℕ → ℕ → Clocks

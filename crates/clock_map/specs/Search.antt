@@ -13,11 +13,11 @@ use Rattle.clock_map.specs.declared.clocks.Control.{Control}
 use Rattle.clock_map.specs.declared.clocks.Control.TheVariants.{Session, Fixed}
 use Rattle.clock_map.specs.Clocks.{at_least_one, AreShort}
 
--- How many moves are left until the next time control, where there is one. A move is two plies.
+-- How many moves are left until the next time control, if there is one. A move is two plies.
 abbrev pub moves_to_go : ℕ → ℕ → Option ℕ
 moves_to_go moves plies = if moves == 0 then None else Some (moves - plies / 2 % moves)
 
--- White's and Black's time, where the engine has this side
+-- White's and Black's time, if the engine has this side
 abbrev pub times_of : Clocks → Side → ℕ → GoControl
 times_of c White plies = Clock (at_least_one c.engine) (at_least_one c.opponent) c.increment c.increment (moves_to_go c.moves plies)
 times_of c Black plies = Clock (at_least_one c.opponent) (at_least_one c.engine) c.increment c.increment (moves_to_go c.moves plies)

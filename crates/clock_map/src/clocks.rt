@@ -15,6 +15,9 @@ use line_io::Out;
 use peer_words::GoKind;
 use uci_lines::{GoControl, Order, write_order};
 
+/// In milliseconds.
+const FIVE_MINUTES: i64 = 300_000;
+
 /// How the time of a move is bounded.
 #[derive(Clone, Copy, Debug, PartialEq, Eq)]
 enum Control {
@@ -29,7 +32,7 @@ enum Control {
 #[derive(Clone, Copy, Debug, PartialEq, Eq)]
 pub struct Clocks {
     control: Control,
-    // moves from one time control to the next, 0 where the time is for the whole game
+    // moves from one time control to the next, 0 if the time is for the whole game
     moves: u32,
     // what both clocks show at the start of a game
     base: i64,
@@ -93,11 +96,11 @@ impl Clocks {
         Clocks {
             control: Control::Session,
             moves: 0,
-            base: 300000,
+            base: FIVE_MINUTES,
             increment: 0,
             depth: None,
-            engine: 300000,
-            opponent: 300000,
+            engine: FIVE_MINUTES,
+            opponent: FIVE_MINUTES,
         }
     }
 

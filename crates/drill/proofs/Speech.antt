@@ -1,5 +1,5 @@
 -- Lines with moves are lines that the core may hear.
-use Rattle.std.proofs.Common.{◌≡◌, ℕ, ◌+◌, ◌≤◌, List, ◌++◌, length, Bool, true, false, not, ◌&&◌, ◌||◌, nat_le, nat_eq, Option, Some, None, codes, refl, ap, ◌∙◌, inr, arith, length-append}
+use Rattle.std.proofs.Common.{◌≡◌, ℕ, ◌+◌, ◌≤◌, List, ◌∷◌, ◌++◌, length, Bool, true, false, not, ◌&&◌, ◌||◌, nat_le, nat_eq, Option, Some, None, codes, refl, ap, ◌∙◌, inl, arith, length-append}
 use Rattle.std.proofs.lemmas.Bool.Decides.{nat_tests}
 use Rattle.std.proofs.lemmas.List.Folds.{list_any-append}
 use Rattle.chess_board.specs.declared.board.Kind.{Kind}
@@ -8,16 +8,15 @@ use Rattle.chess_board.specs.declared.board.Move.{Move}
 use Rattle.chess_board.specs.Board.{file_of, rank_of}
 use Rattle.chess_board.specs.Text.{text_of, promotion_text, IsOfficer}
 use Rattle.chess_board.proofs.Texts.{reads-back}
-use Rattle.peer_words.proofs.TokenLists.{tokens_alone}
+use Rattle.peer_words.proofs.TokenLists.{tokens_alone, tokens_more}
 use Rattle.line_io.specs.Event.{has_feed, is_line}
 use Rattle.cecp_lines.specs.Messages as says
 use Rattle.cecp_lines.specs.Messages.{Message}
-use Rattle.cecp_lines.specs.Reading.{IsMoveAlone}
-use Rattle.cecp_lines.proofs.Again.{again}
+use Rattle.cecp_lines.specs.Reading.{HasMove}
 use Rattle.cecp_lines.proofs.Complete.{spells_reading}
 use Rattle.cecp_lines.proofs.Lengths.{move_short}
-use Rattle.uci_lines.proofs.Again.{move_token}
-use Rattle.adapter_core.specs.Ends.{is_quit, is_quit_message}
+use Rattle.uci_lines.proofs.MoveTokens.{move_token}
+use Rattle.cecp_lines.specs.Quit.{is_quit, is_quit_message}
 use Rattle.drill.specs.Sent.{IsSpeech}
 
 no_feed_over : (c : ℕ) → 49 ≤ c → nat_eq c 10 ≡ false
@@ -67,8 +66,10 @@ is_hint_line m hint =
 -- an entered move does not end the session
 entry_speaks : (m : Move) → IsOfficer m.promo → is_quit (codes "usermove " ++ text_of m) ≡ false
 entry_speaks m h =
-    let alone : IsMoveAlone (text_of m) m = (text_of m, tokens_alone (text_of m) (move_token m), reads-back m h) in
-    ap is_quit_message (spells_reading (codes "usermove " ++ text_of m) (says.UserMove m) (again (text_of m) (says.UserMove m) (inr alone)))
+    let line = codes "usermove " ++ text_of m in
+    let tokens_are = tokens_more (codes "usermove") (text_of m) 32 refl refl ∙ ap (λ ts. codes "usermove" ∷ ts) (tokens_alone (text_of m) (move_token m)) in
+    let entered : HasMove line m = inl (text_of m, tokens_are, reads-back m h) in
+    ap is_quit_message (spells_reading line (says.UserMove m) entered)
 
 pub entry_heard : (m : Move) → IsOfficer m.promo → IsSpeech (codes "usermove " ++ text_of m)
 entry_heard m h = (is_move_line (codes "usermove ") m (omega arith) refl, entry_speaks m h)

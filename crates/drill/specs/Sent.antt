@@ -6,7 +6,7 @@ use Rattle.line_io.specs.Lines.{parts}
 use Rattle.policy_rules.specs.declared.settings.Settings.{Settings}
 use Rattle.policy_rules.specs.Policy.{usual}
 use Rattle.adapter_core.specs.declared.ends.Ends.{Ends}
-use Rattle.adapter_core.specs.Ends.{is_quit}
+use Rattle.cecp_lines.specs.Quit.{is_quit}
 use Rattle.adapter_core.specs.Trace.{Step, Lawful}
 use Rattle.adapter_core.specs.View.{View}
 use Rattle.adapter_core.specs.Stands.{Stands}

@@ -1,4 +1,4 @@
--- Lists cut at a byte, where each piece has only bytes above it.
+-- Lists cut at a byte when each piece has only bytes above it.
 use Rattle.std.proofs.Common.{◌≡◌, ℕ, suc, ◌<◌, ◌≤◌, List, [], ◌∷◌, ◌++◌, Bool, true, false, ltb, length, get_or, refl, ap, ◌∙◌, arith}
 use Rattle.std.specs.List.{AllByRecursion, slice_split, onto_first, join_with_byte, filter}
 use Rattle.std.proofs.lemmas.Bool.Decides.{nat_tests}

@@ -37,7 +37,7 @@ squares_first bytes i h =
     let n : i + 1 ≡ suc i = omega arith in
     rw (n, drop-cons bytes i 0) refl
 
--- where the lower ranks have no men, the whole has none
+-- if the lower ranks have no men, the whole has none
 pub men_lost : (ranks : List (List ℕ)) (i : ℕ) → men_of (drop i ranks) ≡ None → men_of ranks ≡ None
 men_lost ranks zero e = e
 men_lost [] (suc i) e = e

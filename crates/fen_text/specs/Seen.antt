@@ -3,6 +3,6 @@ use Rattle.std.specs.Prelude.{ℕ, List, Option}
 use Rattle.std.specs.Option.{option_map}
 use Rattle.std.specs.Borrow.{Bor}
 
--- the bytes, where there are some
+-- the bytes, if there are some
 abbrev pub bytes_of : Option (Bor (List ℕ)) → Option (List ℕ)
 bytes_of = option_map (λ bytes. bytes.now)

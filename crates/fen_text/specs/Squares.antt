@@ -31,7 +31,7 @@ squares_of byte =
     if nat_le 49 byte && nat_le byte 56 then Some (replicate (byte - 48) None)
     else option_map (λ man. Some man ∷ []) (man_of byte)
 
--- one after the other, where both are there
+-- one after the other, if both are there
 abbrev pub joined : Option Men → Option Men → Option Men
 joined None after = None
 joined (Some squares) None = None
@@ -42,7 +42,7 @@ abbrev pub squares_in : List ℕ → Option Men
 squares_in [] = Some []
 squares_in (byte ∷ bytes) = joined (squares_of byte) (squares_in bytes)
 
--- only where there are as many
+-- only if there are as many
 abbrev pub exactly : ℕ → Option Men → Option Men
 exactly count None = None
 exactly count (Some squares) = if length squares == count then Some squares else None
@@ -71,7 +71,7 @@ ranks_in field = slice_split is_slash field
 abbrev pub placed : List ℕ → Option Men
 placed field = if length (ranks_in field) == 8 then men_of (ranks_in field) else None
 
--- only where at most 16 men a side stand there, and no pawn on the first or last rank
+-- only if at most 16 men a side stand there, and no pawn on the first or last rank
 abbrev pub fitting : Option Men → Option Men
 fitting None = None
 fitting (Some men) = if fits_board men then Some men else None

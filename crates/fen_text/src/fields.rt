@@ -34,7 +34,7 @@ fn is_right(letter: u8) -> bool
     matches!(letter, b'K' | b'Q' | b'k' | b'q')
 }
 
-/// Whether the letter is there, or nothing where it is there more than once.
+/// Whether the letter is there, or nothing if it is there more than once.
 fn at_most_once(letter: u8, field: &[u8]) -> Option<bool>
     ensures { result ≡ at_most_once letter field.now }
 {
@@ -96,7 +96,7 @@ fn read_count(field: &[u8]) -> Option<u32>
     Some(read_digits(field, 5)? as u32)
 }
 
-/// A count, or what stands for it where the field is missing.
+/// A count, or what stands for it if the field is missing.
 pub(crate) fn read_count_or(missing: u32, field: Option<&[u8]>) -> Option<u32>
     ensures { result ≡ count_or missing (bytes_of field.entry) }
 {

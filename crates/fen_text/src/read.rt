@@ -9,7 +9,7 @@ use chess_board::Position;
 
 /// The position that a text spells, or the fault of its first field that spells nothing (PGN
 /// standard, section 16.1, with the half-move and full-move counts or the full-move count alone
-/// left out where they are 0 and 1). Fields stand between blanks, tabs and carriage returns.
+/// left out if they are 0 and 1). Fields stand between blanks, tabs and carriage returns.
 #[tactic(auto, unfolding(crate::specs::Fen::position_of))]
 pub fn read_fen(text: &[u8]) -> Result<Position, FenFault>
     ensures { result ≡ position_of text.now }

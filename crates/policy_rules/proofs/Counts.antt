@@ -4,6 +4,7 @@ use Rattle.std.proofs.lemmas.Bool.Decides.{nat_tests, Decides-and}
 use Rattle.std.specs.Bool.{Decides}
 use Rattle.std.specs.Int.Signed.{le_z_yes}
 use Rattle.std.proofs.lemmas.Float.{T_from_true}
+use Rattle.policy_rules.specs.declared.settings.TheConstants.{MOST_MOVES}
 use Rattle.policy_rules.specs.declared.settings.Settings.{Settings}
 use Rattle.policy_rules.specs.declared.scores.Scores.{Scores}
 use Rattle.policy_rules.specs.Policy.{IsProper}
@@ -37,7 +38,7 @@ at_most bound None = grind arith
 at_most bound (Some x) = (λ e. le_z_yes (T_from_true _ e), λ a. is_true _ a.le)
 
 -- one score more
-longer : (n r : ℕ) → suc n ≤ 1000 → leb (suc n) (run_after true r) ≡ leb n r
+longer : (n r : ℕ) → suc n ≤ MOST_MOVES → leb (suc n) (run_after true r) ≡ leb n r
 longer n r l = grind (arith, nat_tests)
 
 none_needed : (r : ℕ) → leb 0 r ≡ true
@@ -47,11 +48,11 @@ never : (n : ℕ) → leb (suc n) 0 ≡ false
 never n = grind (arith, nat_tests)
 
 -- a run that is n + 1 long, by whether the last score passes
-step : (n r : ℕ) (b : Bool) → suc n ≤ 1000 → leb (suc n) (run_after b r) ≡ (b && leb n r)
+step : (n r : ℕ) (b : Bool) → suc n ≤ MOST_MOVES → leb (suc n) (run_after b r) ≡ (b && leb n r)
 step n r true l = longer n r l
 step n r false l = never n
 
-pub tells : (bound : ℤ) (n : ℕ) (xs : List Score) → n ≤ 1000 → Decides (leb n (run_of (is_at_most bound) xs)) (LastAtMost n bound xs)
+pub tells : (bound : ℤ) (n : ℕ) (xs : List Score) → n ≤ MOST_MOVES → Decides (leb n (run_of (is_at_most bound) xs)) (LastAtMost n bound xs)
 tells bound zero xs l = (λ e. tt, λ u. none_needed _)
 tells bound (suc n) [] l = grind (arith, nat_tests, never)
 tells bound (suc n) (x ∷ xs) l =
@@ -65,7 +66,7 @@ draws o xs s p e =
     (subst (λ n. Decides (leb o.resign_moves n) (AcceptsDraw o xs)) (sym (level_is o xs))
     (tells (pos 0) o.resign_moves xs p.few_moves)))
 
--- the same of the lost ones, where resigning is on
+-- the same of the lost ones, if resigning is on
 lost_tells : (o : Settings) (xs : List Score) (s : Scores) → IsProper o → s ≡ counted o xs → Decides (s.settings.resign && leb s.settings.resign_moves s.lost) (Resigns o xs)
 lost_tells o xs s p e =
     subst (λ (v : Scores). Decides (v.settings.resign && leb v.settings.resign_moves v.lost) (Resigns o xs)) (sym e)
@@ -97,8 +98,8 @@ list_tells bound (suc n) (x ∷ xs) = Decides-and _ _ (at_most bound x) (list_te
 pub tests_tell : TestsTell
 tests_tell o xs = (Decides-and _ _ (λ q. q, λ q. q) (list_tells (lost_bound o) o.resign_moves xs), list_tells (pos 0) o.resign_moves xs)
 
--- a run is long enough exactly where the last scores pass
-run_tells : (bound : ℤ) (n : ℕ) (xs : List Score) → n ≤ 1000 → leb n (run_of (is_at_most bound) xs) ≡ last_at_most n bound xs
+-- a run is long enough if and only if the last scores pass
+run_tells : (bound : ℤ) (n : ℕ) (xs : List Score) → n ≤ MOST_MOVES → leb n (run_of (is_at_most bound) xs) ≡ last_at_most n bound xs
 run_tells bound zero xs l = none_needed _
 run_tells bound (suc n) [] l = never n
 run_tells bound (suc n) (x ∷ xs) l =

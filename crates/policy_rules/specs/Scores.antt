@@ -1,6 +1,7 @@
 -- What the policy says of the scores of the moves that the engine showed.
 use Rattle.std.specs.Prelude.{◌≡◌, ◌↔◌, IsTrue, ◌+◌, ℕ, zero, suc, ℤ, ◌≤ℤ◌, int_le, pos, neg_ℤ, List, [], ◌∷◌, Bool, true, false, ◌&&◌, if◌then◌else◌, nat_lt, nat_le, Option, Some, None}
 use Rattle.policy_rules.specs.declared.settings.Settings.{Settings}
+use Rattle.policy_rules.specs.declared.settings.TheConstants.{MOST_MOVES}
 use Rattle.policy_rules.specs.declared.scores.Scores.{Scores}
 use Rattle.policy_rules.specs.Policy.{IsProper}
 
@@ -35,9 +36,9 @@ abbrev pub is_at_most : ℤ → Score → Bool
 is_at_most bound None = false
 is_at_most bound (Some score) = int_le score bound
 
--- how many of the last scores pass one after the other, counted to 1,000
+-- how many of the last scores pass one after the other, counted to the most that may decide
 abbrev pub run_after : Bool → ℕ → ℕ
-run_after passes run = if passes then (if nat_lt run 1000 then run + 1 else run) else 0
+run_after passes run = if passes then (if nat_lt run MOST_MOVES then run + 1 else run) else 0
 
 -- before a move is shown
 abbrev pub no_scores : Settings → Scores
@@ -80,13 +81,13 @@ resigns_by counts = counts.settings.resign && nat_le counts.settings.resign_move
 abbrev pub accepts_by : Scores → Bool
 accepts_by counts = nat_le counts.settings.resign_moves counts.level
 
--- What the counts say is what the scores say, where the settings are proper.
+-- What the counts say is what the scores say, if the settings are proper.
 abbrev pub CountsTell : Type 0
 CountsTell =
     (settings : Settings) (scores : List Score) → IsProper settings
     → (resigns_by (counted settings scores) ≡ does_resign settings scores) × (accepts_by (counted settings scores) ≡ does_accept settings scores)
 
--- The tests on scores hold exactly where the policy says so.
+-- The tests on scores hold if and only if the policy says so.
 abbrev pub TestsTell : Type 0
 TestsTell =
     (settings : Settings) (scores : List Score)

@@ -7,7 +7,7 @@ mod settings;
 
 pub use laws::counts_decide;
 pub use scores::Scores;
-pub use settings::Settings;
+pub use settings::{MOST_MOVES, MOST_SCORE, Settings};
 
 #[cfg(test)]
 mod tests {

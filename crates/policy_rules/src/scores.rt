@@ -4,7 +4,7 @@ ghost use Rattle.policy_rules.specs.declared.settings.Settings.{Settings as Some
 ghost use Rattle.policy_rules.specs.Policy.{IsProper};
 ghost use Rattle.policy_rules.specs.Scores.{Score, Resigns, AcceptsDraw, lost_bound, is_at_most, run_after, no_scores, after_shown, counted, resigns_by, accepts_by};
 
-use crate::Settings;
+use crate::settings::{MOST_MOVES, Settings};
 
 /// Counts the scores of the moves that the engine showed, as far as the policy asks.
 ///
@@ -19,9 +19,6 @@ pub struct Scores {
     level: u32,
 }
 
-/// How many scores in a row are counted at most.
-const MOST: u32 = 1000;
-
 fn is_at_most(bound: i64, score: Option<i64>) -> bool
     ensures { result ≡ is_at_most bound score }
 {
@@ -33,7 +30,7 @@ fn run_after(passes: bool, run: u32) -> u32
 {
     if !passes {
         0
-    } else if run < MOST {
+    } else if run < MOST_MOVES {
         run + 1
     } else {
         run

@@ -2,21 +2,27 @@
 ghost use Rattle.std.specs.Prelude.{◌≡◌};
 ghost use Rattle.policy_rules.specs.Policy.{usual, IsProper};
 
+/// The most scores in a row that may decide.
+pub const MOST_MOVES: u32 = 1_000;
+
+/// The worst score that may be asked for, in hundredths of a pawn.
+pub const MOST_SCORE: u32 = 100_000;
+
 /// What the words of a program choose.
 #[derive(Clone, Copy, Debug, PartialEq, Eq)]
 pub struct Settings {
     /// Whether the adapter resigns for the engine.
     pub resign: bool,
-    /// How many scores in a row decide, 1 to 1,000.
+    /// How many scores in a row decide, 1 to `MOST_MOVES`.
     pub resign_moves: u32,
-    /// How bad each of them is at least, in hundredths of a pawn, 0 to 100,000.
+    /// How bad each of them is at least, in hundredths of a pawn, 0 to `MOST_SCORE`.
     pub resign_score: u32,
     /// Whether thinking is shown while the engine ponders.
     pub show_ponder: bool,
 }
 
 impl Settings {
-    /// The settings where no word chooses.
+    /// The usual settings, when no word chooses others.
     pub fn usual() -> Settings
         ensures usual { result ≡ usual }
         ensures proper { IsProper result }

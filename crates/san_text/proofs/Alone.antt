@@ -37,7 +37,7 @@ rival_there : (p : Placement) (m n : Move) → n.from.index ≢ m.from.index →
 rival_there p m n d k l =
     rw (differs n.from.index m.from.index d, (kinds-Decides (kind_at p n.from.index) (kind_at p m.from.index)).1 k) ((legal-law p n.from.index m.to.index m.promo).1 l)
 
--- where there is none, the man is this one
+-- if there is none, the man is this one
 not_there : (p : Placement) (m n : Move) (w : Within) → has_rival p m w ≡ false → is_within w n.from.index m.from.index ≡ true → kind_at p n.from.index ≡ kind_at p m.from.index → IsLegal p n.from.index m.to.index m.promo → n.from.index ≢ m.from.index → ⊥
 not_there p m n w none within k l d =
     let hit : has_rival p m w ≡ true = some_square-hit (λ s. is_within w s m.from.index && is_rival p m s) n.from.index n.from.on_board (two_hold (is_within w n.from.index m.from.index) (is_rival p m n.from.index) within (rival_there p m n d k l)) in

@@ -1,4 +1,4 @@
--- Two pawns of a side that may legally go to one square, told apart by the file where one captures.
+-- Two pawns of a side that may legally go to one square, told apart by the file if one captures.
 use Rattle.std.proofs.Common.{◌≡◌, ◌≢◌, ◌⊎◌, inl, inr, ℕ, ◌+◌, ◌*◌, ◌-◌, ◌/◌, ◌%◌, ◌<◌, ◌≤◌, Bool, true, false, cond, Option, Some, None, refl, ap, sym, subst, ◌∙◌, arith}
 use Rattle.std.specs.Prelude.{nat_lt}
 use Rattle.std.proofs.lemmas.Bool.Decides.{nat_tests}
@@ -61,7 +61,7 @@ two_steps men side a b t ma mb (inl x) (inr y) =
 two_steps men side a b t ma mb (inr x) (inl y) =
     let way = ap (man_at men) (passes side a t b (no_gap (file_of a) (file_of t) x.0.0.0) (no_gap (file_of b) (file_of t) y.0) x.0.1 y.1) in absurd (cc (mb, way, x.1))
 
--- where a pawn on an empty square's file could go to it, no pawn captures en passant on it
+-- if a pawn on an empty square's file could go to it, no pawn captures en passant on it
 fifth_not : (side : Side) (a b t : ℕ) → a ≡ second_rank side → Ahead side a t 2 → b ≡ fifth_rank side → Ahead side b t 1 → ⊥
 fifth_not White a b t e h f i = omega arith
 fifth_not Black a b t e h f i = omega arith

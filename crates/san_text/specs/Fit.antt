@@ -45,8 +45,8 @@ IsSpelled (Some s) = Unit {0}
 abbrev pub FitsAlone : Placement → List ℕ → Move → Type 0
 FitsAlone p text m = Fits p text m × ((n : Move) → Fits p text n → n ≡ m)
 
--- What a text is read as: a move that is the one that fits, or BadSan where the text has no spelling, NoFit where it has
--- one and no legal move fits, Ambiguous where two or more fit.
+-- What a text is read as: a move that is the one that fits, or BadSan if the text has no spelling, NoFit if it has
+-- one and no legal move fits, Ambiguous if two or more fit.
 abbrev pub IsRead : Placement → List ℕ → Result Move SanFault → Type 0
 IsRead p text (Ok m) = FitsAlone p text m
 IsRead p text (Err BadSan) = spelled text ≡ None

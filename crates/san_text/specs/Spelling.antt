@@ -14,7 +14,7 @@ pub record Target : Type 0 where
   pub to : ℕ
   pub promo : Option Kind
 
--- what a text says: castling, or a man's kind, its file and rank where they are given, and the square reached
+-- what a text says: castling, or a man's kind, its file and rank if they are given, and the square reached
 pub data Spelling : Type 0 where
   Short : Spelling
   Long : Spelling

@@ -67,7 +67,7 @@ letter Rook = codes "R"
 letter Queen = codes "Q"
 letter King = codes "K"
 
--- where the man comes from: a pawn's file where it captures, another man's distinction
+-- where the man comes from: a pawn's file if it captures, another man's distinction
 abbrev pub origin : Placement → Move → List ℕ
 origin p m =
     if is_pawn_kind (kind_at p m.from.index) then (if is_capture p m then file_letter m.from.index ∷ [] else [])
@@ -93,7 +93,7 @@ body p m =
 abbrev pub after : Placement → Move → Placement
 after p m = position_after p m.from.index m.to.index m.promo
 
--- `#` where the side on move is mated, else `+` where it is in check, else nothing
+-- `#` if the side on move is mated, else `+` if it is in check, else nothing
 abbrev pub IsMark : Placement → List ℕ → Type 0
 IsMark p mark =
     ((mark ≡ codes "#") × (IsChecked p.men p.side × (¬ HasLegal p)))

@@ -6,7 +6,7 @@ ghost use Rattle.san_text.specs.Writing.{kind_at, castles_short, castles_long, i
 
 use chess_board::{Kind, Move, Position, Side, Square};
 
-/// The kind of the man on a square; a pawn where none stands.
+/// The kind of the man on a square; a pawn if none stands.
 pub fn kind_at(at: &Position, square: Square) -> Kind
     ensures { result ≡ kind_at at.now square.index }
 {
@@ -48,7 +48,7 @@ pub fn castles_long(at: &Position, m: Move) -> bool
     is_king(at, m.from) && (m.from.index == home && m.to.index + 2 == home)
 }
 
-/// Whether a man is captured, also en passant, where a pawn leaves its file for an empty square.
+/// Whether a man is captured, also en passant, when a pawn leaves its file for an empty square.
 pub fn is_capture(at: &Position, m: Move) -> bool
     ensures { result ≡ is_capture at.now m }
 {

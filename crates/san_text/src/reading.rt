@@ -57,7 +57,7 @@ fn agrees(at: &Position, spelling: &Spelling, m: Move) -> bool
 
 /// The one legal move that fits a text.
 ///
-/// A legal move fits where its man, the file and rank that are given, the square reached and the
+/// A legal move fits if its man, the file and rank that are given, the square reached and the
 /// promotion agree with the text. Castling fits its own texts alone. Whether `x` stands, or a sign of
 /// check or mate, is not compared.
 pub fn read_san(at: &Position, text: &[u8]) -> Result<Move, SanFault>

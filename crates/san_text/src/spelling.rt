@@ -11,7 +11,7 @@ pub struct Target {
     pub promo: Option<Kind>,
 }
 
-/// What a text says: castling, or a man's kind, its file and rank, counted from 0, where they are
+/// What a text says: castling, or a man's kind, its file and rank, counted from 0, if they are
 /// given, and the square reached.
 #[derive(Clone, Copy, Debug, PartialEq, Eq)]
 pub enum Spelling {

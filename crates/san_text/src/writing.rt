@@ -58,7 +58,7 @@ fn distinction(at: &Position, m: Move) -> ArrayVec<u8, 2>
     text
 }
 
-// Where the man comes from: a pawn's file where it captures, another man's distinction.
+// Where the man comes from: a pawn's file if it captures, another man's distinction.
 fn origin(at: &Position, m: Move) -> ArrayVec<u8, 2>
     ensures { result.items ≡ origin at.now m }
 {
@@ -114,7 +114,7 @@ fn body(at: &Position, m: Move) -> ArrayVec<u8, 7>
     text
 }
 
-// `#` where the side on move is mated, else `+` where it is in check.
+// `#` if the side on move is mated, else `+` if it is in check.
 fn mark(after: &Position) -> &'static [u8]
     ensures fits { IsMark after.now result.now }
     ensures short { length result.now ≤ 1 }
@@ -128,10 +128,10 @@ fn mark(after: &Position) -> &'static [u8]
 
 /// The text of a legal move.
 ///
-/// Castling is `O-O` or `O-O-O`. A pawn's move is its file and `x` where it captures, the square
+/// Castling is `O-O` or `O-O-O`. A pawn's move is its file and `x` if it captures, the square
 /// reached, and `=` with the letter of the man that it becomes. Another man's move is its letter of
-/// `KQRBN`, what tells it from others that may go there, `x` where it captures, and the square
-/// reached. `#` follows where the move mates, else `+` where it checks.
+/// `KQRBN`, what distinguishes it from others that may go there, `x` if it captures, and the square
+/// reached. `#` follows if the move mates, else `+` if it checks.
 pub fn write_san(at: &Position, m: Move) -> ArrayVec<u8, 7>
     requires { IsLegal at.now m.from.index m.to.index m.promo }
     ensures written { IsSan at.now m result.items }

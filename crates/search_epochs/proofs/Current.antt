@@ -125,7 +125,7 @@ module _ (P : Orders → GoKind → Type 0) where
   search_current kinds.Ponder false wants false true n s h = n
   search_current kinds.Ponder false wants false false n s h = n
 
-  -- and on through the orders: a search is begun for what is owed, hit where a Move is owed, or goes on
+  -- and on through the orders: a search is begun for what is owed, hit if a Move is owed, or goes on
   pub settled_current : (e : EngineState) (o : Call) (unsent matches hurry : Bool) → IfCurrent e (P orders.None) → IfCurrent e (P orders.Stop)
       → (is_nothing o ≡ false → P (orders.Begin o) (kind_of o)) → (is_move o ≡ true → P orders.Hit kinds.Move)
       → IfCurrent (settled_state e (choose e o unsent matches hurry)) (P (choose e o unsent matches hurry))

@@ -44,7 +44,7 @@ none_sent m false false = quit_sent m.epoch m.engine
 pub closing_after : (m : Talk) (closed gone : Bool) → after m (last_orders closed gone) ≡ m
 closing_after m closed gone = ap (λ (e : Engine). let t : Talk = record { engine = e; epoch = m.epoch; last = m.last } in t) (none_sent m closed gone)
 
--- what goes on in an exchange, where the code stands for the dialogue before
+-- what goes on in an exchange if the code stands for the dialogue before
 module _ (t : Talk) (x : Exchange) (w : TicketWithin t.epoch t.engine) (l : LastWithin t.epoch t.last) where
   heard_kept : heard_in (kept t x.turn.hint) x ≡ kept_mid t x.turn
   heard_kept = mid_kept t x.turn.hint x.turn w l

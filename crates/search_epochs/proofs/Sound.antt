@@ -81,7 +81,7 @@ settled_stops states.Idle calls.Analyse false matches hurry h = tt
 settled_stops (states.Search k stale true) o unsent matches hurry h = h
 settled_stops (states.Search k stale false) o unsent matches hurry h = search_stops k stale (is_move o) matches hurry
 
--- where something is owed, nothing is spent
+-- if something is owed, nothing is spent
 pub unspent_if_owed : (b : Bool) (c : Call) → is_nothing (cond b calls.Nothing c) ≡ false → b ≡ false
 unspent_if_owed true c e = cc
 unspent_if_owed false c e = refl
@@ -137,7 +137,7 @@ stopped_for_move xs k l is =
 pub current_unspent : CurrentIsUnspent
 current_unspent xs k s l is = at_current (λ g. spent (talk xs) ≡ false) (talk xs).epoch (talk xs).engine k s is (sound xs l).unspent
 
--- an open search that is not stopped is current, also where the session is closed, since no epoch begins then
+-- an open search that is not stopped is current, also if the session is closed, since no epoch begins then
 live_closed : (t : Talk) (closed : Bool) (x : Exchange) → MayCome closed x → AreLawful t closed x → x.closed ≡ true → IsLiveOnlyAt t.epoch t.engine → IsLiveOnlyAt (turned t x.turn).epoch (after (turned t x.turn) x.orders).engine
 live_closed t closed x m a e h =
     let m' = turned t x.turn in

@@ -53,7 +53,7 @@ module _ (v : View) (t : Talk) (call : Call) (unsent : Bool) (played : Option Mo
     same_spent = spent ∙ h.same_spent;
   }
 
--- nothing is heard exactly where the state stays
+-- nothing is heard if and only if the state stays
 pub nothing_heard : (e : EngineState) (s : Said) → (meaning e s ≡ hears.Nothing) ↔ (heard_state e s ≡ e)
 nothing_heard states.Boot said.UciOk = (λ h. cc, λ h. cc)
 nothing_heard states.Boot said.ReadyOk = (λ h. refl, λ h. refl)

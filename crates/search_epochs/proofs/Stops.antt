@@ -19,7 +19,7 @@ few n Gone h = h
 few n (Search k t true) h = h
 few n (Search k t false) h = omega arith
 
--- where an order needs an idle engine
+-- whether an order needs an idle engine
 at_idle : (P : Engine → Type 0) (e : Engine) → e ≡ Idle → P Idle → P e
 at_idle P e i p = subst P (sym i) p
 

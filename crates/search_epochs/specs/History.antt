@@ -53,7 +53,7 @@ pub record MayCome (closed : Bool) (x : Exchange) : Type 0 where
   pub no_epoch : x.closed ≡ true → x.turn.rises ≡ false
   pub deaf : x.closed ≡ true → IsDeaf x.turn.what
 
--- the orders of a step after which the session is closed: `quit` where it closes it, unless the engine is gone
+-- the orders of a step after which the session is closed: `quit` if it closes it, unless the engine is gone
 abbrev pub last_orders : Bool → Bool → List Word
 last_orders closed gone = if closed || gone then [] else Quit ∷ []
 
@@ -141,7 +141,7 @@ abbrev pub stops_since_go : List Exchange → ℕ
 stops_since_go [] = 0
 stops_since_go (x ∷ xs) = stops_after (stops_since_go xs) x.orders
 
--- the engine at the place of an order, where these of the exchange's orders stand before it
+-- the engine at the place of an order, with these of the exchange's orders before it
 abbrev pub engine_at : List Exchange → Exchange → List Word → Engine
 engine_at xs x before = (after (turned (talk xs) x.turn) before).engine
 

@@ -23,7 +23,7 @@ TurnIsSettled =
     (t : Talk) (u : Turn) → AllSetup u.waiting
     → Settled (turned t u).engine (turned t u).epoch (owed (turned t u) u.call) u.waiting (is_due t u) (is_hit t u) (is_hurry u.what) (words u.waiting (settled_by t u))
 
--- and what is kept goes on with the tickets, where the hint afterwards is the one before, unless an epoch begins, and is named by a
+-- and what is kept goes on with the tickets, if the hint afterwards is the one before, unless an epoch begins, and is named by a
 -- call to ponder that is owed
 abbrev pub TurnIsKept : Type 0
 TurnIsKept =
@@ -83,7 +83,7 @@ CurrentIsUnspent = (xs : List Exchange) (k : GoKind) (stopped : Bool) → Lawful
 abbrev pub StopsOnce : Type 0
 StopsOnce = (xs : List Exchange) → Lawful xs → stops_since_go xs ≤ 1
 
--- an idle engine is left idle only where nothing is owed and nothing waits
+-- an idle engine is left idle only if nothing is owed and nothing waits
 abbrev pub NothingIsLeft : Type 0
 NothingIsLeft =
     (x : Exchange) (xs : List Exchange) → Lawful (x ∷ xs) → x.closed ≡ false → is_idle (talk (x ∷ xs)).engine ≡ true
@@ -97,7 +97,7 @@ CurrentServes =
     (xs : List Exchange) (k : GoKind) (stopped : Bool) → Steady xs → Lawful xs → is_closed xs ≡ false
     → (talk xs).engine ≡ Search k (talk xs).epoch stopped → Serves k (last_call xs) × (began xs ≡ last_call xs)
 
--- a call for a Move is never spent: a Move is owed exactly where it is called for
+-- a call for a Move is never spent: a Move is owed if and only if it is called for
 abbrev pub MoveIsOwed : Type 0
 MoveIsOwed = (xs : List Exchange) → Steady xs → Lawful xs → is_move (owed (talk xs) (last_call xs)) ≡ is_move (last_call xs)
 

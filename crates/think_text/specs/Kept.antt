@@ -12,7 +12,7 @@ use Rattle.think_text.specs.Line.{value_of}
 abbrev pub nothing_seen : Seen
 nothing_seen = record { depth = 0; time = 0; nodes = 0; current = None; number = 0; score = None }
 
--- a current move counts only where it is legal in the searched position
+-- a current move counts only if it is legal in the searched position
 abbrev pub newer_move : Placement → Option Move → Option Move → Option Move
 newer_move p None old = old
 newer_move p (Some m) old = if legal p m then Some m else old
@@ -22,7 +22,7 @@ abbrev pub is_first : Option ℕ → Bool
 is_first None = true
 is_first (Some n) = n == 1
 
--- a score counts only where it is no bound, and that of the first variation
+-- a score counts only if it is no bound, and that of the first variation
 abbrev pub newer_score : Facts → Option ℤ → Option ℤ
 newer_score facts old = if not facts.bound && is_first facts.multipv then option_or (option_map value_of facts.score) old else old
 
@@ -37,7 +37,7 @@ after_info seen facts p = record {
   score = newer_score facts seen.score;
 }
 
--- What `stat01` tells: the time in hundredths of a second, and how many of the legal moves are not yet searched.
+-- What `stat01` reports: the time in hundredths of a second, and how many of the legal moves are not yet searched.
 abbrev pub stat01_of : Seen → Placement → Told
 stat01_of seen p = Stat01 (seen.time / 10) seen.nodes seen.depth (legal_count p - seen.number) (legal_count p) seen.current
 

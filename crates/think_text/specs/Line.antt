@@ -1,4 +1,4 @@
--- The thinking line of what an engine tells.
+-- The thinking line of what an engine reports.
 use Rattle.std.specs.Prelude.{◌≡◌, ℕ, ◌+◌, ◌/◌, ◌≤◌, ℤ, pos, neg_ℤ, ◌+ℤ◌, ◌-ℤ◌, int_lt, if◌then◌else◌, map, length, List, [], ◌∷◌, ◌++◌, Option, Some, None}
 use Rattle.std.specs.Option.{unwrap_or}
 use Rattle.std.specs.List.{join_with_byte}
@@ -9,19 +9,20 @@ use Rattle.chess_board.specs.Play.{position_after}
 use Rattle.chess_board.specs.Place.{legal}
 use Rattle.chess_board.specs.Text.{text_of}
 use Rattle.cecp_lines.specs.Replies.{Told, Thinking, told_text}
+use Rattle.think_text.specs.declared.value.TheConstants.{MATE}
 use Rattle.uci_lines.specs.declared.says.Score.{Score}
 use Rattle.uci_lines.specs.declared.says.Score.TheVariants.{Cp, Mate}
 use Rattle.uci_lines.specs.Says.{Info, Facts}
 use Rattle.uci_lines.specs.Engine.{engine_message}
 
--- some line of the engine tells this
+-- some line of the engine reports this
 abbrev pub IsHeard : Facts → Type 0
 IsHeard facts = (line : List ℕ) × (engine_message line ≡ Info facts)
 
 -- A score in hundredths of a pawn. A mate counts as 1,000 pawns, and is given in as many moves more or less.
 abbrev pub value_of : Score → ℤ
 value_of (Cp score) = score
-value_of (Mate moves) = if int_lt (pos 0) moves then pos 100000 +ℤ moves else neg_ℤ (pos 100000 -ℤ moves)
+value_of (Mate moves) = if int_lt (pos 0) moves then MATE +ℤ moves else neg_ℤ (MATE -ℤ moves)
 
 abbrev pub played : Placement → Move → Placement
 played p m = position_after p m.from.index m.to.index m.promo
@@ -39,7 +40,7 @@ abbrev pub spaced : List Move → List ℕ
 spaced [] = []
 spaced (m ∷ moves) = (32 ∷ text_of m) ++ spaced moves
 
--- What is told of these moves. It needs a depth, a score and a move; a time or a number of nodes that was not told is 0.
+-- The line with these moves. It needs a depth, a score and a move; a time or a number of nodes that is missing is 0.
 abbrev pub line_with : Option ℕ → Option Score → List Move → Facts → Option Move → Option Told
 line_with (Some depth) (Some score) (m ∷ moves) facts hint =
     Some (Thinking depth (value_of score) (unwrap_or facts.time 0 / 10) (unwrap_or facts.nodes 0) hint (moves_text (m ∷ moves)))
@@ -47,7 +48,7 @@ line_with (Some depth) (Some score) [] facts hint = None
 line_with (Some depth) None moves facts hint = None
 line_with None score moves facts hint = None
 
--- the line that the interface is shown of a search in a position, where there is one
+-- the line that the interface is shown of a search in a position, if there is one
 abbrev pub thinking_line : Facts → Placement → Option Move → Option Told
 thinking_line facts p hint = line_with facts.depth facts.score (legal_run p facts.pv) facts hint
 

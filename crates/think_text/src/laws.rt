@@ -1,4 +1,4 @@
-// What holds of all that is kept and told.
+// What holds of all that is kept and shown.
 ghost use Rattle.think_text.specs.Kept.{StaysWritable};
 ghost use Rattle.think_text.specs.Short.{LinesAreShort, LinesAreWritable, StaysBounded, StatIsShort};
 
@@ -7,8 +7,8 @@ pub fn current_stays_writable()
     ensures { StaysWritable }
 {}
 
-/// A thinking line has at most 128 bytes more than the line of the engine that tells it, and its moves can be written
-/// where the hint can. The answer to `.` has at most 128 bytes.
+/// A thinking line has at most 128 bytes more than the line of the engine behind it, and its moves can be written
+/// if the hint can. The answer to `.` has at most 128 bytes.
 pub fn thinking_lines_are_short()
     ensures short { LinesAreShort }
     ensures writable { LinesAreWritable }

@@ -1,4 +1,4 @@
-//! What an engine tells of its search, and what the interface is told of it.
+//! What an engine reports of its search, and what the interface is shown of it.
 #![tactic(auto)]
 
 mod laws;

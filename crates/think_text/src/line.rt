@@ -17,7 +17,7 @@ use chess_board::{Move, Position, write_move};
 use line_io::Out;
 use uci_lines::{Info, Score, next_move};
 
-/// The first move of a text of moves, where it is legal, and the text after it.
+/// The first move of a text of moves, if it is legal, and the text after it.
 fn next_legal<'a>(moves: &'a [u8], at: &Position) -> Option<(Move, &'a [u8])>
     ensures { MatchOption result
         (legal_run at.now (run (tokens moves.now)) ≡ [])
@@ -79,7 +79,7 @@ fn front_of<'a>(
 /// Writes the thinking line of a search: depth in plies, score in hundredths of a pawn, time in hundredths of a
 /// second, nodes, and the moves of the engine's line as long as each is legal in its turn (Chess Engine
 /// Communication Protocol, version 2, section "Thinking Output"). A hint is the move that the engine ponders on; it
-/// stands in parentheses before the moves. There is no line, and false is returned, where depth, score or a first
+/// stands in parentheses before the moves. There is no line, and false is returned, if depth, score or a first
 /// legal move is missing.
 pub fn thinking(info: &Info, at: &Position, hint: Option<Move>, out: &mut Out) -> bool
     requires heard { IsHeard (facts_of info.now) }

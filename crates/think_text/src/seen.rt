@@ -12,7 +12,7 @@ use chess_board::{Move, Position};
 use line_io::Out;
 use uci_lines::Info;
 
-/// What the engine told of its search, each value as it was told last. What was not told is 0 or None. The time is
+/// What the engine reported of its search, each value as it was reported last; else 0 or None. The time is
 /// in milliseconds, the score in hundredths of a pawn.
 #[derive(Clone, Copy, Debug, PartialEq, Eq)]
 pub struct Seen {
@@ -21,7 +21,7 @@ pub struct Seen {
     pub nodes: u64,
     /// The move that is searched.
     pub current: Option<Move>,
-    /// The number of a searched move as it was told last, from 1.
+    /// The last number of a searched move, from 1.
     pub number: u64,
     pub score: Option<i64>,
 }
@@ -55,7 +55,7 @@ fn newer_score(info: &Info, old: Option<i64>) -> Option<i64>
 }
 
 impl Seen {
-    /// Nothing was told.
+    /// Nothing was reported.
     pub fn new() -> Seen
         ensures { result ≡ nothing_seen }
     {
@@ -69,7 +69,7 @@ impl Seen {
         }
     }
 
-    /// Hears what is told of a search in a position.
+    /// Takes in what is reported of a search in a position.
     pub fn hear(&mut self, info: &Info, at: &Position)
         requires { IsHeard (facts_of info.now) }
         ensures { self.new ≡ after_info self.old (facts_of info.now) at.now }

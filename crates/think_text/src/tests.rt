@@ -1,4 +1,4 @@
-//! Lines of engines, and what the interface is told of them.
+//! Lines of engines, and what the interface is shown of them.
 ghost use Rattle.std.specs.Prelude.{IfSome};
 ghost use Rattle.cecp_lines.specs.Replies.{IsWritable};
 
@@ -9,7 +9,7 @@ use line_io::Out;
 use std::test::Fail;
 use uci_lines::{EngineMsg, read_engine};
 
-/// The position after moves from the standard start. None where one is illegal.
+/// The position after moves from the standard start. None if one is illegal.
 fn after(moves: &[&str]) -> Option<Position> {
     let mut at = Position::start();
     for text in moves {
@@ -193,7 +193,7 @@ fn hear(seen: &mut Seen, line: &str, at: &Position)
     }
 }
 
-/// Writes the answer to `.`, where the room is enough.
+/// Writes the answer to `.`, if there is room enough.
 fn answer(seen: Seen, at: &Position, out: &mut Out)
     requires { IfSome seen.current IsWritable }
 {

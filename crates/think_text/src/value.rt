@@ -8,7 +8,7 @@ use chess_board::{Move, Position};
 use uci_lines::Score;
 
 /// How much a mate counts, in hundredths of a pawn.
-const MATE: i64 = 100000;
+const MATE: i64 = 100_000;
 
 /// A score in hundredths of a pawn.
 pub(crate) fn value_of(score: Score) -> i64

@@ -1,5 +1,5 @@
 use Rattle.std.proofs.Common.{◌<◌, ◌∙◌, sym, length, arith}
-use Rattle.session_script.proofs.Rooms.{cut_room, not_zero}
+use Rattle.script_lines.proofs.Rooms.{cut_room, not_zero}
 use Rattle.drill.proofs.Counting.{one_line}
 use Rattle.drill.proofs.tally.count_lines.Goals as goal
 

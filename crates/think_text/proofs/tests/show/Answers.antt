@@ -6,7 +6,7 @@ use Rattle.think_text.specs.Line.{thinking_line, HasRoom}
 use Rattle.think_text.proofs.Short.{lines_short}
 use Rattle.think_text.proofs.tests.show.Goals as goal
 
--- a line of at most n bytes fits where there is room for n
+-- a line of at most n bytes fits if there is room for n
 room_for : (out : Text) (told : Option Told) (n : ℕ) → ((t : Told) → told ≡ Some t → length (told_text t) ≤ n) → length out.text + n ≤ out.room → HasRoom out told
 room_for out None n short room = tt
 room_for out (Some t) n short room = omega (arith, short t refl, room)
