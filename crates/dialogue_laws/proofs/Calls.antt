@@ -1,0 +1,265 @@
+-- The call goes on unless an epoch begins or the step ends it.
+use Rattle.std.proofs.Common.{◌≡◌, ℕ, List, Bool, true, false, not, cond, ◌&&◌, ◌||◌, ◌==◌, Option, Some, None, refl, sym, ap, ◌∙◌}
+use Rattle.std.specs.Option.{is_some}
+use Rattle.chess_board.specs.declared.board.Move.{Move}
+use Rattle.chess_board.specs.declared.board.Side.TheVariants.{Black}
+use Rattle.chess_board.specs.Board.{same_side}
+use Rattle.peer_words.specs.declared.kinds.GoKind.{GoKind}
+use Rattle.peer_words.specs.declared.kinds.GoKind.TheVariants as kinds
+use Rattle.cecp_lines.specs.Messages.{Message}
+use Rattle.cecp_lines.specs.Messages as says
+use Rattle.game_record.specs.Course.{Course, now_of}
+use Rattle.game_record.specs.Ending.{has_legal}
+use Rattle.option_map.specs.Settings.{Setting}
+use Rattle.option_map.specs.Shown.{check_named}
+use Rattle.search_epochs.specs.declared.words.Call.{Call}
+use Rattle.search_epochs.specs.declared.words.Call.TheVariants as calls
+use Rattle.search_epochs.specs.declared.words.Said.TheVariants as said
+use Rattle.search_epochs.specs.declared.words.EngineState.TheVariants as states
+use Rattle.option_map.specs.Settings.{after_declared}
+use Rattle.search_epochs.specs.Talk.{Engine, Boot, Getting, Idle, Search, Gone, Says, is_move}
+use Rattle.search_epochs.specs.View.{forget}
+use Rattle.search_epochs.specs.History.{answers_at, is_end}
+use Rattle.desk_rules.specs.declared.mode.Mode.{Mode}
+use Rattle.desk_rules.specs.declared.mode.Mode.TheVariants as modes
+use Rattle.desk_rules.specs.declared.desk.Desk.{Desk}
+use Rattle.desk_rules.specs.Desk.{Here, call_of, call_in, call_for_hint, call_while_waiting, call_before, is_gone, is_boot, is_full, table, ponder_name, has_ended, on_move, played, owes_move, owed_at}
+use Rattle.desk_rules.specs.Lines.{asks, change, is_epoch_line}
+use Rattle.desk_rules.specs.Steps.{Deed, Nothing, Opens, LongLine, Refuses, Accepts, Names, Declares, Boots, Readies, Thinks, Shows, Forfeits, Answers, Dies, what_of, desk_after_deed, rises, is_death}
+use Rattle.desk_rules.specs.Fits.{Fits, IsCurrentMove, IsOther}
+use Rattle.adapter_core.specs.Trace.{State, here}
+use Rattle.adapter_core.proofs.Fresh.{call_is}
+
+-- WHERE NOTHING IS CALLED FOR
+
+none_both : (b : Bool) → cond b calls.Nothing calls.Nothing ≡ calls.Nothing
+none_both true = refl
+none_both false = refl
+
+pub closed_call : (gone : Bool) (d : Desk) → call_of true gone d ≡ calls.Nothing
+unfolding call_of
+closed_call gone d = refl
+
+gone_call : (closed gone : Bool) (d : Desk) → call_of closed (gone || true) d ≡ calls.Nothing
+unfolding call_of
+gone_call true gone d = refl
+gone_call false true d = refl
+gone_call false false d = refl
+
+over_call : (closed gone : Bool) (d : Desk) → call_of closed gone (record d { mode = modes.Over }) ≡ calls.Nothing
+unfolding call_of
+over_call closed gone d = none_both (closed || gone || is_full d.game)
+
+not_mine : (over mine : Bool) (c : Call) → mine ≡ false → c ≡ calls.Nothing → cond over calls.Nothing (cond mine calls.Move c) ≡ calls.Nothing
+not_mine true mine c m e = refl
+not_mine false true c m e = cc
+not_mine false false c m e = e
+
+no_wait : (b x : Bool) (c : Call) → b ≡ false → cond (b && x) c calls.Nothing ≡ calls.Nothing
+no_wait true x c e = cc
+no_wait false x c e = refl
+
+waits_for : (d : Desk) (m : Mode) → m ≡ modes.Plays Black → d.pondering ≡ false → same_side Black (on_move d.game) ≡ false → call_in d m ≡ calls.Nothing
+waits_for d m e p w =
+    ap (call_in d) e
+    ∙ not_mine (has_ended d.game) (same_side Black (on_move d.game)) (call_while_waiting d) w
+    (no_wait d.pondering (is_some (check_named ponder_name (table d))) (call_for_hint d.game d.hint) p)
+
+-- the engine plays Black, White is on move, and there is no pondering
+pub first_call : (closed gone : Bool) (d : Desk) → d.mode ≡ modes.Plays Black → d.pondering ≡ false → same_side Black (on_move d.game) ≡ false → call_of closed gone d ≡ calls.Nothing
+unfolding call_of
+first_call closed gone d e p w = ap (λ (c : Call). cond (closed || gone || is_full d.game) calls.Nothing c) (waits_for d d.mode e p w) ∙ none_both (closed || gone || is_full d.game)
+
+-- THE HINT OF THE CALL
+
+out_ponder : (b : Bool) (c : Call) (m : Move) → cond b calls.Nothing c ≡ calls.Ponder m → c ≡ calls.Ponder m
+out_ponder true c m e = cc
+out_ponder false c m e = e
+
+mine_ponder : (b : Bool) (c : Call) (m : Move) → cond b calls.Move c ≡ calls.Ponder m → c ≡ calls.Ponder m
+mine_ponder true c m e = cc
+mine_ponder false c m e = e
+
+wait_ponder : (b : Bool) (c : Call) (m : Move) → cond b c calls.Nothing ≡ calls.Ponder m → c ≡ calls.Ponder m
+wait_ponder true c m e = e
+wait_ponder false c m e = cc
+
+hint_ponder : (g : Course) (o : Option Move) (m : Move) → call_for_hint g o ≡ calls.Ponder m → o ≡ Some m
+hint_ponder g None m e = cc
+hint_ponder g (Some h) m e = let x = out_ponder (has_ended (played g h)) (calls.Ponder h) m e in cc
+
+analyse_ponder : (b : Bool) (m : Move) → cond b calls.Analyse calls.Nothing ≡ calls.Ponder m → ⊥
+analyse_ponder true m e = cc
+analyse_ponder false m e = cc
+
+in_ponder : (d : Desk) (mode : Mode) (m : Move) → call_in d mode ≡ calls.Ponder m → d.hint ≡ Some m
+in_ponder d modes.Force m e = cc
+in_ponder d modes.Over m e = cc
+in_ponder d modes.Analyse m e = absurd (analyse_ponder (has_legal (now_of d.game)) m e)
+in_ponder d (modes.Plays s) m e =
+    hint_ponder d.game d.hint m
+    (wait_ponder (d.pondering && is_some (check_named ponder_name (table d))) (call_for_hint d.game d.hint) m
+    (mine_ponder (same_side s (on_move d.game)) (call_while_waiting d) m
+    (out_ponder (has_ended d.game) _ m e)))
+
+pub called_hint : (closed gone : Bool) (d : Desk) (m : Move) → call_of closed gone d ≡ calls.Ponder m → d.hint ≡ Some m
+unfolding call_of
+called_hint closed gone d m e = in_ponder d d.mode m (out_ponder (closed || gone || is_full d.game) (call_in d d.mode) m e)
+
+-- WHERE THE CALL STAYS
+
+wait_none : (d : Desk) → d.hint ≡ None → call_while_waiting d ≡ calls.Nothing
+wait_none d e =
+    ap (λ (o : Option Move). cond (d.pondering && is_some (check_named ponder_name (table d))) (call_for_hint d.game o) calls.Nothing) e
+    ∙ none_both (d.pondering && is_some (check_named ponder_name (table d)))
+
+in_boots : (d : Desk) (m : Mode) → d.hint ≡ None → call_in (record d { booted = true; due = false }) m ≡ call_in d m
+in_boots d modes.Force e = refl
+in_boots d modes.Over e = refl
+in_boots d modes.Analyse e = refl
+in_boots d (modes.Plays s) e =
+    ap (λ (c : Call). cond (has_ended d.game) calls.Nothing (cond (same_side s (on_move d.game)) calls.Move c))
+    (wait_none (record d { booted = true; due = false }) e ∙ sym (wait_none d e))
+
+boots_call : (closed gone : Bool) (d : Desk) → d.hint ≡ None → call_of closed gone (record d { booted = true; due = false }) ≡ call_of closed gone d
+unfolding call_of
+boots_call closed gone d e = ap (λ (c : Call). cond (closed || gone || is_full d.game) calls.Nothing c) (in_boots d d.mode e)
+
+unbooted_call : (closed gone : Bool) (d : Desk) (os : List Setting) → d.booted ≡ false → call_of closed gone (record d { options = os }) ≡ call_of closed gone d
+unfolding call_of
+unbooted_call closed gone d os e =
+    ap (λ (b : Bool). call_of closed gone (record d { booted = b; options = os })) e
+    ∙ ap (λ (b : Bool). call_of closed gone (record d { booted = b })) (sym e)
+
+move_call : (c : Call) → is_move c ≡ true → c ≡ calls.Move
+move_call calls.Nothing e = cc
+move_call calls.Move e = refl
+move_call (calls.Ponder h) e = cc
+move_call calls.Analyse e = cc
+
+owed_move : (spent : Bool) (c : Call) → not (is_move (owed_at spent c)) ≡ false → is_move c ≡ true
+owed_move true c e = cc
+owed_move false c e = not_false (is_move c) e where
+  not_false : (b : Bool) → not b ≡ false → b ≡ true
+  not_false true e = refl
+  not_false false e = cc
+
+-- `hard` and `easy` while a Move is owed
+told_call : (h : Here) (b : Bool) → not (owes_move h) ≡ false → call_of h.closed (is_gone h.engine) (record h.desk { pondering = b }) ≡ call_before h
+told_call h b r =
+    let x = owed_move h.spent (call_before h) r in
+    move_call _ (call_is h.closed (is_gone h.engine) (record h.desk { pondering = b }) ∙ sym (call_is h.closed (is_gone h.engine) h.desk) ∙ x)
+    ∙ sym (move_call (call_before h) x)
+
+line_call : (h : Here) (m : Message) → is_epoch_line (owes_move h) (asks (is_gone h.engine) h.desk m) m ≡ false → call_of h.closed (is_gone h.engine) (change (is_boot h.engine) h.desk m) ≡ call_before h
+unfolding change is_epoch_line call_of
+line_call h says.New r = cc
+line_call h says.Force r = cc
+line_call h says.Go r = cc
+line_call h says.PlayOther r = cc
+line_call h (says.UserMove m) r = cc
+line_call h says.Undo r = cc
+line_call h says.Remove r = cc
+line_call h (says.SetBoard text) r = cc
+line_call h says.Analyze r = cc
+line_call h says.Exit r = cc
+line_call h says.Result r = cc
+line_call h says.Hard r = told_call h true r
+line_call h says.Easy r = told_call h false r
+line_call h m r = refl
+
+as_gone : (c g : Bool) (d : Desk) → call_of c (g || false) d ≡ call_of c g d
+as_gone c true d = refl
+as_gone c false d = refl
+
+-- WHAT ENDS THE CALL
+
+abbrev ends_here : ℕ → Engine → Deed → Bool
+ends_here epoch e d = answers_at (what_of d) epoch e || is_end (what_of d)
+
+line_ends : (epoch : ℕ) (e : Engine) (m : Message) → ends_here epoch e (Accepts m) ≡ false
+line_ends epoch e (says.UserMove m) = refl
+line_ends epoch e says.MoveNow = refl
+line_ends epoch e m = refl
+
+or_none : (b : Bool) → (b || false) ≡ b
+or_none true = refl
+or_none false = refl
+
+is_current : (k : GoKind) (b s : Bool) → IsCurrentMove (states.Search k (not b) s) → (k ≡ kinds.Move) × (b ≡ true)
+is_current k true s i = (cc, refl)
+is_current k false s i = absurd (cc)
+
+current_ends : (epoch : ℕ) (e : Engine) → IsCurrentMove (forget epoch e) → answers_at (Says said.Best) epoch e ≡ true
+current_ends epoch Boot i = cc
+current_ends epoch Getting i = cc
+current_ends epoch Idle i = cc
+current_ends epoch Gone i = cc
+current_ends epoch (Search k t s) i =
+    let x = is_current k (t == epoch) s i in
+    ap (λ (g : GoKind). answers_at (Says said.Best) epoch (Search g t s)) x.0 ∙ x.1
+
+stale_move : (b s : Bool) → IsOther (states.Search kinds.Move (not b) s) → b ≡ false
+stale_move true s i = absurd i
+stale_move false s i = refl
+
+other_ends : (epoch : ℕ) (e : Engine) → IsOther (forget epoch e) → answers_at (Says said.Best) epoch e ≡ false
+other_ends epoch Boot i = refl
+other_ends epoch Getting i = refl
+other_ends epoch Idle i = refl
+other_ends epoch Gone i = refl
+other_ends epoch (Search kinds.Move t s) i = stale_move (t == epoch) s i
+other_ends epoch (Search kinds.Ponder t s) i = refl
+other_ends epoch (Search kinds.Analyse t s) i = refl
+
+ended : (b : Bool) (x c : Call) → b ≡ true → x ≡ calls.Nothing → x ≡ cond b calls.Nothing c
+ended true x c e n = n
+ended false x c e n = cc
+
+going : (b : Bool) (x c : Call) → b ≡ false → x ≡ c → x ≡ cond b calls.Nothing c
+going true x c e n = cc
+going false x c e n = n
+
+-- what holds in Boot
+abbrev pub IsFreshInBoot : State → Type 0
+IsFreshInBoot s = s.talk.engine ≡ Boot → (s.desk.booted ≡ false) × (s.desk.hint ≡ None)
+
+boot_back : (epoch : ℕ) (e : Engine) → is_boot (forget epoch e) ≡ true → e ≡ Boot
+boot_back epoch Boot b = refl
+boot_back epoch Getting b = cc
+boot_back epoch Idle b = cc
+boot_back epoch (Search k t s) b = cc
+boot_back epoch Gone b = cc
+
+-- the call in a step after which the session is open and which begins no epoch
+module _ (s : State) (fresh : IsFreshInBoot s) where
+  abbrev gone : Bool
+  gone = is_gone (here s).engine
+
+  same_call : (d : Deed) → call_of s.ends.closed gone (desk_after_deed (here s) d) ≡ call_before (here s) → call_of s.ends.closed (gone || false) (desk_after_deed (here s) d) ≡ call_before (here s)
+  same_call d e = as_gone s.ends.closed gone (desk_after_deed (here s) d) ∙ e
+
+  pub deed_call : (d : Deed) → Fits (here s) s.held d → rises (here s) d ≡ false
+      → call_of s.ends.closed (gone || is_death d) (desk_after_deed (here s) d) ≡ cond (ends_here s.talk.epoch s.talk.engine d) calls.Nothing (call_before (here s))
+  unfolding desk_after_deed
+  deed_call (Accepts m) f r =
+      going (ends_here s.talk.epoch s.talk.engine (Accepts m)) (call_of s.ends.closed (gone || false) (desk_after_deed (here s) (Accepts m))) (call_before (here s))
+      (line_ends s.talk.epoch s.talk.engine m) (same_call (Accepts m) (line_call (here s) m r))
+  deed_call Nothing f r = same_call Nothing refl
+  deed_call Opens f r = same_call Opens refl
+  deed_call LongLine f r = same_call LongLine refl
+  deed_call (Refuses reason line) f r = same_call (Refuses reason line) refl
+  deed_call (Names text) f r = same_call (Names text) (unfold call_of in refl)
+  deed_call (Declares name shape) f r =
+      same_call (Declares name shape) (unbooted_call s.ends.closed gone s.desk (after_declared s.desk.options name shape) (fresh (boot_back s.talk.epoch s.talk.engine f.1)).0)
+  deed_call Boots f r = same_call Boots (boots_call s.ends.closed gone s.desk (fresh (boot_back s.talk.epoch s.talk.engine f.1)).1)
+  deed_call Readies f r = same_call Readies refl
+  deed_call (Thinks k facts) f r = same_call (Thinks k facts) (unfold call_of in refl)
+  deed_call (Shows best hint) f r = cc
+  deed_call Forfeits f r =
+      ended (ends_here s.talk.epoch s.talk.engine Forfeits) (call_of s.ends.closed (gone || false) (desk_after_deed (here s) Forfeits)) (call_before (here s))
+      (or_none (answers_at (Says said.Best) s.talk.epoch s.talk.engine) ∙ current_ends s.talk.epoch s.talk.engine f.1) (over_call s.ends.closed (gone || false) s.desk)
+  deed_call Answers f r =
+      going (ends_here s.talk.epoch s.talk.engine Answers) (call_of s.ends.closed (gone || false) (desk_after_deed (here s) Answers)) (call_before (here s))
+      (or_none (answers_at (Says said.Best) s.talk.epoch s.talk.engine) ∙ other_ends s.talk.epoch s.talk.engine f.1) (same_call Answers refl)
+  deed_call Dies f r = gone_call s.ends.closed gone (desk_after_deed (here s) Dies)

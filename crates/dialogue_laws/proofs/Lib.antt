@@ -1,0 +1,9 @@
+pub mod Heard
+pub mod Reached
+pub mod Dialogues
+pub mod Places
+pub mod Shown
+pub mod Pongs
+pub mod Calls
+pub mod Steadily
+pub mod Asked

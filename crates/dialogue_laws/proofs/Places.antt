@@ -1,0 +1,180 @@
+-- Where orders stand, on the wire.
+use Rattle.std.proofs.Common.{◌≡◌, List, [], ◌∷◌, ◌++◌, map, Bool, true, false, not, cond, None, refl, sym, ap, subst, ◌∙◌}
+use Rattle.std.proofs.lemmas.List.{map-append}
+use Rattle.line_io.specs.Event.{Event}
+use Rattle.line_io.specs.Event as events
+use Rattle.peer_words.specs.declared.kinds.GoKind.{GoKind}
+use Rattle.peer_words.specs.declared.kinds.GoKind.TheVariants as kinds
+use Rattle.uci_lines.specs.Orders.{Command}
+use Rattle.uci_lines.specs.Orders as orders
+use Rattle.policy_rules.specs.declared.settings.Settings.{Settings}
+use Rattle.search_epochs.specs.Talk as talks
+use Rattle.search_epochs.specs.Talk.{Engine, Word, Talk, MaySend, MaySendAll, sent_all}
+use Rattle.search_epochs.specs.Talk.{Paired}
+use Rattle.search_epochs.specs.History as history
+use Rattle.search_epochs.specs.History.{Exchange}
+use Rattle.search_epochs.proofs.Stops.{may_all}
+use Rattle.search_epochs.proofs.Places.{at_place, go_follows}
+use Rattle.desk_rules.specs.Orders.{word_of}
+use Rattle.adapter_core.specs.Ends.{is_open, may}
+use Rattle.adapter_core.specs.Trace.{State, Step, Lawful, state, mid}
+use Rattle.adapter_core.proofs.Traces.{lasts}
+use Rattle.dialogue_laws.specs.Wire.{Wire, Boot, Idle, Search, Gone, said_by, hearing, writing_all, ends, wire, wire_at, on_wire, needs_idle, IdleGetsThem, SearchGetsStop, PonderGetsHit, GoneGetsNothing, GoFollowsPosition}
+use Rattle.dialogue_laws.specs.Dialogue.{exchange, exchanges}
+use Rattle.dialogue_laws.proofs.Heard.{all_on_wire, mid_on_wire, engine_on_wire}
+use Rattle.dialogue_laws.proofs.Dialogues.{dialogues, lawful_in}
+
+-- WHAT AN ORDER NEEDS
+
+idle_needed : (e : Engine) (order : Command) → needs_idle order ≡ true → MaySend e (word_of order) → on_wire e ≡ Idle
+idle_needed e orders.Uci n m = absurd m
+idle_needed e orders.NewGame n m = ap on_wire m
+idle_needed e (orders.SetOption name value) n m = ap on_wire m
+idle_needed e orders.IsReady n m = ap on_wire m
+idle_needed e (orders.Position start moves) n m = ap on_wire m
+idle_needed e (orders.Go ponder control depth) n m = ap on_wire m
+idle_needed e orders.Stop n m = cc
+idle_needed e orders.PonderHit n m = cc
+idle_needed e orders.Quit n m = cc
+
+stop_needs : (e : Engine) → MaySend e talks.Stop → (k : GoKind) × (on_wire e ≡ Search k false)
+stop_needs talks.Boot m = absurd m
+stop_needs talks.Getting m = absurd m
+stop_needs talks.Idle m = absurd m
+stop_needs talks.Gone m = absurd m
+stop_needs (talks.Search k t s) m = (k, ap (Search k) m)
+
+hit_needs : (e : Engine) → MaySend e talks.PonderHit → on_wire e ≡ Search kinds.Ponder false
+hit_needs talks.Boot m = absurd m
+hit_needs talks.Getting m = absurd m
+hit_needs talks.Idle m = absurd m
+hit_needs talks.Gone m = absurd m
+hit_needs (talks.Search k t s) m = ap (λ g. Search g s) m.0 ∙ ap (Search kinds.Ponder) m.1
+
+gone_refuses : (w : Word) → MaySend talks.Gone w → ⊥
+gone_refuses talks.Uci m = m
+gone_refuses talks.Setup m = cc
+gone_refuses talks.IsReady m = cc
+gone_refuses talks.Position m = cc
+gone_refuses (talks.Go k) m = cc
+gone_refuses talks.Stop m = m
+gone_refuses talks.PonderHit m = m
+gone_refuses talks.Quit m = m refl
+
+not_gone : (e : Engine) (w : Word) → MaySend e w → on_wire e ≡ Gone → ⊥
+not_gone talks.Boot w m g = cc
+not_gone talks.Getting w m g = cc
+not_gone talks.Idle w m g = cc
+not_gone (talks.Search k t s) w m g = cc
+not_gone talks.Gone w m g = gone_refuses w m
+
+-- AT THE OPENING
+
+opening_is : (before behind : List Command) (order other : Command) → other ∷ [] ≡ before ++ order ∷ behind → (before ≡ []) × (order ≡ other)
+opening_is [] behind order other e = (refl, cc)
+opening_is (x ∷ []) behind order other e = absurd (cc)
+opening_is (x ∷ y ∷ before) behind order other e = absurd (cc)
+
+opening_says : (closed : Bool) (e : Event) → is_open e ≡ true → said_by closed e ≡ None
+opening_says closed events.Open o = refl
+opening_says closed (events.Iface line) o = cc
+opening_says closed events.IfaceLong o = cc
+opening_says closed events.IfaceEnd o = cc
+opening_says closed events.IfaceLost o = cc
+opening_says closed (events.Engine line) o = cc
+opening_says closed events.EngineLong o = cc
+opening_says closed events.EngineEnd o = cc
+opening_says closed events.EngineLost o = cc
+
+pub opening_may : (s : State) (e : Event) → is_open e ≡ true → may s.ends e ≡ true → s.ends.opened ≡ false
+opening_may s events.Open o m = not_true s.ends.opened m where
+  not_true : (b : Bool) → not b ≡ true → b ≡ false
+  not_true true e = cc
+  not_true false e = refl
+opening_may s (events.Iface line) o m = cc
+opening_may s events.IfaceLong o m = cc
+opening_may s events.IfaceEnd o m = cc
+opening_may s events.IfaceLost o m = cc
+opening_may s (events.Engine line) o m = cc
+opening_may s events.EngineLong o m = cc
+opening_may s events.EngineEnd o m = cc
+opening_may s events.EngineLost o m = cc
+
+-- AT EACH PLACE
+
+module _ (o : Settings) (step : Step) (t : List Step) (l : Lawful o (step ∷ t)) (before behind : List Command) (order : Command) (at : step.orders ≡ before ++ order ∷ behind) where
+  abbrev s : State
+  s = state o t
+
+  abbrev m : Talk
+  m = mid s step.event
+
+  abbrev engine_here : Engine
+  engine_here = sent_all m.epoch m.engine (map word_of before)
+
+  here_on_wire : on_wire engine_here ≡ wire_at t step before
+  here_on_wire = all_on_wire m.epoch m.engine before ∙ ap (λ (x : Wire). writing_all x before) (mid_on_wire o t step.event (engine_on_wire o t))
+
+  placed : is_open step.event ≡ false → MaySend engine_here (word_of order)
+  placed n =
+      let all = may_all s.talk s.ends.closed (exchange s step) (lawful_in s step (lasts o t l.0) l.1 n) in
+      at_place m.epoch m.engine (map word_of before) (map word_of behind) (word_of order)
+      (subst (MaySendAll m.epoch m.engine) (ap (map word_of) at ∙ map-append word_of before (order ∷ behind)) all)
+
+  -- at the opening only `uci` is written, in Boot
+  opened : is_open step.event ≡ true → (order ≡ orders.Uci) × (wire_at t step before ≡ Boot)
+  opened y =
+      let alone = opening_is before behind order orders.Uci (sym (l.1.opens y) ∙ at) in
+      let boot = (lasts o t l.0).begins (opening_may s step.event y l.1.may_come) in (
+        alone.1,
+        ap (wire_at t step) alone.0 ∙ ap (hearing (wire t)) (opening_says (ends t).closed step.event y) ∙ sym (engine_on_wire o t) ∙ ap on_wire boot,
+      )
+
+  by_open : (P : Type 0) → (is_open step.event ≡ true → P) → (is_open step.event ≡ false → P) → P
+  by_open P f g = by (is_open step.event) refl where
+    by : (b : Bool) → is_open step.event ≡ b → P
+    by true x = f x
+    by false x = g x
+
+  in_idle : needs_idle order ≡ true → wire_at t step before ≡ Idle
+  in_idle n =
+      by_open (wire_at t step before ≡ Idle)
+      (λ y. let u = ap needs_idle (opened y).0 in cc)
+      (λ y. sym here_on_wire ∙ idle_needed engine_here order n (placed y))
+
+  in_life : wire_at t step before ≡ Gone → ⊥
+  in_life g = by_open ⊥ (λ y. let b = (opened y).1 in cc) (λ y. not_gone engine_here (word_of order) (placed y) (here_on_wire ∙ g))
+
+  in_search : order ≡ orders.Stop → (k : GoKind) × (wire_at t step before ≡ Search k false)
+  in_search x =
+      by_open ((k : GoKind) × (wire_at t step before ≡ Search k false))
+      (λ y. let u = (opened y).0 in absurd (cc))
+      (λ y. let k = stop_needs engine_here (subst (λ (c : Command). MaySend engine_here (word_of c)) x (placed y)) in (k.0, sym here_on_wire ∙ k.1))
+
+  in_pondering : order ≡ orders.PonderHit → wire_at t step before ≡ Search kinds.Ponder false
+  in_pondering x =
+      by_open (wire_at t step before ≡ Search kinds.Ponder false)
+      (λ y. let u = (opened y).0 in cc)
+      (λ y. sym here_on_wire ∙ hit_needs engine_here (subst (λ (c : Command). MaySend engine_here (word_of c)) x (placed y)))
+
+pub idle_gets_them : (o : Settings) → IdleGetsThem o
+idle_gets_them o step t before behind order l at n = in_idle o step t l before behind order at n
+
+pub search_gets_stop : (o : Settings) → SearchGetsStop o
+search_gets_stop o step t before behind l at = in_search o step t l before behind orders.Stop at refl
+
+pub ponder_gets_hit : (o : Settings) → PonderGetsHit o
+ponder_gets_hit o step t before behind l at = in_pondering o step t l before behind orders.PonderHit at refl
+
+pub gone_gets_nothing : (o : Settings) → GoneGetsNothing o
+gone_gets_nothing o step t before behind order l at g = in_life o step t l before behind order at g
+
+paired_by : (b : Bool) (xs : List Exchange) (x : Exchange) → b ≡ false → history.Lawful (cond b xs (x ∷ xs)) → Paired x.orders
+paired_by true xs x e l = cc
+paired_by false xs x e l = go_follows x xs l
+
+pub go_follows_position : (o : Settings) → GoFollowsPosition o
+go_follows_position o step t l = by (is_open step.event) refl where
+  by : (b : Bool) → is_open step.event ≡ b → Paired (map word_of step.orders)
+  by true y = subst (λ (os : List Command). Paired (map word_of os)) (sym (l.1.opens y)) tt
+  by false y = paired_by (is_open step.event) (exchanges o t) (exchange (state o t) step) y (dialogues o (step ∷ t) l).lawful

@@ -1,0 +1,132 @@
+-- For each lawful trace there is a core that stands for it, and is within its limits.
+use Rattle.std.proofs.Common.{◌≡◌, ◌+◌, ◌≤◌, List, [], ◌∷◌, ◌++◌, map, length, Bool, true, false, cond, refl, sym, ap, subst, ◌∙◌, arith}
+use Rattle.line_io.specs.Event.{Event}
+use Rattle.uci_lines.specs.Orders.{Command}
+use Rattle.option_map.specs.Held.{batch_text, with_order, with_orders, staying_beside}
+use Rattle.option_map.proofs.KeptOrders.{join_few, join_short}
+use Rattle.policy_rules.specs.declared.settings.Settings.{Settings}
+use Rattle.policy_rules.specs.Policy.{IsProper}
+use Rattle.desk_rules.specs.Desk.{current}
+use Rattle.desk_rules.specs.Steps.{comes}
+use Rattle.desk_rules.specs.Orders.{waiting, asked_by_deed, AllJoin}
+use Rattle.desk_rules.proofs.Joins.{asked_join}
+use Rattle.adapter_core.specs.Ends.{may, ends_after}
+use Rattle.adapter_core.specs.Trace.{Step, Lawful, state, event_in}
+use Rattle.adapter_core.specs.View as view
+use Rattle.adapter_core.specs.View.{View, advance}
+use Rattle.adapter_core.specs.Stands.{Keeps, Stands, step_by}
+use Rattle.adapter_core.proofs.Keeps.{keeps, is_ready, opening_keeps}
+use Rattle.adapter_core.proofs.Holds.{stands_first, extended}
+use Rattle.adapter_core.proofs.Unique.{unique}
+use Rattle.dialogue_laws.specs.Existence.{ends_of, HasTrace, TracesExist, EventsMayCome}
+use Rattle.dialogue_laws.specs.Limits.{IsWithinLimits, CoresAreWithinLimits}
+
+-- WHAT IS HELD
+
+record AreFew (held : List Command) : Type 0 where
+  orders : length held ≤ 256
+  bytes : length (batch_text held) ≤ 65536
+
+none_few : AreFew []
+none_few = record { orders = omega arith; bytes = omega arith }
+
+last_length : (xs : List Command) (x : Command) → length (xs ++ x ∷ []) ≡ length xs + 1
+last_length [] x = refl
+last_length (y ∷ xs) x = omega (arith, last_length xs x)
+
+joined : (held asked : List Command) → AreFew held → AllJoin held asked → AreFew (with_orders held asked)
+joined held [] f j = f
+joined held (order ∷ later) f j =
+    joined (with_order held order) later
+    (record { orders = omega (arith, last_length (staying_beside order held) order, join_few held order j.0); bytes = join_short held order j.0 })
+    j.1
+
+left : (b : Bool) (held : List Command) → AreFew held → AreFew (cond b [] held)
+left true held f = none_few
+left false held f = f
+
+few_after : (v : View) (e : Event) (k : Keeps v) (m : may v.ends e ≡ true) → AreFew v.held → AreFew (advance v e).held
+unfolding advance
+few_after v e k m f =
+    let h = view.here v in
+    let d = comes h v.held e in
+    let ready = is_ready v e k m in
+    left _ (waiting h v.held d) (joined v.held (asked_by_deed h d) f (asked_join h v.held d k.sound ready.fits ready.holds))
+
+-- A CORE FOR EACH LAWFUL TRACE
+
+pub record Reached (o : Settings) (trace : List Step) : Type 0 where
+  pub core : View
+  pub keeps_it : Keeps core
+  pub stands : Stands o core trace
+  few : AreFew core.held
+
+first_reached : (o : Settings) → IsProper o → Reached o []
+first_reached o p = record { core = view.opening o; keeps_it = opening_keeps o p; stands = stands_first o p; few = none_few }
+
+same_ends : (o : Settings) (core : View) (t : List Step) (e : Event) → Stands o core t → may (state o t).ends e ≡ true → may core.ends e ≡ true
+same_ends o core t e st m = ap (λ (v : View). may v.ends e) st.0 ∙ m
+
+event_is : (core : View) (e : Event) → (step_by core e).event ≡ e
+unfolding step_by
+event_is core e = refl
+
+reached_on : (o : Settings) (t : List Step) (step : Step) → Lawful o (step ∷ t) → Reached o t → Reached o (step ∷ t)
+reached_on o t step l r =
+    let e = step.event in
+    let m : may r.core.ends e ≡ true = same_ends o r.core t e r.stands l.1.may_come in
+    let x = extended o r.core t e m r.keeps_it.sound l.0 r.stands in
+    let same : step_by r.core e ∷ t ≡ step ∷ t = unique o (step_by r.core e ∷ t) (step ∷ t) x.0 l (ap (λ (y : Event). y ∷ map event_in t) (event_is r.core e)) in
+    record {
+      core = advance r.core e;
+      keeps_it = keeps r.core e r.keeps_it m;
+      stands = subst (Stands o (advance r.core e)) same x.1;
+      few = few_after r.core e r.keeps_it m r.few;
+    }
+
+pub reached : (o : Settings) (t : List Step) → IsProper o → Lawful o t → Reached o t
+reached o [] p l = first_reached o p
+reached o (step ∷ t) p l = reached_on o t step l (reached o t p l.0)
+
+-- LIMITS
+
+kept_in : (o : Settings) (core core' : View) (t : List Step) → Stands o core t → Stands o core' t → core ≡ record core' { told = core.told; ordered = core.ordered }
+kept_in o core core' t a b = a.0 ∙ ap (λ (v : View). let w : View = record v { told = core.told; ordered = core.ordered } in w) (sym b.0)
+
+within : (core : View) → AreFew core.held → Keeps core → IsWithinLimits core
+within core f k = record {
+  orders = f.orders;
+  bytes = f.bytes;
+  pings = k.pings;
+  search = λ g stopped c s. k.serves c g (ap current s);
+}
+
+texts_within : (core core' : View) → IsWithinLimits core' → IsWithinLimits (record core' { told = core.told; ordered = core.ordered })
+texts_within core core' w = record { orders = w.orders; bytes = w.bytes; pings = w.pings; search = w.search }
+
+pub within_limits : (o : Settings) → CoresAreWithinLimits o
+within_limits o core trace p l st =
+    let r = reached o trace p l in
+    subst IsWithinLimits (sym (kept_in o core r.core trace st r.stands)) (texts_within core r.core (within r.core r.few r.keeps_it))
+
+-- EXISTENCE
+
+ends_are : (o : Settings) (t : List Step) → (state o t).ends ≡ ends_of (map event_in t)
+ends_are o [] = refl
+ends_are o (step ∷ t) = ap (λ x. ends_after x step.event) (ends_are o t)
+
+pub may_come : (o : Settings) → EventsMayCome o
+may_come o [] l = tt
+may_come o (step ∷ t) l = (may_come o t l.0, ap (λ x. may x step.event) (sym (ends_are o t)) ∙ l.1.may_come)
+
+goes_on : (o : Settings) (p : IsProper o) (e : Event) (es : List Event) (t : List Step) → Lawful o t → map event_in t ≡ es → may (ends_of es) e ≡ true
+    → HasTrace o (e ∷ es)
+goes_on o p e es t l same m =
+    let r = reached o t p l in
+    let m' : may (state o t).ends e ≡ true = ap (λ x. may x e) (ends_are o t ∙ ap ends_of same) ∙ m in
+    let x = extended o r.core t e (same_ends o r.core t e r.stands m') r.keeps_it.sound l r.stands in
+    record { trace = step_by r.core e ∷ t; lawful = x.0; events = ap (λ (y : Event). y ∷ map event_in t) (event_is r.core e) ∙ ap (λ (ys : List Event). e ∷ ys) same }
+
+pub exist : (o : Settings) → TracesExist o
+exist o p [] m = record { trace = []; lawful = tt; events = refl }
+exist o p (e ∷ es) m = let x = exist o p es m.0 in goes_on o p e es x.trace x.lawful x.events m.1

@@ -1,0 +1,102 @@
+-- A search is answered by at most one shown move.
+use Rattle.std.proofs.Common.{◌≡◌, ℕ, ◌+◌, ◌≤◌, List, [], ◌∷◌, map, length, Bool, true, false, cond, Option, Some, None, refl, sym, subst, arith}
+use Rattle.cecp_lines.specs.Replies.{Told}
+use Rattle.uci_lines.specs.Orders.{Command}
+use Rattle.uci_lines.specs.Orders as orders
+use Rattle.policy_rules.specs.declared.settings.Settings.{Settings}
+use Rattle.search_epochs.specs.declared.words.Said.{Said}
+use Rattle.search_epochs.specs.declared.words.Said.TheVariants as said
+use Rattle.search_epochs.specs.Talk.{Engine, Boot, Getting, Idle, Search, Gone, Word, Go, Talk, heard, said_of, sent, sent_all, is_move}
+use Rattle.search_epochs.specs.View.{forget}
+use Rattle.desk_rules.specs.Steps.{Deed, Shows, what_of}
+use Rattle.desk_rules.specs.Replies.{replies_of}
+use Rattle.desk_rules.specs.Orders.{word_of}
+use Rattle.desk_rules.specs.Fits.{Fits, IsCurrentMove}
+use Rattle.adapter_core.specs.Trace.{State, Step, IsLawful, Lawful, state, here, deed, mid, owing, closed_after}
+use Rattle.adapter_core.specs.Shown.{moves_told}
+use Rattle.adapter_core.proofs.Shown.{shown_by, open_shows}
+use Rattle.adapter_core.proofs.Traces.{Lasts, lasts, fits}
+use Rattle.dialogue_laws.specs.Dialogue.{begins_search, shown_since_go, SearchesShowOnce}
+
+abbrev searches : Engine → Bool
+searches (Search k t s) = true
+searches e = false
+
+-- WHAT OPENS A SEARCH
+
+heard_none : (e : Engine) (w : Option Said) → searches (heard e w) ≡ true → searches e ≡ true
+heard_none (Search k t s) w x = refl
+heard_none Boot None x = x
+heard_none Boot (Some said.UciOk) x = cc
+heard_none Boot (Some w) x = cc
+heard_none Getting None x = x
+heard_none Getting (Some said.ReadyOk) x = cc
+heard_none Getting (Some w) x = cc
+heard_none Idle None x = x
+heard_none Idle (Some said.Ended) x = cc
+heard_none Idle (Some w) x = cc
+heard_none Gone None x = x
+heard_none Gone (Some said.Ended) x = cc
+heard_none Gone (Some w) x = cc
+
+abbrev is_go : Word → Bool
+is_go (Go k) = true
+is_go w = false
+
+sent_none : (n : ℕ) (e : Engine) (w : Word) → is_go w ≡ false → searches (sent n e w) ≡ true → searches e ≡ true
+sent_none n (Search k t s) w g x = refl
+sent_none n Boot (Go k) g x = cc
+sent_none n Boot w g x = cc
+sent_none n Getting (Go k) g x = cc
+sent_none n Getting w g x = cc
+sent_none n Idle (Go k) g x = cc
+sent_none n Idle w g x = cc
+sent_none n Gone w g x = cc
+
+written_none : (n : ℕ) (e : Engine) (os : List Command) → begins_search os ≡ false → searches (sent_all n e (map word_of os)) ≡ true → searches e ≡ true
+written_none n e [] b x = x
+written_none n e (orders.Go ponder control depth ∷ later) b x = cc
+written_none n e (order ∷ later) b x = sent_none n e (word_of order) refl (written_none n (sent n e (word_of order)) later b x)
+
+-- HOW MANY WERE SHOWN SINCE
+
+record AreFew (e : Engine) (n : ℕ) : Type 0 where
+  few : n ≤ 1
+  none : searches e ≡ true → n ≡ 0
+
+shows_to : (epoch n : ℕ) (e : Engine) → IsCurrentMove (forget epoch e) → AreFew e n → AreFew (heard e (Some said.Best)) (n + 1)
+shows_to epoch n Boot i a = cc
+shows_to epoch n Getting i a = cc
+shows_to epoch n Idle i a = cc
+shows_to epoch n Gone i a = cc
+shows_to epoch n (Search k t s) i a = record { few = omega (arith, a.none refl); none = λ x. cc }
+
+stays_few : (n : ℕ) (e : Engine) (w : Option Said) → AreFew e n → AreFew (heard e w) (n + 0)
+stays_few n e w a = record { few = omega (arith, a.few); none = λ x. omega (arith, a.none (heard_none e w x)) }
+
+by_deed : (s : State) (n : ℕ) (d : Deed) → Fits (here s) s.held d → AreFew s.talk.engine n → AreFew (heard s.talk.engine (said_of (what_of d))) (n + length (shown_by d))
+by_deed s n (Shows best hint) f a = shows_to s.talk.epoch n s.talk.engine f.1 a
+by_deed s n d f a = stays_few n s.talk.engine (said_of (what_of d)) a
+
+by_closed : (s : State) (n : ℕ) (d : Deed) (closed owes : Bool) → Fits (here s) s.held d → AreFew s.talk.engine n
+    → AreFew (heard s.talk.engine (said_of (what_of d))) (n + length (moves_told (replies_of closed owes (here s) d)))
+by_closed s n d true owes f a = stays_few n s.talk.engine (said_of (what_of d)) a
+by_closed s n d false owes f a = subst (λ (ms : List _). AreFew (heard s.talk.engine (said_of (what_of d))) (n + length ms)) (sym (open_shows owes (here s) d)) (by_deed s n d f a)
+
+mid_few : (s : State) (step : Step) (n : ℕ) → Lasts s → IsLawful s step → AreFew s.talk.engine n → AreFew (mid s step.event).engine (n + length (moves_told step.replies))
+mid_few s step n last l a =
+    subst (λ (rs : List Told). AreFew (mid s step.event).engine (n + length (moves_told rs))) (sym l.replies)
+    (by_closed s n (deed s step.event) (closed_after s step.event) (is_move (owing s step.event)) (fits s step last l) a)
+
+after_few : (m : Talk) (n : ℕ) (os : List Command) (b : Bool) → begins_search os ≡ b → AreFew m.engine n → AreFew (sent_all m.epoch m.engine (map word_of os)) (cond b 0 n)
+after_few m n os true e a = record { few = omega arith; none = λ x. refl }
+after_few m n os false e a = record { few = a.few; none = λ x. a.none (written_none m.epoch m.engine os e x) }
+
+few : (o : Settings) (t : List Step) → Lawful o t → AreFew (state o t).talk.engine (shown_since_go t)
+few o [] l = record { few = omega arith; none = λ x. refl }
+few o (step ∷ t) l =
+    after_few (mid (state o t) step.event) (shown_since_go t + length (moves_told step.replies)) step.orders (begins_search step.orders) refl
+    (mid_few (state o t) step (shown_since_go t) (lasts o t l.0) l.1 (few o t l.0))
+
+pub show_once : (o : Settings) → SearchesShowOnce o
+show_once o step t l = (mid_few (state o t) step (shown_since_go t) (lasts o t l.0) l.1 (few o t l.0)).few

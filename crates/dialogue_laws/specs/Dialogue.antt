@@ -1,0 +1,91 @@
+-- A lawful trace as a dialogue with the engine: one exchange for each step but the opening.
+use Rattle.std.specs.Prelude.{◌≡◌, ℕ, ◌+◌, ◌≤◌, List, [], ◌∷◌, map, length, Bool, true, false, if◌then◌else◌}
+use Rattle.uci_lines.specs.Orders.{Command}
+use Rattle.uci_lines.specs.Orders as orders
+use Rattle.peer_words.specs.declared.kinds.GoKind.{GoKind}
+use Rattle.policy_rules.specs.declared.settings.Settings.{Settings}
+use Rattle.policy_rules.specs.Policy.{IsProper}
+use Rattle.search_epochs.specs.History as history
+use Rattle.search_epochs.specs.History.{Exchange}
+use Rattle.search_epochs.specs.Talk.{Search, Serves}
+use Rattle.desk_rules.specs.Desk.{call_before}
+use Rattle.desk_rules.specs.Orders.{word_of}
+use Rattle.adapter_core.specs.Ends.{is_open}
+use Rattle.adapter_core.specs.Trace.{State, Step, Lawful, state, here, turn, desk_of, closed_after}
+use Rattle.adapter_core.specs.Shown.{moves_told}
+
+-- what a step is to the dialogue
+abbrev pub exchange : State → Step → Exchange
+exchange s step = record {
+  turn = turn s step.event;
+  hint = (desk_of s step.event).hint;
+  closed = closed_after s step.event;
+  orders = map word_of step.orders;
+}
+
+-- the exchanges of a trace: the opening writes `uci`, with which the dialogue begins
+abbrev pub exchanges : Settings → List Step → List Exchange
+exchanges o [] = []
+exchanges o (step ∷ trace) = if is_open step.event then exchanges o trace else exchange (state o trace) step ∷ exchanges o trace
+
+-- The exchanges are a lawful dialogue, and its talk is that of the state.
+pub record IsDialogueOf (s : State) (xs : List Exchange) : Type 0 where
+  pub lawful : history.Lawful xs
+  pub talk : history.talk xs ≡ s.talk
+  pub closed : history.is_closed xs ≡ s.ends.closed
+
+-- Each lawful trace is a lawful dialogue, so that all laws of lawful dialogues are laws of it.
+abbrev pub TracesAreDialogues : Settings → Type 0
+TracesAreDialogues o = (trace : List Step) → Lawful o trace → IsDialogueOf (state o trace) (exchanges o trace)
+
+-- SEARCHES
+
+-- how many `stop`s were written since the last `go`
+abbrev pub stops_after : ℕ → List Command → ℕ
+stops_after n [] = n
+stops_after n (orders.Go ponder control depth ∷ later) = stops_after 0 later
+stops_after n (orders.Stop ∷ later) = stops_after (n + 1) later
+stops_after n (order ∷ later) = stops_after n later
+
+abbrev pub stops_since_go : List Step → ℕ
+stops_since_go [] = 0
+stops_since_go (step ∷ trace) = stops_after (stops_since_go trace) step.orders
+
+-- At most one `stop` is written from a `go` to the next.
+abbrev pub StopsOnce : Settings → Type 0
+StopsOnce o = (trace : List Step) → Lawful o trace → stops_since_go trace ≤ 1
+
+abbrev pub begins_search : List Command → Bool
+begins_search [] = false
+begins_search (orders.Go ponder control depth ∷ later) = true
+begins_search (order ∷ later) = begins_search later
+
+-- how many moves were shown since the last `go`; those of a step that writes `go` were shown before it
+abbrev pub shown_since_go : List Step → ℕ
+shown_since_go [] = 0
+shown_since_go (step ∷ trace) = if begins_search step.orders then 0 else shown_since_go trace + length (moves_told step.replies)
+
+-- A search is answered by at most one shown move: from a `go` to the next, with the step that writes the next, one is shown or none.
+abbrev pub SearchesShowOnce : Settings → Type 0
+SearchesShowOnce o =
+    (step : Step) (trace : List Step) → Lawful o (step ∷ trace)
+    → shown_since_go trace + length (moves_told step.replies) ≤ 1
+
+-- THE CALL
+
+-- The dialogue is steady, and what is called for and the hint are those of the desk.
+pub record IsSteadyOf (s : State) (xs : List Exchange) : Type 0 where
+  pub steady : history.Steady xs
+  pub call : history.last_call xs ≡ call_before (here s)
+  pub hint : history.last_hint xs ≡ s.desk.hint
+
+-- With proper settings the dialogue of each lawful trace is steady, so that it is no premise of the laws of dialogues.
+abbrev pub TracesAreSteady : Settings → Type 0
+TracesAreSteady o = IsProper o → (trace : List Step) → Lawful o trace → IsSteadyOf (state o trace) (exchanges o trace)
+
+-- An open current search is of the kind that is called for, and was begun or renewed for just this call, hint and all.
+abbrev pub SearchesServe : Settings → Type 0
+SearchesServe o =
+    IsProper o → (trace : List Step) (k : GoKind) (stopped : Bool) → Lawful o trace → (state o trace).ends.closed ≡ false
+    → (state o trace).talk.engine ≡ Search k (state o trace).talk.epoch stopped
+    → Serves k (call_before (here (state o trace))) × (history.began (exchanges o trace) ≡ call_before (here (state o trace)))

@@ -1,0 +1,6 @@
+pub mod Wire
+pub mod Existence
+pub mod Limits
+pub mod Dialogue
+pub mod Pings
+pub mod Values

@@ -1,0 +1,47 @@
+-- Pings and their pongs.
+use Rattle.std.specs.Prelude.{◌≡◌, ℕ, List, [], ◌∷◌, ◌++◌, true, false}
+use Rattle.cecp_lines.specs.Messages as says
+use Rattle.cecp_lines.specs.Replies.{Told}
+use Rattle.cecp_lines.specs.Replies as told
+use Rattle.policy_rules.specs.declared.settings.Settings.{Settings}
+use Rattle.search_epochs.specs.Talk.{is_move}
+use Rattle.desk_rules.specs.Steps.{Deed, Accepts}
+use Rattle.adapter_core.specs.Trace.{Step, Lawful, state, deed, owing}
+
+-- the number of an accepted ping
+abbrev pub ping_in : Deed → List ℕ
+ping_in (Accepts (says.Ping n)) = n ∷ []
+ping_in d = []
+
+-- the pings that were accepted, the oldest first
+abbrev pub pinged : Settings → List Step → List ℕ
+pinged o [] = []
+pinged o (step ∷ trace) = pinged o trace ++ ping_in (deed (state o trace) step.event)
+
+-- the pongs of these lines
+abbrev pub pongs_told : List Told → List ℕ
+pongs_told [] = []
+pongs_told (told.Pong n ∷ rest) = n ∷ pongs_told rest
+pongs_told (line ∷ rest) = pongs_told rest
+
+-- the pongs that were written, the oldest first
+abbrev pub ponged : List Step → List ℕ
+ponged [] = []
+ponged (step ∷ trace) = ponged trace ++ pongs_told step.replies
+
+-- Each accepted ping has one pong, in order, or is held: the pings are the pongs, and behind them those that the desk holds.
+abbrev pub PingsHavePongs : Settings → Type 0
+PingsHavePongs o = (trace : List Step) → Lawful o trace → pinged o trace ≡ ponged trace ++ (state o trace).desk.pings
+
+-- No pong is written in a step after whose event a Move is owed.
+abbrev pub PongsWait : Settings → Type 0
+PongsWait o =
+    (step : Step) (trace : List Step) → Lawful o (step ∷ trace)
+    → is_move (owing (state o trace) step.event) ≡ true → pongs_told step.replies ≡ []
+
+-- After a step that leaves the session open no ping is held, unless a Move is owed.
+abbrev pub NoneIsHeld : Settings → Type 0
+NoneIsHeld o =
+    (step : Step) (trace : List Step) → Lawful o (step ∷ trace)
+    → (state o (step ∷ trace)).ends.closed ≡ false
+    → is_move (owing (state o trace) step.event) ≡ false → (state o (step ∷ trace)).desk.pings ≡ []

@@ -1,0 +1,134 @@
+-- The engine as the wire shows it: by the orders that were written and by what its lines say, without a look at the desk.
+use Rattle.std.specs.Prelude.{◌≡◌, ◌≢◌, List, [], ◌∷◌, ◌++◌, map, Bool, true, false, if◌then◌else◌, Option, Some, None}
+use Rattle.line_io.specs.Event.{Event}
+use Rattle.line_io.specs.Event as events
+use Rattle.peer_words.specs.declared.kinds.GoKind.{GoKind}
+use Rattle.peer_words.specs.declared.kinds.GoKind.TheVariants as kinds
+use Rattle.uci_lines.specs.Says.{Says}
+use Rattle.uci_lines.specs.Says as says
+use Rattle.uci_lines.specs.Engine.{engine_message}
+use Rattle.uci_lines.specs.Orders.{Command}
+use Rattle.uci_lines.specs.Orders as orders
+use Rattle.policy_rules.specs.declared.settings.Settings.{Settings}
+use Rattle.search_epochs.specs.declared.words.Said.{Said}
+use Rattle.search_epochs.specs.declared.words.Said.TheVariants as said
+use Rattle.search_epochs.specs.Talk.{Engine, Paired}
+use Rattle.search_epochs.specs.Talk as talks
+use Rattle.desk_rules.specs.Orders.{kind_named, word_of}
+use Rattle.adapter_core.specs.declared.ends.Ends.{Ends}
+use Rattle.adapter_core.specs.Ends.{ends_after, at_start}
+use Rattle.adapter_core.specs.Trace.{Step, Lawful, state}
+
+-- the engine, by its lines and its orders alone: a search has a kind, and is stopped or not
+pub data Wire : Type 0 where
+  Boot : Wire
+  Getting : Wire
+  Idle : Wire
+  Search : (kind : GoKind) (stopped : Bool) → Wire
+  Gone : Wire
+
+-- what a line of the engine says to the dialogue
+abbrev pub said_in : Says → Option Said
+said_in says.UciOk = Some said.UciOk
+said_in says.ReadyOk = Some said.ReadyOk
+said_in (says.Best best hint) = Some said.Best
+said_in m = None
+
+-- and an event: in a closed session no line is heard, but the engine's end is
+abbrev pub said_by : Bool → Event → Option Said
+said_by closed (events.Engine line) = if closed then None else said_in (engine_message line)
+said_by closed events.EngineEnd = Some said.Ended
+said_by closed events.EngineLost = Some said.Ended
+said_by closed e = None
+
+-- the engine after it was heard: `uciok` ends the boot, `readyok` the getting, `bestmove` the search
+abbrev pub hearing : Wire → Option Said → Wire
+hearing e None = e
+hearing Boot (Some said.UciOk) = Idle
+hearing Getting (Some said.ReadyOk) = Idle
+hearing (Search k s) (Some said.Best) = Idle
+hearing e (Some said.Ended) = Gone
+hearing e (Some _) = e
+
+-- the engine after an order
+abbrev pub writing : Wire → Command → Wire
+writing Gone order = Gone
+writing e orders.Uci = Boot
+writing e orders.IsReady = Getting
+writing e (orders.Go ponder control depth) = Search (kind_named ponder control) false
+writing (Search k s) orders.Stop = Search k true
+writing (Search kinds.Ponder s) orders.PonderHit = Search kinds.Move false
+writing e order = e
+
+-- and after several, one by one
+abbrev pub writing_all : Wire → List Command → Wire
+writing_all e [] = e
+writing_all e (order ∷ later) = writing_all (writing e order) later
+
+-- which sides have ended, by the events alone
+abbrev pub ends : List Step → Ends
+ends [] = at_start
+ends (step ∷ trace) = ends_after (ends trace) step.event
+
+-- the engine after a trace
+abbrev pub wire : List Step → Wire
+wire [] = Boot
+wire (step ∷ trace) = writing_all (hearing (wire trace) (said_by (ends trace).closed step.event)) step.orders
+
+-- the engine at the place of an order, with these of the step's orders before it
+abbrev pub wire_at : List Step → Step → List Command → Wire
+wire_at trace step before = writing_all (hearing (wire trace) (said_by (ends trace).closed step.event)) before
+
+-- what the wire shows of an engine whose searches have tickets
+abbrev pub on_wire : Engine → Wire
+on_wire talks.Boot = Boot
+on_wire talks.Getting = Getting
+on_wire talks.Idle = Idle
+on_wire (talks.Search k ticket s) = Search k s
+on_wire talks.Gone = Gone
+
+-- THE LAW: the engine of each trace is what the wire shows, and so are the sides that have ended.
+abbrev pub EngineIsOnWire : Settings → Type 0
+EngineIsOnWire o = (trace : List Step) → on_wire (state o trace).talk.engine ≡ wire trace
+
+abbrev pub EndsAreOnWire : Settings → Type 0
+EndsAreOnWire o = (trace : List Step) → (state o trace).ends ≡ ends trace
+
+-- WHERE ORDERS STAND
+
+-- settings, `isready`, `position` and `go` are for an idle engine
+abbrev pub needs_idle : Command → Bool
+needs_idle orders.NewGame = true
+needs_idle (orders.SetOption name value) = true
+needs_idle orders.IsReady = true
+needs_idle (orders.Position start moves) = true
+needs_idle (orders.Go ponder control depth) = true
+needs_idle order = false
+
+-- In a lawful trace they reach only an idle engine.
+abbrev pub IdleGetsThem : Settings → Type 0
+IdleGetsThem o =
+    (step : Step) (trace : List Step) (before behind : List Command) (order : Command) → Lawful o (step ∷ trace)
+    → step.orders ≡ before ++ order ∷ behind → needs_idle order ≡ true → wire_at trace step before ≡ Idle
+
+-- `stop` reaches only an open search that is not stopped.
+abbrev pub SearchGetsStop : Settings → Type 0
+SearchGetsStop o =
+    (step : Step) (trace : List Step) (before behind : List Command) → Lawful o (step ∷ trace)
+    → step.orders ≡ before ++ orders.Stop ∷ behind → (k : GoKind) × (wire_at trace step before ≡ Search k false)
+
+-- `ponderhit` reaches only an open Ponder search that is not stopped.
+abbrev pub PonderGetsHit : Settings → Type 0
+PonderGetsHit o =
+    (step : Step) (trace : List Step) (before behind : List Command) → Lawful o (step ∷ trace)
+    → step.orders ≡ before ++ orders.PonderHit ∷ behind → wire_at trace step before ≡ Search kinds.Ponder false
+
+-- Nothing reaches a gone engine.
+abbrev pub GoneGetsNothing : Settings → Type 0
+GoneGetsNothing o =
+    (step : Step) (trace : List Step) (before behind : List Command) (order : Command) → Lawful o (step ∷ trace)
+    → step.orders ≡ before ++ order ∷ behind → wire_at trace step before ≢ Gone
+
+-- Each `go` stands directly after a `position`, and each `position` directly before a `go`.
+abbrev pub GoFollowsPosition : Settings → Type 0
+GoFollowsPosition o = (step : Step) (trace : List Step) → Lawful o (step ∷ trace) → Paired (map word_of step.orders)

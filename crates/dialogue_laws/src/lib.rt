@@ -1,0 +1,16 @@
+//! What holds of every lawful trace of a session: functions that do nothing, whose contracts are laws.
+#![tactic(auto)]
+
+mod pings;
+mod searches;
+mod settings;
+#[cfg(test)]
+mod tests;
+mod traces;
+mod wire;
+
+pub use pings::pings_get_pongs;
+pub use searches::{searches_end_once, searches_serve, traces_are_dialogues};
+pub use settings::last_settings_stand;
+pub use traces::{cores_within_limits, traces_exist};
+pub use wire::{engine_on_wire, order_places};

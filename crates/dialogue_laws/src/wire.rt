@@ -1,0 +1,27 @@
+// The engine as the wire shows it.
+ghost use Rattle.dialogue_laws.specs.Wire.{EndsAreOnWire, EngineIsOnWire, GoFollowsPosition};
+ghost use Rattle.dialogue_laws.specs.Wire.{GoneGetsNothing, IdleGetsThem, PonderGetsHit, SearchGetsStop};
+
+use policy_rules::Settings;
+
+/// A law: the state of the engine is a fold of the orders that were written and of what the engine's lines say, and
+/// so is which sides have ended of the events. The desk has no say in either.
+pub fn engine_on_wire(settings: Settings)
+    ensures engine { EngineIsOnWire settings }
+    ensures ends { EndsAreOnWire settings }
+{
+    let _ = settings;
+}
+
+/// A law: in a lawful trace settings, `isready`, `position` and `go` reach only an engine that is idle on the wire,
+/// `stop` an open search that is not stopped, `ponderhit` an open Ponder search that is not stopped, and nothing
+/// reaches a gone engine. Each `go` stands directly after a `position`.
+pub fn order_places(settings: Settings)
+    ensures idle { IdleGetsThem settings }
+    ensures stop { SearchGetsStop settings }
+    ensures hit { PonderGetsHit settings }
+    ensures gone { GoneGetsNothing settings }
+    ensures paired { GoFollowsPosition settings }
+{
+    let _ = settings;
+}
