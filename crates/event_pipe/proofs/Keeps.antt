@@ -1,0 +1,401 @@
+-- The steps of the channel keep its rule.
+use Rattle.std.proofs.Common.{◌⊎◌, ◌≡◌, ◌≢◌, ℕ, ◌+◌, ◌<◌, zero, suc, List, [], ◌∷◌, ◌++◌, length, Bool, true, false, cond, slice_set, ◌==◌, ◌||◌, refl, sym, ap, subst, ◌∙◌, arith, append_assoc, append-nil, inl, inr}
+use Rattle.std.proofs.lemmas.Bool.Decides.{nat_tests}
+use mathlib.Core.Option.{Option, some, none, some-injective, some-ne-none}
+use lib.ListN.{get_elem?}
+use Rattle.atomic_table.proofs.Lists.{at_set}
+use Rattle.crossbeam_channel.specs.Fifo.{Pushes, Pops, Forks, Merges, Learns}
+use Rattle.line_io.specs.Event.{Event}
+use Rattle.event_pipe.specs.declared.pipe.Known.{Known}
+use Rattle.event_pipe.specs.declared.message.Peer.{Peer}
+use Rattle.event_pipe.specs.declared.message.Peer.TheVariants as peers
+use Rattle.event_pipe.specs.declared.message.What.{What}
+use Rattle.event_pipe.specs.declared.message.What.TheVariants as says
+use Rattle.event_pipe.specs.Message.{role_of, sent_event, role_of_event, is_end, is_good}
+use Rattle.event_pipe.specs.Rule.{is_of, of, ended, Orderly, idle, sender, Adds, Gets, Fits, Delivers, AllGood, Total, joined_first, joined_second}
+use Rattle.event_pipe.specs.Ends.{Came}
+
+pub of-append : (role : ℕ) (xs ys : List Event) → of role (xs ++ ys) ≡ of role xs ++ of role ys
+of-append role [] ys = refl
+of-append role (x ∷ xs) ys = elim (is_of role x) as (λ b. cond b (x ∷ of role (xs ++ ys)) (of role (xs ++ ys)) ≡ cond b (x ∷ of role xs) (of role xs) ++ of role ys)
+    [ true ↦ ap (λ l. x ∷ l) (of-append role xs ys) | false ↦ of-append role xs ys ]
+
+-- one more of one role
+abbrev more : (ℕ → List Event) → Event → ℕ → List Event
+more sent x role = cond (is_of role x) (sent role ++ x ∷ []) (sent role)
+
+of_more : (sent : ℕ → List Event) (x : Event) (role : ℕ) (all : List Event) → of role all ≡ sent role → of role (all ++ x ∷ []) ≡ more sent x role
+of_more sent x role all e = of-append role all (x ∷ []) ∙ elim (is_of role x) as (λ b. of role all ++ cond b (x ∷ []) [] ≡ cond b (sent role ++ x ∷ []) (sent role))
+    [ true ↦ ap (λ l. l ++ x ∷ []) e | false ↦ append-nil (of role all) ∙ e ]
+
+own : (x : Event) → is_of (role_of_event x) x ≡ true
+own x = grind (arith, nat_tests)
+
+other : (x : Event) (role : ℕ) → role_of_event x ≢ role → is_of role x ≡ false
+other x role n = grind (arith, nat_tests)
+
+is_own : (x : Event) (role : ℕ) → is_of role x ≡ true → role_of_event x ≡ role
+is_own x role h = grind (arith, nat_tests)
+
+or_right : (a b : Bool) → (a || b) ≡ false → b ≡ false
+or_right true b h = cc
+or_right false b h = h
+
+orderly_snoc : (xs : List Event) (x : Event) → Orderly xs → ended xs ≡ false → Orderly (xs ++ x ∷ [])
+orderly_snoc [] x o e = ((λ _. refl), tt)
+orderly_snoc (y ∷ ys) x o e = ((λ t. cc), orderly_snoc ys x o.1 (or_right (is_end y) (ended ys) e))
+
+filled : (zs ys : List Event) (x : Event) → zs ++ x ∷ ys ≡ [] → ⊥
+filled [] ys x h = cc
+filled (z ∷ zs) ys x h = cc
+
+at_y : (a b : Bool) → (a ≡ true → ⊥) → b ≡ false → (a || b) ≡ false
+at_y true b n h = absurd (n refl)
+at_y false b n h = h
+
+orderly_before : (xs ys : List Event) (x : Event) → Orderly (xs ++ x ∷ ys) → ended xs ≡ false
+orderly_before [] ys x o = refl
+orderly_before (y ∷ zs) ys x o = at_y (is_end y) (ended zs) (λ t. filled zs ys x (o.0 t)) (orderly_before zs ys x o.1)
+
+tail : (xs ys : List Event) → xs ++ ys ≡ [] → ys ≡ []
+tail [] ys h = h
+tail (z ∷ zs) ys h = cc
+
+at_x : (a b : Bool) (ys : List Event) → (a ≡ true → ys ≡ []) → (b ≡ true → ys ≡ []) → (a || b) ≡ true → ys ≡ []
+at_x true b ys f g h = f refl
+at_x false b ys f g h = g h
+
+orderly_after : (xs ys : List Event) → Orderly (xs ++ ys) → ended xs ≡ true → ys ≡ []
+orderly_after [] ys o e = cc
+orderly_after (x ∷ xs) ys o e = at_x (is_end x) (ended xs) ys (λ t. tail xs ys (o.0 t)) (λ t. orderly_after xs ys o.1 t) e
+
+all_snoc : (xs : List Event) (x : Event) → AllGood xs → (is_good x ≡ true) × (role_of_event x ≢ 3) → AllGood (xs ++ x ∷ [])
+all_snoc [] x a p = (p, tt)
+all_snoc (y ∷ ys) x a p = (a.0, all_snoc ys x a.1 p)
+
+all_at : (xs ys : List Event) (x : Event) → AllGood (xs ++ x ∷ ys) → (is_good x ≡ true) × (role_of_event x ≢ 3)
+all_at [] ys x a = a.0
+all_at (z ∷ zs) ys x a = all_at zs ys x a.1
+
+at_end : (l : List Known) (a b : Known) (j : ℕ) → get_elem? (l ++ a ∷ []) j ≡ some b → (get_elem? l j ≡ some b) ⊎ ((a ≡ b) × (j ≡ length l))
+at_end [] a b zero e = inr (some-injective a b e, refl)
+at_end [] a b (suc j) e = absurd (some-ne-none b (sym e))
+at_end (x ∷ xs) a b zero e = inl e
+at_end (x ∷ xs) a b (suc j) e = elim (at_end xs a b j e) [ inl h ↦ inl h | inr h ↦ inr (h.0, ap suc h.1) ]
+
+abbrev first_seat : ℕ → Option ℕ
+first_seat zero = some 0
+first_seat (suc r) = none
+
+later : (r : ℕ) → 0 < r → first_seat r ≡ none
+later zero m = absurd (omega arith)
+later (suc r) m = refl
+
+pub begins : Delivers [] (idle ∷ [])
+begins = record {
+  seat = first_seat;
+  sent = λ _. [];
+  taken = [];
+  each = λ _. refl;
+  orderly = λ _. tt;
+  good = tt;
+  fits = λ k u at. elim (at_end [] idle u k at) [
+    | inl h ↦ absurd (some-ne-none u (sym h))
+    | inr h ↦ subst (λ (v : Known). Fits (first_seat) (λ _. []) [] k v) h.0
+        (record {
+          seated = λ _. ap some (sym h.1);
+          sends = λ a b. refl;
+          takes = λ _. refl;
+          spare = λ z r m n. (later r m, refl);
+          first = λ z j. absurd (omega arith);
+          second = λ z j. absurd (omega arith);
+        })
+  ];
+}
+
+-- one pass for a role
+one_seat : (seat : ℕ → Option ℕ) (pass k : ℕ) (v u : Known) → v.role ≢ 3 → u.role ≡ v.role → (v.role ≢ 3 → seat v.role ≡ some pass) → (u.role ≢ 3 → seat u.role ≡ some k) → k ≡ pass
+one_seat seat pass k v u n same f g =
+    let p = f n in
+    let q = g (λ e. n (sym same ∙ e)) in
+    let r : seat u.role ≡ seat v.role = ap seat same in
+    cc
+
+own_fits : (seat : ℕ → Option ℕ) (sent : ℕ → List Event) (taken : List Event) (pass : ℕ) (v : Known) (x : Event) → v.role ≡ role_of_event x → v.role ≢ 3 → v.role ≢ 0
+    → Fits seat sent taken pass v → Fits seat (more sent x) taken pass (record v { sent = v.sent ++ x ∷ [] })
+own_fits seat sent taken pass v x role n3 n0 f = record {
+  seated = f.seated;
+  sends = λ a b.
+      let yes : is_of v.role x ≡ true = ap (λ r. is_of r x) role ∙ own x in
+      ap (λ l. l ++ x ∷ []) (f.sends a b) ∙ sym (ap (λ b. cond b (sent v.role ++ x ∷ []) (sent v.role)) yes);
+  takes = λ z. absurd (n0 z);
+  spare = λ z. absurd (n0 z);
+  first = λ z. absurd (n0 z);
+  second = λ z. absurd (n0 z);
+}
+
+-- what was sent by a role that is not the sender's stays
+kept_sent : (sent : ℕ → List Event) (x : Event) (role : ℕ) → role_of_event x ≢ role → more sent x role ≡ sent role
+kept_sent sent x role n = ap (λ b. cond b (sent role ++ x ∷ []) (sent role)) (other x role n)
+
+other_fits : (seat : ℕ → Option ℕ) (sent : ℕ → List Event) (taken : List Event) (pass k : ℕ) (v u : Known) (x : Event) → v.role ≡ role_of_event x → v.role ≢ 3 → k ≢ pass
+    → Fits seat sent taken pass v → Fits seat sent taken k u → Fits seat (more sent x) taken k u
+other_fits seat sent taken pass k v u x role n3 apart f g =
+    let seated = f.seated n3 in
+    let not_none : (r : ℕ) → seat r ≡ none → role_of_event x ≢ r = λ r h e. let s : seat v.role ≡ seat r = ap seat (role ∙ e) in some-ne-none pass (sym seated ∙ s ∙ h) in
+    record {
+      seated = g.seated;
+      sends = λ a b.
+          let differ : role_of_event x ≢ u.role = λ e. apart (one_seat seat pass k v u n3 (sym (role ∙ e)) f.seated g.seated) in
+          g.sends a b ∙ sym (kept_sent sent x u.role differ);
+      takes = g.takes;
+      spare = λ z r m n. let s = g.spare z r m n in (s.0, kept_sent sent x r (not_none r s.0) ∙ s.1);
+      first = λ z j. let s = g.first z j in (s.0, s.1 ∙ sym (kept_sent sent x 1 (not_none 1 s.0)));
+      second = λ z j. let s = g.second z j in (s.0, s.1 ∙ sym (kept_sent sent x 2 (not_none 2 s.0)));
+    }
+
+orderly_more : (b : Bool) (xs : List Event) (x : Event) → Orderly xs → (b ≡ true → ended xs ≡ false) → Orderly (cond b (xs ++ x ∷ []) xs)
+orderly_more true xs x o e = orderly_snoc xs x o (e refl)
+orderly_more false xs x o e = o
+
+pub puts : (cap pass : ℕ) (v : Known) (x : Event) → v.role ≡ role_of_event x → v.role ≢ 3 → v.role ≢ 0 → ended v.sent ≡ false → is_good x ≡ true → Pushes Delivers cap pass v x (Adds v x)
+puts cap pass v x role n3 n0 on good items views room d at =
+    let w : Known = record v { sent = v.sent ++ x ∷ [] } in
+    let mine = d.fits pass v at in (
+      w,
+      record {
+        seat = d.seat;
+        sent = more d.sent x;
+        taken = d.taken;
+        each = λ r. ap (of r) (sym (append_assoc d.taken items (x ∷ []))) ∙ of_more d.sent x r (d.taken ++ items) (d.each r);
+        orderly = λ r. orderly_more (is_of r x) (d.sent r) x (d.orderly r) (λ is. ap ended (ap d.sent (sym (is_own x r is) ∙ sym role) ∙ sym (mine.sends n3 n0)) ∙ on);
+        good = subst AllGood (append_assoc d.taken items (x ∷ [])) (all_snoc (d.taken ++ items) x d.good (good, λ e. n3 (role ∙ e)));
+        fits = λ k u there. elim (at_set views pass k w u there) [
+          | inl same ↦ subst (λ (h : Known). Fits d.seat (more d.sent x) d.taken k h) same.1
+              (subst (λ (i : ℕ). Fits d.seat (more d.sent x) d.taken i w) (sym same.0) (own_fits d.seat d.sent d.taken pass v x role n3 n0 mine))
+          | inr else ↦ other_fits d.seat d.sent d.taken pass k v u x role n3 else.0 mine (d.fits k u else.1)
+        ];
+      },
+      refl,
+    )
+
+-- what comes next of a role
+next_of : (taken items : List Event) (x : Event) → of (role_of_event x) (taken ++ x ∷ items) ≡ of (role_of_event x) taken ++ x ∷ of (role_of_event x) items
+next_of taken items x =
+    of-append (role_of_event x) taken (x ∷ items)
+    ∙ ap (λ b. of (role_of_event x) taken ++ cond b (x ∷ of (role_of_event x) items) (of (role_of_event x) items)) (own x)
+
+taker_apart : (v : Known) → v.role ≡ 0 → v.role ≢ 3
+taker_apart v z e = omega arith
+
+pub takes : (pass : ℕ) (v : Known) → v.role ≡ 0 → Pops Delivers pass v (Gets v)
+takes pass v zero' x items views d at =
+    let w : Known = record v { taken = v.taken ++ x ∷ [] } in
+    let mine = d.fits pass v at in
+    let r = role_of_event x in
+    let order : Orderly (of r d.taken ++ x ∷ of r items) = subst Orderly (sym (d.each r) ∙ next_of d.taken items x) (d.orderly r) in
+    let good = all_at d.taken items x d.good in (
+      w,
+      record {
+        seat = d.seat;
+        sent = d.sent;
+        taken = d.taken ++ x ∷ [];
+        each = λ r. ap (of r) (append_assoc d.taken (x ∷ []) items) ∙ d.each r;
+        orderly = d.orderly;
+        good = subst AllGood (sym (append_assoc d.taken (x ∷ []) items)) d.good;
+        fits = λ k u there. elim (at_set views pass k w u there) [
+          | inl same ↦ subst (λ (h : Known). Fits d.seat d.sent (d.taken ++ x ∷ []) k h) same.1
+              (record {
+                seated = λ n. mine.seated n ∙ ap some (sym same.0);
+                sends = λ a b. absurd (b zero');
+                takes = λ _. ap (λ l. l ++ x ∷ []) (mine.takes zero');
+                spare = mine.spare;
+                first = mine.first;
+                second = mine.second;
+              })
+          | inr else ↦
+              let g = d.fits k u else.1 in
+              record {
+                seated = g.seated;
+                sends = g.sends;
+                takes = λ z. absurd (else.0 (one_seat d.seat pass k v u (taker_apart v zero') (z ∙ sym zero') mine.seated g.seated));
+                spare = g.spare;
+                first = g.first;
+                second = g.second;
+              }
+        ];
+      },
+      (refl, (ap (λ l. ended (of r l)) (mine.takes zero') ∙ orderly_before (of r d.taken) (of r items) x order, good.0, good.1)),
+    )
+
+abbrev seat_at : (ℕ → Option ℕ) → ℕ → Option ℕ → ℕ → Option ℕ
+seat_at seat r o k = cond (k == r) o (seat k)
+
+seat_here : (seat : ℕ → Option ℕ) (r : ℕ) (o : Option ℕ) (k : ℕ) → k ≡ r → seat_at seat r o k ≡ o
+seat_here seat r o k e = let h : (k == r) ≡ true = grind (arith, nat_tests) in ap (λ b. cond b o (seat k)) h
+
+seat_else : (seat : ℕ → Option ℕ) (r : ℕ) (o : Option ℕ) (k : ℕ) → k ≢ r → seat_at seat r o k ≡ seat k
+seat_else seat r o k n = let h : (k == r) ≡ false = grind (arith, nat_tests) in ap (λ b. cond b o (seat k)) h
+
+pub forks : (role pass : ℕ) (v : Known) → v.role ≡ 0 → v.made + 1 ≡ role → role < 3 → v.joined ≡ 0 → Forks Delivers pass v (record v { made = role }) (sender role)
+forks role pass v zero' made low joined items views d at =
+    let left : Known = record v { made = role } in
+    let vs = slice_set views pass left in
+    let mine = d.fits pass v at in
+    let free = mine.spare zero' role (omega arith) (λ e. omega arith) in
+    let seat : ℕ → Option ℕ = seat_at d.seat role (some (length vs)) in
+    let not_role : (r k : ℕ) → d.seat r ≡ some k → r ≢ role = λ r k h e. some-ne-none k (sym h ∙ ap d.seat e ∙ free.0) in
+    record {
+      seat = seat;
+      sent = d.sent;
+      taken = d.taken;
+      each = d.each;
+      orderly = d.orderly;
+      good = d.good;
+      fits = λ k u there. elim (at_end vs (sender role) u k there) [
+        | inl old ↦ elim (at_set views pass k left u old) [
+          | inl same ↦ subst (λ (h : Known). Fits seat d.sent d.taken k h) same.1
+              (record {
+                seated = λ n. seat_else d.seat role (some (length vs)) v.role (not_role v.role pass (mine.seated n)) ∙ mine.seated n ∙ ap some (sym same.0);
+                sends = λ a b. absurd (b zero');
+                takes = mine.takes;
+                spare = λ z r m n. let s = mine.spare zero' r (omega arith) n in (seat_else d.seat role (some (length vs)) r (λ e. omega arith) ∙ s.0, s.1);
+                first = λ z j. absurd (omega arith);
+                second = λ z j. absurd (omega arith);
+              })
+          | inr else ↦
+              let g = d.fits k u else.1 in
+              let no_taker : u.role ≢ 0 = λ z. else.0 (one_seat d.seat pass k v u (taker_apart v zero') (z ∙ sym zero') mine.seated g.seated) in
+              record {
+                seated = λ n. seat_else d.seat role (some (length vs)) u.role (not_role u.role k (g.seated n)) ∙ g.seated n;
+                sends = g.sends;
+                takes = g.takes;
+                spare = λ z. absurd (no_taker z);
+                first = λ z. absurd (no_taker z);
+                second = λ z. absurd (no_taker z);
+              }
+        ]
+        | inr new ↦ subst (λ (h : Known). Fits seat d.sent d.taken k h) new.0
+            (record {
+              seated = λ n. seat_here d.seat role (some (length vs)) role refl ∙ ap some (sym new.1);
+              sends = λ a b. sym free.1;
+              takes = λ z. absurd (omega arith);
+              spare = λ z. absurd (omega arith);
+              first = λ z. absurd (omega arith);
+              second = λ z. absurd (omega arith);
+            })
+      ];
+    }
+
+-- how the taker's view changes when a sender is taken in
+module _ (role pass : ℕ) (v : Known) (from : ℕ) (w both : Known) (zero' : v.role ≡ 0) (made : v.made ≡ 2) (mine_role : w.role ≡ role) (low : role < 3) (some' : 0 < role)
+    (same_role : both.role ≡ v.role) (same_made : both.made ≡ v.made) (same_taken : both.taken ≡ v.taken) where
+  pub merges : ((seat : ℕ → Option ℕ) (sent : ℕ → List Event) → (0 < v.joined → (seat 1 ≡ none) × (v.first ≡ sent 1)) → (1 < v.joined → (seat 2 ≡ none) × (v.second ≡ sent 2)) → w.sent ≡ sent role
+      → (0 < both.joined → (seat_at seat role none 1 ≡ none) × (both.first ≡ sent 1)) × (1 < both.joined → (seat_at seat role none 2 ≡ none) × (both.second ≡ sent 2)))
+      → Merges Delivers pass v from w both (sender 3)
+  merges knows items views d at apart at' =
+      let vs = slice_set views pass both in
+      let mine = d.fits pass v at in
+      let was : get_elem? views from ≡ some w = elim (at_set views pass from both w at') [ inl x ↦ absurd (apart x.0) | inr x ↦ x.1 ] in
+      let theirs = d.fits from w was in
+      let w3 : w.role ≢ 3 = λ e. omega arith in
+      let w0 : w.role ≢ 0 = λ e. omega arith in
+      let seat : ℕ → Option ℕ = seat_at d.seat role none in
+      let k' = knows d.seat d.sent (mine.first zero') (mine.second zero') (theirs.sends w3 w0 ∙ ap d.sent mine_role) in
+      record {
+        seat = seat;
+        sent = d.sent;
+        taken = d.taken;
+        each = d.each;
+        orderly = d.orderly;
+        good = d.good;
+        fits = λ k u there. elim (at_set vs from k (sender 3) u there) [
+          | inl same ↦ subst (λ (h : Known). Fits seat d.sent d.taken k h) same.1
+              (record {
+                seated = λ n. absurd (n refl);
+                sends = λ n. absurd (n refl);
+                takes = λ z. absurd (omega arith);
+                spare = λ z. absurd (omega arith);
+                first = λ z. absurd (omega arith);
+                second = λ z. absurd (omega arith);
+              })
+          | inr else ↦ elim (at_set views pass k both u else.1) [
+            | inl same ↦ subst (λ (h : Known). Fits seat d.sent d.taken k h) same.1
+                (record {
+                  seated = λ n. seat_else d.seat role none both.role (λ e. omega arith) ∙ ap d.seat same_role ∙ mine.seated (taker_apart v zero') ∙ ap some (sym same.0);
+                  sends = λ a b. absurd (b (same_role ∙ zero'));
+                  takes = λ _. same_taken ∙ mine.takes zero';
+                  spare = λ z r m n. let s = mine.spare zero' r (omega arith) n in (seat_else d.seat role none r (λ e. omega arith) ∙ s.0, s.1);
+                  first = λ z. k'.0;
+                  second = λ z. k'.1;
+                })
+            | inr old ↦
+                let g = d.fits k u old.1 in
+                let no_taker : u.role ≢ 0 = λ z. old.0 (one_seat d.seat pass k v u (taker_apart v zero') (z ∙ sym zero') mine.seated g.seated) in
+                let no_role : u.role ≢ role = λ e. else.0 (one_seat d.seat from k w u w3 (e ∙ sym mine_role) theirs.seated g.seated) in
+                record {
+                  seated = λ n. seat_else d.seat role none u.role no_role ∙ g.seated n;
+                  sends = g.sends;
+                  takes = g.takes;
+                  spare = λ z. absurd (no_taker z);
+                  first = λ z. absurd (no_taker z);
+                  second = λ z. absurd (no_taker z);
+                }
+          ]
+        ];
+      }
+
+pub merges_first : (pass : ℕ) (v : Known) (from : ℕ) (w : Known) → v.role ≡ 0 → v.made ≡ 2 → v.joined ≡ 0 → w.role ≡ 1 → Merges Delivers pass v from w (joined_first v w) (sender 3)
+merges_first pass v from w zero' made joined role =
+    merges 1 pass v from w (joined_first v w) zero' made role (omega arith) (omega arith) refl refl refl
+    (λ seat sent f s e. ((λ _. (refl, e)), λ j. absurd (omega arith)))
+
+pub merges_second : (pass : ℕ) (v : Known) (from : ℕ) (w : Known) → v.role ≡ 0 → v.made ≡ 2 → v.joined ≡ 1 → w.role ≡ 2 → Merges Delivers pass v from w (joined_second v w) (sender 3)
+merges_second pass v from w zero' made joined role =
+    merges 2 pass v from w (joined_second v w) zero' made role (omega arith) (omega arith) refl refl refl
+    (λ seat sent f s e. ((λ _. f (omega arith)), λ j. (refl, e)))
+
+pub totals : (pass : ℕ) (v : Known) → v.role ≡ 0 → v.joined ≡ 2 → Learns Delivers pass v (Total v)
+totals pass v zero' joined items views d at =
+    let mine = d.fits pass v at in
+    let one = mine.first zero' (omega arith) in
+    let two = mine.second zero' (omega arith) in
+    record {
+      first = ap (λ l. of 1 (l ++ items)) (mine.takes zero') ∙ d.each 1 ∙ sym one.1;
+      second = ap (λ l. of 2 (l ++ items)) (mine.takes zero') ∙ d.each 2 ∙ sym two.1;
+      first_orderly = subst Orderly (sym one.1) (d.orderly 1);
+      second_orderly = subst Orderly (sym two.1) (d.orderly 2);
+    }
+
+pub came : (p : Peer) (taken items sent : List Event) → of (role_of p) (taken ++ items) ≡ sent → Orderly sent → Came p taken sent
+came p taken items sent e o =
+    let front = sym e ∙ of-append (role_of p) taken items in
+    record { left = of (role_of p) items; front = front; whole = orderly_after (of (role_of p) taken) (of (role_of p) items) (subst Orderly front o) }
+
+pub came_first : (v a b x y : Known) → a ≡ joined_first v x → b ≡ joined_second a y → (items : List Event) → Total b items → Came peers.Iface v.taken x.sent
+came_first v a b x y e f items t =
+    let taken : b.taken ≡ v.taken = ap (λ (h : Known). h.taken) f ∙ ap (λ (h : Known). h.taken) e in
+    let first : b.first ≡ x.sent = ap (λ (h : Known). h.first) f ∙ ap (λ (h : Known). h.first) e in
+    came peers.Iface v.taken items x.sent (ap (λ l. of 1 (l ++ items)) (sym taken) ∙ t.first ∙ first) (subst Orderly first t.first_orderly)
+
+pub came_second : (v a b x y : Known) → a ≡ joined_first v x → b ≡ joined_second a y → (items : List Event) → Total b items → Came peers.Engine v.taken y.sent
+came_second v a b x y e f items t =
+    let taken : b.taken ≡ v.taken = ap (λ (h : Known). h.taken) f ∙ ap (λ (h : Known). h.taken) e in
+    let second : b.second ≡ y.sent = ap (λ (h : Known). h.second) f in
+    came peers.Engine v.taken items y.sent (ap (λ l. of 2 (l ++ items)) (sym taken) ∙ t.second ∙ second) (subst Orderly second t.second_orderly)
+
+pub sent_role : (p : Peer) (w : What) → role_of_event (sent_event p w) ≡ role_of p
+sent_role peers.Iface (says.Line line) = refl
+sent_role peers.Iface says.Long = refl
+sent_role peers.Iface says.End = refl
+sent_role peers.Engine (says.Line line) = refl
+sent_role peers.Engine says.Long = refl
+sent_role peers.Engine says.End = refl
+
+pub sent_low : (p : Peer) → role_of p ≢ 0
+sent_low peers.Iface e = omega arith
+sent_low peers.Engine e = omega arith
+
+pub sent_high : (p : Peer) → role_of p ≢ 3
+sent_high peers.Iface e = omega arith
+sent_high peers.Engine e = omega arith

@@ -1,0 +1,112 @@
+-- What arrives of a side: the events of its lines, up to its end.
+use Rattle.std.specs.Prelude.{◌≡◌, ℕ, List, [], ◌∷◌, ◌++◌, map, Bool, true, false, if◌then◌else◌, IfSome, Result, IsErr, IsTrue}
+use Rattle.std.specs.List.{list_any}
+use Rattle.std.specs.Io.KnownBytes.{IsAtEnd}
+use Rattle.line_io.specs.Event.{Event, IfaceEnd, EngineEnd}
+use Rattle.line_io.specs.Source.{Supplied}
+use Rattle.line_io.specs.Lines.{Piece, Whole, TooLong, Held, Gave, Reads, EndsAt, items}
+use Rattle.line_io.specs.Lending.{outcome, is_end as is_end_answer}
+use Rattle.line_io.specs.Runs.{Runs, Call, goes_on, pieces_of, whole}
+use Rattle.line_io.specs.declared.lines.Item.{Item}
+use Rattle.line_io.specs.declared.faults.ReadFault.{ReadFault}
+use Rattle.event_pipe.specs.declared.message.Peer.{Peer}
+use Rattle.event_pipe.specs.declared.message.What.TheVariants as says
+use Rattle.event_pipe.specs.declared.reader.Turn.{Turn}
+use Rattle.event_pipe.specs.declared.reader.Turn.TheVariants as turns
+use Rattle.event_pipe.specs.declared.reader.ReadEnd.{ReadEnd}
+use Rattle.event_pipe.specs.declared.reader.ReadEnd.TheVariants as read_ends
+use Rattle.event_pipe.specs.Counts.{Tells}
+use Rattle.event_pipe.specs.Message.{sent_event, is_end}
+use Rattle.event_pipe.specs.Rule.{ended}
+
+-- the longest line of a peer that is no long one
+abbrev pub line_limit : ℕ
+line_limit = 65536
+
+abbrev pub piece_event : Peer → Piece → Event
+piece_event p (Whole line) = sent_event p (says.Line line)
+piece_event p TooLong = sent_event p says.Long
+
+abbrev pub piece_events : Peer → List Piece → List Event
+piece_events p pieces = map (piece_event p) pieces
+
+abbrev pub last_event : Peer → Event
+last_event p = sent_event p says.End
+
+-- the events of these lines, and then the end; none after a line that is its side's last
+abbrev pub arrivals : Peer → List Piece → List Event
+arrivals p [] = last_event p ∷ []
+arrivals p (x ∷ xs) = piece_event p x ∷ (if is_end (piece_event p x) then [] else arrivals p xs)
+
+-- it is an End, and no line
+abbrev pub is_close : Event → Bool
+is_close IfaceEnd = true
+is_close EngineEnd = true
+is_close e = false
+
+abbrev pub closed : List Event → Bool
+closed events = list_any is_close events
+
+-- a front of the lines, with no `quit` among them, and then the end
+pub record CutShort (p : Peer) (lines : List Piece) (sent : List Event) : Type 0 where
+  pub front : List Piece
+  pub rest : List Piece
+  pub is : lines ≡ front ++ rest
+  pub sent_is : sent ≡ piece_events p front ++ last_event p ∷ []
+  pub going : ended (piece_events p front) ≡ false
+
+abbrev pub failed : ReadEnd → Bool
+failed (read_ends.Fault f) = true
+failed r = false
+
+-- What a reader has sent, of the bytes that its source gave.
+pub record Arrived (p : Peer) (before after : Supplied) (sent : List Event) (r : ReadEnd) : Type 0 where
+  pub got : List ℕ
+  pub reads : Reads before after got
+  -- its side has ended
+  pub over : ended sent ≡ true
+  -- all that arrives
+  pub all : r ≡ read_ends.Done → sent ≡ arrivals p (items line_limit got)
+  -- no byte is left, but behind `quit`
+  pub at_end : r ≡ read_ends.Done → closed sent ≡ true → IfSome before.left (λ _. IsAtEnd after.left)
+  -- where reading failed: of the lines that a line feed ended
+  pub at_fault : (f : ReadFault) → r ≡ read_ends.Fault f → sent ≡ arrivals p (whole line_limit got)
+  -- where there was no memory
+  pub cut : r ≡ read_ends.NoMemory → CutShort p (items line_limit got) sent
+  -- the source's count of faults rose where reading failed, and is as before else
+  pub count : Tells before.faults after.faults (failed r)
+
+-- what a turn has sent, where the call of the reader of lines answered this
+abbrev pub Sends : Peer → Result Item ReadFault → List Event → List Event → Turn → Type 0
+Sends p r before now turns.More = IsTrue (goes_on r) × (now ≡ before ++ piece_events p (pieces_of (outcome r))) × (ended (piece_events p (pieces_of (outcome r))) ≡ false)
+Sends p r before now turns.Done = IsTrue (is_end_answer r) × (now ≡ before ++ last_event p ∷ [])
+Sends p r before now turns.Quit = (piece : Piece) × (outcome r ≡ Gave piece) × (is_end (piece_event p piece) ≡ true) × IsTrue (goes_on r) × (now ≡ before ++ piece_event p piece ∷ [])
+Sends p r before now turns.Fault = IsErr r × (now ≡ before ++ last_event p ∷ [])
+Sends p r before now turns.NoMemory = IsTrue (goes_on r) × (now ≡ before ++ last_event p ∷ [])
+
+abbrev pub is_fault : Turn → Bool
+is_fault turns.Fault = true
+is_fault t = false
+
+-- what one turn of a reader did
+pub record Goes (p : Peer) (old new : Held) (before after : Supplied) (sent now : List Event) (turn : Turn) : Type 0 where
+  pub got : List ℕ
+  pub reads : Reads before after got
+  pub result : Result Item ReadFault
+  pub call : Call old new got result
+  pub ends_at : EndsAt old new after.left
+  pub sends : Sends p result sent now turn
+  pub count : Tells before.faults after.faults (is_fault turn)
+
+-- so far: the lines that were given were sent
+pub record Heard (p : Peer) (held : Held) (before after : Supplied) (sent : List Event) : Type 0 where
+  pub got : List ℕ
+  pub reads : Reads before after got
+  pub limit : held.limit ≡ line_limit
+  pub given : List Piece
+  pub calls : ℕ
+  pub runs : Runs line_limit held got given calls
+  pub at_end : held.ended ≡ true → IfSome before.left (λ _. IsAtEnd after.left)
+  pub sent_is : sent ≡ piece_events p given
+  pub going : ended sent ≡ false
+  pub same : after.faults ≡ before.faults

@@ -1,0 +1,54 @@
+-- The ends of a pipe.
+use Rattle.std.specs.Prelude.{◌≡◌, List, [], ◌++◌, true}
+use Rattle.crossbeam_channel.specs.Claims.{view, IsSeatAt}
+use Rattle.crossbeam_channel.specs.Ends.{sends_on, receives_on}
+use Rattle.line_io.specs.Event.{Event}
+use Rattle.event_pipe.specs.declared.message.Peer.{Peer}
+use Rattle.event_pipe.specs.declared.pipe.PipeSend.{PipeSend}
+use Rattle.event_pipe.specs.declared.pipe.PipeTake.{PipeTake}
+use Rattle.event_pipe.specs.Message.{role_of}
+use Rattle.event_pipe.specs.Rule.{sent_by, ended}
+
+-- a sender of a channel, with the pass of its peer
+pub record IsSender (s : PipeSend) : Type 0 where
+  pub seat : IsSeatAt (sends_on s.sender) s.pass
+  pub role : (view s.pass).role ≡ role_of s.peer
+
+-- the taker of a channel, which made both senders
+pub record IsTaker (t : PipeTake) : Type 0 where
+  pub seat : IsSeatAt (receives_on t.receiver) t.pass
+  pub role : (view t.pass).role ≡ 0
+  pub made : (view t.pass).made ≡ 2
+  pub joined : (view t.pass).joined ≡ 0
+
+-- the events sent so far, the oldest first
+abbrev pub sent : PipeSend → List Event
+sent s = (view s.pass).sent
+
+-- the events taken so far, the oldest first
+abbrev pub taken : PipeTake → List Event
+taken t = (view t.pass).taken
+
+abbrev pub IsFreshSender : PipeSend → Peer → Type 0
+IsFreshSender s peer = IsSender s × (s.peer ≡ peer) × (sent s ≡ [])
+
+abbrev pub IsFreshTaker : PipeTake → Type 0
+IsFreshTaker t = IsTaker t × (taken t ≡ [])
+
+-- it is the sender of the same peer on the same channel
+abbrev pub KeepsSender : PipeSend → PipeSend → Type 0
+KeepsSender old new = IsSender new × (new.peer ≡ old.peer) × (sends_on new.sender ≡ sends_on old.sender)
+
+-- it is the taker of the same channel
+abbrev pub KeepsTaker : PipeTake → PipeTake → Type 0
+KeepsTaker old new = IsTaker new × (receives_on new.receiver ≡ receives_on old.receiver)
+
+-- the three are the ends of one channel
+abbrev pub AreOne : PipeSend → PipeSend → PipeTake → Type 0
+AreOne a b t = (sends_on a.sender ≡ receives_on t.receiver) × (sends_on b.sender ≡ receives_on t.receiver)
+
+-- Of what a peer's sender sent a front was taken, and all of it where that has the peer's end.
+pub record Came (peer : Peer) (taken sent : List Event) : Type 0 where
+  pub left : List Event
+  pub front : sent ≡ sent_by peer taken ++ left
+  pub whole : ended (sent_by peer taken) ≡ true → left ≡ []

@@ -1,0 +1,5 @@
+pub mod Message
+pub mod Rule
+pub mod Ends
+pub mod Counts
+pub mod Arrivals

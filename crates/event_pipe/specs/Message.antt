@@ -1,0 +1,43 @@
+-- What a message stands for.
+use Rattle.std.specs.Prelude.{ℕ, Bool, true, false}
+use Rattle.line_io.specs.Event.{Event, Iface, IfaceLong, IfaceEnd, Engine, EngineLong, EngineEnd, is_line}
+use Rattle.cecp_lines.specs.Quit.{is_quit}
+use Rattle.event_pipe.specs.declared.message.Peer.{Peer}
+use Rattle.event_pipe.specs.declared.message.Peer.TheVariants as peers
+use Rattle.event_pipe.specs.declared.message.What.{What}
+use Rattle.event_pipe.specs.declared.message.What.TheVariants as says
+
+abbrev pub sent_event : Peer → What → Event
+sent_event peers.Iface (says.Line line) = Iface line
+sent_event peers.Iface says.Long = IfaceLong
+sent_event peers.Iface says.End = IfaceEnd
+sent_event peers.Engine (says.Line line) = Engine line
+sent_event peers.Engine says.Long = EngineLong
+sent_event peers.Engine says.End = EngineEnd
+
+-- the role of a peer's sender: 1 or 2. The taker's is 0, and that of a pass that was joined is 3
+abbrev pub role_of : Peer → ℕ
+role_of peers.Iface = 1
+role_of peers.Engine = 2
+
+abbrev pub role_of_event : Event → ℕ
+role_of_event (Iface line) = 1
+role_of_event IfaceLong = 1
+role_of_event IfaceEnd = 1
+role_of_event (Engine line) = 2
+role_of_event EngineLong = 2
+role_of_event EngineEnd = 2
+role_of_event e = 3
+
+-- the last event of a side
+abbrev pub is_end : Event → Bool
+is_end (Iface line) = is_quit line
+is_end IfaceEnd = true
+is_end EngineEnd = true
+is_end e = false
+
+-- its line has at most 65,536 bytes and no line feed
+abbrev pub is_good : Event → Bool
+is_good (Iface line) = is_line line
+is_good (Engine line) = is_line line
+is_good e = true

@@ -1,0 +1,17 @@
+//! Lines of two peers on their way through one channel: the interface's and the engine's readers
+//! send them, and one taker gets them in the order in which they came.
+#![tactic(auto)]
+
+mod message;
+mod pipe;
+mod reader;
+
+pub use message::{Bytes, Peer, Sent, What};
+pub use pipe::{
+    AllSent, InOrder, JoinEngine, JoinIface, Known, Pipe, PipeSend, PipeTake, Sending, SplitEngine,
+    SplitIface, Taking,
+};
+pub use reader::{ReadEnd, read_pipe};
+
+#[cfg(test)]
+mod tests;

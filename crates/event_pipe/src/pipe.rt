@@ -1,0 +1,245 @@
+// One channel, two senders and one taker.
+ghost use Rattle.std.specs.Prelude.{◌≡◌, ℕ, [], ◌++◌, ◌∷◌, true, false, IfOk};
+ghost use Rattle.crossbeam_channel.specs.Claims.{view};
+ghost use Rattle.crossbeam_channel.specs.Ends.{sends_on, receives_on};
+ghost use Rattle.event_pipe.specs.Message.{role_of, sent_event, is_good};
+ghost use Rattle.event_pipe.specs.Rule.{Adds, Gets, ended, Follows};
+ghost use Rattle.event_pipe.specs.Ends.{IsSender, IsTaker, IsFreshSender, IsFreshTaker, KeepsSender, KeepsTaker, AreOne, Came, sent, taken};
+ghost use Rattle.event_pipe.specs.declared.message.Peer.TheVariants as peers;
+
+use crate::{Peer, Sent, What};
+use crossbeam_channel::protocol::{Join, Lesson, Outcome, Protocol, Split};
+use crossbeam_channel::{Pass, RuledReceiver, RuledSender, bounded_with};
+use line_io::NoMemory;
+use std::alloc::Global;
+use std::collections::LinkedList;
+use std::sync::Wait;
+use std::thread;
+
+/// What a pass knows. Contracts speak of it; no value of it is made.
+pub struct Known {
+    /// 0 of the taker, 1 of the interface's sender, 2 of the engine's, 3 of a pass that was joined.
+    pub role: u8,
+    /// Of the taker: how many senders it made.
+    pub made: u8,
+    /// Of the taker: how many senders it took in again.
+    pub joined: u8,
+    /// Of a sender: what it has sent.
+    pub sent: LinkedList<Sent>,
+    /// Of the taker: what it has taken.
+    pub taken: LinkedList<Sent>,
+    /// Of the taker, once it took in the interface's sender: what that has sent.
+    pub first: LinkedList<Sent>,
+    /// Of the taker, once it took in the engine's sender: what that has sent.
+    pub second: LinkedList<Sent>,
+}
+
+/// The rule of the channel: what each sender has sent comes in order, whole.
+pub struct InOrder;
+
+impl Protocol<Sent, Known> for InOrder {
+    ghost use Rattle.event_pipe.specs.Rule.{Delivers, idle};
+
+    ghost holds = { Delivers };
+
+    ghost first = { idle };
+}
+
+/// A send, at the back.
+pub struct Sending;
+
+impl Outcome<Sent, Known> for Sending {
+    ghost use Rattle.event_pipe.specs.Rule.{Adds};
+
+    ghost then = { Adds };
+}
+
+impl Lesson<Sent, Known> for Sending {
+    ghost use Rattle.std.specs.Prelude.{⊤};
+
+    ghost fact = { λ v items. ⊤ };
+}
+
+/// A receive, at the front.
+pub struct Taking;
+
+impl Outcome<Sent, Known> for Taking {
+    ghost use Rattle.event_pipe.specs.Rule.{Gets};
+
+    ghost then = { Gets };
+}
+
+impl Lesson<Sent, Known> for Taking {
+    ghost use Rattle.std.specs.Prelude.{⊤};
+
+    ghost fact = { λ v items. ⊤ };
+}
+
+/// What the taker learns once both senders were taken in.
+pub struct AllSent;
+
+impl Lesson<Sent, Known> for AllSent {
+    ghost use Rattle.event_pipe.specs.Rule.{Total};
+
+    ghost fact = { Total };
+}
+
+/// The interface's pass is made of the taker's.
+pub struct SplitIface;
+
+impl Split<Known> for SplitIface {
+    ghost use Rattle.event_pipe.specs.Rule.{made_first, sender};
+
+    ghost left = { made_first };
+
+    ghost right = { λ v. sender 1 };
+}
+
+/// The engine's pass is made of the taker's.
+pub struct SplitEngine;
+
+impl Split<Known> for SplitEngine {
+    ghost use Rattle.event_pipe.specs.Rule.{made_second, sender};
+
+    ghost left = { made_second };
+
+    ghost right = { λ v. sender 2 };
+}
+
+/// The interface's pass is joined to the taker's.
+pub struct JoinIface;
+
+impl Join<Known> for JoinIface {
+    ghost use Rattle.event_pipe.specs.Rule.{joined_first, sender};
+
+    ghost both = { joined_first };
+
+    ghost spent = { sender 3 };
+}
+
+/// The engine's pass is joined to the taker's.
+pub struct JoinEngine;
+
+impl Join<Known> for JoinEngine {
+    ghost use Rattle.event_pipe.specs.Rule.{joined_second, sender};
+
+    ghost both = { joined_second };
+
+    ghost spent = { sender 3 };
+}
+
+/// One peer's end of the channel: it sends that peer's lines.
+#[derive(Drop)]
+pub struct PipeSend {
+    sender: RuledSender<Sent, Known, InOrder>,
+    pass: Pass<Sent, Known>,
+    pub(crate) peer: Peer,
+}
+
+/// The end that takes what both peers' ends send.
+#[derive(Drop)]
+pub struct PipeTake {
+    receiver: RuledReceiver<Sent, Known, InOrder>,
+    pass: Pass<Sent, Known>,
+}
+
+impl PipeSend {
+    /// Sending it at the back, under the sender's peer.
+    pub fn send<R: Wait>(&mut self, rt: &R, what: What)
+        requires sender { IsSender self.old }
+        requires ended { ended (sent self.old) ≡ false }
+        requires good { is_good (sent_event self.old.peer what) ≡ true }
+        ensures keeps { KeepsSender self.old self.new }
+        ensures adds { sent self.new ≡ sent self.old ++ sent_event self.old.peer what ∷ [] }
+    {
+        let mut message = Sent::new(self.peer, what);
+        for _ in rt.forever() {
+            match self
+                .sender
+                .send_as::<Sending, R>(rt, &mut self.pass, message)
+            {
+                Ok(()) => return,
+                Err(e) => message = e.into_inner(),
+            }
+            thread::yield_now();
+        }
+    }
+}
+
+impl PipeTake {
+    /// Taking the front.
+    pub fn take<R: Wait>(&mut self, rt: &R) -> Sent
+        requires taker { IsTaker self.old }
+        ensures keeps { KeepsTaker self.old self.new }
+        ensures gets { taken self.new ≡ taken self.old ++ result ∷ [] }
+        ensures follows { Follows (taken self.old) result }
+    {
+        for _ in rt.forever() {
+            match self.receiver.recv_as::<Taking, R>(rt, &mut self.pass) {
+                Ok(message) => return message,
+                Err(_) => {}
+            }
+            thread::yield_now();
+        }
+        unreachable!()
+    }
+}
+
+/// A channel of 64 events from two senders to one taker.
+pub struct Pipe;
+
+impl Pipe {
+    /// The interface's sender, the engine's and the taker.
+    pub fn make(alloc: Global) -> Result<(PipeSend, PipeSend, PipeTake), NoMemory>
+        ensures iface { IfOk result (λ r. IsFreshSender r.0 peers.Iface) }
+        ensures engine { IfOk result (λ r. IsFreshSender r.1 peers.Engine) }
+        ensures taker { IfOk result (λ r. IsFreshTaker r.2) }
+        ensures one { IfOk result (λ r. AreOne r.0 r.1 r.2) }
+    {
+        let (sender, receiver, mut pass) = bounded_with(alloc, 64)?;
+        let second = sender.try_clone()?;
+        let iface = sender.another::<SplitIface>(&mut pass);
+        let engine = sender.another::<SplitEngine>(&mut pass);
+        Ok((
+            PipeSend {
+                sender,
+                pass: iface,
+                peer: Peer::Iface,
+            },
+            PipeSend {
+                sender: second,
+                pass: engine,
+                peer: Peer::Engine,
+            },
+            PipeTake { receiver, pass },
+        ))
+    }
+
+    /// Joins the three again.
+    pub fn finish(iface: PipeSend, engine: PipeSend, taker: PipeTake)
+        requires iface { IsSender iface × (iface.peer ≡ peers.Iface) }
+        requires engine { IsSender engine × (engine.peer ≡ peers.Engine) }
+        requires taker { IsTaker taker }
+        requires one { AreOne iface engine taker }
+        ensures iface { Came peers.Iface (taken taker) (sent iface) }
+        ensures engine { Came peers.Engine (taken taker) (sent engine) }
+    {
+        let PipeSend {
+            sender,
+            pass: first,
+            peer: _,
+        } = iface;
+        let PipeSend {
+            sender: _other,
+            pass: second,
+            peer: _,
+        } = engine;
+        let PipeTake {
+            receiver: _receiver,
+            mut pass,
+        } = taker;
+        sender.absorb::<JoinIface>(&mut pass, first);
+        sender.absorb::<JoinEngine>(&mut pass, second);
+        sender.learn_as::<AllSent>(&mut pass);
+    }
+}

@@ -1,0 +1,120 @@
+// A reader: it sends the lines of its source.
+ghost use Rattle.std.specs.Prelude.{◌≡◌, ℕ, List, [], true, false, IfOk};
+ghost use Rattle.line_io.specs.Lines.{unread};
+ghost use Rattle.event_pipe.specs.Message.{sent_event, is_end};
+ghost use Rattle.event_pipe.specs.Rule.{ended};
+ghost use Rattle.event_pipe.specs.Ends.{IsSender, KeepsSender, sent};
+ghost use Rattle.event_pipe.specs.Arrivals.{line_limit, Goes, Arrived};
+ghost use Rattle.event_pipe.specs.declared.message.What.TheVariants as says;
+
+use crate::{Bytes, Peer, PipeSend, What};
+use cecp_lines::is_quit;
+use line_io::{Item, Lines, ReadFault, Source, lines_of_all_calls};
+use std::alloc::Global;
+use std::sync::Wait;
+
+/// How a reader ended.
+#[derive(Clone, Copy, Debug, PartialEq, Eq)]
+pub enum ReadEnd {
+    /// All that its source has was sent, or all up to the interface's `quit`.
+    Done,
+    /// Its source failed.
+    Fault(ReadFault),
+    /// There was no memory for a line.
+    NoMemory,
+}
+
+// What one turn came to.
+#[derive(Clone, Copy, Debug, PartialEq, Eq)]
+pub enum Turn {
+    More,
+    Done,
+    Quit,
+    Fault,
+    NoMemory,
+}
+
+// The line is its side's last.
+fn is_last(peer: Peer, line: &[u8]) -> bool
+    ensures { result ≡ is_end (sent_event peer (says.Line line.now)) }
+{
+    match peer {
+        Peer::Iface => is_quit(line),
+        Peer::Engine => false,
+    }
+}
+
+// Reads once at most, and sends the next line where there is one.
+fn read_turn<S: Source, R: Wait>(
+    rt: &R,
+    alloc: Global,
+    lines: &mut Lines,
+    source: &mut S,
+    to: &mut PipeSend,
+) -> Turn
+    requires sender { IsSender to.old }
+    requires going { ended (sent to.old) ≡ false }
+    requires limit { lines.old.limit ≡ line_limit }
+    ensures keeps { KeepsSender to.old to.new }
+    ensures goes { Goes to.old.peer lines.old lines.new (S.state source.old) (S.state source.new)
+        (sent to.old) (sent to.new) result }
+{
+    match lines.next(source) {
+        Err(_) => {
+            to.send(rt, What::End);
+            Turn::Fault
+        }
+        Ok(Item::More) => Turn::More,
+        Ok(Item::End) => {
+            to.send(rt, What::End);
+            Turn::Done
+        }
+        Ok(Item::Long) => {
+            to.send(rt, What::Long);
+            Turn::More
+        }
+        Ok(Item::Line(line)) => {
+            let Ok(bytes) = Bytes::make(alloc, line) else {
+                to.send(rt, What::End);
+                return Turn::NoMemory;
+            };
+            let last = is_last(to.peer, line);
+            to.send(rt, What::Line(bytes));
+            if last {
+                return Turn::Quit;
+            }
+            Turn::More
+        }
+    }
+}
+
+/// Sends each line of the source, and its end last. The interface's reader ends after a line that
+/// spells `quit`.
+pub fn read_pipe<S: Source, R: Wait>(
+    rt: &R,
+    alloc: Global,
+    source: &mut S,
+    to: &mut PipeSend,
+) -> ReadEnd
+    requires sender { IsSender to.old }
+    requires fresh { sent to.old ≡ [] }
+    ensures keeps { KeepsSender to.old to.new }
+    ensures arrived { Arrived to.old.peer (S.state source.old) (S.state source.new)
+        (sent to.new) result }
+{
+    lines_of_all_calls();
+    let Ok(mut lines) = Lines::make(alloc, 65_536) else {
+        to.send(rt, What::End);
+        return ReadEnd::NoMemory;
+    };
+    for _ in rt.forever() {
+        match read_turn(rt, alloc, &mut lines, source, to) {
+            Turn::More => {}
+            Turn::Done => return ReadEnd::Done,
+            Turn::Quit => return ReadEnd::Done,
+            Turn::Fault => return ReadEnd::Fault(ReadFault),
+            Turn::NoMemory => return ReadEnd::NoMemory,
+        }
+    }
+    unreachable!()
+}

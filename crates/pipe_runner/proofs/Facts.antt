@@ -1,0 +1,137 @@
+-- What holds of each lawful trace.
+use Rattle.std.proofs.Common.{◌≡◌, ◌≢◌, ℕ, List, [], ◌∷◌, ◌++◌, Bool, true, false, not, cond, ◌&&◌, ◌||◌, refl, sym, ap, subst, ◌∙◌, append-nil}
+use Rattle.line_io.specs.Event.{Event, Open, Iface, IfaceLong, IfaceEnd, IfaceLost, Engine, EngineLong, EngineEnd, EngineLost, is_line}
+use Rattle.cecp_lines.specs.Replies.{Told}
+use Rattle.uci_lines.specs.Orders.{Command}
+use Rattle.feature_talk.specs.Features.{told_lines}
+use Rattle.desk_rules.specs.Texts.{command_lines}
+use Rattle.policy_rules.specs.declared.settings.Settings.{Settings}
+use Rattle.adapter_core.specs.declared.ends.Ends.{Ends}
+use Rattle.cecp_lines.specs.Quit.{is_quit}
+use Rattle.adapter_core.specs.Ends.{may, ends_after}
+use Rattle.adapter_core.specs.Trace.{Step, Lawful, state, iface_text, engine_text}
+use Rattle.adapter_core.proofs.Ended.{silent_to_iface, silent_to_engine}
+use Rattle.event_pipe.specs.Message.{role_of_event, is_end, is_good}
+use Rattle.event_pipe.specs.Rule.{is_of, of, ended, Follows}
+use Rattle.event_pipe.proofs.Keeps.{of-append}
+use Rattle.event_pipe.proofs.Reading.{any_append}
+use Rattle.pipe_runner.specs.Texts.{is_own, received}
+use Rattle.pipe_runner.specs.Looped.{BeginsWithOpen}
+
+two_first : (a b : Bool) → (a && not b) ≡ true → a ≡ true
+two_first true b h = refl
+two_first false b h = cc
+
+three_first : (a b c : Bool) → (a && not b && c) ≡ true → a ≡ true
+three_first true b c h = refl
+three_first false b c h = cc
+
+opened_by : (ends : Ends) (e : Event) → may ends e ≡ true → (ends_after ends e).opened ≡ true
+opened_by ends Open m = refl
+opened_by ends (Iface line) m = three_first ends.opened ends.iface (is_line line) m
+opened_by ends IfaceLong m = two_first ends.opened ends.iface m
+opened_by ends IfaceEnd m = two_first ends.opened ends.iface m
+opened_by ends IfaceLost m = three_first ends.opened ends.iface (not ends.iface_lost) m
+opened_by ends (Engine line) m = three_first ends.opened ends.engine (is_line line) m
+opened_by ends EngineLong m = two_first ends.opened ends.engine m
+opened_by ends EngineEnd m = two_first ends.opened ends.engine m
+opened_by ends EngineLost m = three_first ends.opened ends.engine (not ends.engine_lost) m
+
+pub opened : (o : Settings) (s : Step) (t : List Step) → Lawful o (s ∷ t) → (state o (s ∷ t)).ends.opened ≡ true
+opened o s t l = opened_by (state o t).ends s.event l.1.may_come
+
+case_of : (b : Bool) → (b ≡ true → ⊥) → b ≡ false
+case_of true f = absurd (f refl)
+case_of false f = refl
+
+or_left : (a b : Bool) → a ≡ true → (a || b) ≡ true
+or_left true b h = refl
+or_left false b h = cc
+
+pub open_iface : (o : Settings) (s : Step) (t : List Step) → Lawful o (s ∷ t) → iface_text s ≢ [] → (state o (s ∷ t)).ends.iface ≡ false
+open_iface o s t l some = case_of (state o (s ∷ t)).ends.iface (λ h. some (ap told_lines (silent_to_iface o t s l (or_left _ (state o (s ∷ t)).ends.iface_lost h))))
+
+pub open_engine : (o : Settings) (s : Step) (t : List Step) → Lawful o (s ∷ t) → engine_text s ≢ [] → (state o (s ∷ t)).ends.engine ≡ false
+open_engine o s t l some = case_of (state o (s ∷ t)).ends.engine (λ h. some (ap command_lines (silent_to_engine o t s l (or_left _ (state o (s ∷ t)).ends.engine_lost h))))
+
+-- which sides have ended
+or_true : (a : Bool) → true ≡ (a || (true || false))
+or_true true = refl
+or_true false = refl
+
+or_one : (a q : Bool) → (a || q) ≡ (a || (q || false))
+or_one true q = refl
+or_one false true = refl
+or_one false false = refl
+
+or_none : (a : Bool) → a ≡ (a || false)
+or_none true = refl
+or_none false = refl
+
+more_ended : (role : ℕ) (r xs : List Event) → ended (of role (r ++ xs)) ≡ (ended (of role r) || ended (of role xs))
+more_ended role r xs = ap ended (of-append role r xs) ∙ any_append is_end (of role r) (of role xs)
+
+iface_by : (ends : Ends) (e : Event) (b : Bool) → ends.iface ≡ b → (ends_after ends e).iface ≡ (b || ended (of 1 (cond (is_own e) [] (e ∷ []))))
+iface_by ends Open b h = h ∙ or_none b
+iface_by ends (Iface line) b h = ap (λ x. x || is_quit line) h ∙ or_one b (is_quit line)
+iface_by ends IfaceLong b h = h ∙ or_none b
+iface_by ends IfaceEnd b h = or_true b
+iface_by ends IfaceLost b h = h ∙ or_none b
+iface_by ends (Engine line) b h = h ∙ or_none b
+iface_by ends EngineLong b h = h ∙ or_none b
+iface_by ends EngineEnd b h = h ∙ or_none b
+iface_by ends EngineLost b h = h ∙ or_none b
+
+engine_by : (ends : Ends) (e : Event) (b : Bool) → ends.engine ≡ b → (ends_after ends e).engine ≡ (b || ended (of 2 (cond (is_own e) [] (e ∷ []))))
+engine_by ends Open b h = h ∙ or_none b
+engine_by ends (Iface line) b h = h ∙ or_none b
+engine_by ends IfaceLong b h = h ∙ or_none b
+engine_by ends IfaceEnd b h = h ∙ or_none b
+engine_by ends IfaceLost b h = h ∙ or_none b
+engine_by ends (Engine line) b h = h ∙ or_none b
+engine_by ends EngineLong b h = h ∙ or_none b
+engine_by ends EngineEnd b h = or_true b
+engine_by ends EngineLost b h = h ∙ or_none b
+
+pub iface_is : (o : Settings) (t : List Step) → (state o t).ends.iface ≡ ended (of 1 (received t))
+iface_is o [] = refl
+iface_is o (s ∷ t) = iface_by (state o t).ends s.event _ (iface_is o t) ∙ sym (more_ended 1 (received t) (cond (is_own s.event) [] (s.event ∷ [])))
+
+pub engine_is : (o : Settings) (t : List Step) → (state o t).ends.engine ≡ ended (of 2 (received t))
+engine_is o [] = refl
+engine_is o (s ∷ t) = engine_by (state o t).ends s.event _ (engine_is o t) ∙ sym (more_ended 2 (received t) (cond (is_own s.event) [] (s.event ∷ [])))
+
+two : (a b : Bool) → a ≡ true → b ≡ false → (a && not b) ≡ true
+two a b p q = rw (p, q) refl
+
+three : (a b c : Bool) → a ≡ true → b ≡ false → c ≡ true → (a && not b && c) ≡ true
+three a b c p q r = rw (p, q, r) refl
+
+pub may_follow : (ends : Ends) (x : Event) (r : List Event) → ends.opened ≡ true → ends.iface ≡ ended (of 1 r) → ends.engine ≡ ended (of 2 r) → Follows r x → may ends x ≡ true
+may_follow ends Open r o a b f = absurd (f.2 refl)
+may_follow ends (Iface line) r o a b f = three ends.opened ends.iface (is_line line) o (a ∙ f.0) f.1
+may_follow ends IfaceLong r o a b f = two ends.opened ends.iface o (a ∙ f.0)
+may_follow ends IfaceEnd r o a b f = two ends.opened ends.iface o (a ∙ f.0)
+may_follow ends IfaceLost r o a b f = absurd (f.2 refl)
+may_follow ends (Engine line) r o a b f = three ends.opened ends.engine (is_line line) o (b ∙ f.0) f.1
+may_follow ends EngineLong r o a b f = two ends.opened ends.engine o (b ∙ f.0)
+may_follow ends EngineEnd r o a b f = two ends.opened ends.engine o (b ∙ f.0)
+may_follow ends EngineLost r o a b f = absurd (f.2 refl)
+
+only_open : (ends : Ends) (e : Event) → ends.opened ≡ false → may ends e ≡ true → e ≡ Open
+only_open ends Open o m = refl
+only_open ends (Iface line) o m = let n : false ≡ true = sym o ∙ three_first ends.opened ends.iface (is_line line) m in cc
+only_open ends IfaceLong o m = let n : false ≡ true = sym o ∙ two_first ends.opened ends.iface m in cc
+only_open ends IfaceEnd o m = let n : false ≡ true = sym o ∙ two_first ends.opened ends.iface m in cc
+only_open ends IfaceLost o m = let n : false ≡ true = sym o ∙ three_first ends.opened ends.iface (not ends.iface_lost) m in cc
+only_open ends (Engine line) o m = let n : false ≡ true = sym o ∙ three_first ends.opened ends.engine (is_line line) m in cc
+only_open ends EngineLong o m = let n : false ≡ true = sym o ∙ two_first ends.opened ends.engine m in cc
+only_open ends EngineEnd o m = let n : false ≡ true = sym o ∙ two_first ends.opened ends.engine m in cc
+only_open ends EngineLost o m = let n : false ≡ true = sym o ∙ three_first ends.opened ends.engine (not ends.engine_lost) m in cc
+
+pub begins : (o : Settings) (t : List Step) → t ≢ [] → Lawful o t → BeginsWithOpen t
+begins o [] n l = absurd (n refl)
+begins o (s ∷ []) n l = record { later = []; first = s; is = refl; event = only_open (state o []).ends s.event refl l.1.may_come }
+begins o (s ∷ r ∷ t) n l =
+    let f = begins o (r ∷ t) (λ h. cc) l.0 in
+    record { later = s ∷ f.later; first = f.first; is = ap (λ (ts : List Step). s ∷ ts) f.is; event = f.event }

@@ -1,0 +1,5 @@
+pub mod Streams
+pub mod Texts
+pub mod Looped
+pub mod Reached
+pub mod Ran

@@ -1,0 +1,43 @@
+-- What the streams of a run show, and what a sink takes of a piece.
+use Rattle.std.specs.Prelude.{◌≡◌, ◌≢◌, ℕ, List, [], ◌++◌, Bool, true, false, Option, Some, None}
+use Rattle.std.specs.Io.KnownBytes.{Appends}
+use Rattle.line_io.specs.Source.{Supplied, Received}
+use Rattle.event_pipe.specs.Counts.{Tells}
+
+-- what the sinks of a loop show: `output` goes to the interface
+pub record Sinks : Type 0 where
+  pub output : Received
+  pub engine : Received
+  pub log : Received
+
+abbrev pub sinks : Received → Received → Received → Sinks
+sinks output engine log = record { output = output; engine = engine; log = log }
+
+-- what all streams of a run show: `input` comes from the interface, `source` from the engine
+pub record Streams : Type 0 where
+  pub input : Supplied
+  pub source : Supplied
+  pub into : Sinks
+
+abbrev pub streams : Supplied → Supplied → Sinks → Streams
+streams input source into = record { input = input; source = source; into = into }
+
+-- a log that is missing shows nothing
+abbrev pub log_state : {L : Type 0} → (L → Received) → Option L → Received
+log_state state None = record { taken = None; faults = 0 }
+log_state state (Some log) = state log
+
+-- a sink took a front of a text
+pub record TookFront (text : List ℕ) (old new : Option (List ℕ)) : Type 0 where
+  pub front : List ℕ
+  pub rest : List ℕ
+  pub is : text ≡ front ++ rest
+  pub took : Appends old new front
+
+-- What a sink took of a piece, where it had failed before or not, and has failed now or not: all of it; or a front,
+-- where it failed now; or nothing, where it had failed.
+pub record Offered (failed failed' : Bool) (old new : Received) (piece : List ℕ) : Type 0 where
+  pub stays : failed ≡ true → (failed' ≡ true) × (new ≡ old)
+  pub whole : failed' ≡ false → Appends old.taken new.taken piece
+  pub front : failed ≡ false → failed' ≡ true → (piece ≢ []) × TookFront piece old.taken new.taken
+  pub count : failed ≡ false → Tells old.faults new.faults failed'
