@@ -1,0 +1,10 @@
+//! The program `bridge`: words, the run that they ask for, and how it is told.
+#![tactic(auto)]
+
+mod ending;
+mod main_call;
+mod standard;
+
+pub use ending::Ending;
+pub use main_call::bridge_main;
+pub use standard::{ClosedStreams, IfOpen};

@@ -1,0 +1,102 @@
+// The program over any host.
+ghost use Rattle.std.specs.Prelude.{◌≡◌, ◌<◌, length};
+ghost use Rattle.policy_rules.specs.Policy.{IsProper};
+ghost use Rattle.bridge_words.specs.Words.{texts_of};
+ghost use Rattle.bridge_runner.specs.Outside.{outside, unused};
+ghost use Rattle.bridge_app.specs.Endings.{diagnostic};
+ghost use Rattle.bridge_app.specs.Program.{Runs, Ends, IsToldTo, Answers};
+
+use crate::Ending;
+use adapter_core::moves_are_shown_in_time;
+use bridge_runner::bridge_run;
+use bridge_words::{Request, read_words};
+use child_engine::Host;
+use line_io::{Sink, Source, Status, write_all};
+use session_script::scripts_have_one_trace;
+use std::alloc::Global;
+use std::sync::Wait;
+use std::thread::Threads;
+
+// The run that the words ask for.
+fn run<I: Source + Send, O: Sink + Send, H: Host, R: Threads + Wait + Sync>(
+    rt: &R,
+    alloc: Global,
+    request: &Request,
+    input: &mut I,
+    output: &mut O,
+    host: &mut H,
+) -> Ending
+    requires proper { IsProper request.now.settings }
+    requires engine { 0 < length request.now.engine.items }
+    requires unused { H.books host.old ≡ unused }
+    ensures { Runs request.now.settings
+        (outside (I.state input.old) (O.state output.old) (H.faults host.old) (H.books host.old))
+        (outside (I.state input.new) (O.state output.new) (H.faults host.new) (H.books host.new))
+        result }
+{
+    moves_are_shown_in_time(request.settings);
+    scripts_have_one_trace(request.settings);
+    let failures = bridge_run(
+        rt,
+        alloc,
+        &request.settings,
+        request.log_name.as_str(),
+        request.engine.as_slice(),
+        input,
+        output,
+        host,
+    );
+    Ending::of(failures)
+}
+
+// What the words ask for, and how it ends.
+fn end_of<I: Source + Send, O: Sink + Send, H: Host, R: Threads + Wait + Sync>(
+    rt: &R,
+    alloc: Global,
+    words: &[Vec<u8>],
+    input: &mut I,
+    output: &mut O,
+    host: &mut H,
+) -> Ending
+    requires { H.books host.old ≡ unused }
+    ensures { Ends (texts_of words.now)
+        (outside (I.state input.old) (O.state output.old) (H.faults host.old) (H.books host.old))
+        (outside (I.state input.new) (O.state output.new) (H.faults host.new) (H.books host.new))
+        result }
+{
+    match read_words(alloc, words) {
+        Ok(request) => run(rt, alloc, &request, input, output, host),
+        Err(refusal) => Ending::refused(refusal),
+    }
+}
+
+fn tell<D: Sink>(ending: Ending, diag: &mut D)
+    ensures { IsToldTo (D.state diag.old) (D.state diag.new) (diagnostic ending) }
+{
+    let _ = write_all(diag, ending.diagnostic());
+}
+
+/// The program: a bridge between an interface, whose lines come from `input` and go to `output`,
+/// and the engine that the host starts. The words do not have the program's name. A diagnostic
+/// that cannot be written changes no status.
+pub fn bridge_main<I: Source + Send, O: Sink + Send, H: Host, D: Sink, R: Threads + Wait + Sync>(
+    rt: &R,
+    alloc: Global,
+    words: &[Vec<u8>],
+    input: &mut I,
+    output: &mut O,
+    host: &mut H,
+    diag: &mut D,
+) -> Status
+    requires { H.books host.old ≡ unused }
+    ensures { Answers (texts_of words.now)
+        (outside (I.state input.old) (O.state output.old) (H.faults host.old) (H.books host.old))
+        (outside (I.state input.new) (O.state output.new) (H.faults host.new) (H.books host.new))
+        (D.state diag.old) (D.state diag.new) result.code }
+{
+    let ending = end_of(rt, alloc, words, input, output, host);
+    tell(ending, diag);
+    Status {
+        code: ending.code(),
+    }
+}

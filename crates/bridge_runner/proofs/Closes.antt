@@ -1,0 +1,83 @@
+-- What a host's books tell of the parts that it closed.
+use Rattle.std.proofs.Common.{◌≡◌, ◌∙◌, ◌⊎◌, ℕ, ◌+◌, ◌≤◌, Bool, true, false, refl, sym, ap, arith, inl, inr, ◌||◌, List, [], ◌∷◌, ◌++◌, length, Option, Some, None}
+use Rattle.std.specs.Prelude.{is_some}
+use Rattle.line_io.specs.Source.{Supplied, Received}
+use Rattle.child_engine.specs.Hosts.{Told, Books, with_run, with_closed_run, told_by}
+use Rattle.child_engine.specs.declared.host.HostFault.{HostFault}
+use Rattle.child_engine.specs.declared.host.HostFault.TheVariants as faults
+use Rattle.pipe_runner.specs.Streams.{log_state}
+use Rattle.bridge_runner.specs.Logs.{log_count, logs_told, is_failed, is_no_memory}
+use Rattle.bridge_runner.specs.Outside.{IsClosed, unused}
+use Rattle.bridge_runner.specs.declared.bridge.Failures.{Failures}
+
+abbrev pub books : ℕ → ℕ → List Told → List (Option (List ℕ)) → Books
+books a b rs ls = record { runs_out = a; logs_out = b; runs = rs; logs = ls }
+
+-- whether there is a log
+pub same_count : {L : Type 0} (l l' : Option L) → is_some l' ≡ is_some l → log_count l' ≡ log_count l
+same_count None None e = refl
+same_count None (Some x) e = cc
+same_count (Some x) None e = cc
+same_count (Some x) (Some y) e = refl
+
+pub length_told : {L : Type 0} (f : L → Received) (l : Option L) → length (logs_told f l) ≡ log_count l
+length_told f None = refl
+length_told f (Some x) = refl
+
+pub few_logs : {L : Type 0} (l : Option L) → log_count l ≤ 1
+few_logs None = omega arith
+few_logs (Some x) = omega arith
+
+pub told_or_none : {L : Type 0} (f : L → Received) (l : Option L) (ls : List (Option (List ℕ))) → ls ≡ logs_told f l → (ls ≡ (log_state f l).taken ∷ []) ⊎ (ls ≡ [])
+told_or_none f None ls e = inr e
+told_or_none f (Some x) ls e = inl e
+
+-- the books at the end
+pub all_closed : (b0 b1 b2 b3 : Books) (source : Supplied) (sink : Received) (n : ℕ) (ls : List (Option (List ℕ))) → b0 ≡ with_run unused → b1 ≡ record b0 { logs_out = n }
+    → b2 ≡ with_closed_run b1 source sink → b3 ≡ record b2 { logs = b2.logs ++ ls } → b3 ≡ books 1 n (told_by source sink ∷ []) ls
+all_closed b0 b1 b2 b3 source sink n ls e0 e1 e2 e3 =
+    e3 ∙ ap (λ (b : Books). record b { logs = b.logs ++ ls })
+    (e2 ∙ ap (λ (b : Books). with_closed_run b source sink) (e1 ∙ ap (λ (b : Books). record b { logs_out = n }) e0))
+
+fault_none : (o : Option HostFault) → is_failed o ≡ false → is_no_memory o ≡ false → o ≡ None
+fault_none None e f = refl
+fault_none (Some faults.Failed) e f = cc
+fault_none (Some faults.NoMemory) e f = cc
+
+left_false : (a b : Bool) → (a || b) ≡ false → a ≡ false
+left_false true b e = e
+left_false false b e = refl
+
+right_false : (a b : Bool) → (a || b) ≡ false → b ≡ false
+right_false true b e = cc
+right_false false b e = e
+
+pub left_of : (x a a' b : Bool) → x ≡ (a || b) → a ≡ a' → x ≡ false → a' ≡ false
+left_of x a a' b e f z = sym f ∙ left_false a b (sym e ∙ z)
+
+pub right_of : (x a b : Bool) → x ≡ (a || b) → x ≡ false → b ≡ false
+right_of x a b e z = right_false a b (sym e ∙ z)
+
+pub log_opened : {L : Type 0} (l : Option L) (o : Option HostFault) → (o ≡ None → log_count l ≡ 1) → is_failed o ≡ false → is_no_memory o ≡ false → log_count l ≡ 1
+log_opened l o some e f = some (fault_none o e f)
+
+pub is_closed : (b : Books) (told : Told) (n : ℕ) (ls : List (Option (List ℕ))) (failures : Failures) → b ≡ books 1 n (told ∷ []) ls → length ls ≡ n → n ≤ 1
+    → (failures.memory ≡ false → failures.log ≡ false → n ≡ 1) → IsClosed b failures
+is_closed b told n ls failures e k few one =
+    let runs_out = ap (λ (x : Books). x.runs_out) e in
+    let logs_out = ap (λ (x : Books). x.logs_out) e in
+    record {
+      runs = ap (λ (x : Books). length x.runs) e ∙ sym runs_out;
+      logs = ap (λ (x : Books). length x.logs) e ∙ k ∙ sym logs_out;
+      few_runs = omega (arith, runs_out);
+      few_logs = omega (arith, logs_out, few);
+      run = λ _ _. runs_out;
+      log = λ m _ l. logs_out ∙ one m l;
+    }
+
+-- a run was handed out
+pub some_run : {P : Type 0} (b b' : Books) → b ≡ b' → b'.runs_out ≡ 1 → b.runs_out ≡ 0 → P
+some_run b b' e one z = let same = ap (λ (x : Books). x.runs_out) e in absurd (omega (arith, same, one, z))
+
+pub never : {P : Type 0} → false ≡ true → P
+never e = cc

@@ -1,0 +1,22 @@
+-- A log that may be missing.
+use Rattle.std.specs.Prelude.{ℕ, Bool, true, false, List, [], ◌∷◌, Option, Some, None}
+use Rattle.line_io.specs.Source.{Received}
+use Rattle.child_engine.specs.declared.host.HostFault.{HostFault}
+use Rattle.child_engine.specs.declared.host.HostFault.TheVariants as faults
+
+abbrev pub log_count : {L : Type 0} → Option L → ℕ
+log_count None = 0
+log_count (Some log) = 1
+
+-- what the host tells of a log that it took back
+abbrev pub logs_told : {L : Type 0} → (L → Received) → Option L → List (Option (List ℕ))
+logs_told state None = []
+logs_told state (Some log) = (state log).taken ∷ []
+
+abbrev pub is_failed : Option HostFault → Bool
+is_failed (Some faults.Failed) = true
+is_failed fault = false
+
+abbrev pub is_no_memory : Option HostFault → Bool
+is_no_memory (Some faults.NoMemory) = true
+is_no_memory fault = false

@@ -1,0 +1,10 @@
+use Rattle.std.proofs.Common.{◌≡◌, ◌∙◌, sym, true, subst, map}
+use Rattle.clap.specs.Words.{App, HasKind, fault_of, is_simple_and_free}
+use Rattle.bridge_words.proofs.Refused.{is_free, faults_are, not_refused}
+use Rattle.bridge_words.proofs.request.find_in.Goals as goal
+
+pub returns-in-Err-clause-usage : goal.returns-in-Err-clause-usage
+returns-in-Err-clause-usage c = λ u z.
+    let words = map (λ s. s.now) c.args.texts.now in
+    let fails = subst (λ (a : App). is_simple_and_free a ≡ true → HasKind (fault_of a words) c.in-Err.error) c.in_ok-command.ensures c.in-Err.ensures.kinds is_free in
+    not_refused c.refusal_of.result c.in-Err.error _ _ c.refusal_of.ensures c.kind.ensures fails u (sym (faults_are words) ∙ z)

@@ -1,0 +1,7 @@
+//! The words of the program `bridge`.
+#![tactic(auto)]
+
+mod command;
+mod request;
+
+pub use request::{Refusal, Request, read_words};

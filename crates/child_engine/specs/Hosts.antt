@@ -1,0 +1,86 @@
+-- What a host counts, and what it tells of the parts that were closed.
+use Rattle.std.specs.Prelude.{◌≡◌, ℕ, ◌+◌, ◌<◌, ◌≤◌, List, [], ◌∷◌, ◌++◌, Option, IfSome, Result, IfErr, OnOk}
+use Rattle.line_io.specs.Causes.{Rose, HasCause}
+use Rattle.line_io.specs.Source.{Supplied, Received}
+use Rattle.child_engine.specs.declared.host.Faults.{Faults}
+use Rattle.child_engine.specs.declared.host.HostFault.{HostFault}
+use Rattle.child_engine.specs.declared.host.HostFault.TheVariants as faults
+
+-- what a closed run showed: what its source gave and had left, and what its sink took
+pub record Told : Type 0 where
+  pub given : Option (List ℕ)
+  pub left : Option (List ℕ)
+  pub taken : Option (List ℕ)
+
+abbrev pub told_by : Supplied → Received → Told
+told_by source sink = record { given = source.given; left = source.left; taken = sink.taken }
+
+-- How many runs and logs were handed out, and what those showed that were closed, in the order of
+-- closing.
+pub record Books : Type 0 where
+  pub runs_out : ℕ
+  pub logs_out : ℕ
+  pub runs : List Told
+  pub logs : List (Option (List ℕ))
+
+-- the books after a run or a log was handed out
+abbrev pub with_run : Books → Books
+with_run books = record books { runs_out = books.runs_out + 1 }
+
+abbrev pub with_log : Books → Books
+with_log books = record books { logs_out = books.logs_out + 1 }
+
+-- the books after one was closed
+abbrev pub with_closed_run : Books → Supplied → Received → Books
+with_closed_run books source sink = record books { runs = books.runs ++ told_by source sink ∷ [] }
+
+abbrev pub with_closed_log : Books → Received → Books
+with_closed_log books log = record books { logs = books.logs ++ log.taken ∷ [] }
+
+-- where it tells its bytes, there is none
+abbrev pub IsFresh : Option (List ℕ) → Type 0
+IsFresh told = IfSome told (λ bytes. bytes ≡ [])
+
+-- it gave nothing and never failed
+pub record IsUnread (source : Supplied) : Type 0 where
+  pub given : IsFresh source.given
+  pub faults : source.faults ≡ 0
+
+-- it took nothing and never failed
+pub record IsUnwritten (sink : Received) : Type 0 where
+  pub taken : IsFresh sink.taken
+  pub faults : sink.faults ≡ 0
+
+-- The count doesn't fall, rose where the call failed, and is as before where it succeeded or where
+-- there was no memory.
+pub record FailsBy {T : Type 0} (before now : ℕ) (result : Result T HostFault) : Type 0 where
+  pub later : before ≤ now
+  pub failed : IfErr result (λ e. e ≡ faults.Failed → Rose before now)
+  pub memory : IfErr result (λ e. e ≡ faults.NoMemory → now ≡ before)
+  pub same : OnOk result (now ≡ before)
+
+-- the count rose exactly where this part had failed
+pub record RisesBy (part before now : ℕ) : Type 0 where
+  pub later : before ≤ now
+  pub same : part ≡ 0 → now ≡ before
+  pub rose : 0 < part → Rose before now
+
+pub record StartsBy {T : Type 0} (before now : Faults) (result : Result T HostFault) : Type 0 where
+  pub starts : FailsBy before.starts now.starts result
+  pub others : now ≡ record before { starts = now.starts }
+
+pub record OpensBy {T : Type 0} (before now : Faults) (result : Result T HostFault) : Type 0 where
+  pub logs : FailsBy before.logs now.logs result
+  pub others : now ≡ record before { logs = now.logs }
+
+-- the run's source and sink had these counts
+pub record ClosesBy {T E : Type 0} (before now : Faults) (source sink : ℕ) (result : Result T E) : Type 0 where
+  pub waits : HasCause before.waits now.waits result
+  pub reads : RisesBy source before.reads now.reads
+  pub writes : RisesBy sink before.writes now.writes
+  pub starts : now.starts ≡ before.starts
+  pub logs : now.logs ≡ before.logs
+
+pub record ClosesLogBy (before now : Faults) (log : ℕ) : Type 0 where
+  pub logs : RisesBy log before.logs now.logs
+  pub others : now ≡ record before { logs = now.logs }

@@ -1,0 +1,21 @@
+-- The input of an engine.
+use Rattle.std.specs.Prelude.{ℕ, ◌==◌, ◌&&◌, ◌||◌, Bool, List, [], ◌∷◌, ◌++◌, length, None, is_some, codes, nat_eq}
+use Rattle.std.specs.List.{ends_with}
+use Rattle.line_io.specs.Source.{Received}
+use Rattle.child_engine.specs.declared.input.EngineInput.{EngineInput}
+
+-- it tells nothing of what was taken, since nobody keeps that behind `quit`
+abbrev pub shown_by : {W : Type 0} → EngineInput W → Received
+shown_by input = record { taken = None; faults = input.faults }
+
+-- the line `quit` was not taken yet
+abbrev pub is_open : {W : Type 0} → EngineInput W → Bool
+is_open input = is_some input.writer
+
+abbrev pub quit_line : List ℕ
+quit_line = codes "quit" ++ 10 ∷ []
+
+-- the last of the lines is `quit`
+abbrev pub ends_with_quit : List ℕ → Bool
+ends_with_quit lines =
+    ends_with nat_eq lines (10 ∷ quit_line) || (length lines == 5 && ends_with nat_eq lines quit_line)

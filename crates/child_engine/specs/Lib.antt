@@ -1,0 +1,5 @@
+pub mod Hosts
+pub mod Input
+pub mod Memory
+pub mod Real
+pub mod Steady

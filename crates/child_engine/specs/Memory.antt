@@ -1,0 +1,24 @@
+-- What a host in memory keeps.
+use Rattle.std.specs.Prelude.{Some, map}
+use Rattle.line_io.specs.Memory.{supply_of, store_of}
+use Rattle.line_io.specs.Source.{Supplied, Received}
+use Rattle.line_io.specs.declared.memory.MemSource.{MemSource}
+use Rattle.line_io.specs.declared.memory.MemSink.{MemSink}
+use Rattle.child_engine.specs.Hosts.{Books, told_by}
+use Rattle.child_engine.specs.declared.memory.MemHost.{MemHost}
+
+-- what a source and a sink in memory show
+abbrev pub shown_by_source : MemSource → Supplied
+shown_by_source s = record { given = Some (supply_of s).given; left = Some (supply_of s).left; faults = (supply_of s).faults }
+
+abbrev pub shown_by_sink : MemSink → Received
+shown_by_sink s = record { taken = Some (store_of s).taken; faults = (store_of s).faults }
+
+abbrev pub books_of : MemHost → Books
+books_of h =
+    record {
+      runs_out = h.runs_out;
+      logs_out = h.logs_out;
+      runs = map (λ run. told_by (shown_by_source run.src) (shown_by_sink run.snk)) h.runs.items;
+      logs = map (λ log. (shown_by_sink log).taken) h.closed_logs.items;
+    }

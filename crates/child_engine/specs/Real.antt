@@ -1,0 +1,30 @@
+-- What the host of real programs keeps: it tells nothing of what its parts gave and took.
+use Rattle.std.specs.Prelude.{ℕ, zero, suc, List, [], ◌∷◌, ◌++◌, None}
+use Rattle.line_io.specs.Source.{Supplied, Received}
+use Rattle.child_engine.specs.Hosts.{Told, Books, told_by}
+use Rattle.child_engine.specs.Steady.{untold_logs}
+use Rattle.child_engine.specs.declared.real.RealHost.{RealHost}
+
+-- a source and a sink that tell nothing, and failed so often
+abbrev pub untold_source : ℕ → Supplied
+untold_source faults = record { given = None; left = None; faults = faults }
+
+abbrev pub untold_sink : ℕ → Received
+untold_sink faults = record { taken = None; faults = faults }
+
+abbrev pub untold : Told
+untold = told_by (untold_source 0) (untold_sink 0)
+
+-- so many runs that tell nothing
+abbrev pub untold_runs : ℕ → List Told
+untold_runs zero = []
+untold_runs (suc n) = untold_runs n ++ untold ∷ []
+
+abbrev pub books_of : {R : Type 0} → RealHost R → Books
+books_of h =
+    record {
+      runs_out = h.runs_out;
+      logs_out = h.logs_out;
+      runs = untold_runs h.runs_closed;
+      logs = untold_logs h.logs_closed;
+    }

@@ -1,0 +1,108 @@
+// Where engines and logs come from.
+ghost use Rattle.std.specs.Prelude.{◌≡◌, ◌<◌, ◌≤◌, length, IfOk, OnOk, OnErr};
+ghost use Rattle.child_engine.specs.Hosts.{Books, with_run, with_log, with_closed_run, with_closed_log, IsUnread, IsUnwritten, StartsBy, OpensBy, ClosesBy, ClosesLogBy, RisesBy};
+
+use line_io::{Failed, NoMemory, Sink, Source};
+use std::alloc::Global;
+
+/// Why a host hands out nothing.
+#[derive(Clone, Copy, Debug, PartialEq, Eq)]
+pub enum HostFault {
+    Failed,
+    NoMemory,
+}
+
+impl From<NoMemory> for HostFault {
+    ghost use Rattle.std.specs.Prelude.{◌≡◌};
+    ghost use Rattle.child_engine.specs.declared.host.HostFault.TheVariants as faults;
+
+    ghost from_gives = { λ e r. r ≡ faults.NoMemory };
+
+    fn from(_: NoMemory) -> Self {
+        HostFault::NoMemory
+    }
+}
+
+/// How often each kind of call failed, or a part that was closed had failed. Each count stays at
+/// the last value of its type.
+#[derive(Clone, Copy, Debug, Default, PartialEq, Eq)]
+pub struct Faults {
+    pub starts: u64,
+    pub reads: u64,
+    pub writes: u64,
+    pub logs: u64,
+    pub waits: u64,
+}
+
+// One more, where the part had failed.
+pub(crate) fn raised(count: u64, part: u64) -> u64
+    ensures { RisesBy part count result }
+{
+    if part == 0 {
+        count
+    } else {
+        count.saturating_add(1)
+    }
+}
+
+/// A started engine: its output, its input, and what it is waited for by.
+pub struct Started<S, K, P> {
+    pub src: S,
+    pub snk: K,
+    pub kid: P,
+}
+
+/// Starts engines and opens logs, and takes them back.
+pub trait Host {
+    ghost use Rattle.child_engine.specs.declared.host.Faults.{Faults};
+
+    type Src: Source + Send;
+
+    type Snk: Sink + Send;
+
+    type Log: Sink + Send + Drop;
+
+    type Kid;
+
+    /// How often each kind of call failed.
+    ghost faults: { Self → Faults };
+
+    /// What was handed out, and what was shown by that which was closed.
+    ghost books: { Self → Books };
+
+    /// Starts the engine that the words name, the first being its program.
+    fn start(
+        &mut self,
+        alloc: Global,
+        words: &[String],
+    ) -> Result<Started<Self::Src, Self::Snk, Self::Kid>, HostFault>
+        requires words { 0 < length words.now }
+        requires few { (books self.old).runs_out < 10 }
+        ensures out { OnOk result (books self.new ≡ with_run (books self.old)) }
+        ensures source { IfOk result (λ run. IsUnread (Self.Src.state run.src)) }
+        ensures sink { IfOk result (λ run. IsUnwritten (Self.Snk.state run.snk)) }
+        ensures err { OnErr result (books self.new ≡ books self.old) }
+        ensures cause { StartsBy (faults self.old) (faults self.new) result };
+
+    /// Makes the log of this name anew.
+    fn open_log(&mut self, alloc: Global, name: &str) -> Result<Self::Log, HostFault>
+        requires few { (books self.old).logs_out < 10 }
+        ensures out { OnOk result (books self.new ≡ with_log (books self.old)) }
+        ensures log { IfOk result (λ log. IsUnwritten (Self.Log.state log)) }
+        ensures err { OnErr result (books self.new ≡ books self.old) }
+        ensures cause { OpensBy (faults self.old) (faults self.new) result };
+
+    /// Lets go of the engine's pipes, and waits for the engine's end.
+    fn close(&mut self, run: Started<Self::Src, Self::Snk, Self::Kid>) -> Result<(), Failed>
+        requires { length (books self.old).runs < (books self.old).runs_out }
+        ensures books { books self.new
+            ≡ with_closed_run (books self.old) (Self.Src.state run.src) (Self.Snk.state run.snk) }
+        ensures cause { ClosesBy (faults self.old) (faults self.new)
+            (Self.Src.state run.src).faults (Self.Snk.state run.snk).faults result };
+
+    /// Takes a log back.
+    fn close_log(&mut self, log: Self::Log)
+        requires { length (books self.old).logs < (books self.old).logs_out }
+        ensures books { books self.new ≡ with_closed_log (books self.old) (Self.Log.state log) }
+        ensures cause { ClosesLogBy (faults self.old) (faults self.new) (Self.Log.state log).faults };
+}

@@ -1,0 +1,111 @@
+// The input of an engine.
+ghost use Rattle.std.specs.Prelude.{◌≡◌, ◌<◌, ◌≤◌, length, take, not, None, IfOk, OnErr, IsErr, false};
+ghost use Rattle.std.specs.Io.KnownBytes.{WriteAppends};
+ghost use Rattle.line_io.specs.Causes.{HasCause};
+
+use line_io::{Failed, Sink};
+use std::io::Write;
+
+/// The input of an engine, over a writer that is let go once it took the line `quit`.
+///
+/// Nothing is ever written behind `quit`, and an engine that passes the order over may still end
+/// at the end of its input. The pieces are whole lines, and `quit` comes as a piece of its own,
+/// which a pipe takes whole or not at all; where a front of it is taken, the writer stays.
+#[derive(Drop)]
+pub struct EngineInput<W> {
+    writer: Option<W>,
+    faults: u64,
+}
+
+// Whether the last line is `quit`.
+fn ends_with_quit(lines: &[u8]) -> bool
+    ensures { result ≡ ends_with_quit lines.now }
+{
+    lines.ends_with(b"\nquit\n") || lines.len() == 5 && lines.ends_with(b"quit\n")
+}
+
+impl<W> EngineInput<W> {
+    ghost use Rattle.std.specs.Prelude.{true};
+    ghost use Rattle.child_engine.specs.Input.{shown_by, is_open};
+
+    /// Over a writer, with no fault counted.
+    pub fn new(writer: W) -> EngineInput<W>
+        ensures shown { shown_by result ≡ record { taken = None; faults = 0 } }
+        ensures open { is_open result ≡ true }
+    {
+        EngineInput {
+            writer: Some(writer),
+            faults: 0,
+        }
+    }
+
+    /// How many writes failed, took nothing, or came behind `quit`. The count stays at the last
+    /// value of its type.
+    pub fn faults(&self) -> u64
+        ensures { result ≡ (shown_by self.now).faults }
+    {
+        self.faults
+    }
+
+    /// Whether the line `quit` was not taken yet.
+    pub fn is_open(&self) -> bool
+        ensures { result ≡ is_open self.now }
+    {
+        self.writer.is_some()
+    }
+}
+
+impl<W: Write + Drop> EngineInput<W> {
+    ghost use Rattle.child_engine.specs.Input.{is_open};
+
+    // Hands the piece to the writer. One that takes nothing fails.
+    fn hand_over(&mut self, piece: &[u8]) -> Result<usize, Failed>
+        requires { 0 < length piece.now }
+        ensures bound { IfOk result (λ n. (0 < n) × (n ≤ length piece.now)) }
+        ensures faults { self.new.faults ≡ self.old.faults }
+        ensures open { IfOk result (λ n.
+            is_open self.new ≡ not (ends_with_quit (take n piece.now))) }
+        ensures err { OnErr result (is_open self.new ≡ is_open self.old) }
+        ensures shut { is_open self.old ≡ false → IsErr result }
+    {
+        let Some(writer) = &mut self.writer else {
+            return Err(Failed);
+        };
+        match writer.write(piece) {
+            Ok(count) if count > 0 => {
+                if ends_with_quit(&piece[..count]) {
+                    self.writer = None;
+                }
+                Ok(count)
+            }
+            _ => Err(Failed),
+        }
+    }
+}
+
+ghost use Rattle.child_engine.specs.Input.{ends_with_quit};
+
+impl<W: Write + Drop> Sink for EngineInput<W> {
+    ghost use Rattle.child_engine.specs.Input.{shown_by, is_open};
+
+    ghost state = { λ s. shown_by s };
+
+    fn write(&mut self, piece: &[u8]) -> Result<usize, Failed>
+        requires { 0 < length piece.now }
+        ensures bound { IfOk result (λ n. (0 < n) × (n ≤ length piece.now)) }
+        ensures takes { WriteAppends None None result piece.now }
+        ensures cause { HasCause (shown_by self.old).faults (shown_by self.new).faults result }
+        ensures open { IfOk result (λ n.
+            is_open self.new ≡ not (ends_with_quit (take n piece.now))) }
+        ensures err { OnErr result (is_open self.new ≡ is_open self.old) }
+        ensures shut { is_open self.old ≡ false → IsErr result }
+    {
+        match self.hand_over(piece) {
+            Ok(count) => Ok(count),
+            Err(fault) => {
+                self.faults = self.faults.saturating_add(1);
+                Err(fault)
+            }
+        }
+    }
+}

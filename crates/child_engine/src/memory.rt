@@ -1,0 +1,172 @@
+// A host in memory.
+ghost use Rattle.std.specs.Prelude.{◌≡◌, ◌<◌, ◌≤◌, Some, [], slice_get, length, vec_len, vec_capacity, IfOk, IfSome};
+
+use crate::host::raised;
+use crate::{Faults, Host, HostFault, Started};
+use line_io::{Failed, MemSink, MemSource, NoMemory};
+use std::alloc::Global;
+
+/// The calls that fail: reads of each run's source, writes of its sink and of each log by their
+/// numbers, counted from 1.
+#[derive(Clone, Copy, Default)]
+pub struct Fails<'a> {
+    pub start: bool,
+    pub log: bool,
+    pub wait: bool,
+    pub reads: &'a [u64],
+    pub writes: &'a [u64],
+    pub logs: &'a [u64],
+}
+
+// The parts of a run that was closed.
+#[derive(Drop)]
+struct ClosedRun {
+    src: MemSource,
+    snk: MemSink,
+}
+
+/// A host whose engine says the same bytes in each run.
+#[derive(Drop)]
+pub struct MemHost {
+    engine: Vec<u8>,
+    piece: usize,
+    room: usize,
+    fails_start: bool,
+    fails_log: bool,
+    fails_wait: bool,
+    failing_reads: Vec<u64>,
+    failing_writes: Vec<u64>,
+    failing_logs: Vec<u64>,
+    faults: Faults,
+    runs_out: u8,
+    logs_out: u8,
+    runs: Vec<ClosedRun>,
+    closed_logs: Vec<MemSink>,
+    ghost some_piece: { 0 < piece },
+    ghost few_runs: { (vec_len runs ≤ runs_out) × (runs_out ≤ 10) × (10 ≤ vec_capacity runs) },
+    ghost few_logs: { (vec_len closed_logs ≤ logs_out) × (logs_out ≤ 10) × (10 ≤ vec_capacity closed_logs) },
+}
+
+impl MemHost {
+    ghost use Rattle.child_engine.specs.Memory.{books_of};
+    ghost use Rattle.child_engine.specs.Steady.{no_faults};
+
+    /// A host that has handed out nothing. Each engine says these bytes, as many at a read as the
+    /// piece; each sink and log has this much room.
+    pub fn make(
+        alloc: Global,
+        engine: &[u8],
+        piece: usize,
+        room: usize,
+        fails: &Fails,
+    ) -> Result<MemHost, NoMemory>
+        requires { 0 < piece }
+        ensures books { IfOk result (λ h. books_of h
+            ≡ record { runs_out = 0; logs_out = 0; runs = []; logs = [] }) }
+        ensures faults { IfOk result (λ h. h.faults ≡ no_faults) }
+    {
+        Ok(MemHost {
+            engine: Vec::from_slice(alloc, engine)?,
+            piece,
+            room,
+            fails_start: fails.start,
+            fails_log: fails.log,
+            fails_wait: fails.wait,
+            failing_reads: Vec::from_slice(alloc, fails.reads)?,
+            failing_writes: Vec::from_slice(alloc, fails.writes)?,
+            failing_logs: Vec::from_slice(alloc, fails.logs)?,
+            faults: Faults::default(),
+            runs_out: 0,
+            logs_out: 0,
+            runs: Vec::with_capacity(alloc, 10)?,
+            closed_logs: Vec::with_capacity(alloc, 10)?,
+        })
+    }
+
+    /// What the sink of the k-th closed run took, counted from 0.
+    pub fn wrote(&self, k: usize) -> &[u8]
+        requires { k < length (books_of self.now).runs }
+        ensures { IfSome (slice_get (books_of self.now).runs k) (λ t. t.taken ≡ Some result.now) }
+    {
+        self.runs[k].snk.taken()
+    }
+
+    /// What the k-th closed log took, counted from 0.
+    pub fn logged(&self, k: usize) -> &[u8]
+        requires { k < length (books_of self.now).logs }
+        ensures { slice_get (books_of self.now).logs k ≡ Some (Some result.now) }
+    {
+        self.closed_logs[k].taken()
+    }
+}
+
+impl Host for MemHost {
+    ghost use Rattle.std.specs.Prelude.{◌≡◌, ◌<◌, length};
+    ghost use Rattle.child_engine.specs.Hosts.{ClosesBy, with_closed_run};
+    ghost use Rattle.child_engine.specs.Memory.{books_of, shown_by_source, shown_by_sink};
+
+    type Src = MemSource;
+
+    type Snk = MemSink;
+
+    type Log = MemSink;
+
+    type Kid = ();
+
+    ghost faults = { λ h. h.faults };
+
+    ghost books = { λ h. books_of h };
+
+    fn start(
+        &mut self,
+        alloc: Global,
+        _words: &[String],
+    ) -> Result<Started<MemSource, MemSink, ()>, HostFault> {
+        if self.fails_start {
+            self.faults.starts = self.faults.starts.saturating_add(1);
+            return Err(HostFault::Failed);
+        }
+        let src = MemSource::make(
+            alloc,
+            self.engine.as_slice(),
+            self.piece,
+            self.failing_reads.as_slice(),
+        )?;
+        let snk = MemSink::make(alloc, self.room, self.failing_writes.as_slice())?;
+        self.runs_out += 1;
+        Ok(Started { src, snk, kid: () })
+    }
+
+    fn open_log(&mut self, alloc: Global, _name: &str) -> Result<MemSink, HostFault> {
+        if self.fails_log {
+            self.faults.logs = self.faults.logs.saturating_add(1);
+            return Err(HostFault::Failed);
+        }
+        let log = MemSink::make(alloc, self.room, self.failing_logs.as_slice())?;
+        self.logs_out += 1;
+        Ok(log)
+    }
+
+    fn close(&mut self, run: Started<MemSource, MemSink, ()>) -> Result<(), Failed>
+        requires { length (books_of self.old).runs < (books_of self.old).runs_out }
+        ensures books { books_of self.new
+            ≡ with_closed_run (books_of self.old) (shown_by_source run.src) (shown_by_sink run.snk) }
+        ensures cause { ClosesBy self.old.faults self.new.faults
+            (shown_by_source run.src).faults (shown_by_sink run.snk).faults result }
+    {
+        let Started { src, snk, kid: () } = run;
+        self.faults.reads = raised(self.faults.reads, src.faults());
+        self.faults.writes = raised(self.faults.writes, snk.faults());
+        let _ = self.runs.push(ClosedRun { src, snk });
+        if self.fails_wait {
+            self.faults.waits = self.faults.waits.saturating_add(1);
+            return Err(Failed);
+        }
+        Ok(())
+    }
+
+    fn close_log(&mut self, log: MemSink) {
+        self.faults.logs = raised(self.faults.logs, log.faults());
+        let _ = self.closed_logs.push(log);
+    }
+}

@@ -1,0 +1,99 @@
+// A host in memory that never fails.
+ghost use Rattle.std.specs.Prelude.{◌≡◌, ◌<◌, ◌≤◌, [], IfOk, vec_len, vec_capacity};
+
+use crate::{Host, HostFault, Started};
+use line_io::{Failed, NoMemory, NullSink, SteadySource};
+use std::alloc::Global;
+
+/// A host whose engine says the same bytes in each run. None of its calls fails, and it keeps
+/// nothing of what was written.
+#[derive(Drop)]
+pub struct SteadyHost {
+    engine: Vec<u8>,
+    piece: usize,
+    runs_out: u8,
+    logs_out: u8,
+    logs_closed: u8,
+    runs: Vec<SteadySource>,
+    ghost some_piece: { 0 < piece },
+    ghost few_runs: { (vec_len runs ≤ runs_out) × (runs_out ≤ 10) × (10 ≤ vec_capacity runs) },
+    ghost few_logs: { (logs_closed ≤ logs_out) × (logs_out ≤ 10) },
+}
+
+impl SteadyHost {
+    ghost use Rattle.child_engine.specs.Steady.{books_of};
+
+    /// A host that has handed out nothing. Each engine says these bytes, as many at a read as the
+    /// piece.
+    pub fn make(alloc: Global, engine: &[u8], piece: usize) -> Result<SteadyHost, NoMemory>
+        requires { 0 < piece }
+        ensures { IfOk result (λ h. books_of h
+            ≡ record { runs_out = 0; logs_out = 0; runs = []; logs = [] }) }
+    {
+        Ok(SteadyHost {
+            engine: Vec::from_slice(alloc, engine)?,
+            piece,
+            runs_out: 0,
+            logs_out: 0,
+            logs_closed: 0,
+            runs: Vec::with_capacity(alloc, 10)?,
+        })
+    }
+}
+
+impl Host for SteadyHost {
+    ghost use Rattle.std.specs.Prelude.{◌≡◌, ◌<◌, length};
+    ghost use Rattle.child_engine.specs.Hosts.{ClosesBy, with_closed_run};
+    ghost use Rattle.child_engine.specs.Steady.{no_faults, books_of, shown_by_source, untold_sink};
+
+    type Src = SteadySource;
+
+    type Snk = NullSink;
+
+    type Log = NullSink;
+
+    type Kid = ();
+
+    ghost faults = { λ h. no_faults };
+
+    ghost books = { λ h. books_of h };
+
+    fn start(
+        &mut self,
+        alloc: Global,
+        _words: &[String],
+    ) -> Result<Started<SteadySource, NullSink, ()>, HostFault> {
+        let src = SteadySource::make(alloc, self.engine.as_slice(), self.piece)?;
+        self.runs_out += 1;
+        Ok(Started {
+            src,
+            snk: NullSink::new(),
+            kid: (),
+        })
+    }
+
+    fn open_log(&mut self, _alloc: Global, _name: &str) -> Result<NullSink, HostFault> {
+        self.logs_out += 1;
+        Ok(NullSink::new())
+    }
+
+    fn close(&mut self, run: Started<SteadySource, NullSink, ()>) -> Result<(), Failed>
+        requires { length (books_of self.old).runs < (books_of self.old).runs_out }
+        ensures books { books_of self.new
+            ≡ with_closed_run (books_of self.old) (shown_by_source run.src) untold_sink }
+        ensures cause { ClosesBy no_faults no_faults 0 0 result }
+    {
+        let Started {
+            src,
+            snk: _,
+            kid: (),
+        } = run;
+        let _ = self.runs.push(src);
+        Ok(())
+    }
+
+    #[tactic(auto, using(crate::proofs::Untold::logs_count))]
+    fn close_log(&mut self, _log: NullSink) {
+        self.logs_closed += 1;
+    }
+}
