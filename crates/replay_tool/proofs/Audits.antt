@@ -1,86 +1,164 @@
 -- What a turn of a check comes to.
-use Rattle.std.proofs.Common.{◌≡◌, ℕ, suc, ◌+◌, ◌≤◌, List, [], ◌∷◌, ◌++◌, map, length, Bool, true, false, cond, ◌==◌, Option, Some, None, IsTrue, Result, Ok, Err, refl, ap, sym, subst, ◌∙◌, arith, inr, append_assoc, append-nil, length-append}
-use Rattle.std.specs.List.{before_first, after_first}
+use Rattle.std.proofs.Common.{◌≡◌, ◌⊎◌, inl, inr, ℕ, suc, ◌+◌, ◌≤◌, List, [], ◌∷◌, ◌++◌, map, length, Bool, true, false, Option, Some, None, IsTrue, Result, Ok, Err, refl, ap, sym, subst, ◌∙◌, arith, append_assoc, append-nil, length-append}
 use Rattle.std.proofs.KnownBytes.{Appends-nil, Consumes-nil}
-use Rattle.std.specs.Str.{bytes_eq}
-use Rattle.std.proofs.lemmas.Slice.Eq.{bytes_eq-Decides}
-use Rattle.std.proofs.lemmas.Bool.Decides.{nat_tests}
-use Rattle.std.proofs.lemmas.List.{map-append}
 use Rattle.line_io.specs.declared.lines.Item.{Item}
 use Rattle.line_io.specs.declared.lines.Item.TheVariants as answers
 use Rattle.line_io.specs.declared.faults.ReadFault.{ReadFault}
 use Rattle.line_io.specs.Event.{Event, Open}
 use Rattle.line_io.specs.Lending.{outcome}
-use Rattle.line_io.specs.Lines.{Piece, Whole, Held, Given, Gave, is_feed, parts, items, IsWaiting, flag}
-use Rattle.line_io.specs.Marks.{Mark, Happens, ToIface, ToEngine, mark_of, event_text}
+use Rattle.line_io.specs.Lines.{Piece, Whole, TooLong, Held, Given, Gave, parts, items, IsWaiting, flag}
 use Rattle.line_io.specs.Runs.{Runs, begins as runs_begin, goes, goes_on, pieces_of, Call, whole}
-use Rattle.line_io.proofs.Parts.{parts_first}
 use Rattle.line_io.proofs.Runs.{at_end, at_fault, at_wait, few_calls}
-use Rattle.line_io.proofs.Spelled.{read_spelled}
+use Rattle.line_io.specs.Source.{Supplied}
+use Rattle.script_lines.specs.Header.{header_of, header_text}
+use Rattle.script_lines.specs.StepLine.{step_line}
+use Rattle.script_lines.proofs.Headers.{header_spelled}
+use Rattle.script_lines.proofs.KindLemmas.{step_fed}
+use Rattle.script_lines.proofs.Scripts.{parts_line}
 use Rattle.policy_rules.specs.declared.settings.Settings.{Settings}
-use Rattle.adapter_core.specs.declared.ends.Ends.{Ends}
-use Rattle.adapter_core.specs.Ends.{may}
-use Rattle.adapter_core.specs.Trace.{state, iface_text, engine_text}
+use Rattle.adapter_core.specs.Trace.{iface_text, engine_text}
 use Rattle.adapter_core.specs.View.{View}
-use Rattle.adapter_core.specs.Stands.{IsOneDialogue}
-use Rattle.session_script.specs.Script.{written_text, told_in, event_told}
-use Rattle.session_script.proofs.Lines.{written_lines, written_parts, event_lines, step_lines, lines_of}
-use Rattle.session_script.proofs.Lines as lines
-use Rattle.session_script.proofs.Scripts.{all_told, event_line, some_opened, written_quiet}
+use Rattle.adapter_core.specs.Stands.{Stands}
+use Rattle.session_script.specs.Script.{written_text, told_in}
+use Rattle.session_script.proofs.Lines.{written_lines, event_lines}
+use Rattle.session_script.proofs.Scripts.{some_opened}
 use Rattle.replay_tool.specs.declared.ending.Ending.{Ending}
 use Rattle.replay_tool.specs.declared.ending.Ending.TheVariants as endings
+use Rattle.replay_tool.specs.declared.stage.Stage.{Stage}
+use Rattle.replay_tool.specs.declared.stage.Stage.TheVariants as stages
 use Rattle.replay_tool.specs.declared.check.Audit.{Audit}
-use Rattle.replay_tool.specs.Check.{AreScript, BeginScript, Parts, PartsUnmarked, ByLine, AtEnd, BeginsWhole, BeginsMuch, Finds, mark_in}
-use Rattle.replay_tool.specs.Walked.{Fit, Comes, IsDue, Fails, mark_undue, undue, mark_other, other_than, fit, fault_in, Fills, Followed, at_end as ending_at, IsUnread, Walked, Audited}
-use Rattle.replay_tool.specs.Replay.{Streams, streams, Got, IsAll, AreRead, AreFirst}
+use Rattle.replay_tool.specs.Check.{lines_by, AreScript, BeginScript, ScriptBy, BeginBy, Parts, ByLine, AtEnd, BeginsWhole, BeginsMuch, Finds, kind_in}
+use Rattle.replay_tool.specs.Versions.{Version, First, Second, version_by, version_in, HasNone}
+use Rattle.replay_tool.specs.Walked.{Fills, Heads, TakesFirst, TakesLater, TakesAny, OpensAtEnd, EndsAt, IsUnread, Standing, Placed, Walked, Audited}
+use Rattle.replay_tool.specs.Streams.{Streams, with_input}
+use Rattle.replay_tool.specs.Replay.{Got, IsAll, AreRead, AreFirst}
 use Rattle.replay_tool.proofs.Turns.{Next, got_more, all_got, no_more, are_first, are_read}
-use Rattle.replay_tool.proofs.Checks.{all_told_of, whole_told, none_missing, is_due, is_next}
+use Rattle.replay_tool.proofs.VersionLines.{version_stays}
+use Rattle.replay_tool.proofs.Checks.{lines_are, longer_lines, IsSomeIn, no_whole, begin_number}
+use Rattle.replay_tool.proofs.Places.{Taken, Goes, Unmarked, MayNot, Other, shows_begin, shows_end, taken_plain, written_is, written_still}
+use Rattle.replay_tool.proofs.Numbers.{taken_told, taken_numbered}
 
-same_bytes : (a b : List ℕ) → bytes_eq a b ≡ true → a ≡ b
-same_bytes a b e = (bytes_eq-Decides a b).0 e
+-- WHERE A SESSION WAS OPENED
 
-other_bytes : (a b : List ℕ) → bytes_eq a b ≡ false → a ≡ b → ⊥
-other_bytes a b e same = let t = sym e ∙ (bytes_eq-Decides a b).1 same in cc
+abbrev Ended : Settings → Version → List Piece → ℕ → Ending → Type 0
+Ended o v before n answer = ((answer ≡ endings.Done) × ScriptBy o v before) ⊎ ((answer ≡ endings.Differs (n + 1)) × (ScriptBy o v before → ⊥))
 
--- some lines are there, of which one is the first
-pub some_parts : (xs : List ℕ) → (length xs == 0) ≡ false → parts xs ≡ before_first is_feed xs ∷ parts (after_first is_feed xs)
-some_parts [] e = cc
-some_parts (x ∷ xs) e = parts_first x xs
+some_lines : (v : Version) (l : Piece) (ls : List Piece) → IsSomeIn v (l ∷ ls)
+some_lines First l ls = tt
+some_lines (Second s) l ls = omega arith
 
-no_bytes : (xs : List ℕ) → (length xs == 0) ≡ true → xs ≡ []
-no_bytes [] e = refl
-no_bytes (x ∷ xs) e = absurd (let n : length (x ∷ xs) ≡ 0 = grind (arith, nat_tests) in omega arith)
+standing_begins : (o : Settings) (v : Version) (core : View) (stage : Stage) (due : List ℕ) (before : List Piece) → Standing o v core stage due before → IsSomeIn v before → BeginBy o v before
+standing_begins o First core stages.Plain due before st some = shows_begin o First core stages.Plain due before st some st.at
+standing_begins o First core stages.Start due before st some = absurd st.at
+standing_begins o First core stages.Headed due before st some = absurd st.at
+standing_begins o First core (stages.Told n) due before st some = absurd st.at
+standing_begins o First core (stages.Numbered n) due before st some = absurd st.at
+standing_begins o (Second s) core stages.Plain due before st some = absurd st.at
+standing_begins o (Second s) core stages.Start due before st some = absurd st.at
+standing_begins o (Second s) core stages.Headed due before st some = absurd st.at
+standing_begins o (Second s) core (stages.Told n) due before st some = shows_begin o (Second s) core (stages.Told n) due before st some st.at.0
+standing_begins o (Second s) core (stages.Numbered n) due before st some =
+    begin_number o s st.proper st.trace st.lawful st.opened core st.stands st.at.not_over before
+    (ap (λ k. lines_by (Second s) st.trace ++ Whole (step_line k) ∷ []) (sym st.at.number_is) ∙ st.at.same)
 
-module _ (o : Settings) (one : IsOneDialogue o) (audit : Audit) (start before : Streams) (calls : ℕ) (w : Walked o audit start before calls) where
-  abbrev due : List Piece
-  due = map Whole (parts audit.due)
+standing_ends : (o : Settings) (v : Version) (core : View) (stage : Stage) (due : List ℕ) (before : List Piece) → Standing o v core stage due before → IsSomeIn v before
+    → (n : ℕ) (answer : Ending) → EndsAt core stage due n answer → Ended o v before n answer
+standing_ends o First core stages.Plain due before st some n answer e = shows_end o First core stages.Plain due before st some st.at n answer e
+standing_ends o First core stages.Start due before st some n answer e = absurd st.at
+standing_ends o First core stages.Headed due before st some n answer e = absurd st.at
+standing_ends o First core (stages.Told k) due before st some n answer e = absurd st.at
+standing_ends o First core (stages.Numbered k) due before st some n answer e = absurd st.at
+standing_ends o (Second s) core stages.Plain due before st some n answer e = absurd st.at
+standing_ends o (Second s) core stages.Start due before st some n answer e = absurd st.at
+standing_ends o (Second s) core stages.Headed due before st some n answer e = absurd st.at
+standing_ends o (Second s) core (stages.Told k) due before st some n answer e = shows_end o (Second s) core (stages.Told k) due before st some st.at.0 n answer e
+standing_ends o (Second s) core (stages.Numbered k) due before st some n answer e = inr (e, no_whole o s st.proper st.trace st.lawful st.opened k before st.at.same)
 
-  quiet : all_told_of due ≡ []
-  quiet = whole_told (parts audit.due) ∙ w.quiet
+standing_takes : (o : Settings) (v : Version) (core : View) (stage : Stage) (due : List ℕ) (before : List Piece) → Standing o v core stage due before → IsSomeIn v before
+    → (line : List ℕ) (number : ℕ) (answer : Option Ending) (core' : View) (stage' : Stage) (due' : List ℕ) → TakesLater core stage due number line answer core' stage' due'
+    → Taken o v before (Whole line) number answer core' stage' due'
+standing_takes o First core stages.Plain due before st some line number answer core' stage' due' k = taken_plain o core due before st line number core' stage' due' answer k.ending k.follows
+standing_takes o First core stages.Start due before st some line number answer core' stage' due' k = absurd st.at
+standing_takes o First core stages.Headed due before st some line number answer core' stage' due' k = absurd st.at
+standing_takes o First core (stages.Told n) due before st some line number answer core' stage' due' k = absurd st.at
+standing_takes o First core (stages.Numbered n) due before st some line number answer core' stage' due' k = absurd st.at
+standing_takes o (Second s) core stages.Plain due before st some line number answer core' stage' due' k = absurd st.at
+standing_takes o (Second s) core stages.Start due before st some line number answer core' stage' due' k = absurd st.at
+standing_takes o (Second s) core stages.Headed due before st some line number answer core' stage' due' k = absurd st.at
+standing_takes o (Second s) core (stages.Told n) due before st some line number answer core' stage' due' k = taken_told o s core n due before st some line number core' stage' due' answer k.ending k.follows
+standing_takes o (Second s) core (stages.Numbered n) due before st some line number answer core' stage' due' k = taken_numbered o s core n due before st line number core' stage' due' answer k.ending k.follows
 
-  nothing : (length audit.due == 0) ≡ true → due ≡ []
-  nothing e = ap (λ (xs : List ℕ). map Whole (parts xs)) (no_bytes audit.due e)
+-- no session stands before its first line
+started : (o : Settings) (v : Version) (core : View) (stage : Stage) (due : List ℕ) (before : List Piece) → Standing o v core stage due before
+    → (line : List ℕ) (number : ℕ) (answer : Option Ending) (core' : View) (stage' : Stage) (due' : List ℕ) → TakesAny core stage due number line answer core' stage' due'
+    → TakesLater core stage due number line answer core' stage' due'
+started o v core stages.Plain due before st line number answer core' stage' due' k = k
+started o v core stages.Headed due before st line number answer core' stage' due' k = k
+started o v core (stages.Told n) due before st line number answer core' stage' due' k = k
+started o v core (stages.Numbered n) due before st line number answer core' stage' due' k = k
+started o First core stages.Start due before st line number answer core' stage' due' k = absurd st.at
+started o (Second s) core stages.Start due before st line number answer core' stage' due' k = absurd st.at
 
-  something : (length audit.due == 0) ≡ false → due ≡ Whole (before_first is_feed audit.due) ∷ map Whole (parts (after_first is_feed audit.due))
-  something e = ap (map Whole) (some_parts audit.due e)
+-- OPENING
 
-  -- where nothing is due, the lines are a script
-  abbrev is_script : due ≡ [] → AreScript o w.lines
-  is_script none = record { trace = w.trace; lawful = w.lawful; opened = w.opened; same = w.same ∙ ap (λ (ls : List Piece). w.lines ++ ls) none ∙ append-nil w.lines }
+opens_plain : (o : Settings) (old core : View) (due : List ℕ) → Stands o old [] → Fills old core Open due → Standing o First core stages.Plain due []
+opens_plain o old core due st f =
+    let next = f.adds.extends o [] tt st in
+    let s = f.step in
+    record {
+      proper = tt;
+      trace = s ∷ [];
+      lawful = next.0;
+      opened = some_opened o s [] next.0;
+      stands = next.1;
+      at = record {
+        same = longer_lines o First tt (s ∷ []) [] next.0 tt ∙ ap (λ (e : Event). map Whole (event_lines e ++ written_lines (iface_text s) (engine_text s))) f.adds.event ∙ ap (map Whole) (sym (written_is s due f.due_is));
+        quiet = written_still s due f.due_is;
+      };
+    }
+
+opens_numbered : (o s : Settings) (core : View) (due : List ℕ) (line : List ℕ) → header_of line ≡ Some s → Heads s core due → Standing o (Second s) core (stages.Told 0) due (Whole line ∷ [])
+opens_numbered o s core due line h f =
+    let spelled = header_spelled line s h in
+    let next = f.adds.extends s [] tt f.stands in
+    let x = f.step in
+    let due_parts : parts due ≡ step_line 0 ∷ written_lines (iface_text x) (engine_text x) =
+    ap parts f.due_is ∙ parts_line (step_line 0) (written_text x) (step_fed 0 (omega arith)) ∙ ap (λ ls. step_line 0 ∷ ls) (written_is x (written_text x) refl) in
+    record {
+      proper = spelled.proper;
+      trace = x ∷ [];
+      lawful = next.0;
+      opened = some_opened s x [] next.0;
+      stands = next.1;
+      at = (
+        record {
+          same =
+              lines_are o (Second s) spelled.proper (x ∷ []) next.0
+              ∙ ap (λ (e : Event). Whole (header_text s) ∷ Whole (step_line 0) ∷ map Whole (event_lines e ++ written_lines (iface_text x) (engine_text x))) f.adds.event
+              ∙ ap (λ (l : List ℕ). Whole l ∷ Whole (step_line 0) ∷ map Whole (written_lines (iface_text x) (engine_text x))) (sym spelled.text)
+              ∙ ap (λ ls. Whole line ∷ map Whole ls) (sym due_parts);
+          quiet = ap told_in due_parts ∙ ap told_in (sym (written_is x (written_text x) refl)) ∙ written_still x (written_text x) refl;
+        },
+        record { count = 0; length_is = refl; number_is = refl },
+      );
+    }
+
+-- A TURN
+
+module _ (o : Settings) (audit : Audit) (start before : Streams) (calls : ℕ) (w : Walked o audit start before calls) where
+  begin_of : (lines : List Piece) → Placed o audit.core audit.stage audit.due lines → BeginScript o lines
+  begin_of [] p = record { trace = []; lawful = tt; later = []; goes_on = refl }
+  begin_of (l ∷ ls) p = standing_begins o (version_in (l ∷ ls)) audit.core audit.stage audit.due (l ∷ ls) p (some_lines (version_in (l ∷ ls)) l ls)
 
   begin : BeginScript o w.lines
-  begin = record { trace = w.trace; lawful = w.lawful; later = due; goes_on = w.same }
-
-  -- where a line is due, they are none
-  no_script : {first : Piece} → {others : List Piece} → due ≡ first ∷ others → AreScript o w.lines → ⊥
-  no_script d a = let e = sym d ∙ none_missing o one w.trace w.lawful w.opened w.lines due w.same quiet a in cc
+  begin = begin_of w.lines w.placed
 
   -- no whole line is left to be taken
   on_whole : (now : Streams) (got : List ℕ) → Got start now got → w.lines ≡ whole 131072 got → BeginsWhole o start now
   on_whole now got g same = record {
     got = got;
     reads = g;
-    of_left = subst (AreFirst start.left) same (are_first start before audit.lines w.got w.lines calls w.runs w.reads w.ended);
+    of_left = subst (AreFirst start.input.left) same (are_first start before audit.lines w.got w.lines calls w.runs w.reads w.ended);
     begins = subst (BeginScript o) same begin;
   }
 
@@ -99,9 +177,9 @@ module _ (o : Settings) (one : IsOneDialogue o) (audit : Audit) (start before : 
         waits = wait;
       }
 
-  module _ (new : Held) (given left : Option (List ℕ)) (result : Result Item ReadFault) (n : Next audit.lines new before (streams given left before.taken) result) where
+  module _ (new : Held) (input : Supplied) (result : Result Item ReadFault) (n : Next audit.lines new before (with_input before input) result) where
     abbrev now : Streams
-    now = streams given left before.taken
+    now = with_input before input
 
     abbrev all : List ℕ
     all = w.got ++ n.0
@@ -112,257 +190,174 @@ module _ (o : Settings) (one : IsOneDialogue o) (audit : Audit) (start before : 
     call : Call audit.lines new n.0 result
     call = record { advances = n.2; answers = n.4 }
 
-    ended : new.ended ≡ true → IsAll start.left all
+    ended : new.ended ≡ true → IsAll start.input.left all
     ended e = was audit.lines.ended refl where
-      was : (b : Bool) → audit.lines.ended ≡ b → IsAll start.left all
-      was true x = no_more start.left w.got n.0 ((n.2).idle (inr x)) (w.ended x)
-      was false x = all_got start.left left all (got.left) (n.3 (x, e))
-
-    -- the lines are as before, whatever bytes were got
-    still : (ls : List Piece) → ls ≡ w.lines → Runs 131072 new all ls (suc calls) → Walked o (record audit { lines = new }) start now (suc calls)
-    still ls same runs = record {
-      got = all;
-      lines = w.lines;
-      runs = subst (λ (x : List Piece). Runs 131072 new all x (suc calls)) same runs;
-      reads = got;
-      ended = ended;
-      number = w.number;
-      trace = w.trace;
-      lawful = w.lawful;
-      opened = w.opened;
-      stands = w.stands;
-      same = w.same;
-      quiet = w.quiet;
-    }
+      was : (b : Bool) → audit.lines.ended ≡ b → IsAll start.input.left all
+      was true x = no_more start.input.left w.got n.0 ((n.2).idle (inr x)) (w.ended x)
+      was false x = all_got start.input.left input.left all (got.left) (n.3 (x, e))
 
   -- More: no line
-  pub on_more : (new : Held) (given left : Option (List ℕ)) → Next audit.lines new before (streams given left before.taken) (Ok answers.More) → Walked o (record audit { lines = new }) start (streams given left before.taken) (suc calls)
-  on_more new given left n = still new given left (Ok answers.More) n (w.lines ++ []) (append-nil w.lines) (goes w.runs (call new given left (Ok answers.More) n) refl)
+  pub on_more : (new : Held) (input : Supplied) → Next audit.lines new before (with_input before input) (Ok answers.More) → Walked o (record audit { lines = new }) start (with_input before input) (suc calls)
+  on_more new input n = record {
+    got = w.got ++ n.0;
+    lines = w.lines;
+    runs = subst (λ (x : List Piece). Runs 131072 new (w.got ++ n.0) x (suc calls)) (append-nil w.lines) (goes w.runs (call new input (Ok answers.More) n) refl);
+    reads = got new input (Ok answers.More) n;
+    ended = ended new input (Ok answers.More) n;
+    number = w.number;
+    placed = w.placed;
+  }
 
   -- a fault of the input
-  pub on_fault : (new : Held) (given left : Option (List ℕ)) (f : ReadFault) → Next audit.lines new before (streams given left before.taken) (Err f) → BeginsWhole o start (streams given left before.taken)
-  on_fault new given left f n =
-      on_whole (streams given left before.taken) (w.got ++ n.0) (got new given left (Err f) n) (at_fault 131072 calls audit.lines new w.got n.0 w.lines (Err f) w.runs (call new given left (Err f) n) refl)
+  pub on_fault : (new : Held) (input : Supplied) (f : ReadFault) → Next audit.lines new before (with_input before input) (Err f) → BeginsWhole o start (with_input before input)
+  on_fault new input f n =
+      on_whole (with_input before input) (w.got ++ n.0) (got new input (Err f) n) (at_fault 131072 calls audit.lines new w.got n.0 w.lines (Err f) w.runs (call new input (Err f) n) refl)
+
+  ended_of : (lines : List Piece) → Placed o audit.core audit.stage audit.due lines → (n : ℕ) (answer : Ending) → EndsAt audit.core audit.stage audit.due n answer → Ended o (version_in lines) lines n answer
+  ended_of [] p n answer e = opened (subst (λ (x : Stage). EndsAt audit.core x audit.due n answer) p.1 e) where
+    opened : OpensAtEnd audit.core n answer → Ended o First [] n answer
+    opened x = shows_end o First x.core stages.Plain x.lines [] (opens_plain o audit.core x.core x.lines p.0 x.opens) tt ((opens_plain o audit.core x.core x.lines p.0 x.opens).at) n answer x.ending
+  ended_of (l ∷ ls) p n answer e = standing_ends o (version_in (l ∷ ls)) audit.core audit.stage audit.due (l ∷ ls) p (some_lines (version_in (l ∷ ls)) l ls) n answer e
 
   -- the end of the input
-  pub on_end : (new : Held) (given left : Option (List ℕ)) → Next audit.lines new before (streams given left before.taken) (Ok answers.End) → Finds o (ending_at audit.due audit.number) start (streams given left before.taken)
-  on_end new given left n = by (length audit.due == 0) refl where
-    r : Result Item ReadFault
-    r = Ok answers.End
+  pub on_end : (new : Held) (input : Supplied) → Next audit.lines new before (with_input before input) (Ok answers.End) → (answer : Ending) → EndsAt audit.core audit.stage audit.due audit.number answer
+      → Finds o answer start (with_input before input)
+  on_end new input n answer e = by (ended_of w.lines w.placed audit.number answer e) where
+    now' : Streams
+    now' = with_input before input
 
-    by : (b : Bool) → (length audit.due == 0) ≡ b → Finds o (cond b endings.Done (endings.Differs (audit.number + 1))) start (streams given left before.taken)
-    by true e =
-        let c = call new given left (Ok answers.End) n in
-        let same : w.lines ≡ items 131072 (w.got ++ n.0) = at_end 131072 calls audit.lines new w.got n.0 w.lines (Ok answers.End) w.runs c refl in
-        record {
-          got = w.got ++ n.0;
-          reads = got new given left (Ok answers.End) n;
-          all = ended new given left (Ok answers.End) n ((c.answers.end.0 refl).0);
-          script = subst (AreScript o) same (is_script (nothing e));
-        }
-    by false e =
-        let c = call new given left (Ok answers.End) n in
-        let same : w.lines ≡ items 131072 (w.got ++ n.0) = at_end 131072 calls audit.lines new w.got n.0 w.lines (Ok answers.End) w.runs c refl in
-        AtEnd (record {
-          got = w.got ++ n.0;
-          reads = got new given left (Ok answers.End) n;
-          all = ended new given left (Ok answers.End) n ((c.answers.end.0 refl).0);
-          number_is = ap (λ k. k + 1) w.number ∙ ap (λ (ls : List Piece). length ls + 1) same;
-          begins = subst (BeginScript o) same begin;
-          lacks = λ a. no_script (something e) (subst (AreScript o) (sym same) a);
-        })
+    c : Call audit.lines new n.0 (Ok answers.End)
+    c = call new input (Ok answers.End) n
+
+    same : w.lines ≡ items 131072 (w.got ++ n.0)
+    same = at_end 131072 calls audit.lines new w.got n.0 w.lines (Ok answers.End) w.runs c refl
+
+    by : Ended o (version_in w.lines) w.lines audit.number answer → Finds o answer start (with_input before input)
+    by (inl x) = subst (λ (a : Ending). Finds o a start (with_input before input)) (sym x.0) (record {
+      got = w.got ++ n.0;
+      reads = got new input (Ok answers.End) n;
+      all = ended new input (Ok answers.End) n ((c.answers.end.0 refl).0);
+      script = subst (AreScript o) same x.1;
+    })
+    by (inr x) = subst (λ (a : Ending). Finds o a start (with_input before input)) (sym x.0) (AtEnd (record {
+      got = w.got ++ n.0;
+      reads = got new input (Ok answers.End) n;
+      all = ended new input (Ok answers.End) n ((c.answers.end.0 refl).0);
+      number_is = ap (λ k. k + 1) w.number ∙ ap (λ (ls : List Piece). length ls + 1) same;
+      begins = subst (BeginScript o) same begin;
+      lacks = λ a. x.1 (subst (AreScript o) (sym same) a);
+    }))
 
   -- a line, or a long one
-  module _ (new : Held) (given left : Option (List ℕ)) (item : Item) (p : Piece) (n : Next audit.lines new before (streams given left before.taken) (Ok item)) (is : outcome (Ok item) ≡ Gave p) (on : IsTrue (goes_on (Ok item))) where
+  module _ (new : Held) (input : Supplied) (item : Item) (p : Piece) (n : Next audit.lines new before (with_input before input) (Ok item)) (is : outcome (Ok item) ≡ Gave p) (on : IsTrue (goes_on (Ok item))) where
     abbrev then : Streams
-    then = streams given left before.taken
+    then = with_input before input
 
     abbrev more : List Piece
     more = w.lines ++ p ∷ []
 
     runs_on : Runs 131072 new (w.got ++ n.0) more (suc calls)
-    runs_on = subst (λ (g : Given). Runs 131072 new (w.got ++ n.0) (w.lines ++ pieces_of g) (suc calls)) is (goes w.runs (call new given left (Ok item) n) on)
+    runs_on = subst (λ (g : Given). Runs 131072 new (w.got ++ n.0) (w.lines ++ pieces_of g) (suc calls)) is (goes w.runs (call new input (Ok item) n) on)
 
     read_on : AreRead start then more
-    read_on = are_read start then new (w.got ++ n.0) more (suc calls) runs_on (got new given left (Ok item) n) (ended new given left (Ok item) n)
+    read_on = are_read start then new (w.got ++ n.0) more (suc calls) runs_on (got new input (Ok item) n) (ended new input (Ok item) n)
 
     abbrev parts_at : (BeginScript o more → ⊥) → Parts o (audit.number + 1) start then
     parts_at never = record { before = w.lines; line = p; read = read_on; number_is = ap (λ k. k + 1) w.number; begins = begin; differs = never }
 
-    -- the line is not the one that is due
-    not_due : {first : Piece} → {others : List Piece} → due ≡ first ∷ others → (p ≡ first → ⊥) → BeginScript o more → ⊥
-    not_due {first} {others} d never b = never (is_due o one w.trace w.lawful w.opened w.lines due w.same quiet p first others d b)
+    abbrev audit_with : View → Stage → List ℕ → Audit
+    audit_with core stage due = record { core = core; lines = new; stage = stage; due = due; number = audit.number + 1 }
 
-    -- the line is no event that may come
-    not_next : due ≡ [] → ((e : Event) → mark_in p ≡ Some (Happens e) → may audit.core.ends e ≡ true → ⊥) → BeginScript o more → ⊥
-    not_next d never b =
-        let x = is_next o one w.trace w.lawful w.opened w.lines due w.same quiet p d b in
-        never x.0 x.1 (ap (λ (v : View). may v.ends x.0) w.stands.0 ∙ x.2)
-
-    -- a line that has no mark
-    pub on_unmarked : (number : ℕ) → number ≡ audit.number + 1 → mark_in p ≡ None → (p ≡ Whole (before_first is_feed audit.due) → ⊥) → Finds o (endings.NoMark number) start then
-    on_unmarked number e none other = subst (λ k. PartsUnmarked o k start then) (sym e) (by (length audit.due == 0) refl) where
-      by : (b : Bool) → (length audit.due == 0) ≡ b → PartsUnmarked o (audit.number + 1) start then
-      by true d = record { parts = parts_at (not_next (nothing d) (λ x m c. let z = sym none ∙ m in cc)); unmarked = none }
-      by false d = record { parts = parts_at (not_due (something d) other); unmarked = none }
-
-    -- the line that is due came
-    on_due : p ≡ Whole (before_first is_feed audit.due) → (length audit.due == 0) ≡ false
-        → Walked o (record { core = audit.core; lines = new; due = after_first is_feed audit.due; number = audit.number + 1 }) start then (suc calls)
-    on_due e d = record {
+    -- the lines with this one stand
+    goes_to : (core : View) (stage : Stage) (due : List ℕ) → Placed o core stage due more → Walked o (audit_with core stage due) start then (suc calls)
+    goes_to core stage due placed = record {
       got = w.got ++ n.0;
       lines = more;
       runs = runs_on;
-      reads = got new given left (Ok item) n;
-      ended = ended new given left (Ok item) n;
+      reads = got new input (Ok item) n;
+      ended = ended new input (Ok item) n;
       number = let z : audit.number + 1 ≡ length more = omega (arith, length-append w.lines (p ∷ []), w.number) in z;
-      trace = w.trace;
-      lawful = w.lawful;
-      opened = w.opened;
-      stands = w.stands;
-      same = w.same ∙ ap (λ (ls : List Piece). w.lines ++ ls) (something d ∙ ap (λ (x : Piece). x ∷ map Whole (parts (after_first is_feed audit.due))) (sym e))
-          ∙ sym (append_assoc w.lines (p ∷ []) (map Whole (parts (after_first is_feed audit.due))));
-      quiet = tail_quiet (event_told (mark_of (before_first is_feed audit.due))) (told_in (parts (after_first is_feed audit.due))) (sym (ap told_in (some_parts audit.due d)) ∙ w.quiet);
-    } where
-      tail_quiet : (xs ys : List Event) → xs ++ ys ≡ [] → ys ≡ []
-      tail_quiet [] ys h = h
-      tail_quiet (x ∷ xs) ys h = cc
-
-    -- an event came where nothing was due
-    on_event : (e : Event) (core : View) (due' : List ℕ) → p ≡ Whole (event_text e) → (length audit.due == 0) ≡ true → Fills audit.core core e due'
-        → Walked o (record { core = core; lines = new; due = due'; number = audit.number + 1 }) start then (suc calls)
-    on_event e core due' line d f =
-        let next = f.adds.extends o w.trace w.lawful w.stands in
-        let s = f.step in
-        let told = all_told o (s ∷ w.trace) next.0 in
-        let shown = event_line (state o w.trace).ends s.event w.opened next.0.1.may_come in
-        let older : map Whole (lines_of w.trace) ≡ w.lines = ap (map Whole) (sym (lines.script_lines w.trace told.1)) ∙ w.same ∙ ap (λ (ls : List Piece). w.lines ++ ls) (nothing d) ∙ append-nil w.lines in
-        let written : written_lines (iface_text s) (engine_text s) ≡ parts due' =
-        sym (ap parts (f.due_is ∙ sym (append-nil (written_text s))) ∙ written_parts (iface_text s) (engine_text s) [] ∙ append-nil (written_lines (iface_text s) (engine_text s))) in
-        record {
-          got = w.got ++ n.0;
-          lines = more;
-          runs = runs_on;
-          reads = got new given left (Ok item) n;
-          ended = ended new given left (Ok item) n;
-          number = let z : audit.number + 1 ≡ length more = omega (arith, length-append w.lines (p ∷ []), w.number) in z;
-          trace = s ∷ w.trace;
-          lawful = next.0;
-          opened = some_opened o s w.trace next.0;
-          stands = next.1;
-          same =
-              ap (map Whole) (lines.script_lines (s ∷ w.trace) told ∙ ap (λ ls. lines_of w.trace ++ (ls ++ written_lines (iface_text s) (engine_text s))) (shown.0 ∙ ap (λ (x : Event). event_text x ∷ []) f.adds.event))
-              ∙ map-append Whole (lines_of w.trace) (event_text e ∷ written_lines (iface_text s) (engine_text s))
-              ∙ ap (λ (ls : List Piece). ls ++ (Whole (event_text e) ∷ map Whole (written_lines (iface_text s) (engine_text s)))) older
-              ∙ ap (λ ls. w.lines ++ (Whole (event_text e) ∷ map Whole ls)) written
-              ∙ ap (λ (x : Piece). w.lines ++ (x ∷ map Whole (parts due'))) (sym line)
-              ∙ sym (append_assoc w.lines (p ∷ []) (map Whole (parts due')));
-          quiet = ap told_in (sym written) ∙ written_quiet (iface_text s) (engine_text s);
-        }
-
-    -- what the line is was done
-    module _ (text : List ℕ) (whole_is : p ≡ Whole text) (core : View) (due' : List ℕ) where
-      abbrev number : ℕ
-      number = audit.number + 1
-
-      abbrev Goal : Fit → Type 0
-      Goal f = (answer : Option Ending) → answer ≡ fault_in f → Followed audit.core core audit.due due' f → Audited o answer (record { core = core; lines = new; due = due'; number = audit.number + 1 }) start then calls
-
-      fails : (e : Ending) → Finds o e start then → Goal (Fails e)
-      fails e found answer a f = subst (λ (x : Option Ending). Audited o x (record { core = core; lines = new; due = due'; number = audit.number + 1 }) start then calls) (sym a) found
-
-      walks : (f : Fit) → fault_in f ≡ None → (Followed audit.core core audit.due due' f → Walked o (record { core = core; lines = new; due = due'; number = audit.number + 1 }) start then (suc calls)) → Goal f
-      walks f none onward answer a x = subst (λ (y : Option Ending). Audited o y (record { core = core; lines = new; due = due'; number = audit.number + 1 }) start then calls) (sym (a ∙ none)) (onward x)
-
-      marked : (m : Option Mark) → mark_of text ≡ m → mark_in p ≡ m
-      marked m e = ap mark_in whole_is ∙ e
-
-      -- nothing is due
-      by_may : (length audit.due == 0) ≡ true → (e : Event) → mark_of text ≡ Some (Happens e) → (b : Bool) → may audit.core.ends e ≡ b → Goal (cond b (Comes e) (Fails (endings.MayNotCome number)))
-      by_may d e m true c = walks (Comes e) refl (on_event e core due' (whole_is ∙ ap Whole (read_spelled text (Happens e) m).1) d)
-      by_may d e m false c = fails (endings.MayNotCome number) (record {
-        parts = parts_at (not_next (nothing d) (λ x z may_x. let same : x ≡ e = one_event x e (sym z ∙ marked (Some (Happens e)) m) in let not = sym may_x ∙ ap (may audit.core.ends) same ∙ c in cc));
-        event = e;
-        is_event = marked (Some (Happens e)) m;
-        none_due = is_script (nothing d);
-        may_not = ap (λ (v : View). may v.ends e) (sym w.stands.0) ∙ c;
-      }) where
-        one_event : (x y : Event) → Some (Happens x) ≡ Some (Happens y) → x ≡ y
-        one_event x y h = cc
-
-      written_alone : (length audit.due == 0) ≡ true → (m : Mark) → mark_of text ≡ Some m → ((x : Event) → m ≡ Happens x → ⊥) → Goal (Fails (endings.Differs number))
-      written_alone d m e never = fails (endings.Differs number) (ByLine (record {
-        parts = parts_at (not_next (nothing d) (λ x z may_x. never x (same_mark m (Happens x) (sym (marked (Some m) e) ∙ z))));
-        mark = m;
-        is_marked = marked (Some m) e;
-        other = λ x h a. never x h;
-      })) where
-        same_mark : (x y : Mark) → Some x ≡ Some y → x ≡ y
-        same_mark x y h = cc
-
-      by_mark : (length audit.due == 0) ≡ true → (m : Option Mark) → mark_of text ≡ m → Goal (mark_undue audit.core.ends number m)
-      by_mark d None e = fails (endings.NoMark number) (record { parts = parts_at (not_next (nothing d) (λ x z may_x. let not = sym (marked None e) ∙ z in cc)); unmarked = marked None e })
-      by_mark d (Some (Happens x)) e = by_may d x e (may audit.core.ends x) refl
-      by_mark d (Some (ToIface line)) e = written_alone d (ToIface line) e (λ x h. cc)
-      by_mark d (Some (ToEngine line)) e = written_alone d (ToEngine line) e (λ x h. cc)
-
-      -- a line is due
-      by_other : (length audit.due == 0) ≡ false → (p ≡ Whole (before_first is_feed audit.due) → ⊥) → (m : Option Mark) → mark_of text ≡ m → Goal (Fails (mark_other number m))
-      by_other d other None e = fails (endings.NoMark number) (record { parts = parts_at (not_due (something d) other); unmarked = marked None e })
-      by_other d other (Some m) e = fails (endings.Differs number) (ByLine (record { parts = parts_at (not_due (something d) other); mark = m; is_marked = marked (Some m) e; other = λ x h a. no_script (something d) a }))
-
-      by_same : (length audit.due == 0) ≡ false → (b : Bool) → bytes_eq text (before_first is_feed audit.due) ≡ b → Goal (cond b IsDue (Fails (other_than number text)))
-      by_same d true e = walks IsDue refl (λ f.
-          subst (λ (v : View). Walked o (record { core = v; lines = new; due = due'; number = audit.number + 1 }) start then (suc calls)) (sym f.0)
-          (subst (λ (xs : List ℕ). Walked o (record { core = audit.core; lines = new; due = xs; number = audit.number + 1 }) start then (suc calls)) (sym f.1)
-          (on_due (whole_is ∙ ap Whole (same_bytes text (before_first is_feed audit.due) e)) d)))
-      by_same d false e = by_other d (λ h. other_bytes text (before_first is_feed audit.due) e (one_text (sym whole_is ∙ h))) (mark_of text) refl where
-        one_text : {x y : List ℕ} → Whole x ≡ Whole y → x ≡ y
-        one_text h = cc
-
-      by_due : (b : Bool) → (length audit.due == 0) ≡ b → Goal (cond b (undue audit.core.ends number text) (cond (bytes_eq text (before_first is_feed audit.due)) IsDue (Fails (other_than number text))))
-      by_due true d = by_mark d (mark_of text) refl
-      by_due false d = by_same d (bytes_eq text (before_first is_feed audit.due)) refl
-
-      pub on_line : Goal (fit audit.core.ends audit.due number text)
-      on_line = by_due (length audit.due == 0) refl
-
--- the first step
-pub first_walk : (o : Settings) (audit : Audit) (core : View) (due' : List ℕ) (start : Streams) (taken : Option (List ℕ)) → IsUnread o audit → Fills audit.core core Open due'
-    → Walked o (record { core = core; lines = audit.lines; due = due'; number = audit.number }) start (streams start.given start.left taken) 0
-first_walk o audit core due' start taken new f =
-    let next = f.adds.extends o [] tt new.core in
-    let s = f.step in
-    let told = all_told o (s ∷ []) next.0 in
-    let written : written_lines (iface_text s) (engine_text s) ≡ parts due' =
-    sym (ap parts (f.due_is ∙ sym (append-nil (written_text s))) ∙ written_parts (iface_text s) (engine_text s) [] ∙ append-nil (written_lines (iface_text s) (engine_text s))) in
-    record {
-      got = [];
-      lines = [];
-      runs = subst (λ (held : Held). Runs 131072 held [] [] 0) (sym new.lines) runs_begin;
-      reads = record { given = Appends-nil start.given; left = Consumes-nil start.left };
-      ended = λ x. let e = sym (ap (λ (held : Held). held.ended) new.lines) ∙ x in cc;
-      number = new.number;
-      trace = s ∷ [];
-      lawful = next.0;
-      opened = some_opened o s [] next.0;
-      stands = next.1;
-      same = ap (map Whole) (lines.script_lines (s ∷ []) told ∙ ap (λ (e : Event). event_lines e ++ written_lines (iface_text s) (engine_text s)) f.adds.event ∙ written);
-      quiet = ap told_in (sym written) ∙ written_quiet (iface_text s) (engine_text s);
+      placed = placed;
     }
 
--- no line is a failure of reading
-pub not_reading : (ends : Ends) (due : List ℕ) (n : ℕ) (line : List ℕ) → fault_in (fit ends due n line) ≡ Some endings.ReadingFailed → ⊥
-not_reading ends due n line = by (length due == 0) (bytes_eq line (before_first is_feed due)) (mark_of line) where
-  by_may : (b : Bool) (e : Event) → fault_in (cond b (Comes e) (Fails (endings.MayNotCome n))) ≡ Some endings.ReadingFailed → ⊥
-  by_may true e h = cc
-  by_may false e h = cc
+    place_more : (ls : List Piece) (core : View) (stage : Stage) (due : List ℕ) → Standing o (version_in (ls ++ p ∷ [])) core stage due (ls ++ p ∷ []) → Placed o core stage due (ls ++ p ∷ [])
+    place_more [] core stage due st = st
+    place_more (l ∷ ls) core stage due st = st
 
-  by : (empty same : Bool) (m : Option Mark) → fault_in (cond empty (mark_undue ends n m) (cond same IsDue (Fails (mark_other n m)))) ≡ Some endings.ReadingFailed → ⊥
-  by true same None h = cc
-  by true same (Some (Happens e)) h = by_may (may ends e) e h
-  by true same (Some (ToIface l)) h = cc
-  by true same (Some (ToEngine l)) h = cc
-  by false true m h = cc
-  by false false None h = cc
-  by false false (Some m) h = cc
+    -- what the line came to, where it does not tell another version
+    on_taken : version_in more ≡ version_in w.lines → (answer : Option Ending) (core : View) (stage : Stage) (due : List ℕ) → Taken o (version_in w.lines) w.lines p (audit.number + 1) answer core stage due
+        → Audited o answer (audit_with core stage due) start then calls
+    on_taken v answer core stage due (Goes e st) =
+        subst (λ (x : Option Ending). Audited o x (audit_with core stage due) start then calls) (sym e)
+        (goes_to core stage due (place_more w.lines core stage due (subst (λ (x : Version). Standing o x core stage due more) (sym v) st)))
+    on_taken v answer core stage due (Unmarked e never u) =
+        subst (λ (x : Option Ending). Audited o x (audit_with core stage due) start then calls) (sym e)
+        (record { parts = parts_at (λ b. never (subst (λ (x : Version). BeginBy o x more) v b)); unmarked = u })
+    on_taken v answer core stage due (MayNot e never event k a m) =
+        subst (λ (x : Option Ending). Audited o x (audit_with core stage due) start then calls) (sym e)
+        (record { parts = parts_at (λ b. never (subst (λ (x : Version). BeginBy o x more) v b)); event = event; is_event = k; awaited = a; may_not = m })
+    on_taken v answer core stage due (Other e never k a) =
+        subst (λ (x : Option Ending). Audited o x (audit_with core stage due) start then calls) (sym e)
+        (ByLine (record { parts = parts_at (λ b. never (subst (λ (x : Version). BeginBy o x more) v b)); is_marked = k; other = a }))
+
+    -- a line that is too long
+    pub on_long : p ≡ TooLong → Finds o (endings.NoMark (audit.number + 1)) start then
+    on_long e = record {
+      parts = parts_at (λ b. none_long (version_in more) b);
+      unmarked = ap (kind_in (version_in w.lines)) e ∙ bare (version_in w.lines);
+    } where
+      bare : (v : Version) → kind_in v TooLong ≡ HasNone
+      bare First = refl
+      bare (Second s) = refl
+
+      never : (xs : List (List ℕ)) (ls ms : List Piece) → map Whole xs ≡ ls ++ TooLong ∷ ms → ⊥
+      never [] [] ms h = cc
+      never [] (l ∷ ls) ms h = cc
+      never (x ∷ xs) [] ms h = cc
+      never (x ∷ xs) (l ∷ ls) ms h = never xs ls ms (let z : map Whole xs ≡ ls ++ TooLong ∷ ms = cc in z)
+
+      none_long : (v : Version) → BeginBy o v more → ⊥
+      none_long v b = never _ w.lines b.later (b.goes_on ∙ append_assoc w.lines (p ∷ []) b.later ∙ ap (λ (x : Piece). w.lines ++ x ∷ b.later) e)
+
+    module _ (line : List ℕ) (line_is : p ≡ Whole line) (answer : Option Ending) (core : View) (stage : Stage) (due : List ℕ) where
+      abbrev Came : Type 0
+      Came = Audited o answer (audit_with core stage due) start then calls
+
+      more_is : {ls : List Piece} → w.lines ≡ ls → more ≡ ls ++ Whole line ∷ []
+      more_is {ls} h = ap (λ (x : List Piece). x ++ p ∷ []) h ∙ ap (λ (x : Piece). ls ++ x ∷ []) line_is
+
+      on_first : w.lines ≡ [] → (header : Option Settings) → header_of line ≡ header → Stands o audit.core [] → TakesFirst header audit.core (audit.number + 1) line answer core stage due → Came
+      on_first h None none st x =
+          let taken = taken_plain o x.core x.lines [] (opens_plain o audit.core x.core x.lines st x.opens) line (audit.number + 1) core stage due answer x.ending x.follows in
+          on_taken (ap version_in (more_is h) ∙ ap version_by none ∙ sym (ap version_in h)) answer core stage due
+          (subst (λ (ls : List Piece). Taken o (version_in ls) ls p (audit.number + 1) answer core stage due) (sym h)
+          (subst (λ (x : Piece). Taken o First [] x (audit.number + 1) answer core stage due) (sym line_is) taken))
+      on_first h (Some s) is st x =
+          let opened = opens_numbered o s core due line is x.0 in
+          let placed : Placed o core (stages.Told 0) due (Whole line ∷ []) = subst (λ (v : Version). Standing o v core (stages.Told 0) due (Whole line ∷ [])) (sym (ap version_by is)) opened in
+          subst (λ (a : Option Ending). Audited o a (audit_with core stage due) start then calls) (sym x.2)
+          (goes_to core stage due (subst (λ (y : Stage). Placed o core y due more) (sym x.1) (subst (λ (ls : List Piece). Placed o core (stages.Told 0) due ls) (sym (more_is h)) placed)))
+
+      pub on_line : TakesAny audit.core audit.stage audit.due (audit.number + 1) line answer core stage due → Came
+      on_line k = by w.lines refl w.placed where
+        by : (ls : List Piece) → w.lines ≡ ls → Placed o audit.core audit.stage audit.due ls → Came
+        by [] h placed = on_first h (header_of line) refl placed.0 (subst (λ (x : Stage). TakesAny audit.core x audit.due (audit.number + 1) line answer core stage due) placed.1 k)
+        by (l ∷ ls) h st =
+            let v = version_in (l ∷ ls) in
+            let later = started o v audit.core audit.stage audit.due (l ∷ ls) st line (audit.number + 1) answer core stage due k in
+            let taken = standing_takes o v audit.core audit.stage audit.due (l ∷ ls) st (some_lines v l ls) line (audit.number + 1) answer core stage due later in
+            on_taken (ap version_in (more_is h) ∙ version_stays l ls (Whole line ∷ []) ∙ sym (ap version_in h)) answer core stage due
+            (subst (λ (x : List Piece). Taken o (version_in x) x p (audit.number + 1) answer core stage due) (sym h)
+            (subst (λ (x : Piece). Taken o v (l ∷ ls) x (audit.number + 1) answer core stage due) (sym line_is) taken))
+
+-- before the first line
+pub first_walk : (o : Settings) (audit : Audit) (start now : Streams) (input : Supplied) → IsUnread o audit → Walked o audit (with_input start input) (with_input now input) 0
+first_walk o audit start now input new = record {
+  got = [];
+  lines = [];
+  runs = subst (λ (held : Held). Runs 131072 held [] [] 0) (sym new.lines) runs_begin;
+  reads = record { given = Appends-nil input.given; left = Consumes-nil input.left };
+  ended = λ x. let e = sym (ap (λ (held : Held). held.ended) new.lines) ∙ x in cc;
+  number = new.number;
+  placed = (new.core, new.stage);
+}

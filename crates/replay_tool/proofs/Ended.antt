@@ -1,21 +1,19 @@
 -- How a replay ended.
-use Rattle.std.proofs.Common.{◌≡◌, [], Some}
 use Rattle.policy_rules.specs.declared.settings.Settings.{Settings}
 use Rattle.replay_tool.specs.declared.ending.Ending.{Ending}
 use Rattle.replay_tool.specs.declared.ending.Ending.TheVariants as endings
-use Rattle.replay_tool.specs.Program.{EndsAs}
-use Rattle.replay_tool.specs.Replay.{Streams, Stopped}
+use Rattle.replay_tool.specs.Replay.{EndsAs, Stopped}
+use Rattle.replay_tool.specs.Streams.{Streams}
 
-pub ended : (o : Settings) (untouched : Type 0) (e : Ending) (start now : Streams) → Stopped o e [] start now → EndsAs o untouched e start now
+pub ended : (o : Settings) (untouched : Type 0) (e : Ending) (start now : Streams) → Stopped o e start now → EndsAs o untouched e start now
 ended o untouched endings.Done start now x = x
 ended o untouched (endings.Differs n) start now x = x
 ended o untouched endings.Usage start now x = x
+ended o untouched (endings.NoPosition fault) start now x = x
 ended o untouched (endings.NoMark n) start now x = x
+ended o untouched (endings.OutOfStep n) start now x = x
 ended o untouched (endings.MayNotCome n) start now x = x
 ended o untouched endings.NoMemory start now x = absurd x
 ended o untouched endings.ReadingFailed start now x = x
 ended o untouched endings.WritingFailed start now x = x
 ended o untouched endings.TooLong start now x = x
-
-pub same_ending : (a b : Ending) → Some a ≡ Some b → a ≡ b
-same_ending a b e = cc

@@ -3,7 +3,7 @@ use Rattle.std.proofs.Common.{◌≡◌, ◌≤◌, ℕ, List, [], ◌∷◌, le
 use Rattle.std.proofs.lemmas.Bool.Decides.{nat_tests}
 use Rattle.line_io.specs.Event.{Event, is_line, has_feed}
 use Rattle.line_io.specs.Event as events
-use Rattle.line_io.specs.Marks.{event_marked}
+use Rattle.script_lines.specs.Marks.{event_marked}
 use Rattle.adapter_core.specs.declared.ends.Ends.{Ends}
 use Rattle.adapter_core.specs.Ends.{may}
 

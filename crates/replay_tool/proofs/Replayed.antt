@@ -3,22 +3,22 @@ use Rattle.std.proofs.Common.{◌≡◌, ℕ, suc, ◌+◌, List, [], ◌∷◌,
 use Rattle.std.proofs.lemmas.List.{map-append}
 use Rattle.line_io.specs.Event.{Event, Open}
 use Rattle.line_io.specs.Lines.{Piece, Whole, TooLong, parts, items, piece_of}
-use Rattle.line_io.specs.Marks.{Mark, Happens, ToIface, ToEngine, IsSpelled, is_written, mark_of, mark_text, event_text}
+use Rattle.script_lines.specs.Marks.{Mark, Happens, ToIface, ToEngine, IsSpelled, is_written, mark_of, mark_text, event_text}
 use Rattle.policy_rules.specs.declared.settings.Settings.{Settings}
 use Rattle.adapter_core.specs.declared.ends.Ends.{Ends}
 use Rattle.adapter_core.specs.Ends.{may, ends_after}
 use Rattle.adapter_core.specs.Trace.{Step, Lawful, state, iface_text, engine_text}
 use Rattle.adapter_core.specs.Stands.{IsOneDialogue}
-use Rattle.session_script.specs.Script.{script, events, IsShortText, AreShort}
+use Rattle.session_script.specs.OneWay.{IsOpened}
+use Rattle.session_script.specs.Script.{script1, events, IsShortText, AreShort}
 use Rattle.session_script.proofs.Short.{HaveMarks, both_marked, written_marked}
 use Rattle.session_script.proofs.Lines.{behind, written_lines, event_lines, step_lines, lines_of}
 use Rattle.session_script.proofs.Lines as lines
-use Rattle.session_script.proofs.Scripts.{IsOpened, all_told, goes_on, added, lines_added, later_event, later_events, some_opened, events_later, event_line, one_later, only_open}
-use Rattle.line_io.proofs.Spelled.{read_spelled}
-use Rattle.line_io.proofs.Scripts.{has_lines, has_short_lines}
-use Rattle.replay_tool.specs.Check.{script_lines, mark_in, AreMarked}
+use Rattle.session_script.proofs.Scripts.{all_told, goes_on, added, lines_added, later_event, later_events, some_opened, events_later, event_line, one_later, only_open}
+use Rattle.script_lines.proofs.Spelled.{read_spelled}
+use Rattle.script_lines.proofs.Scripts.{has_lines, has_short_lines}
+use Rattle.replay_tool.specs.Check.{mark_in, AreMarked}
 use Rattle.replay_tool.specs.declared.ending.Ending.{Ending}
-use Rattle.replay_tool.specs.declared.ending.Ending.TheVariants as endings
 use Rattle.replay_tool.specs.Reading.{Said, Comes, Passes, HasNoMark, Cannot, mark_says, line_says, ends_said, ends_over, fault_said, or_later, first_fault, events_said, events_of, opened}
 use Rattle.replay_tool.proofs.Lines.{no_earlier}
 
@@ -175,9 +175,9 @@ script_fine o (s ∷ r ∷ t) l op a = next (script_fine o (r ∷ t) l.0 before 
       (fine_both 1 opened ends (ends_after ends s.event) (pieces (lines_of (r ∷ t))) (pieces (step_lines s)) (later_events (r ∷ t)) (s.event ∷ []) f g))
 
 -- every line of the script of a lawful trace is read without a fault, and they tell its events
-pub replays_lines : (o : Settings) (t : List Step) → Lawful o t → IsOpened o t → AreMarked (items 131072 (script t)) → (first_fault 1 opened (items 131072 (script t)) ≡ None) × (Open ∷ events_of opened (items 131072 (script t)) ≡ events t)
+pub replays_lines : (o : Settings) (t : List Step) → Lawful o t → IsOpened o t → AreMarked (items 131072 (script1 t)) → (first_fault 1 opened (items 131072 (script1 t)) ≡ None) × (Open ∷ events_of opened (items 131072 (script1 t)) ≡ events t)
 replays_lines o t l op a =
-    let same : items 131072 (script t) ≡ pieces (lines_of t) = ap (map (piece_of 131072)) (lines.script_lines t (all_told o t l)) in
+    let same : items 131072 (script1 t) ≡ pieces (lines_of t) = ap (map (piece_of 131072)) (lines.script1_lines t (all_told o t l)) in
     let f = script_fine o t l op (subst AreMarked same a) in
     (ap (first_fault 1 opened) same ∙ f.faultless, ap (λ (ls : List Piece). Open ∷ events_of opened ls) same ∙ ap (λ (es : List Event). Open ∷ es) f.events_are ∙ sym (events_later o t l op))
 
@@ -189,10 +189,6 @@ has_mark n ends (Whole line) e = by (mark_of line) e where
   by : (m : Option Mark) → fault_said n (mark_says ends m) ≡ None → is_some m ≡ true
   by None h = cc
   by (Some m) h = refl
-
-cannot : (ends : Ends) (l : Piece) (e : Event) → mark_in l ≡ Some (Happens e) → may ends e ≡ false → line_says ends l ≡ Cannot
-cannot ends TooLong e m c = cc
-cannot ends (Whole line) e m c = ap (mark_says ends) m ∙ ap (λ (b : Bool). cond b (Comes e) Cannot) c
 
 whole_mark : (m : Mark) → IsSpelled m → piece_of 131072 (mark_text m) ≡ Whole (mark_text m)
 whole_mark m s = let z : piece_of 131072 (mark_text m) ∷ [] ≡ Whole (mark_text m) ∷ [] = ap (map (piece_of 131072)) (sym (has_lines (m ∷ []) (s, tt))) ∙ has_short_lines (m ∷ []) (s, tt) in cc
@@ -220,28 +216,6 @@ fault_front n ends (l ∷ ls) ms e =
       ap (λ a. or_later a (first_fault (n + 1) (ends_said ends (line_says ends l)) ls)) p.0 ∙ q.0,
       subst (λ k. first_fault k (ends_over ends (l ∷ ls)) ms ≡ None) (let z : n + 1 + length ls ≡ n + suc (length ls) = omega arith in z) q.1,
     )
-
--- whole lines that have marks are the lines of a script, read with the limit
-whole_pieces : (ls : List (List ℕ)) → AreMarked (map Whole ls) → map Whole ls ≡ pieces ls
-whole_pieces [] a = refl
-whole_pieces (l ∷ ls) a = ap (λ (p : Piece). p ∷ map Whole ls) (sym (marked_piece l a.0)) ∙ ap (λ (ps : List Piece). piece_of 131072 l ∷ ps) (whole_pieces ls a.1)
-
--- the event behind the script of a lawful trace may come where no line is a fault
-pub may_behind : (o : Settings) (t : List Step) → Lawful o t → IsOpened o t → (line : Piece) (later : List Piece) (e : Event) → first_fault 1 opened (script_lines t ++ line ∷ later) ≡ None
-    → mark_in line ≡ Some (Happens e) → may (state o t).ends e ≡ false → ⊥
-may_behind o t l op line later e free m c =
-    let f = fault_front 1 opened (script_lines t) (line ∷ later) free in
-    let shown : script_lines t ≡ map Whole (lines_of t) = ap (map Whole) (lines.script_lines t (all_told o t l)) in
-    let marked : AreMarked (map Whole (lines_of t)) = subst AreMarked shown (faultless_marked 1 opened (script_lines t) f.0) in
-    let same : script_lines t ≡ pieces (lines_of t) = shown ∙ whole_pieces (lines_of t) marked in
-    let fine = script_fine o t l op (subst AreMarked (whole_pieces (lines_of t) marked) marked) in
-    let ends : ends_over opened (script_lines t) ≡ (state o t).ends = ap (ends_over opened) same ∙ fine.ends_are in
-    let n = 1 + length (script_lines t) in
-    let g : first_fault n (state o t).ends (line ∷ later) ≡ None = subst (λ (x : Ends). first_fault n x (line ∷ later) ≡ None) ends f.1 in
-    let p = no_earlier (fault_said n (line_says (state o t).ends line)) (first_fault (n + 1) (ends_said (state o t).ends (line_says (state o t).ends line)) later) g in
-    let says : line_says (state o t).ends line ≡ Cannot = cannot (state o t).ends line e m c in
-    let z : Some (endings.MayNotCome n) ≡ None = ap (fault_said n) (sym says) ∙ p.0 in
-    cc
 
 -- A RUN OVER THE SCRIPT OF A LAWFUL TRACE
 
@@ -330,9 +304,9 @@ module _ (o : Settings) (one : IsOneDialogue o) (run : List Step) (ran : Lawful 
 
 -- so no line of it is a fault
 pub no_fault_in : (o : Settings) → IsOneDialogue o → (run t : List Step) → Lawful o run → AreShort run → Lawful o t → IsOpened o t → (read ahead : List Piece) (fault : Ending) → first_fault 1 opened read ≡ Some fault
-    → events run ≡ Open ∷ events_of opened read → items 131072 (script t) ≡ read ++ ahead → ⊥
+    → events run ≡ Open ∷ events_of opened read → items 131072 (script1 t) ≡ read ++ ahead → ⊥
 no_fault_in o one run t ran short l op read ahead fault is_fault told input =
-    let same : items 131072 (script t) ≡ pieces (lines_of t) = ap (map (piece_of 131072)) (lines.script_lines t (all_told o t l)) in
+    let same : items 131072 (script1 t) ≡ pieces (lines_of t) = ap (map (piece_of 131072)) (lines.script1_lines t (all_told o t l)) in
     let marks = all_marked o one run ran short read ahead fault is_fault told t [] l (sym same ∙ input) in
     let f = script_fine o t l op (marked_pieces (lines_of t) marks) in
     no_front o one run ran short read ahead fault is_fault told (pieces (lines_of t)) ahead f.faultless (sym same ∙ input)

@@ -10,22 +10,19 @@ joined : (word : List ℕ) (words : List (List ℕ)) → join_with_byte 32 (word
 joined word [] = sym (append-nil word)
 joined word (next ∷ words) = ap (λ (text : List ℕ). word ++ 32 ∷ text) (joined next words)
 
-pub fen_none : {Z : Type 0} (words : List (Vec ℕ Z)) → length words < 2 → fen_of (texts words) ≡ []
+pub fen_none : {Z : Type 0} (words : List (Vec ℕ Z)) → length words < 1 → fen_of (texts words) ≡ []
 fen_none [] l = refl
-fen_none (command ∷ []) l = refl
-fen_none (command ∷ word ∷ words) l = absurd (omega (arith, l))
+fen_none (word ∷ words) l = absurd (omega (arith, l))
 
-fen_some : {Z : Type 0} (words : List (Vec ℕ Z)) (first : Vec ℕ Z) → 2 ≤ length words → first ≡ get_or words 1 first → fen_of (texts words) ≡ vec_items first ++ behind_blanks (texts (drop 2 words))
+fen_some : {Z : Type 0} (words : List (Vec ℕ Z)) (first : Vec ℕ Z) → 1 ≤ length words → first ≡ get_or words 0 first → fen_of (texts words) ≡ vec_items first ++ behind_blanks (texts (drop 1 words))
 fen_some [] first l e = absurd (omega (arith, l))
-fen_some (command ∷ []) first l e = absurd (omega (arith, l))
-fen_some (command ∷ word ∷ words) first l e = joined (vec_items word) (texts words) ∙ ap (λ v. vec_items v ++ behind_blanks (texts words)) (sym e)
+fen_some (word ∷ words) first l e = joined (vec_items word) (texts words) ∙ ap (λ v. vec_items v ++ behind_blanks (texts words)) (sym e)
 
-all_rest : {Z : Type 0} (words : List (Vec ℕ Z)) → take (length words - 2) (drop 2 words) ≡ drop 2 words
-all_rest [] = take_all (0 - 2) [] (omega arith)
-all_rest (command ∷ []) = take_all (1 - 2) [] (omega arith)
-all_rest (command ∷ word ∷ words) = take_all (length (command ∷ word ∷ words) - 2) words (omega arith)
+all_rest : {Z : Type 0} (words : List (Vec ℕ Z)) → take (length words - 1) (drop 1 words) ≡ drop 1 words
+all_rest [] = take_all (0 - 1) [] (omega arith)
+all_rest (word ∷ words) = take_all (length (word ∷ words) - 1) words (omega arith)
 
-pub fen_joined : {Z : Type 0} (words : List (Vec ℕ Z)) (first : Vec ℕ Z) (text whole : List ℕ) → 2 ≤ length words → first ≡ get_or words 1 first → text ≡ vec_items first
-    → whole ≡ text ++ behind_blanks (texts (take (length words - 2) (drop 2 words))) → whole ≡ fen_of (texts words)
+pub fen_joined : {Z : Type 0} (words : List (Vec ℕ Z)) (first : Vec ℕ Z) (text whole : List ℕ) → 1 ≤ length words → first ≡ get_or words 0 first → text ≡ vec_items first
+    → whole ≡ text ++ behind_blanks (texts (take (length words - 1) (drop 1 words))) → whole ≡ fen_of (texts words)
 fen_joined {Z} words first text whole l e t w =
-    w ∙ ap (λ (rest : List (Vec ℕ Z)). text ++ behind_blanks (texts rest)) (all_rest words) ∙ ap (λ (front : List ℕ). front ++ behind_blanks (texts (drop 2 words))) t ∙ sym (fen_some words first l e)
+    w ∙ ap (λ (rest : List (Vec ℕ Z)). text ++ behind_blanks (texts rest)) (all_rest words) ∙ ap (λ (front : List ℕ). front ++ behind_blanks (texts (drop 1 words))) t ∙ sym (fen_some words first l e)

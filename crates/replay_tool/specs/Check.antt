@@ -1,38 +1,63 @@
 -- What `check` finds.
-use Rattle.std.specs.Prelude.{◌≡◌, ℕ, ◌+◌, ◌^◌, ◌≤◌, List, [], ◌∷◌, ◌++◌, length, map, true, false, Option, Some, None, is_some}
+use Rattle.std.specs.Prelude.{◌≡◌, ◌≢◌, ℕ, ◌+◌, ◌^◌, ◌≤◌, List, [], ◌∷◌, ◌++◌, length, map, true, false, Option, None, is_some}
 use Rattle.std.specs.List.{AllByRecursion}
 use Rattle.std.specs.Io.KnownBytes.{Appends}
 use Rattle.line_io.specs.Event.{Event}
 use Rattle.line_io.specs.Lines.{Piece, Whole, TooLong, Held, IsWaiting, items, parts}
-use Rattle.line_io.specs.Marks.{Mark, Happens, mark_of}
+use Rattle.script_lines.specs.Marks.{Mark, mark_of}
+use Rattle.script_lines.specs.StepLine.{step_line, step_number}
 use Rattle.line_io.specs.Runs.{Runs, whole}
 use Rattle.line_io.specs.Source.{TakesPrefix}
 use Rattle.policy_rules.specs.declared.settings.Settings.{Settings}
 use Rattle.adapter_core.specs.Ends.{may}
 use Rattle.adapter_core.specs.Trace.{Step, Lawful, state}
-use Rattle.session_script.specs.Script.{script}
 use Rattle.replay_tool.specs.declared.ending.Ending.{Ending}
 use Rattle.replay_tool.specs.declared.ending.Ending.TheVariants as endings
-use Rattle.replay_tool.specs.Diagnostics.{code_of, diagnostic, verdict}
-use Rattle.replay_tool.specs.Replay.{Streams, Got, IsAll, AreRead, AreFirst}
+use Rattle.replay_tool.specs.Diagnostics.{verdict}
+use Rattle.replay_tool.specs.Streams.{Streams}
+use Rattle.replay_tool.specs.Versions.{Kind, Tells, Writes, HasNone, kind_of, Version, First, Second, version_in, settings_by, script_by}
+use Rattle.replay_tool.specs.Replay.{Got, IsAll, AreRead, AreFirst}
 
 -- the lines of a script: none of them is too long
-abbrev pub script_lines : List Step → List Piece
-script_lines trace = map Whole (parts (script trace))
+abbrev pub lines_by : Version → List Step → List Piece
+lines_by version trace = map Whole (parts (script_by version trace))
 
 -- The lines are those of the script of a lawful trace that has its Open step.
-pub record AreScript (o : Settings) (lines : List Piece) : Type 0 where
+pub record ScriptBy (o : Settings) (version : Version) (lines : List Piece) : Type 0 where
   pub trace : List Step
-  pub lawful : Lawful o trace
-  pub opened : (state o trace).ends.opened ≡ true
-  pub same : script_lines trace ≡ lines
+  pub lawful : Lawful (settings_by version o) trace
+  pub opened : (state (settings_by version o) trace).ends.opened ≡ true
+  pub same : lines_by version trace ≡ lines
 
 -- The lines are the first of the script of a lawful trace.
-pub record BeginScript (o : Settings) (lines : List Piece) : Type 0 where
+pub record BeginBy (o : Settings) (version : Version) (lines : List Piece) : Type 0 where
   pub trace : List Step
-  pub lawful : Lawful o trace
+  pub lawful : Lawful (settings_by version o) trace
   pub later : List Piece
-  pub goes_on : script_lines trace ≡ lines ++ later
+  pub goes_on : lines_by version trace ≡ lines ++ later
+
+-- the lines behind which the event of the next step stands: in version 2 those with its number
+abbrev pub lines_before : Version → List Step → List Piece
+lines_before First trace = lines_by First trace
+lines_before (Second settings) trace =
+    lines_by (Second settings) trace ++ Whole (step_line (step_number (length trace))) ∷ []
+
+-- Behind the lines the event of the next step stands in the script of a lawful trace.
+pub record AwaitBy (o : Settings) (version : Version) (lines : List Piece) : Type 0 where
+  pub trace : List Step
+  pub lawful : Lawful (settings_by version o) trace
+  pub opened : (state (settings_by version o) trace).ends.opened ≡ true
+  pub same : lines_before version trace ≡ lines
+
+-- the same for the version that the first line tells
+abbrev pub AreScript : Settings → List Piece → Type 0
+AreScript o lines = ScriptBy o (version_in lines) lines
+
+abbrev pub BeginScript : Settings → List Piece → Type 0
+BeginScript o lines = BeginBy o (version_in lines) lines
+
+abbrev pub AwaitEvent : Settings → List Piece → Type 0
+AwaitEvent o lines = AwaitBy o (version_in lines) lines
 
 -- the mark of a line
 abbrev pub mark_in : Piece → Option Mark
@@ -43,6 +68,16 @@ mark_in TooLong = None
 abbrev pub AreMarked : List Piece → Type 0
 AreMarked lines = AllByRecursion (λ line. is_some (mark_in line) ≡ true) lines
 
+-- a step line counts only behind a header
+abbrev pub kind_under : Version → Kind → Kind
+kind_under First (Tells e) = Tells e
+kind_under First Writes = Writes
+kind_under First kind = HasNone
+kind_under (Second settings) kind = kind
+
+abbrev pub kind_in : Version → Piece → Kind
+kind_in version line = kind_under version (kind_of line)
+
 -- The line with this number was read, and is the first up to which the lines do not begin the script of a lawful trace.
 pub record Parts (o : Settings) (number : ℕ) (start now : Streams) : Type 0 where
   pub before : List Piece
@@ -52,31 +87,30 @@ pub record Parts (o : Settings) (number : ℕ) (start now : Streams) : Type 0 wh
   pub begins : BeginScript o before
   pub differs : BeginScript o (before ++ line ∷ []) → ⊥
 
--- it has no mark
+-- it has no mark, and behind a header it is also no step line
 pub record PartsUnmarked (o : Settings) (number : ℕ) (start now : Streams) : Type 0 where
   pub parts : Parts o number start now
-  pub unmarked : mark_in parts.line ≡ None
+  pub unmarked : kind_in (version_in parts.before) parts.line ≡ HasNone
 
--- no written line is due where its event may not come
+-- an event is due where its event may not come
 pub record PartsByEvent (o : Settings) (number : ℕ) (start now : Streams) : Type 0 where
   pub parts : Parts o number start now
   pub event : Event
-  pub is_event : mark_in parts.line ≡ Some (Happens event)
-  pub none_due : AreScript o parts.before
-  pub may_not : may (state o none_due.trace).ends event ≡ false
+  pub is_event : kind_of parts.line ≡ Tells event
+  pub awaited : AwaitEvent o parts.before
+  pub may_not : may (state (settings_by (version_in parts.before) o) awaited.trace).ends event ≡ false
 
--- it is another line than the written one that is due, or a written line where none is due
+-- it is another line than the written line or step line that is due, or such a line where none is due
 pub record PartsByLine (o : Settings) (number : ℕ) (start now : Streams) : Type 0 where
   pub parts : Parts o number start now
-  pub mark : Mark
-  pub is_marked : mark_in parts.line ≡ Some mark
-  pub other : (event : Event) → mark ≡ Happens event → AreScript o parts.before → ⊥
+  pub is_marked : kind_in (version_in parts.before) parts.line ≢ HasNone
+  pub other : (event : Event) → kind_of parts.line ≡ Tells event → AwaitEvent o parts.before → ⊥
 
--- all lines were read and begin a script, and written lines are missing at the end
+-- all lines were read and begin a script, and lines are missing at the end
 pub record Lacks (o : Settings) (number : ℕ) (start now : Streams) : Type 0 where
   pub got : List ℕ
   pub reads : Got start now got
-  pub all : IsAll start.left got
+  pub all : IsAll start.input.left got
   pub number_is : number ≡ length (items 131072 got) + 1
   pub begins : BeginScript o (items 131072 got)
   pub lacks : AreScript o (items 131072 got) → ⊥
@@ -90,14 +124,14 @@ pub data Differs (o : Settings) (number : ℕ) (start now : Streams) : Type 0 wh
 pub record IsLawfulScript (o : Settings) (start now : Streams) : Type 0 where
   pub got : List ℕ
   pub reads : Got start now got
-  pub all : IsAll start.left got
+  pub all : IsAll start.input.left got
   pub script : AreScript o (items 131072 got)
 
 -- the whole lines that were got begin the script of a lawful trace
 pub record BeginsWhole (o : Settings) (start now : Streams) : Type 0 where
   pub got : List ℕ
   pub reads : Got start now got
-  pub of_left : AreFirst start.left (whole 131072 got)
+  pub of_left : AreFirst start.input.left (whole 131072 got)
   pub begins : BeginScript o (whole 131072 got)
 
 -- the input is too long, and no call of the reader saw the end
@@ -114,35 +148,23 @@ abbrev pub Finds : Settings → Ending → Streams → Streams → Type 0
 Finds o endings.Done start now = IsLawfulScript o start now
 Finds o (endings.Differs n) start now = Differs o n start now
 Finds o (endings.NoMark n) start now = PartsUnmarked o n start now
+Finds o (endings.OutOfStep n) start now = ⊥
 Finds o (endings.MayNotCome n) start now = PartsByEvent o n start now
 Finds o endings.ReadingFailed start now = BeginsWhole o start now
 Finds o endings.TooLong start now = BeginsMuch o start now
 Finds o endings.WritingFailed start now = ⊥
 Finds o endings.Usage start now = ⊥
+Finds o (endings.NoPosition fault) start now = ⊥
 Finds o endings.NoMemory start now = ⊥
 
 -- what was found could not be written, or not be told
 pub record WritesPart (o : Settings) (start now : Streams) : Type 0 where
   pub found : Ending
   pub finds : Finds o found start now
-  pub part : TakesPrefix start.taken now.taken (verdict found)
+  pub part : TakesPrefix start.output.taken now.output.taken (verdict found)
 
 -- how a check ended: where nothing is to be written, the output is untouched
 abbrev pub ChecksAs : Settings → Type 0 → Type 0 → Ending → Streams → Streams → Type 0
 ChecksAs o unread kept endings.NoMemory start now = unread × kept
 ChecksAs o unread kept endings.WritingFailed start now = WritesPart o start now
-ChecksAs o unread kept e start now = Finds o e start now × Appends start.taken now.taken (verdict e) × (verdict e ≡ [] → kept)
-
--- A line that has no mark, or whose event may not come, was found and told.
-pub record FindsBadLine (o : Settings) (kept : Type 0) (start now : Streams) (diag_old diag_new : Option (List ℕ)) : Type 0 where
-  pub fault : Ending
-  pub is_fault : code_of fault ≡ 2
-  pub finds : Finds o fault start now
-  pub is_told : Appends diag_old diag_new (diagnostic fault)
-  pub unwritten : kept
-
--- the line that differs was found and written
-pub record FindsDifference (o : Settings) (start now : Streams) : Type 0 where
-  pub number : ℕ
-  pub differs : Differs o number start now
-  pub written : Appends start.taken now.taken (verdict (endings.Differs number))
+ChecksAs o unread kept e start now = Finds o e start now × Appends start.output.taken now.output.taken (verdict e) × (verdict e ≡ [] → kept)

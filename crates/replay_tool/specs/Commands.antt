@@ -4,35 +4,54 @@ use Rattle.std.specs.Option.{option_map}
 use Rattle.std.specs.Str.{bytes_eq}
 use Rattle.replay_tool.specs.declared.command.Command.{Command}
 use Rattle.replay_tool.specs.declared.command.Command.TheVariants as commands
+use Rattle.policy_rules.specs.declared.settings.Settings.{Settings}
 use Rattle.policy_rules.specs.Policy.{IsProper}
+use Rattle.replay_tool.specs.Moves.{fen_of}
 use Rattle.replay_tool.specs.Words.{number_of, settings_of}
+
+-- what is asked for: a replay or a check with settings, a drill, or the moves of what a text spells
+pub data Asked : Type 0 where
+  Replay : (settings : Settings) → Asked
+  Check : (settings : Settings) → Asked
+  Drill : (number : ℕ) → (count : ℕ) → Asked
+  Moves : (text : List ℕ) → Asked
 
 -- the bytes of words
 abbrev pub texts : {Z : Type 0} → List (Vec ℕ Z) → List (List ℕ)
 texts words = map vec_items words
 
-abbrev pub drill_by : Option ℕ → Option ℕ → Option Command
-drill_by (Some number) (Some count) = Some (commands.Drill number count)
+abbrev pub drill_by : Option ℕ → Option ℕ → Option Asked
+drill_by (Some number) (Some count) = Some (Drill number count)
 drill_by number count = None
 
 -- a number below 2^31 and a count up to 100,000
-abbrev pub drill_of : List (List ℕ) → Option Command
-drill_of (number ∷ count ∷ []) = drill_by (number_of 10 0 2147483647 number) (number_of 10 0 100000 count)
+abbrev pub drill_of : List (List ℕ) → Option Asked
+drill_of (number ∷ count ∷ []) = drill_by (number_of 10 0 2147483647 number)
+    (number_of 10 0 100000 count)
 drill_of words = None
 
--- the command of this name with these words: settings stand behind `replay` and `check`, one or more words behind `moves`, and two numbers
--- behind `drill`
-abbrev pub command_named : List ℕ → List (List ℕ) → Option Command
+-- the command of this name with these words: settings stand behind `replay` and `check`, one or
+-- more
+-- words behind `moves`, and two numbers behind `drill`
+abbrev pub command_named : List ℕ → List (List ℕ) → Option Asked
 command_named name words =
-    if bytes_eq name (codes "replay") then option_map (λ s. commands.Replay s) (settings_of words)
-    else (if bytes_eq name (codes "check") then option_map (λ s. commands.Check s) (settings_of words)
+    if bytes_eq name (codes "replay") then option_map (λ s. Replay s) (settings_of words)
+    else (if bytes_eq name (codes "check") then option_map (λ s. Check s) (settings_of words)
     else (if bytes_eq name (codes "drill") then drill_of words
-    else (if bytes_eq name (codes "moves") && nat_lt 0 (length words) then Some commands.Moves else None)))
+    else (if bytes_eq name (codes "moves") && nat_lt 0 (length words) then Some (Moves
+    (fen_of words)) else None)))
 
 -- the command of the words, where they fit one
-abbrev pub command_of : List (List ℕ) → Option Command
+abbrev pub command_of : List (List ℕ) → Option Asked
 command_of [] = None
 command_of (name ∷ words) = command_named name words
+
+-- what a command asks for
+abbrev pub asked : Command → Asked
+asked (commands.Replay s) = Replay s
+asked (commands.Check s) = Check s
+asked (commands.Drill number count) = Drill number count
+asked (commands.Moves words) = Moves (fen_of (texts words.now))
 
 -- the settings and the count of a command are within their ranges
 abbrev pub HasProper : Command → Type 0

@@ -1,28 +1,54 @@
--- What the command `drill` does.
-use Rattle.std.specs.Prelude.{◌≡◌, ℕ, List, Option}
+-- What the command `drill` does, and what it promises.
+use Rattle.std.specs.Prelude.{◌≡◌, ◌⊎◌, ℕ, List}
 use Rattle.std.specs.Io.KnownBytes.{Appends}
-use Rattle.line_io.specs.Source.{TakesPrefix}
+use Rattle.line_io.specs.Source.{Received, TakesPrefix}
 use Rattle.drill.specs.Played.{Drills}
 use Rattle.replay_tool.specs.declared.ending.Ending.TheVariants as endings
 use Rattle.replay_tool.specs.Diagnostics.{tail_of}
+use Rattle.replay_tool.specs.Program.{WritingBroke}
+use Rattle.replay_tool.specs.Streams.{Streams, IsSteady}
 use Rattle.replay_tool.specs.Told.{Told, Writes}
 
 -- How a drill was played. Nothing is written to the output where there is no memory.
-pub data Drilled (number count : ℕ) (kept silent : Type 0) (code : ℕ) (out_old out_new diag_old diag_new : Option (List ℕ)) (written_old written_new told_old told_new : ℕ) : Type 0 where
-  WantsMemory : kept → Told code 3 (tail_of endings.NoMemory) diag_old diag_new told_old told_new
-      → Drilled number count kept silent code out_old out_new diag_old diag_new written_old written_new told_old told_new
-  Plays : (line : List ℕ) → Drills number count line → Writes line silent code out_old out_new diag_old diag_new written_old written_new told_old told_new
-      → Drilled number count kept silent code out_old out_new diag_old diag_new written_old written_new told_old told_new
+pub data PlaysDrill (number count : ℕ) (kept silent : Type 0) (code : ℕ)
+    (output output_now diag diag_now : Received) : Type 0 where
+  WantsMemory : kept → Told code 3 (tail_of endings.NoMemory) diag diag_now
+      → PlaysDrill number count kept silent code output output_now diag diag_now
+  Plays : (line : List ℕ) → Drills number count line → Writes line silent code output output_now
+      diag diag_now
+      → PlaysDrill number count kept silent code output output_now diag diag_now
 
 -- the output took the line of the drill, which has no other
-pub record DrillsAll (number count : ℕ) (out_old out_new : Option (List ℕ)) : Type 0 where
+pub record DrillsAll (number count : ℕ) (output output_now : Received) : Type 0 where
   pub line : List ℕ
   pub drills : Drills number count line
   pub only : (other : List ℕ) → Drills number count other → other ≡ line
-  pub written : Appends out_old out_new line
+  pub written : Appends output.taken output_now.taken line
 
 -- the output took a front of the line of the drill
-pub record DrillsFront (number count : ℕ) (out_old out_new : Option (List ℕ)) : Type 0 where
+pub record DrillsFront (number count : ℕ) (output output_now : Received) : Type 0 where
   pub line : List ℕ
   pub drills : Drills number count line
-  pub written : TakesPrefix out_old out_new line
+  pub written : TakesPrefix output.taken output_now.taken line
+
+-- the line of the drill was written, and nothing to the diagnostic
+pub record DrillWritten (number count : ℕ) (Silent : Type 0) (before after : Streams) : Type 0 where
+  pub line : DrillsAll number count before.output after.output
+  pub silent : Silent
+  pub no_failure : after.output.faults ≡ before.output.faults
+
+-- `Unread`, `Kept` and `Silent` say that the input, the output and the diagnostic are just as they
+-- were.
+pub record Drilled (number count : ℕ) (Unread Kept Silent : Type 0) (before after : Streams)
+    (code : ℕ) : Type 0 where
+  pub unread : Unread
+  pub ended : PlaysDrill number count Kept Silent code before.output after.output before.diag
+      after.diag
+  -- what each status says
+  pub all_played : code ≡ 0 → DrillWritten number count Silent before after
+  pub no_memory : code ≡ 3 → Kept
+  pub writing_failed : code ≡ 5
+      → WritingBroke before after × (Kept ⊎ DrillsFront number count before.output after.output)
+  pub no_reading : (code ≡ 4 → ⊥) × (code ≡ 6 → ⊥)
+  -- which status comes
+  pub complete : IsSteady before after → (code ≡ 0) ⊎ (code ≡ 3)

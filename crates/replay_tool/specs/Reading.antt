@@ -2,13 +2,14 @@
 use Rattle.std.specs.Prelude.{ℕ, ◌+◌, List, [], ◌∷◌, if◌then◌else◌, Option, Some, None}
 use Rattle.line_io.specs.Event.{Event, Open}
 use Rattle.line_io.specs.Lines.{Piece, Whole, TooLong}
-use Rattle.line_io.specs.Marks.{Mark, Happens, mark_of}
+use Rattle.script_lines.specs.Marks.{Mark, Happens, mark_of}
 use Rattle.adapter_core.specs.declared.ends.Ends.{Ends}
 use Rattle.adapter_core.specs.Ends.{may, ends_after, at_start}
 use Rattle.replay_tool.specs.declared.ending.Ending.{Ending}
 use Rattle.replay_tool.specs.declared.ending.Ending.TheVariants as endings
 
--- what a line says, where these events came before: an event that may come, one that may not, a line that was written, or nothing
+-- what a line says, where these events came before: an event that may come, one that may not, a
+-- line that was written, or nothing
 pub data Said : Type 0 where
   Comes : (event : Event) → Said
   Passes : Said
@@ -46,7 +47,8 @@ or_later (Some e) later = Some e
 -- the first line that has no mark or whose event may not come, where the first line has this number
 abbrev pub first_fault : ℕ → Ends → List Piece → Option Ending
 first_fault n ends [] = None
-first_fault n ends (l ∷ ls) = or_later (fault_said n (line_says ends l)) (first_fault (n + 1) (ends_said ends (line_says ends l)) ls)
+first_fault n ends (l ∷ ls) = or_later (fault_said n (line_says ends l)) (first_fault (n + 1)
+    (ends_said ends (line_says ends l)) ls)
 
 abbrev pub events_said : Said → List Event → List Event
 events_said (Comes e) later = e ∷ later
@@ -56,7 +58,8 @@ events_said s later = []
 -- the events of lines, up to the first fault
 abbrev pub events_of : Ends → List Piece → List Event
 events_of ends [] = []
-events_of ends (l ∷ ls) = events_said (line_says ends l) (events_of (ends_said ends (line_says ends l)) ls)
+events_of ends (l ∷ ls) = events_said (line_says ends l) (events_of (ends_said ends
+    (line_says ends l)) ls)
 
 -- the sides once the session was opened
 abbrev pub opened : Ends

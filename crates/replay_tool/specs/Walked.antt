@@ -1,14 +1,16 @@
 -- Where a check has come to.
-use Rattle.std.specs.Prelude.{◌≡◌, ℕ, suc, ◌+◌, List, [], ◌++◌, length, map, true, if◌then◌else◌, ◌==◌, Option, Some, None}
+use Rattle.std.specs.Prelude.{◌≡◌, ⊤, ℕ, suc, ◌+◌, ◌<◌, ◌^◌, List, [], ◌∷◌, ◌++◌, length, map, true, false, if◌then◌else◌, ◌==◌, Option, Some, None}
 use Rattle.std.specs.List.{before_first, after_first}
 use Rattle.std.specs.Str.{bytes_eq}
-use Rattle.line_io.specs.Event.{Event}
+use Rattle.line_io.specs.Event.{Event, Open}
 use Rattle.line_io.specs.Lines.{Piece, Whole, is_feed, parts, unread}
-use Rattle.line_io.specs.Marks.{Mark, Happens, mark_of}
 use Rattle.line_io.specs.Runs.{Runs}
+use Rattle.script_lines.specs.Header.{header_of}
+use Rattle.script_lines.specs.StepLine.{step_line, step_number}
+use Rattle.policy_rules.specs.Policy.{IsProper}
 use Rattle.policy_rules.specs.declared.settings.Settings.{Settings}
 use Rattle.adapter_core.specs.declared.ends.Ends.{Ends}
-use Rattle.adapter_core.specs.Ends.{may}
+use Rattle.adapter_core.specs.Ends.{is_over}
 use Rattle.adapter_core.specs.Trace.{Step, Lawful, state}
 use Rattle.adapter_core.specs.View.{View}
 use Rattle.adapter_core.specs.Stands.{Stands}
@@ -16,40 +18,60 @@ use Rattle.session_script.specs.Script.{written_text, told_in}
 use Rattle.replay_tool.specs.declared.ending.Ending.{Ending}
 use Rattle.replay_tool.specs.declared.ending.Ending.TheVariants as endings
 use Rattle.replay_tool.specs.declared.check.Audit.{Audit}
-use Rattle.replay_tool.specs.Check.{Finds, script_lines}
-use Rattle.replay_tool.specs.Reached.{Adds}
-use Rattle.replay_tool.specs.Replay.{Streams, Got, IsAll}
+use Rattle.replay_tool.specs.declared.stage.Stage.{Stage}
+use Rattle.replay_tool.specs.declared.stage.Stage.TheVariants as stages
+use Rattle.replay_tool.specs.Check.{Finds, lines_by}
+use Rattle.replay_tool.specs.Playing.{Adds}
+use Rattle.replay_tool.specs.Streams.{Streams}
+use Rattle.replay_tool.specs.Replay.{Got, IsAll}
+use Rattle.replay_tool.specs.Versions.{Said, Comes, Passes, Starts, HasNoMark, IsOutOfStep, Cannot, Version, First, Second, kind_of, kind_says, settings_by, stage_started, stage_told, version_in}
 
--- what a line is: the event that may come where nothing is due, the line that is due, or another
+-- what a line is: the event that may come where nothing is due, the number of the next step, the line that is due, or another
 pub data Fit : Type 0 where
-  Comes : (event : Event) → Fit
-  IsDue : Fit
+  TakesEvent : (event : Event) → Fit
+  TakesNumber : (number : ℕ) → Fit
+  TakesDue : Fit
   Fails : (ending : Ending) → Fit
 
-abbrev pub mark_undue : Ends → ℕ → Option Mark → Fit
-mark_undue ends n None = Fails (endings.NoMark n)
-mark_undue ends n (Some (Happens e)) = if may ends e then Comes e else Fails (endings.MayNotCome n)
-mark_undue ends n (Some m) = Fails (endings.Differs n)
+-- both sides have ended, so that no step is to come
+abbrev pub number_undue : Ends → ℕ → ℕ → Fit
+number_undue ends n number = if is_over ends then Fails (endings.Differs n) else TakesNumber number
 
--- a line where nothing is due
-abbrev pub undue : Ends → ℕ → List ℕ → Fit
-undue ends n line = mark_undue ends n (mark_of line)
+abbrev pub said_undue : Ends → ℕ → Said → Fit
+said_undue ends n (Comes e) = TakesEvent e
+said_undue ends n (Starts number) = number_undue ends n number
+said_undue ends n HasNoMark = Fails (endings.NoMark n)
+said_undue ends n Cannot = Fails (endings.MayNotCome n)
+said_undue ends n Passes = Fails (endings.Differs n)
+said_undue ends n IsOutOfStep = Fails (endings.Differs n)
 
-abbrev pub mark_other : ℕ → Option Mark → Ending
-mark_other n None = endings.NoMark n
-mark_other n (Some m) = endings.Differs n
+-- a line where none is due
+abbrev pub undue : Stage → Ends → ℕ → List ℕ → Fit
+undue stage ends n line = said_undue ends n (kind_says stage ends (kind_of (Whole line)))
+
+abbrev pub said_other : ℕ → Said → Ending
+said_other n HasNoMark = endings.NoMark n
+said_other n (Comes e) = endings.Differs n
+said_other n (Starts number) = endings.Differs n
+said_other n Cannot = endings.Differs n
+said_other n Passes = endings.Differs n
+said_other n IsOutOfStep = endings.Differs n
 
 -- a line that is not the one that is due
-abbrev pub other_than : ℕ → List ℕ → Ending
-other_than n line = mark_other n (mark_of line)
+abbrev pub other_than : Stage → Ends → ℕ → List ℕ → Ending
+other_than stage ends n line = said_other n (kind_says stage ends (kind_of (Whole line)))
 
 -- a line where the lines of this text are due
-abbrev pub fit : Ends → List ℕ → ℕ → List ℕ → Fit
-fit ends due n line = if length due == 0 then undue ends n line else (if bytes_eq line (before_first is_feed due) then IsDue else Fails (other_than n line))
+abbrev pub fit : Stage → Ends → List ℕ → ℕ → List ℕ → Fit
+fit stage ends due n line =
+    if length due == 0 then undue stage ends n line
+    else (if bytes_eq line (before_first is_feed due) then TakesDue else Fails (other_than stage ends n line))
 
 abbrev pub fault_in : Fit → Option Ending
+fault_in (TakesEvent e) = None
+fault_in (TakesNumber number) = None
+fault_in TakesDue = None
 fault_in (Fails e) = Some e
-fault_in f = None
 
 -- a step of this event was taken, and its written lines are due
 pub record Fills (old new : View) (e : Event) (due : List ℕ) : Type 0 where
@@ -58,20 +80,128 @@ pub record Fills (old new : View) (e : Event) (due : List ℕ) : Type 0 where
   pub due_is : due ≡ written_text step
 
 -- what was done with a line
-abbrev pub Followed : View → View → List ℕ → List ℕ → Fit → Type 0
-Followed old new due due' (Comes e) = Fills old new e due'
-Followed old new due due' IsDue = (new ≡ old) × (due' ≡ after_first is_feed due)
-Followed old new due due' (Fails e) = Unit {0}
+abbrev pub Followed : View → Stage → List ℕ → Fit → View → Stage → List ℕ → Type 0
+Followed old stage due (TakesEvent e) new stage' due' = Fills old new e due' × (stage' ≡ stage_told stage)
+Followed old stage due (TakesNumber n) new stage' due' = (new ≡ old) × (stage' ≡ stage_started stage n) × (due' ≡ due)
+Followed old stage due TakesDue new stage' due' = (new ≡ old) × (stage' ≡ stage) × (due' ≡ after_first is_feed due)
+Followed old stage due (Fails e) new stage' due' = ⊤
+
+-- The header was taken: the session has its settings, its first step was taken, and the number of that and its written lines are due.
+pub record Heads (settings : Settings) (new : View) (due : List ℕ) : Type 0 where
+  pub set : View
+  pub stands : Stands settings set []
+  pub step : Step
+  pub adds : Adds set new Open step
+  pub due_is : due ≡ step_line 0 ++ 10 ∷ written_text step
+
+-- The session was opened without a header, and then the line was taken.
+pub record OpensWith (old : View) (number : ℕ) (line : List ℕ) (answer : Option Ending) (new : View) (stage : Stage) (due : List ℕ) : Type 0 where
+  pub core : View
+  pub lines : List ℕ
+  pub opens : Fills old core Open lines
+  pub ending : answer ≡ fault_in (fit stages.Plain core.ends lines number line)
+  pub follows : Followed core stages.Plain lines (fit stages.Plain core.ends lines number line) new stage due
+
+-- what was done with the first line, which is this header or none
+abbrev pub TakesFirst : Option Settings → View → ℕ → List ℕ → Option Ending → View → Stage → List ℕ → Type 0
+TakesFirst (Some settings) old number line answer new stage due =
+    Heads settings new due × (stage ≡ stages.Told 0) × (answer ≡ None)
+TakesFirst None old number line answer new stage due = OpensWith old number line answer new stage due
+
+-- a line of a session that was opened
+pub record TakesLater (old : View) (stage : Stage) (due : List ℕ) (number : ℕ) (line : List ℕ) (answer : Option Ending) (new : View) (stage' : Stage) (due' : List ℕ) : Type 0 where
+  pub ending : answer ≡ fault_in (fit stage old.ends due number line)
+  pub follows : Followed old stage due (fit stage old.ends due number line) new stage' due'
+
+-- what was done with a line
+abbrev pub TakesAny : View → Stage → List ℕ → ℕ → List ℕ → Option Ending → View → Stage → List ℕ → Type 0
+TakesAny old stages.Start due number line answer new stage' due' = TakesFirst (header_of line) old number line answer new stage' due'
+TakesAny old stage due number line answer new stage' due' = TakesLater old stage due number line answer new stage' due'
 
 -- what the end of the input shows where these lines are due
 abbrev pub at_end : List ℕ → ℕ → Ending
 at_end due n = if length due == 0 then endings.Done else endings.Differs (n + 1)
 
--- a check before its first step
+-- The session was opened without a header, and then the end came.
+pub record OpensAtEnd (old : View) (number : ℕ) (answer : Ending) : Type 0 where
+  pub core : View
+  pub lines : List ℕ
+  pub opens : Fills old core Open lines
+  pub ending : answer ≡ at_end lines number
+
+-- what the end of the input shows
+abbrev pub EndsAt : View → Stage → List ℕ → ℕ → Ending → Type 0
+EndsAt core stages.Start due n answer = OpensAtEnd core n answer
+EndsAt core stages.Plain due n answer = answer ≡ at_end due n
+EndsAt core (stages.Told number) due n answer = answer ≡ at_end due n
+EndsAt core stages.Headed due n answer = answer ≡ endings.Differs (n + 1)
+EndsAt core (stages.Numbered number) due n answer = answer ≡ endings.Differs (n + 1)
+
+-- a stage of a session that was opened: the number of a step has at most 18 digits
+abbrev pub IsOpen : Stage → Type 0
+IsOpen stages.Start = ⊥
+IsOpen stages.Plain = ⊤
+IsOpen stages.Headed = ⊥
+IsOpen (stages.Told number) = number < 10 ^ 18
+IsOpen (stages.Numbered number) = number < 10 ^ 18
+
+-- a line may be taken
+abbrev pub MayTake : View → Stage → Type 0
+MayTake core stages.Start = Stands core.settings core []
+MayTake core stages.Plain = ⊤
+MayTake core stages.Headed = ⊥
+MayTake core (stages.Told number) = number < 10 ^ 18
+MayTake core (stages.Numbered number) = number < 10 ^ 18
+
+-- a check before its first line
 pub record IsUnread (o : Settings) (audit : Audit) : Type 0 where
   pub core : Stands o audit.core []
+  pub stage : audit.stage ≡ stages.Start
   pub lines : audit.lines ≡ unread 131072
   pub number : audit.number ≡ 0
+
+-- the lines and those that are due are a script, and only written lines and the first step line are due
+pub record Shows (version : Version) (trace : List Step) (due : List ℕ) (lines : List Piece) : Type 0 where
+  pub same : lines_by version trace ≡ lines ++ map Whole (parts due)
+  pub quiet : told_in (parts due) ≡ []
+
+-- the step of this number was the last
+pub record WasLast (number : ℕ) (trace : List Step) : Type 0 where
+  pub count : ℕ
+  pub length_is : length trace ≡ suc count
+  pub number_is : number ≡ step_number count
+
+-- the lines are a script and the number of the next step, and a side has not ended
+pub record IsNext (version : Version) (ends : Ends) (trace : List Step) (number : ℕ) (due : List ℕ) (lines : List Piece) : Type 0 where
+  pub same : lines_by version trace ++ Whole (step_line number) ∷ [] ≡ lines
+  pub number_is : number ≡ step_number (length trace)
+  pub none_due : due ≡ []
+  pub not_over : is_over ends ≡ false
+
+-- the lines are those of the trace at this stage
+abbrev pub AreAt : Version → Ends → Stage → List Step → List ℕ → List Piece → Type 0
+AreAt First ends stages.Plain trace due lines = Shows First trace due lines
+AreAt (Second settings) ends (stages.Told number) trace due lines = Shows (Second settings) trace due lines × WasLast number trace
+AreAt (Second settings) ends (stages.Numbered number) trace due lines = IsNext (Second settings) ends trace number due lines
+AreAt version ends stage trace due lines = ⊥
+
+abbrev pub IsProperIn : Version → Type 0
+IsProperIn First = ⊤
+IsProperIn (Second settings) = IsProper settings
+
+-- The lines were taken, and they and those that are due are a lawful script.
+pub record Standing (o : Settings) (version : Version) (core : View) (stage : Stage) (due : List ℕ) (lines : List Piece) : Type 0 where
+  pub proper : IsProperIn version
+  pub trace : List Step
+  pub lawful : Lawful (settings_by version o) trace
+  pub opened : (state (settings_by version o) trace).ends.opened ≡ true
+  pub stands : Stands (settings_by version o) core trace
+  pub at : AreAt version core.ends stage trace due lines
+
+-- no line was taken yet, or these
+abbrev pub Placed : Settings → View → Stage → List ℕ → List Piece → Type 0
+Placed o core stage due [] = Stands o core [] × (stage ≡ stages.Start)
+Placed o core stage due (line ∷ lines) = Standing o (version_in (line ∷ lines)) core stage due (line ∷ lines)
 
 -- So many calls of the reader were made, none of which ended it, and the lines that they gave and those that are due are a lawful script.
 pub record Walked (o : Settings) (audit : Audit) (start now : Streams) (calls : ℕ) : Type 0 where
@@ -79,15 +209,9 @@ pub record Walked (o : Settings) (audit : Audit) (start now : Streams) (calls : 
   pub lines : List Piece
   pub runs : Runs 131072 audit.lines got lines calls
   pub reads : Got start now got
-  pub ended : audit.lines.ended ≡ true → IsAll start.left got
+  pub ended : audit.lines.ended ≡ true → IsAll start.input.left got
   pub number : audit.number ≡ length lines
-  pub trace : List Step
-  pub lawful : Lawful o trace
-  pub opened : (state o trace).ends.opened ≡ true
-  pub stands : Stands o audit.core trace
-  pub same : script_lines trace ≡ lines ++ map Whole (parts audit.due)
-  -- only written lines are due
-  pub quiet : told_in (parts audit.due) ≡ []
+  pub placed : Placed o audit.core audit.stage audit.due lines
 
 -- what a turn came to
 abbrev pub Audited : Settings → Option Ending → Audit → Streams → Streams → ℕ → Type 0

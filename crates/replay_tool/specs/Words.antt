@@ -11,7 +11,8 @@ use Rattle.replay_tool.specs.declared.settings.Setting.{Setting}
 use Rattle.replay_tool.specs.declared.settings.Setting.TheVariants as sets
 
 abbrev pub truth_of : List ℕ → Option Bool
-truth_of value = if bytes_eq value (codes "true") then Some true else (if bytes_eq value (codes "false") then Some false else None)
+truth_of value = if bytes_eq value (codes "true") then Some true else (if bytes_eq value
+    (codes "false") then Some false else None)
 
 abbrev pub within : ℕ → ℕ → Option ℕ → Option ℕ
 within low high None = None
@@ -25,9 +26,12 @@ number_of most low high value = within low high (digits most value)
 abbrev pub setting_named : List ℕ → List ℕ → Option Setting
 setting_named name value =
     if bytes_eq name (codes "Resign") then option_map (λ b. sets.Resign b) (truth_of value)
-    else (if bytes_eq name (codes "ShowPonder") then option_map (λ b. sets.ShowPonder b) (truth_of value)
-    else (if bytes_eq name (codes "ResignMoves") then option_map (λ n. sets.ResignMoves n) (number_of 6 1 1000 value)
-    else (if bytes_eq name (codes "ResignScore") then option_map (λ n. sets.ResignScore n) (number_of 6 0 100000 value) else None)))
+    else (if bytes_eq name (codes "ShowPonder") then option_map (λ b. sets.ShowPonder b)
+    (truth_of value)
+    else (if bytes_eq name (codes "ResignMoves") then option_map (λ n. sets.ResignMoves n)
+    (number_of 6 1 1000 value)
+    else (if bytes_eq name (codes "ResignScore") then option_map (λ n. sets.ResignScore n)
+    (number_of 6 0 100000 value) else None)))
 
 abbrev pub is_equals : ℕ → Bool
 is_equals b = b == 61
@@ -81,7 +85,8 @@ abbrev pub once_each : Option (List Setting) → Option Settings
 once_each None = None
 once_each (Some xs) = if are_different xs then Some (with_all usual xs) else None
 
--- the settings that the words give, where each sets something and no name stands twice: a name that is not given has its usual value
+-- the settings that the words give, where each sets something and no name stands twice: a name
+-- that is not given has its usual value
 abbrev pub settings_of : List (List ℕ) → Option Settings
 settings_of words = once_each (all_set words)
 
@@ -94,7 +99,23 @@ is_given g (sets.ResignScore n) = g.resign_score
 
 -- what was given, with a word more
 abbrev pub add : Given → Setting → Given
-add g (sets.Resign b) = record g { settings = with_setting g.settings (sets.Resign b); resign = true }
-add g (sets.ShowPonder b) = record g { settings = with_setting g.settings (sets.ShowPonder b); show_ponder = true }
-add g (sets.ResignMoves n) = record g { settings = with_setting g.settings (sets.ResignMoves n); resign_moves = true }
-add g (sets.ResignScore n) = record g { settings = with_setting g.settings (sets.ResignScore n); resign_score = true }
+add g (sets.Resign b) = record g {
+  settings = with_setting g.settings
+      (sets.Resign b);
+  resign = true;
+}
+add g (sets.ShowPonder b) = record g {
+  settings = with_setting g.settings
+      (sets.ShowPonder b);
+  show_ponder = true;
+}
+add g (sets.ResignMoves n) = record g {
+  settings = with_setting g.settings
+      (sets.ResignMoves n);
+  resign_moves = true;
+}
+add g (sets.ResignScore n) = record g {
+  settings = with_setting g.settings
+      (sets.ResignScore n);
+  resign_score = true;
+}

@@ -1,30 +1,34 @@
 // A run of the command `check`.
-ghost use Rattle.std.specs.Prelude.{◌≡◌, ◌≢◌, ℕ, ◌+◌, ◌≤◌, ◌<◌, length, [], Option, List, Some, IfOk, true};
+ghost use Rattle.std.specs.Prelude.{◌≡◌, ◌≢◌, ℕ, ◌+◌, ◌≤◌, ◌<◌, length, [], Option, List, Some, None, IfOk, true};
 ghost use Rattle.line_io.specs.Causes.{Rose};
 ghost use Rattle.line_io.specs.Event.{event_of};
-ghost use Rattle.line_io.specs.Lines.{IsReady, Whole, weight, flag};
+ghost use Rattle.line_io.specs.Lines.{IsReady, weight, flag};
+ghost use Rattle.script_lines.specs.Header.{header_of};
 ghost use Rattle.policy_rules.specs.Policy.{IsProper};
 ghost use Rattle.policy_rules.specs.declared.settings.Settings.{Settings as SpecSettings};
 ghost use Rattle.adapter_core.specs.Ends.{may};
-ghost use Rattle.adapter_core.specs.Stands.{IsOneDialogue};
+ghost use Rattle.adapter_core.specs.Stands.{Stands};
 ghost use Rattle.replay_tool.specs.declared.ending.Ending.TheVariants as endings;
 ghost use Rattle.replay_tool.specs.Check.{Finds};
-ghost use Rattle.replay_tool.specs.Replay.{Streams, streams};
-ghost use Rattle.replay_tool.specs.Walked.{Audited, Fills, Followed, IsUnread, Walked, fault_in, fit, undue};
+ghost use Rattle.replay_tool.specs.Streams.{Streams, with_input};
+ghost use Rattle.replay_tool.specs.Walked.{Audited, EndsAt, Fills, Followed, Heads, IsOpen, IsUnread, MayTake, TakesAny, TakesFirst, Walked, fault_in, fit, number_undue, undue};
 
 use crate::due::Due;
 use crate::ending::Ending;
 use crate::limits::{LAST_TURNS, LINE_LIMIT, TURNS};
+use crate::stage::{Said, Stage};
 use adapter_core::Core;
-use line_io::{Event, Item, Lines, Mark, NoMemory, Source, read_mark};
+use line_io::{Event, Item, Lines, NoMemory, Source};
 use policy_rules::Settings;
+use script_lines::read_header;
 use std::alloc::Global;
 
-// A session, the lines of a log, and the written lines that are due in it.
+// A session, the lines of a log, where the reading stands, and the lines that are due in it.
 #[derive(Drop)]
 pub(crate) struct Audit {
     core: Core,
     lines: Lines,
+    stage: Stage,
     due: Due,
     /// How many lines were taken.
     number: u64,
@@ -39,52 +43,167 @@ fn step(core: &mut Core, event: &Event, due: &mut Due)
     due.fill(lines.iface, lines.engine);
 }
 
-// Takes a line where no written line is due.
-fn take_event(core: &mut Core, number: u64, line: &[u8], due: &mut Due) -> Option<Ending>
-    ensures ending { result ≡ fault_in (undue core.old.ends number line.now) }
-    ensures follows { Followed core.old core.new due.old due.new (undue core.old.ends number line.now) }
+// The first step of a log of version 2: its number is due, and its lines.
+fn open_numbered(core: &mut Core, settings: &Settings, due: &mut Due)
+    requires proper { IsProper settings.now }
+    requires new { Stands core.old.settings core.old [] }
+    ensures { Heads settings.now core.new due.new }
 {
-    match read_mark(line) {
-        Err(_) => Some(Ending::NoMark(number)),
-        Ok(Mark::Event(event)) => {
-            if !core.may(&event) {
-                return Some(Ending::MayNotCome(number));
-            }
+    core.set(settings);
+    let lines = core.step(&Event::Open);
+    due.fill_first(lines.iface, lines.engine);
+}
+
+// Takes a line where none is due.
+fn take_undue(
+    core: &mut Core,
+    stage: &mut Stage,
+    number: u64,
+    line: &[u8],
+    due: &mut Due,
+) -> Option<Ending>
+    requires { IsOpen stage.old }
+    ensures ending { result ≡ fault_in (undue stage.old core.old.ends number line.now) }
+    ensures follows { Followed core.old stage.old due.old (undue stage.old core.old.ends number line.now)
+        core.new stage.new due.new }
+    ensures open { IsOpen stage.new }
+    ensures unread { result ≢ Some endings.ReadingFailed }
+{
+    match stage.says(core, line) {
+        Said::Comes(event) => {
             step(core, &event, due);
+            *stage = stage.told();
             None
         }
-        Ok(_) => Some(Ending::Differs(number)),
+        Said::Starts(step) => {
+            if core.over() {
+                return Some(Ending::Differs(number));
+            }
+            *stage = stage.started(step);
+            None
+        }
+        Said::HasNoMark => Some(Ending::NoMark(number)),
+        Said::Cannot => Some(Ending::MayNotCome(number)),
+        Said::Passes | Said::IsOutOfStep => Some(Ending::Differs(number)),
     }
 }
 
 // What a line is that is not the one that is due.
-fn other_line(number: u64, line: &[u8]) -> Ending
-    ensures { result ≡ other_than number line.now }
+fn other_line(core: &Core, stage: Stage, number: u64, line: &[u8]) -> Ending
+    requires { IsOpen stage }
+    ensures { result ≡ other_than stage core.now.ends number line.now }
 {
-    match read_mark(line) {
-        Err(_) => Ending::NoMark(number),
-        Ok(_) => Ending::Differs(number),
+    match stage.says(core, line) {
+        Said::HasNoMark => Ending::NoMark(number),
+        _ => Ending::Differs(number),
     }
 }
 
-// Takes one line.
-fn take_line(core: &mut Core, number: u64, line: &[u8], due: &mut Due) -> Option<Ending>
-    ensures ending { result ≡ fault_in (fit core.old.ends due.old number line.now) }
-    ensures follows { Followed core.old core.new due.old due.new (fit core.old.ends due.old number line.now) }
+// Takes a line of a log whose session was opened.
+fn take_line(
+    core: &mut Core,
+    stage: &mut Stage,
+    number: u64,
+    line: &[u8],
+    due: &mut Due,
+) -> Option<Ending>
+    requires { IsOpen stage.old }
+    ensures ending { result ≡ fault_in (fit stage.old core.old.ends due.old number line.now) }
+    ensures follows { Followed core.old stage.old due.old (fit stage.old core.old.ends due.old number line.now)
+        core.new stage.new due.new }
+    ensures open { IsOpen stage.new }
+    ensures unread { result ≢ Some endings.ReadingFailed }
 {
     if due.is_empty() {
-        return take_event(core, number, line, due);
+        return take_undue(core, stage, number, line, due);
     }
     if due.take(line) {
         return None;
     }
-    Some(other_line(number, line))
+    Some(other_line(core, *stage, number, line))
 }
 
 ghost use Rattle.replay_tool.specs.Walked.{other_than};
 
+// Takes the first line, by which the session is opened.
+fn take_first(
+    core: &mut Core,
+    stage: &mut Stage,
+    number: u64,
+    line: &[u8],
+    due: &mut Due,
+) -> Option<Ending>
+    requires { Stands core.old.settings core.old [] }
+    ensures taken { TakesFirst (header_of line.now) core.old number line.now result core.new stage.new due.new }
+    ensures open { IsOpen stage.new }
+    ensures unread { result ≢ Some endings.ReadingFailed }
+{
+    match read_header(line) {
+        Some(settings) => {
+            open_numbered(core, &settings, due);
+            *stage = Stage::Told(0);
+            None
+        }
+        None => {
+            step(core, &Event::Open, due);
+            *stage = Stage::Plain;
+            take_line(core, stage, number, line, due)
+        }
+    }
+}
+
+// Takes a line.
+fn take_any(
+    core: &mut Core,
+    stage: &mut Stage,
+    number: u64,
+    line: &[u8],
+    due: &mut Due,
+) -> Option<Ending>
+    requires { MayTake core.old stage.old }
+    ensures taken { TakesAny core.old stage.old due.old number line.now result core.new stage.new due.new }
+    ensures open { IsOpen stage.new }
+    ensures unread { result ≢ Some endings.ReadingFailed }
+{
+    match *stage {
+        Stage::Start => take_first(core, stage, number, line, due),
+        Stage::Plain | Stage::Headed | Stage::Told(_) | Stage::Numbered(_) => take_line(
+            core, stage, number, line, due,
+        ),
+    }
+}
+
+fn ending_at(due: &Due, number: u64) -> Ending
+    requires { number < 18446744073709551615 }
+    ensures { result ≡ at_end due.now number }
+{
+    if due.is_empty() {
+        Ending::Done
+    } else {
+        Ending::Differs(number + 1)
+    }
+}
+
+ghost use Rattle.replay_tool.specs.Walked.{at_end};
+
+// The end of the input: no line that is due, and no event of a step, is to be missing.
+fn end_of(core: &mut Core, stage: Stage, number: u64, due: &mut Due) -> Ending
+    requires may { MayTake core.old stage }
+    requires number { number < 18446744073709551615 }
+    ensures { EndsAt core.old stage due.old number result }
+{
+    match stage {
+        Stage::Start => {
+            step(core, &Event::Open, due);
+            ending_at(due, number)
+        }
+        Stage::Plain | Stage::Told(_) => ending_at(due, number),
+        Stage::Headed | Stage::Numbered(_) => Ending::Differs(number + 1),
+    }
+}
+
 impl Audit {
-    /// An audit before its first step. It takes all memory that it ever uses.
+    /// An audit before its first line. It takes all memory that it ever uses.
     pub fn make(alloc: Global, settings: &Settings) -> Result<Audit, NoMemory>
         requires { IsProper settings.now }
         ensures unread { IfOk result (λ audit. IsUnread audit.core.settings audit) }
@@ -93,65 +212,62 @@ impl Audit {
         Ok(Audit {
             core: Core::make(alloc, settings)?,
             lines: Lines::make(alloc, LINE_LIMIT)?,
+            stage: Stage::Start,
             due: Due::make(alloc)?,
             number: 0,
         })
     }
 
-    // The end of the input: no written line is to be missing.
-    fn at_end(&self) -> Ending
-        requires { self.now.number < 18446744073709551615 }
-        ensures { result ≡ at_end self.now.due self.now.number }
-    {
-        if self.due.is_empty() {
-            Ending::Done
-        } else {
-            Ending::Differs(self.number + 1)
-        }
-    }
-
     // Takes the next line, or what a read gave.
     fn turn<I: Source>(&mut self, input: &mut I) -> Option<Ending>
+        requires may { MayTake self.old.core self.old.stage }
         requires number { self.old.number < 18446744073709551615 }
-        ensures audited { (o : SpecSettings) (start : Streams) (taken : Option (List ℕ)) (calls : ℕ)
-            → IsOneDialogue o
-            → Walked o self.old start (streams (I.given input.old) (I.left input.old) taken) calls
-            → Audited o result self.new start (streams (I.given input.new) (I.left input.new) taken) calls }
-        ensures same { result ≢ Some endings.ReadingFailed → I.faults input.new ≡ I.faults input.old }
-        ensures cause { result ≡ Some endings.ReadingFailed → Rose (I.faults input.old) (I.faults input.new) }
-        ensures idle { IsReady self.old.lines → result ≡ None → weight self.new.lines + flag self.old.lines.ended + 1 ≤ weight self.old.lines + flag self.new.lines.ended }
+        ensures audited { (o : SpecSettings) (start now : Streams) (calls : ℕ)
+            → Walked o self.old start (with_input now (I.state input.old)) calls
+            → Audited o result self.new start (with_input now (I.state input.new)) calls }
+        ensures may { result ≡ None → MayTake self.new.core self.new.stage }
+        ensures same { result ≢ Some endings.ReadingFailed → (I.state input.new).faults ≡
+            (I.state input.old).faults }
+        ensures cause { result ≡ Some endings.ReadingFailed → Rose (I.state input.old).faults
+            (I.state input.new).faults }
+        ensures idle { IsReady self.old.lines → result ≡ None
+            → weight self.new.lines + flag self.old.lines.ended + 1 ≤ weight self.old.lines + flag
+            self.new.lines.ended }
         ensures number { self.new.number ≤ self.old.number + 1 }
     {
         match self.lines.next(input) {
             Err(_) => Some(Ending::ReadingFailed),
             Ok(Item::More) => None,
-            Ok(Item::End) => Some(self.at_end()),
+            Ok(Item::End) => Some(end_of(&mut self.core, self.stage, self.number, &mut self.due)),
             Ok(Item::Long) => {
                 self.number += 1;
                 Some(Ending::NoMark(self.number))
             }
             Ok(Item::Line(line)) => {
                 self.number += 1;
-                take_line(&mut self.core, self.number, line, &mut self.due)
+                take_any(
+                    &mut self.core,
+                    &mut self.stage,
+                    self.number,
+                    line,
+                    &mut self.due,
+                )
             }
         }
     }
-}
 
-ghost use Rattle.std.specs.Prelude.{None};
-ghost use Rattle.replay_tool.specs.Walked.{at_end};
-
-impl Audit {
     // Takes the whole lines that are held, after so many turns that the input is too long.
     fn drain<I: Source>(&mut self, input: &mut I) -> Ending
+        requires may { MayTake self.old.core self.old.stage }
         requires number { self.old.number ≤ 8589934592 }
         requires held { weight self.old.lines ≤ 135169 }
-        ensures finds { (o : SpecSettings) (start : Streams) (taken : Option (List ℕ))
-            → IsOneDialogue o
-            → Walked o self.old start (streams (I.given input.old) (I.left input.old) taken) 8589934592
-            → Finds o result start (streams (I.given input.new) (I.left input.new) taken) }
-        ensures same { result ≢ endings.ReadingFailed → I.faults input.new ≡ I.faults input.old }
-        ensures cause { result ≡ endings.ReadingFailed → Rose (I.faults input.old) (I.faults input.new) }
+        ensures finds { (o : SpecSettings) (start now : Streams)
+            → Walked o self.old start (with_input now (I.state input.old)) 8589934592
+            → Finds o result start (with_input now (I.state input.new)) }
+        ensures same { result ≢ endings.ReadingFailed → (I.state input.new).faults ≡
+            (I.state input.old).faults }
+        ensures cause { result ≡ endings.ReadingFailed → Rose (I.state input.old).faults
+            (I.state input.new).faults }
     {
         for _ in 0..LAST_TURNS {
             if !self.lines.is_ready() {
@@ -167,12 +283,14 @@ impl Audit {
     /// Compares the input with the lawful script of its events.
     pub fn go<I: Source>(&mut self, input: &mut I) -> Ending
         requires unread { IsUnread self.old.core.settings self.old }
-        requires one { IsOneDialogue self.old.core.settings }
-        ensures finds { (taken taken_now : Option (List ℕ)) → Finds self.old.core.settings result (streams (I.given input.old) (I.left input.old) taken) (streams (I.given input.new) (I.left input.new) taken_now) }
-        ensures same { result ≢ endings.ReadingFailed → I.faults input.new ≡ I.faults input.old }
-        ensures cause { result ≡ endings.ReadingFailed → Rose (I.faults input.old) (I.faults input.new) }
+        ensures finds { (start now : Streams)
+            → Finds self.old.core.settings result
+            (with_input start (I.state input.old)) (with_input now (I.state input.new)) }
+        ensures same { result ≢ endings.ReadingFailed → (I.state input.new).faults ≡
+            (I.state input.old).faults }
+        ensures cause { result ≡ endings.ReadingFailed → Rose (I.state input.old).faults
+            (I.state input.new).faults }
     {
-        step(&mut self.core, &Event::Open, &mut self.due);
         for _ in 0..TURNS {
             if let Some(ending) = self.turn(input) {
                 return ending;

@@ -1,25 +1,26 @@
 // The commands of the program.
 ghost use Rattle.std.specs.Prelude.{◌≡◌, IfSome};
-ghost use Rattle.replay_tool.specs.Commands.{HasProper, command_of, command_named, drill_of, texts};
+ghost use Rattle.std.specs.Option.{option_map};
+ghost use Rattle.replay_tool.specs.Commands.{HasProper, asked, command_of, command_named, drill_of, texts};
 
 use crate::settings::{read_number, read_settings};
 use policy_rules::Settings;
 
 /// What the words of the program command.
-#[derive(Clone, Copy, Debug, PartialEq, Eq)]
-pub enum Command {
+#[derive(Clone, Copy)]
+pub enum Command<'a> {
     /// Replays the marks of the input with these settings.
     Replay(Settings),
     /// Compares the input with the lawful script of its events.
     Check(Settings),
     /// Plays the drill of a number, with so many rounds.
     Drill { number: u32, count: u32 },
-    /// Lists the legal moves of the position that the words behind the first spell.
-    Moves,
+    /// Lists the legal moves of the position that these words spell.
+    Moves(&'a [Vec<u8>]),
 }
 
 fn read_drill(words: &[Vec<u8>]) -> Option<Command>
-    ensures value { result ≡ drill_of (texts words.now) }
+    ensures value { option_map asked result ≡ drill_of (texts words.now) }
     ensures proper { IfSome result (λ command. HasProper command) }
 {
     let [number, count] = words else {
@@ -31,8 +32,8 @@ fn read_drill(words: &[Vec<u8>]) -> Option<Command>
     })
 }
 
-fn read_named(name: &[u8], words: &[Vec<u8>]) -> Option<Command>
-    ensures value { result ≡ command_named name.now (texts words.now) }
+fn read_named<'a>(name: &[u8], words: &'a [Vec<u8>]) -> Option<Command<'a>>
+    ensures value { option_map asked result ≡ command_named name.now (texts words.now) }
     ensures proper { IfSome result (λ command. HasProper command) }
 {
     if name == b"replay".as_slice() {
@@ -42,7 +43,7 @@ fn read_named(name: &[u8], words: &[Vec<u8>]) -> Option<Command>
     } else if name == b"drill".as_slice() {
         read_drill(words)
     } else if name == b"moves".as_slice() && !words.is_empty() {
-        Some(Command::Moves)
+        Some(Command::Moves(words))
     } else {
         None
     }
@@ -50,7 +51,7 @@ fn read_named(name: &[u8], words: &[Vec<u8>]) -> Option<Command>
 
 /// The command of the words, which do not include the program's name.
 pub fn read_command(words: &[Vec<u8>]) -> Option<Command>
-    ensures value { result ≡ command_of (texts words.now) }
+    ensures value { option_map asked result ≡ command_of (texts words.now) }
     ensures proper { IfSome result (λ command. HasProper command) }
 {
     let [name, rest @ ..] = words else {

@@ -1,17 +1,18 @@
 // The written lines that are due in a log.
-ghost use Rattle.std.specs.Prelude.{◌≡◌, ◌<◌, ◌≤◌, ◌==◌, [], length, IfOk, if◌then◌else◌, false};
+ghost use Rattle.std.specs.Prelude.{◌≡◌, ◌<◌, ◌≤◌, ◌==◌, [], ◌∷◌, ◌++◌, length, IfOk, if◌then◌else◌, false};
 ghost use Rattle.std.specs.List.{before_first, after_first};
 ghost use Rattle.std.specs.Str.{bytes_eq};
 ghost use Rattle.line_io.specs.Lines.{is_feed};
-ghost use Rattle.session_script.specs.Script.{written_marks};
+ghost use Rattle.script_lines.specs.StepText.{written_marks};
+ghost use Rattle.script_lines.specs.StepLine.{step_line};
 
 use line_io::{NoMemory, Out, split_line};
-use session_script::put_written;
+use script_lines::{put_written, write_step};
 use std::alloc::Global;
 use std::marker::Model;
 
-// Both texts of a step, with at most three bytes more for each byte.
-const ROOM: usize = 1_048_576;
+// A step line, and both texts of a step, with at most three bytes more for each byte.
+const ROOM: usize = 1_048_608;
 
 /// The marks of the lines that the last step wrote, as far as they are still to come.
 #[derive(Drop)]
@@ -28,7 +29,7 @@ impl Model for Due {
 
     ghost view = { λ d. drop d.at d.text.text };
 
-    ghost invariant = { λ d. (d.at ≤ length d.text.text) × (d.text.room ≡ 1048576) };
+    ghost invariant = { λ d. (d.at ≤ length d.text.text) × (d.text.room ≡ 1048608) };
 }
 
 impl Due {
@@ -75,6 +76,19 @@ impl Due {
     {
         self.text.clear();
         self.at = 0;
+        put_written(iface, engine, &mut self.text);
+    }
+
+    /// The number of the first step of version 2, and its lines.
+    pub fn fill_first(&mut self, iface: &[u8], engine: &[u8])
+        requires iface { length iface.now ≤ 131072 }
+        requires engine { length engine.now ≤ 131072 }
+        ensures { self.new ≡ step_line 0 ++ 10 ∷ written_marks iface.now engine.now }
+    {
+        self.text.clear();
+        self.at = 0;
+        write_step(0, &mut self.text);
+        self.text.put(b"\n");
         put_written(iface, engine, &mut self.text);
     }
 }

@@ -1,10 +1,11 @@
 // How a run ends.
 ghost use Rattle.std.specs.Prelude.{◌≡◌, ◌+◌, ◌≤◌, length};
 ghost use Rattle.line_io.specs.Out.{with};
-ghost use Rattle.replay_tool.specs.Diagnostics.{code_of, tail_of, diagnostic, verdict};
+ghost use Rattle.replay_tool.specs.Diagnostics.{code_of, tail_of, diagnostic, position_fault, verdict};
 
+use fen_text::FenFault;
 use itoa::Buffer;
-use line_io::{Failed, Out, Sink, write_all};
+use line_io::{Out, Sink, write_all};
 
 /// How a run ends.
 #[derive(Clone, Copy, Debug, PartialEq, Eq)]
@@ -16,12 +17,30 @@ pub enum Ending {
     Usage,
     /// The line with this number, counted from 1, is no mark.
     NoMark(u64),
+    /// The line with this number, counted from 1, is out of step.
+    OutOfStep(u64),
     /// The event in the line with this number may not come.
     MayNotCome(u64),
+    /// The words behind `moves` spell no position.
+    NoPosition(FenFault),
     NoMemory,
     ReadingFailed,
     WritingFailed,
     TooLong,
+}
+
+fn position_fault(fault: FenFault) -> &'static [u8]
+    ensures { result.now ≡ position_fault fault }
+{
+    match fault {
+        FenFault::Board => b"replay: position: board\n",
+        FenFault::Side => b"replay: position: side\n",
+        FenFault::Castling => b"replay: position: castling\n",
+        FenFault::EnPassant => b"replay: position: en passant\n",
+        FenFault::Half => b"replay: position: half\n",
+        FenFault::Full => b"replay: position: full\n",
+        FenFault::Kings => b"replay: position: kings\n",
+    }
 }
 
 impl Ending {
@@ -32,7 +51,11 @@ impl Ending {
         match self {
             Ending::Done => 0,
             Ending::Differs(_) => 1,
-            Ending::Usage | Ending::NoMark(_) | Ending::MayNotCome(_) => 2,
+            Ending::Usage
+            | Ending::NoMark(_)
+            | Ending::OutOfStep(_)
+            | Ending::MayNotCome(_)
+            | Ending::NoPosition(_) => 2,
             Ending::NoMemory => 3,
             Ending::ReadingFailed => 4,
             Ending::WritingFailed => 5,
@@ -48,7 +71,9 @@ impl Ending {
             Ending::Done | Ending::Differs(_) => b"",
             Ending::Usage => b"replay: usage\n",
             Ending::NoMark(_) => b" has no mark\n",
+            Ending::OutOfStep(_) => b" is out of step\n",
             Ending::MayNotCome(_) => b" may not come here\n",
+            Ending::NoPosition(fault) => position_fault(fault),
             Ending::NoMemory => b"replay: no memory\n",
             Ending::ReadingFailed => b"replay: reading failed\n",
             Ending::WritingFailed => b"replay: writing failed\n",
@@ -74,11 +99,8 @@ impl Ending {
         ensures { out.new ≡ with out.old (diagnostic self) }
     {
         match self {
-            Ending::NoMark(line) | Ending::MayNotCome(line) => put_line_fault(
-                line,
-                self.tail(),
-                out,
-            ),
+            Ending::NoMark(line) | Ending::OutOfStep(line) | Ending::MayNotCome(line) =>
+                put_line_fault(line, self.tail(), out),
             _ => out.put(self.tail()),
         }
     }
@@ -109,29 +131,38 @@ fn put_line_fault(line: u64, tail: &[u8], out: &mut Out)
     out.put(tail);
 }
 
-ghost use Rattle.std.specs.Prelude.{OnErr, OnOk};
-ghost use Rattle.std.specs.Io.KnownBytes.{Appends};
-ghost use Rattle.line_io.specs.Causes.{HasCause};
-ghost use Rattle.line_io.specs.Source.{TakesPrefix};
-ghost use Rattle.replay_tool.specs.Told.{Wrote};
+ghost use Rattle.replay_tool.specs.Told.{Told, Writes, Wrote};
 
-/// Writes the diagnostic of an ending.
-pub fn tell<D: Sink>(ending: Ending, text: &mut Out, diag: &mut D) -> Result<(), Failed>
+/// Writes the diagnostic of an ending, and gives how the program ends then.
+pub fn tell<D: Sink>(ending: Ending, text: &mut Out, diag: &mut D) -> Ending
     requires { 80 ≤ text.old.room }
-    ensures ok { OnOk result (Appends (D.taken diag.old) (D.taken diag.new) (diagnostic ending)) }
-    ensures err { OnErr result (TakesPrefix (D.taken diag.old) (D.taken diag.new) (diagnostic ending)) }
-    ensures cause { HasCause (D.faults diag.old) (D.faults diag.new) result }
-    ensures room { text.new.room ≡ text.old.room }
+    ensures { Told (code_of result) (code_of ending) (diagnostic ending)
+        (D.state diag.old) (D.state diag.new) }
 {
     text.clear();
     ending.put_diagnostic(text);
-    write_all(diag, text.bytes())
+    match write_all(diag, text.bytes()) {
+        Ok(()) => ending,
+        Err(_) => Ending::WritingFailed,
+    }
+}
+
+/// The same for a diagnostic without a number, which needs no room.
+pub fn tell_short<D: Sink>(ending: Ending, diag: &mut D) -> Ending
+    ensures { Told (code_of result) (code_of ending) (tail_of ending)
+        (D.state diag.old) (D.state diag.new) }
+{
+    match write_all(diag, ending.tail()) {
+        Ok(()) => ending,
+        Err(_) => Ending::WritingFailed,
+    }
 }
 
 /// Writes what was found, and gives how the check ended.
 pub fn write_verdict<O: Sink>(found: Ending, text: &mut Out, output: &mut O) -> Ending
     requires { 80 ≤ text.old.room }
-    ensures wrote { Wrote found result (output.new ≡ output.old) (O.taken output.old) (O.taken output.new) (O.faults output.old) (O.faults output.new) }
+    ensures wrote { Wrote found result (output.new ≡ output.old)
+        (O.state output.old) (O.state output.new) }
     ensures room { text.new.room ≡ text.old.room }
 {
     text.clear();
@@ -139,5 +170,16 @@ pub fn write_verdict<O: Sink>(found: Ending, text: &mut Out, output: &mut O) -> 
     match write_all(output, text.bytes()) {
         Ok(()) => found,
         Err(_) => Ending::WritingFailed,
+    }
+}
+
+/// Writes lines to the output, and tells where that failed.
+pub fn write_lines<O: Sink, D: Sink>(lines: &[u8], output: &mut O, diag: &mut D) -> Ending
+    ensures { Writes lines.now (diag.new ≡ diag.old) (code_of result)
+        (O.state output.old) (O.state output.new) (D.state diag.old) (D.state diag.new) }
+{
+    match write_all(output, lines) {
+        Ok(()) => Ending::Done,
+        Err(_) => tell_short(Ending::WritingFailed, diag),
     }
 }

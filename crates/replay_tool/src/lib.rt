@@ -8,11 +8,12 @@ mod ending;
 mod limits;
 mod moves;
 mod play;
+mod player;
 mod replay;
 mod run;
 mod settings;
+mod stage;
 #[cfg(test)]
 mod tests;
-mod told;
 
-pub use replay::replay_main;
+pub use replay::{refuse_for_memory, replay_main};

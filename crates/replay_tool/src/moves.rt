@@ -5,24 +5,23 @@ ghost use Rattle.chess_board.specs.declared.board.Move.{Move as AnyMove};
 ghost use Rattle.chess_board.specs.Text.{IsOfficer, text_of};
 ghost use Rattle.fen_text.specs.Fen.{position_of};
 ghost use Rattle.replay_tool.specs.Commands.{texts};
-ghost use Rattle.replay_tool.specs.Diagnostics.{one_line};
-ghost use Rattle.replay_tool.specs.Moves.{Listed, WritesMoves, fen_of, move_lines, position_fault};
+ghost use Rattle.replay_tool.specs.Diagnostics.{code_of, one_line};
+ghost use Rattle.replay_tool.specs.Moves.{Lists, WritesMoves, fen_of, move_lines};
 
-use crate::ending::Ending;
-use crate::told::{tell_text, write_lines};
+use crate::ending::{Ending, tell_short, write_lines};
 use chess_board::{Move, Position, move_texts_are_exact, move_texts_are_short, write_move};
-use fen_text::{FenFault, read_fen};
-use line_io::{NoMemory, Out, Sink, Status};
+use fen_text::read_fen;
+use line_io::{NoMemory, Out, Sink};
 use std::alloc::Global;
 
 // A position has at most 512 legal moves, each of at most five bytes and a line feed.
 const LINES_ROOM: usize = 3_072;
 
-// The words behind the command, with a blank between each two.
+// The words with a blank between each two.
 fn join_words(alloc: Global, words: &[Vec<u8>]) -> Result<Vec<u8>, NoMemory>
     ensures { IfOk result (λ text. text.items ≡ fen_of (texts words.now)) }
 {
-    let [_, first, rest @ ..] = words else {
+    let [first, rest @ ..] = words else {
         return Ok(Vec::new(alloc));
     };
     let mut text = Vec::from_slice(alloc, first.as_slice())?;
@@ -35,27 +34,14 @@ ghost use Rattle.replay_tool.specs.Moves.{behind_blanks};
 
 // Adds each word behind a blank.
 fn add_words(words: &[Vec<u8>], text: &mut Vec<u8>) -> Result<(), NoMemory>
-    ensures { IfOk result (λ _. text.new.items ≡ text.old.items ++ behind_blanks (texts words.now)) }
+    ensures { IfOk result (λ _. text.new.items ≡ text.old.items ++ behind_blanks
+        (texts words.now)) }
 {
     for word in words {
         text.push(b' ')?;
         text.extend_from_slice(word.as_slice())?;
     }
     Ok(())
-}
-
-fn fault_line(fault: FenFault) -> &'static [u8]
-    ensures { result.now ≡ position_fault fault }
-{
-    match fault {
-        FenFault::Board => b"replay: position: board\n",
-        FenFault::Side => b"replay: position: side\n",
-        FenFault::Castling => b"replay: position: castling\n",
-        FenFault::EnPassant => b"replay: position: en passant\n",
-        FenFault::Half => b"replay: position: half\n",
-        FenFault::Full => b"replay: position: full\n",
-        FenFault::Kings => b"replay: position: kings\n",
-    }
 }
 
 // Puts the text of a move, and a line feed.
@@ -91,7 +77,8 @@ struct Listing {
 impl Listing {
     // Takes all memory that is ever used.
     fn make(alloc: Global, words: &[Vec<u8>]) -> Result<Listing, NoMemory>
-        ensures { IfOk result (λ listing. (listing.fen.items ≡ fen_of (texts words.now)) × (listing.lines ≡ empty 3072)) }
+        ensures { IfOk result (λ listing. (listing.fen.items ≡ fen_of (texts words.now))
+            × (listing.lines ≡ empty 3072)) }
     {
         Ok(Listing {
             fen: join_words(alloc, words)?,
@@ -105,10 +92,10 @@ impl Listing {
         position: &Position,
         output: &mut O,
         diag: &mut D,
-    ) -> Status
+    ) -> Ending
         requires { self.old.lines ≡ empty 3072 }
-        ensures { WritesMoves position.now (diag.new ≡ diag.old) result.code (O.taken output.old) (O.taken output.new) (D.taken diag.old) (D.taken diag.new)
-            (O.faults output.old) (O.faults output.new) (D.faults diag.old) (D.faults diag.new) }
+        ensures { WritesMoves position.now (diag.new ≡ diag.old) (code_of result)
+            (O.state output.old) (O.state output.new) (D.state diag.old) (D.state diag.new) }
     {
         let moves = position.moves();
         move_texts_are_exact();
@@ -117,32 +104,32 @@ impl Listing {
     }
 
     // Writes the legal moves of the position that the text spells, or tells its fault.
-    fn list<O: Sink, D: Sink>(&mut self, output: &mut O, diag: &mut D) -> Status
+    fn list<O: Sink, D: Sink>(&mut self, output: &mut O, diag: &mut D) -> Ending
         requires { self.old.lines ≡ empty 3072 }
-        ensures { Listed (position_of self.old.fen.items) (output.new ≡ output.old) (diag.new ≡ diag.old) result.code
-            (O.taken output.old) (O.taken output.new) (D.taken diag.old) (D.taken diag.new)
-            (O.faults output.old) (O.faults output.new) (D.faults diag.old) (D.faults diag.new) }
+        ensures { Lists (position_of self.old.fen.items)
+            (output.new ≡ output.old) (diag.new ≡ diag.old) (code_of result)
+            (O.state output.old) (O.state output.new) (D.state diag.old) (D.state diag.new) }
     {
         match read_fen(self.fen.as_slice()) {
-            Err(fault) => tell_text(fault_line(fault), 2, diag),
+            Err(fault) => tell_short(Ending::NoPosition(fault), diag),
             Ok(position) => self.write_moves(&position, output, diag),
         }
     }
 }
 
-/// Lists the legal moves of the position that the words behind the first spell, one a line.
+/// Lists the legal moves of the position that these words spell, one a line.
 pub fn list_moves<O: Sink, D: Sink>(
     alloc: Global,
     words: &[Vec<u8>],
     output: &mut O,
     diag: &mut D,
-) -> Status
-    ensures { Listed (position_of (fen_of (texts words.now))) (output.new ≡ output.old) (diag.new ≡ diag.old) result.code
-        (O.taken output.old) (O.taken output.new) (D.taken diag.old) (D.taken diag.new)
-        (O.faults output.old) (O.faults output.new) (D.faults diag.old) (D.faults diag.new) }
+) -> Ending
+    ensures { Lists (position_of (fen_of (texts words.now)))
+        (output.new ≡ output.old) (diag.new ≡ diag.old) (code_of result)
+        (O.state output.old) (O.state output.new) (D.state diag.old) (D.state diag.new) }
 {
     match Listing::make(alloc, words) {
-        Err(_) => tell_text(Ending::NoMemory.tail(), 3, diag),
+        Err(_) => tell_short(Ending::NoMemory, diag),
         Ok(mut listing) => listing.list(output, diag),
     }
 }

@@ -1,11 +1,11 @@
 // The command `drill`.
 ghost use Rattle.std.specs.Prelude.{◌≡◌, ◌≤◌};
-ghost use Rattle.replay_tool.specs.Drilled.{Drilled};
+ghost use Rattle.replay_tool.specs.Drilled.{PlaysDrill};
+ghost use Rattle.replay_tool.specs.Diagnostics.{code_of};
 
-use crate::ending::Ending;
-use crate::told::{tell_text, write_lines};
+use crate::ending::{Ending, tell_short, write_lines};
 use drill::drill_line;
-use line_io::{Sink, Status};
+use line_io::Sink;
 use std::alloc::Global;
 
 /// Plays the drill of a number with so many rounds, and writes its line.
@@ -15,14 +15,14 @@ pub fn play_drill<O: Sink, D: Sink>(
     count: u32,
     output: &mut O,
     diag: &mut D,
-) -> Status
+) -> Ending
     requires { count ≤ 100000 }
-    ensures { Drilled number count (output.new ≡ output.old) (diag.new ≡ diag.old) result.code
-        (O.taken output.old) (O.taken output.new) (D.taken diag.old) (D.taken diag.new)
-        (O.faults output.old) (O.faults output.new) (D.faults diag.old) (D.faults diag.new) }
+    ensures { PlaysDrill number count (output.new ≡ output.old) (diag.new ≡ diag.old)
+        (code_of result)
+        (O.state output.old) (O.state output.new) (D.state diag.old) (D.state diag.new) }
 {
     match drill_line(alloc, number, count) {
-        Err(_) => tell_text(Ending::NoMemory.tail(), 3, diag),
+        Err(_) => tell_short(Ending::NoMemory, diag),
         Ok(line) => write_lines(line.bytes(), output, diag),
     }
 }

@@ -1,5 +1,5 @@
 // Worked sessions.
-use crate::replay_main;
+use crate::{refuse_for_memory, replay_main};
 use line_io::{MemSink, MemSource};
 use std::alloc::Global;
 use std::test::Fail;
@@ -36,13 +36,20 @@ const ENDINGS: &[u8] = b"x  ping 7\t\nx!\nu?\nx ping\nx \nu.\nx.\n";
 const ENDINGS_SCRIPT: &[u8] =
     b"U uci\nx  ping 7\t\nX pong 7\nx!\nX Error (line too long): ...\nu?\nX tellusererror Engine ended\nx ping\nX Error (bad argument): ping\nx \nu.\nx.\n";
 
+const NUMBERED: &[u8] =
+    b"#2 Resign=false ResignMoves=3 ResignScore=600 ShowPonder=true\n# 0\n# 1\nu uciok\n# 2\nu?\n# 3\nu.\n# 4\nx quit\n";
+
+const NUMBERED_SCRIPT: &[u8] =
+    b"#2 Resign=false ResignMoves=3 ResignScore=600 ShowPonder=true\n# 0\nU uci\n# 1\nu uciok\nU isready\n# 2\nu?\nX tellusererror Engine ended\n# 3\nu.\n# 4\nx quit\n";
+
 #[test]
 fn scripts_are_replayed(rt: HostRuntime) -> Result<(), Fail> {
     let alloc = rt.alloc();
-    let table: [(&[u8], &[u8]); 3] = [
+    let table: [(&[u8], &[u8]); 4] = [
         (b"", b"U uci\n"),
         (HANDSHAKE, HANDSHAKE_SCRIPT),
         (ENDINGS, ENDINGS_SCRIPT),
+        (NUMBERED, NUMBERED_SCRIPT),
     ];
     for (input, script) in table {
         for piece in 1..8usize {
@@ -55,6 +62,30 @@ fn scripts_are_replayed(rt: HostRuntime) -> Result<(), Fail> {
         assert_eq!(rt; status, 0);
         assert_eq!(rt; written.as_slice(), script);
     }
+    Ok(())
+}
+
+#[test]
+fn want_of_memory_is_told(rt: HostRuntime) -> Result<(), Fail> {
+    let mut diag = MemSink::make(rt.alloc(), 100, &[])?;
+    assert_eq!(rt; refuse_for_memory(&mut diag).code, 3);
+    assert_eq!(rt; diag.taken(), b"replay: no memory\n".as_slice());
+    Ok(())
+}
+
+#[test]
+fn words_are_bytes(rt: HostRuntime) -> Result<(), Fail> {
+    let alloc = rt.alloc();
+    let mut source = MemSource::make(alloc, b"", 7, &[])?;
+    let mut output = MemSink::make(alloc, 100, &[])?;
+    let mut diag = MemSink::make(alloc, 100, &[])?;
+    let words = vec![in alloc;
+        Vec::from_slice(alloc, b"moves")?,
+        Vec::from_slice(alloc, b"\xff")?,
+    ]?;
+    let status = replay_main(alloc, words.as_slice(), &mut source, &mut output, &mut diag);
+    assert_eq!(rt; status.code, 2);
+    assert_eq!(rt; diag.taken(), b"replay: position: board\n".as_slice());
     Ok(())
 }
 

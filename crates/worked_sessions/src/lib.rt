@@ -8,7 +8,11 @@ mod checks;
 #[cfg(test)]
 mod drills;
 #[cfg(test)]
+mod logs;
+#[cfg(test)]
 mod moves;
+#[cfg(test)]
+mod numbered;
 #[cfg(test)]
 mod pondering;
 #[cfg(test)]

@@ -1,11 +1,12 @@
-use Rattle.std.proofs.Common.{◌≡◌, ◌≤◌, ℕ, List, Option}
-use Rattle.replay_tool.specs.Replay.{streams}
-use Rattle.replay_tool.specs.Walked.{Walked}
+use Rattle.std.proofs.Common.{◌≡◌, ◌≤◌}
+use Rattle.replay_tool.specs.Streams.{Streams, with_input}
+use Rattle.replay_tool.specs.Walked.{MayTake, Walked}
 use Rattle.replay_tool.proofs.check.Audit.go.Given as goal
 
 abbrev pub invariant-loop : goal.invariant-loop
 invariant-loop g l = record {
-  walked : (taken taken_now : Option (List ℕ)) → Walked l.fn.self.core.settings l.self (streams (g.I.Source.given l.fn.input) (g.I.Source.left l.fn.input) taken) (streams (g.I.Source.given l.input) (g.I.Source.left l.input) taken_now) l.counter;
+  walked : (other other_now : Streams) → Walked l.fn.self.core.settings l.self (with_input other (g.I.Source.state l.fn.input)) (with_input other_now (g.I.Source.state l.input)) l.counter;
+  may : MayTake l.self.core l.self.stage;
   number : l.self.number ≤ l.counter;
-  read : g.I.Source.faults l.input ≡ g.I.Source.faults l.fn.input;
+  read : (g.I.Source.state l.input).faults ≡ (g.I.Source.state l.fn.input).faults;
 }

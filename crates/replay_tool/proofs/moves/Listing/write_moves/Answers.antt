@@ -16,5 +16,5 @@ returns g c =
     record {
       moves = c.moves-moves.result.items;
       legal = record { each = c.moves-moves.ensures.each; ordered = c.moves-moves.ensures.ordered };
-      writes = writes_as _ _ _ _ _ _ _ _ _ _ _ _ lines c.write_lines.ensures;
+      writes = writes_as _ _ _ _ _ _ _ _ lines c.write_lines.ensures;
     }

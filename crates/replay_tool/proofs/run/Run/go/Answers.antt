@@ -1,18 +1,69 @@
-use Rattle.std.proofs.Common.{◌∙◌, sym}
-use Rattle.replay_tool.specs.Replay.{Streams, streams}
-use Rattle.replay_tool.proofs.Written.{on_err, on_ok, stop_cut, stop_written}
+use Rattle.std.proofs.Common.{ℕ, ap, refl, subst}
+use Rattle.replay_tool.specs.declared.ending.Ending.TheVariants as endings
+use Rattle.line_io.specs.Lines.{Held}
+use Rattle.line_io.specs.Taken.{Taken, place}
+use Rattle.line_io.specs.declared.taker.LinesEnd.{LinesEnd}
+use Rattle.line_io.specs.declared.taker.LinesEnd.TheVariants as ends
+use Rattle.replay_tool.specs.declared.ending.Ending.{Ending}
+use Rattle.replay_tool.specs.Replaying.{replays}
+use Rattle.replay_tool.proofs.Finishes.{causes_by, causes_left, go_ended, go_endless, go_failed, go_left}
 use Rattle.replay_tool.proofs.run.Run.go.Goals as goal
 
-pub returns-then-is_err-clause-stopped : goal.returns-then-is_err-clause-stopped
-returns-then-is_err-clause-stopped g c =
-    let start : Streams = streams (g.I.Source.given c.args.input.now) (g.I.Source.left c.args.input.now) (g.O.Sink.taken c.args.output.now) in
-    let now : Streams = streams (g.I.Source.given c.play-ending.new.input) (g.I.Source.left c.play-ending.new.input) (g.O.Sink.taken c.play-ending.new.output) in
-    stop_cut c.args.self.now.core.settings c.play-ending.result c.play-ending.new.self.text.text start now (g.O.Sink.taken c.flush.new.output) (sym c.is_cut.ensures ∙ c.if-is_cut.false) c.play-ending.ensures.stopped
-    ((on_err c.flush.result _ c.flush.ensures.err (sym c.is_err.ensures.value ∙ c.if-is_err.true)).0)
+pub returns-in-Stopped-clause-stopped : goal.returns-in-Stopped-clause-stopped
+returns-in-Stopped-clause-stopped g c = λ o diag diag_now fresh.
+    let see = λ (x : g.row.O.Denot). g.O.Sink.state x in
+    let old = place c.args.self.now.player c.args.output.now (g.I.Source.state c.args.input.now) in
+    let new = place c.take_lines.new.taker c.take_lines.new.output (g.I.Source.state c.take_lines.new.input) in
+    let taken : Taken (replays see) 131072 c.take_lines.result old new = subst (λ (k : ℕ). Taken (replays see) k c.take_lines.result old new) (ap (λ (h : Held). h.limit) c.requires.lines) c.take_lines.ensures in
+    let t : Taken (replays see) 131072 (ends.Stopped c.in-Stopped.ending) old new = subst (λ (e : LinesEnd Ending). Taken (replays see) 131072 e old new) c.in-Stopped.is taken in
+    go_left see old new o fresh (see c.stop.new.output) diag diag_now c.in-Stopped.ending c.stop.result t (c.stop.ensures.left o t.pieces (see old.output) (t.ends.stopped o fresh))
 
-pub returns-clause-stopped : goal.returns-clause-stopped
-returns-clause-stopped g c =
-    let start : Streams = streams (g.I.Source.given c.args.input.now) (g.I.Source.left c.args.input.now) (g.O.Sink.taken c.args.output.now) in
-    let now : Streams = streams (g.I.Source.given c.play-ending.new.input) (g.I.Source.left c.play-ending.new.input) (g.O.Sink.taken c.play-ending.new.output) in
-    stop_written c.args.self.now.core.settings c.play-ending.result c.play-ending.new.self.text.text start now (g.O.Sink.taken c.flush.new.output) (sym c.is_cut.ensures ∙ c.if-is_cut.false) c.play-ending.ensures.stopped
-    ((on_ok c.flush.result _ c.flush.ensures.ok (sym c.is_err.ensures.value ∙ c.if-is_err.false)).0)
+pub returns-in-Stopped-clause-causes : goal.returns-in-Stopped-clause-causes
+returns-in-Stopped-clause-causes g c =
+    let o = c.args.self.now.player.core.settings in
+    let fresh = c.requires.player in
+    let see = λ (x : g.row.O.Denot). g.O.Sink.state x in
+    let old = place c.args.self.now.player c.args.output.now (g.I.Source.state c.args.input.now) in
+    let new = place c.take_lines.new.taker c.take_lines.new.output (g.I.Source.state c.take_lines.new.input) in
+    let taken : Taken (replays see) 131072 c.take_lines.result old new = subst (λ (k : ℕ). Taken (replays see) k c.take_lines.result old new) (ap (λ (h : Held). h.limit) c.requires.lines) c.take_lines.ensures in
+    let t : Taken (replays see) 131072 (ends.Stopped c.in-Stopped.ending) old new = subst (λ (e : LinesEnd Ending). Taken (replays see) 131072 e old new) c.in-Stopped.is taken in
+    causes_left o t.pieces c.in-Stopped.ending c.stop.result old.input new.input (see old.output) (see c.stop.new.output) (c.stop.ensures.left o t.pieces (see old.output) (t.ends.stopped o fresh)) t.ends.no_fault
+
+pub returns-in-Ended-clause-stopped : goal.returns-in-Ended-clause-stopped
+returns-in-Ended-clause-stopped g c = λ o diag diag_now fresh.
+    let see = λ (x : g.row.O.Denot). g.O.Sink.state x in
+    let old = place c.args.self.now.player c.args.output.now (g.I.Source.state c.args.input.now) in
+    let new = place c.take_lines.new.taker c.take_lines.new.output (g.I.Source.state c.take_lines.new.input) in
+    let taken : Taken (replays see) 131072 c.take_lines.result old new = subst (λ (k : ℕ). Taken (replays see) k c.take_lines.result old new) (ap (λ (h : Held). h.limit) c.requires.lines) c.take_lines.ensures in
+    let t : Taken (replays see) 131072 ends.Ended old new = subst (λ (e : LinesEnd Ending). Taken (replays see) 131072 e old new) c.in-Ended.is taken in
+    go_ended see old new o fresh (see c.end.new.output) diag diag_now c.end.result t (c.end.ensures.finished o t.pieces (see old.output) (t.ends.took o fresh))
+
+pub returns-in-ReadFailed-clause-stopped : goal.returns-in-ReadFailed-clause-stopped
+returns-in-ReadFailed-clause-stopped g c = λ o diag diag_now fresh.
+    let see = λ (x : g.row.O.Denot). g.O.Sink.state x in
+    let old = place c.args.self.now.player c.args.output.now (g.I.Source.state c.args.input.now) in
+    let new = place c.take_lines.new.taker c.take_lines.new.output (g.I.Source.state c.take_lines.new.input) in
+    let taken : Taken (replays see) 131072 c.take_lines.result old new = subst (λ (k : ℕ). Taken (replays see) k c.take_lines.result old new) (ap (λ (h : Held). h.limit) c.requires.lines) c.take_lines.ensures in
+    let t : Taken (replays see) 131072 ends.ReadFailed old new = subst (λ (e : LinesEnd Ending). Taken (replays see) 131072 e old new) c.in-ReadFailed.is taken in
+    go_failed see old new o fresh (see c.end-in-ReadFailed.new.output) diag diag_now c.end-in-ReadFailed.result t (c.end-in-ReadFailed.ensures.finished o t.pieces (see old.output) (t.ends.took o fresh))
+
+pub returns-in-Endless-clause-stopped : goal.returns-in-Endless-clause-stopped
+returns-in-Endless-clause-stopped g c = λ o diag diag_now fresh.
+    let see = λ (x : g.row.O.Denot). g.O.Sink.state x in
+    let old = place c.args.self.now.player c.args.output.now (g.I.Source.state c.args.input.now) in
+    let new = place c.take_lines.new.taker c.take_lines.new.output (g.I.Source.state c.take_lines.new.input) in
+    let taken : Taken (replays see) 131072 c.take_lines.result old new = subst (λ (k : ℕ). Taken (replays see) k c.take_lines.result old new) (ap (λ (h : Held). h.limit) c.requires.lines) c.take_lines.ensures in
+    let t : Taken (replays see) 131072 ends.Endless old new = subst (λ (e : LinesEnd Ending). Taken (replays see) 131072 e old new) c.in-Endless.is taken in
+    go_endless see old new o fresh (see c.end-in-Endless.new.output) diag diag_now c.end-in-Endless.result t (c.end-in-Endless.ensures.finished o t.pieces (see old.output) (t.ends.took o fresh))
+
+pub returns-in-ReadFailed-clause-causes : goal.returns-in-ReadFailed-clause-causes
+returns-in-ReadFailed-clause-causes g c =
+    let o = c.args.self.now.player.core.settings in
+    let fresh = c.requires.player in
+    let see = λ (x : g.row.O.Denot). g.O.Sink.state x in
+    let old = place c.args.self.now.player c.args.output.now (g.I.Source.state c.args.input.now) in
+    let new = place c.take_lines.new.taker c.take_lines.new.output (g.I.Source.state c.take_lines.new.input) in
+    let taken : Taken (replays see) 131072 c.take_lines.result old new = subst (λ (k : ℕ). Taken (replays see) k c.take_lines.result old new) (ap (λ (h : Held). h.limit) c.requires.lines) c.take_lines.ensures in
+    let t : Taken (replays see) 131072 ends.ReadFailed old new = subst (λ (e : LinesEnd Ending). Taken (replays see) 131072 e old new) c.in-ReadFailed.is taken in
+    causes_by o t.pieces endings.ReadingFailed c.end-in-ReadFailed.result old.input new.input (see old.output) (see c.end-in-ReadFailed.new.output)
+    (c.end-in-ReadFailed.ensures.finished o t.pieces (see old.output) (t.ends.took o fresh)) (λ _. t.ends.fault) (λ n. absurd (n refl)) (λ e. cc)

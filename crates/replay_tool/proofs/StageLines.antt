@@ -1,0 +1,139 @@
+-- What a stage lets come.
+use Rattle.std.proofs.Common.{◌≡◌, ℕ, ◌+◌, ◌<◌, ◌^◌, Bool, true, false, not, cond, ◌==◌, ◌&&◌, refl, sym, ap, subst, ◌∙◌, arith, []}
+use Rattle.std.proofs.lemmas.Bool.Decides.{nat_tests}
+use Rattle.line_io.specs.Event.{Event, is_line}
+use Rattle.line_io.specs.Event as events
+use Rattle.script_lines.specs.StepLine.{step_number}
+use Rattle.script_lines.proofs.Numerals.{number_below}
+use Rattle.adapter_core.specs.declared.ends.Ends.{Ends}
+use Rattle.adapter_core.specs.Ends.{may, is_over}
+use Rattle.adapter_core.specs.View.{View}
+use Rattle.adapter_core.specs.Stands.{Stands}
+use Rattle.replay_tool.specs.declared.ending.Ending.TheVariants as endings
+use Rattle.replay_tool.specs.declared.stage.Stage.{Stage}
+use Rattle.replay_tool.specs.declared.stage.Stage.TheVariants as stages
+use Rattle.replay_tool.specs.Walked.{IsOpen, MayTake, said_other}
+use Rattle.replay_tool.specs.Versions.{Kind, Tells, Writes, Numbers, HasNone, Said, Comes, Passes, Starts, HasNoMark, IsOutOfStep, Cannot, event_says, number_says, kind_says, stage_started}
+
+no_start : (due n : ℕ) (e : Event) → number_says due n ≡ Comes e → ⊥
+no_start due n e h = by (n == due) h where
+  by : (b : Bool) → cond b (Starts n) IsOutOfStep ≡ Comes e → ⊥
+  by true h = cc
+  by false h = cc
+
+no_event : (ends : Ends) (e : Event) (n : ℕ) → event_says ends e ≡ Starts n → ⊥
+no_event ends e n h = by (may ends e) h where
+  by : (b : Bool) → cond b (Comes e) Cannot ≡ Starts n → ⊥
+  by true h = cc
+  by false h = cc
+
+is_due : (due n m : ℕ) → number_says due n ≡ Starts m → m ≡ due
+is_due due n m h = by (n == due) refl h where
+  by : (b : Bool) → (n == due) ≡ b → cond b (Starts n) IsOutOfStep ≡ Starts m → m ≡ due
+  by true t h = let x : n ≡ m = cc in let y : n ≡ due = grind (arith, nat_tests) in sym x ∙ y
+  by false t h = cc
+
+event_may : (ends : Ends) (x e : Event) → event_says ends x ≡ Comes e → may ends e ≡ true
+event_may ends x e h = by (may ends x) refl h where
+  by : (b : Bool) → may ends x ≡ b → cond b (Comes x) Cannot ≡ Comes e → may ends e ≡ true
+  by true t h = let y : x ≡ e = cc in ap (may ends) (sym y) ∙ t
+  by false t h = cc
+
+-- an event that comes may come
+pub comes_may : (stage : Stage) (ends : Ends) (kind : Kind) (e : Event) → kind_says stage ends kind ≡ Comes e → may ends e ≡ true
+comes_may stages.Start ends kind e h = cc
+comes_may stages.Plain ends (Tells x) e h = event_may ends x e h
+comes_may stages.Plain ends Writes e h = cc
+comes_may stages.Plain ends (Numbers n) e h = cc
+comes_may stages.Plain ends HasNone e h = cc
+comes_may stages.Headed ends (Tells x) e h = cc
+comes_may stages.Headed ends Writes e h = cc
+comes_may stages.Headed ends (Numbers n) e h = absurd (no_start 0 n e h)
+comes_may stages.Headed ends HasNone e h = cc
+comes_may (stages.Told last) ends (Tells x) e h = cc
+comes_may (stages.Told last) ends Writes e h = cc
+comes_may (stages.Told last) ends (Numbers n) e h = absurd (no_start (step_number (last + 1)) n e h)
+comes_may (stages.Told last) ends HasNone e h = cc
+comes_may (stages.Numbered n) ends (Tells x) e h = event_may ends x e h
+comes_may (stages.Numbered n) ends Writes e h = cc
+comes_may (stages.Numbered n) ends (Numbers k) e h = cc
+comes_may (stages.Numbered n) ends HasNone e h = cc
+
+due_below : (k n m : ℕ) → number_says (step_number k) n ≡ Starts m → m < 10 ^ 18
+due_below k n m h = let e = is_due (step_number k) n m h in let b = number_below k in omega (arith, e, b)
+
+-- the number of a step has at most 18 digits
+pub starts_open : (stage : Stage) (ends : Ends) (kind : Kind) (m : ℕ) → IsOpen stage → kind_says stage ends kind ≡ Starts m → IsOpen (stage_started stage m)
+starts_open stages.Start ends kind m o h = absurd o
+starts_open stages.Headed ends kind m o h = absurd o
+starts_open stages.Plain ends (Tells x) m o h = absurd (no_event ends x m h)
+starts_open stages.Plain ends Writes m o h = cc
+starts_open stages.Plain ends (Numbers n) m o h = cc
+starts_open stages.Plain ends HasNone m o h = cc
+starts_open (stages.Told last) ends (Tells x) m o h = cc
+starts_open (stages.Told last) ends Writes m o h = cc
+starts_open (stages.Told last) ends (Numbers n) m o h = due_below (last + 1) n m h
+starts_open (stages.Told last) ends HasNone m o h = cc
+starts_open (stages.Numbered n) ends (Tells x) m o h = absurd (no_event ends x m h)
+starts_open (stages.Numbered n) ends Writes m o h = cc
+starts_open (stages.Numbered n) ends (Numbers k) m o h = cc
+starts_open (stages.Numbered n) ends HasNone m o h = cc
+
+-- a line may be taken in a session that was opened
+pub open_takes : (core : View) (stage : Stage) → IsOpen stage → MayTake core stage
+open_takes core stages.Start o = absurd o
+open_takes core stages.Plain o = o
+open_takes core stages.Headed o = o
+open_takes core (stages.Told n) o = o
+open_takes core (stages.Numbered n) o = o
+
+pub unread_takes : (core : View) (stage : Stage) → Stands core.settings core [] → stage ≡ stages.Start → MayTake core stage
+unread_takes core stage st e = subst (MayTake core) (sym e) st
+
+-- no line is a failure of reading
+pub not_reading : (n : ℕ) (s : Said) → said_other n s ≡ endings.ReadingFailed → ⊥
+not_reading n HasNoMark e = cc
+not_reading n (Comes x) e = cc
+not_reading n (Starts k) e = cc
+not_reading n Cannot e = cc
+not_reading n Passes e = cc
+not_reading n IsOutOfStep e = cc
+
+-- WHERE BOTH SIDES HAVE ENDED
+
+over_by : (iface engine a b : Bool) → (iface && engine) ≡ true → (a && not iface && b) ≡ true → ⊥
+over_by true true true b e m = cc
+over_by true true false b e m = cc
+over_by true false a b e m = cc
+over_by false engine a b e m = cc
+
+over_short : (iface engine a : Bool) → (iface && engine) ≡ true → (a && not iface) ≡ true → ⊥
+over_short true true true e m = cc
+over_short true true false e m = cc
+over_short true false a e m = cc
+over_short false engine a e m = cc
+
+swap : (a b : Bool) → (a && b) ≡ true → (b && a) ≡ true
+swap true true e = refl
+swap true false e = cc
+swap false b e = cc
+
+-- no event may come
+pub over_may : (ends : Ends) (e : Event) → ends.opened ≡ true → is_over ends ≡ true → may ends e ≡ true → ⊥
+over_may ends events.Open o v m = let n = sym (ap not o) ∙ m in cc
+over_may ends (events.Iface line) o v m = over_by ends.iface ends.engine ends.opened (is_line line) v m
+over_may ends events.IfaceLong o v m = over_short ends.iface ends.engine ends.opened v m
+over_may ends events.IfaceEnd o v m = over_short ends.iface ends.engine ends.opened v m
+over_may ends events.IfaceLost o v m = over_by ends.iface ends.engine ends.opened (not ends.iface_lost) v m
+over_may ends (events.Engine line) o v m = over_by ends.engine ends.iface ends.opened (is_line line) (swap ends.iface ends.engine v) m
+over_may ends events.EngineLong o v m = over_short ends.engine ends.iface ends.opened (swap ends.iface ends.engine v) m
+over_may ends events.EngineEnd o v m = over_short ends.engine ends.iface ends.opened (swap ends.iface ends.engine v) m
+over_may ends events.EngineLost o v m = over_by ends.engine ends.iface ends.opened (not ends.engine_lost) (swap ends.iface ends.engine v) m
+
+-- else an event may come
+pub some_may : (ends : Ends) → ends.opened ≡ true → is_over ends ≡ false → (e : Event) × (may ends e ≡ true)
+some_may ends o v = by ends.iface ends.engine refl refl v where
+  by : (iface engine : Bool) → ends.iface ≡ iface → ends.engine ≡ engine → (iface && engine) ≡ false → (e : Event) × (may ends e ≡ true)
+  by false engine i g n = (events.IfaceEnd, ap (λ (b : Bool). ends.opened && not b) i ∙ ap (λ (b : Bool). b && true) o)
+  by true false i g n = (events.EngineEnd, ap (λ (b : Bool). ends.opened && not b) g ∙ ap (λ (b : Bool). b && true) o)
+  by true true i g n = cc

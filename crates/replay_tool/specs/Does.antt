@@ -1,0 +1,24 @@
+-- What a command came to.
+use Rattle.std.specs.Prelude.{ℕ, Option, Some, None}
+use Rattle.fen_text.specs.Fen.{position_of}
+use Rattle.replay_tool.specs.Check.{ChecksAs}
+use Rattle.replay_tool.specs.Commands.{Asked}
+use Rattle.replay_tool.specs.Commands as asked
+use Rattle.replay_tool.specs.Drilled.{PlaysDrill}
+use Rattle.replay_tool.specs.Moves.{Lists}
+use Rattle.replay_tool.specs.Program.{HasLaws, Ran, Refused}
+use Rattle.replay_tool.specs.Replay.{EndsAs}
+use Rattle.replay_tool.specs.Streams.{Streams}
+
+abbrev pub Does : Option Asked → Type 0 → Type 0 → Type 0 → Streams → Streams → ℕ → Type 0
+Does None unread kept silent before after code = Refused unread kept before after code
+Does (Some (asked.Replay o)) unread kept silent before after code =
+    HasLaws o × Ran (λ e. EndsAs o (unread × kept) e before after) before after code
+Does (Some (asked.Check o)) unread kept silent before after code =
+    HasLaws o × Ran (λ e. ChecksAs o unread kept e before after) before after code
+Does (Some (asked.Moves text)) unread kept silent before after code =
+    unread × Lists (position_of text) kept silent code before.output after.output before.diag
+    after.diag
+Does (Some (asked.Drill number count)) unread kept silent before after code =
+    unread × PlaysDrill number count kept silent code before.output after.output before.diag
+    after.diag
