@@ -1,0 +1,23 @@
+//! Sessions of the running bridge: its hosts, its readers beside the loop, and the whole program.
+#![tactic(auto)]
+
+#[cfg(test)]
+mod beside;
+#[cfg(test)]
+mod hosts;
+#[cfg(test)]
+mod lost_engine;
+#[cfg(test)]
+mod program;
+#[cfg(test)]
+mod ready;
+#[cfg(test)]
+mod recorder;
+#[cfg(test)]
+mod refused_calls;
+#[cfg(test)]
+mod talk;
+#[cfg(test)]
+mod waiting_host;
+#[cfg(test)]
+mod words;

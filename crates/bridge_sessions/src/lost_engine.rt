@@ -1,0 +1,102 @@
+// What the log and both sides get where the engine is lost.
+ghost use Rattle.std.specs.Prelude.{◌≡◌, []};
+ghost use Rattle.event_pipe.specs.Ends.{IsSender, IsFreshTaker, sent};
+ghost use Rattle.bridge_sessions.specs.Ready.{IsReady};
+
+use crate::ready::{Ready, make_ready};
+use event_pipe::{Pipe, PipeSend, PipeTake, ReadEnd, read_pipe};
+use line_io::{MemSink, MemSource};
+use pipe_runner::{LoopEnd, core_loop};
+use std::alloc::Global;
+use std::sync::Wait;
+use std::test::Fail;
+
+const LOG: &[u8] = b"\
+    #2 Resign=false ResignMoves=3 ResignScore=600 ShowPonder=true\n\
+    # 0\n\
+    U uci\n\
+    # 1\n\
+    u uciok\n\
+    U isready\n\
+    # 2\n\
+    u?\n\
+    X tellusererror Engine ended\n\
+    # 3\n\
+    u.\n\
+    # 4\n\
+    x quit\n";
+
+/// The sinks of a loop.
+#[derive(Drop)]
+struct Sinks {
+    output: MemSink,
+    engine: MemSink,
+    log: Option<MemSink>,
+}
+
+// Puts these lines into the channel.
+fn read_lines<R: Wait>(
+    rt: &R,
+    alloc: Global,
+    lines: &[u8],
+    to: &mut PipeSend,
+) -> Result<ReadEnd, Fail>
+    requires sender { IsSender to.old }
+    requires fresh { sent to.old ≡ [] }
+{
+    let mut source = MemSource::make(alloc, lines, 7, &[])?;
+    Ok(read_pipe(rt, alloc, &mut source, to))
+}
+
+// Steps the core by what is in the channel.
+fn step_all<R: Wait>(rt: &R, ready: Ready, taker: PipeTake, sinks: &mut Sinks) -> LoopEnd
+    requires ready { IsReady ready.core ready.text }
+    requires taker { IsFreshTaker taker }
+{
+    let Ready { mut core, mut text } = ready;
+    let mut taker = taker;
+    core_loop(
+        rt,
+        &mut core,
+        &mut taker,
+        &mut sinks.output,
+        &mut sinks.engine,
+        &mut sinks.log,
+        &mut text,
+    )
+}
+
+// Runs the loop over these lines: those of the engine come first.
+fn run_loop<R: Wait>(
+    rt: &R,
+    alloc: Global,
+    lines: (&[u8], &[u8]),
+    sinks: &mut Sinks,
+) -> Result<LoopEnd, Fail> {
+    let ready = make_ready(alloc)?;
+    let (mut iface, mut child, taker) = Pipe::make(alloc)?;
+    let _engine_end = read_lines(rt, alloc, lines.0, &mut child)?;
+    let _iface_end = read_lines(rt, alloc, lines.1, &mut iface)?;
+    Ok(step_all(rt, ready, taker, sinks))
+}
+
+// The engine's second write fails: that it is lost is the very next step.
+#[test]
+fn a_lost_engine_is_logged(rt: HostRuntime) -> Result<(), Fail> {
+    let alloc = rt.alloc();
+    let mut sinks = Sinks {
+        output: MemSink::make(alloc, 1_000, &[])?,
+        engine: MemSink::make(alloc, 1_000, &[2])?,
+        log: Some(MemSink::make(alloc, 1_000, &[])?),
+    };
+    let end = run_loop(&rt, alloc, (b"uciok\n", b"quit\n"), &mut sinks)?;
+    assert!(rt; end.engine && !end.output && !end.log);
+    assert_eq!(rt; sinks.engine.taken(), b"uci\n".as_slice());
+    assert_eq!(rt;
+        sinks.output.taken(),
+        b"tellusererror Engine ended\n".as_slice()
+    );
+    let log = sinks.log.as_ref().map_or(b"".as_slice(), |log| log.taken());
+    assert_eq!(rt; log, LOG);
+    Ok(())
+}

@@ -1,0 +1,95 @@
+// The program over hosts in memory.
+ghost use Rattle.std.specs.Prelude.{◌≡◌};
+ghost use Rattle.bridge_runner.specs.Outside.{unused};
+
+use bridge_app::bridge_main;
+use child_engine::{Host, SteadyHost};
+use line_io::{MemSink, MemSource};
+use std::alloc::Global;
+use std::sync::Wait;
+use std::test::Fail;
+use std::thread::Threads;
+
+pub const ENGINE: &[u8] = b"uciok\nreadyok\n";
+
+const INPUT: &[u8] = b"ping 3\nquit\n";
+
+const PONG: &[u8] = b"pong 3\n";
+
+const PONG_AND_END: &[u8] = b"pong 3\ntellusererror Engine ended\n";
+
+const END_AND_PONG: &[u8] = b"tellusererror Engine ended\npong 3\n";
+
+/// What a run answered and wrote.
+#[derive(Drop)]
+pub struct Told {
+    pub code: u8,
+    pub output: MemSink,
+    pub diag: MemSink,
+}
+
+impl Told {
+    /// Whether the ping was answered. The end of the engine is told where it came before `quit`.
+    pub fn is_of_a_ping(&self) -> bool {
+        let output = self.output.taken();
+        output == PONG || output == PONG_AND_END || output == END_AND_PONG
+    }
+}
+
+fn words_of(alloc: Global, texts: &[&str]) -> Result<Vec<Vec<u8>>, Fail> {
+    let mut words: Vec<Vec<u8>> = Vec::new(alloc);
+    for text in texts {
+        words.push(Vec::from_slice(alloc, text.as_bytes())?)?;
+    }
+    Ok(words)
+}
+
+/// Runs the program with these words over a host, for an interface that asks for an answer and
+/// quits. The writes of the diagnostic with these numbers fail.
+pub fn run_over<H: Host, R: Threads + Wait + Sync>(
+    rt: &R,
+    alloc: Global,
+    words: &[&str],
+    host: &mut H,
+    failing: &[u64],
+) -> Result<Told, Fail>
+    requires { H.books host.old ≡ unused }
+{
+    let words = words_of(alloc, words)?;
+    let mut input = MemSource::make(alloc, INPUT, 5, &[])?;
+    let mut output = MemSink::make(alloc, 1000, &[])?;
+    let mut diag = MemSink::make(alloc, 1000, failing)?;
+    let status = bridge_main(
+        rt,
+        alloc,
+        words.as_slice(),
+        &mut input,
+        &mut output,
+        host,
+        &mut diag,
+    );
+    Ok(Told {
+        code: status.code,
+        output,
+        diag,
+    })
+}
+
+/// The same over a host that never fails.
+pub fn run_steady<R: Threads + Wait + Sync>(
+    rt: &R,
+    alloc: Global,
+    words: &[&str],
+) -> Result<Told, Fail> {
+    let mut host = SteadyHost::make(alloc, ENGINE, 5)?;
+    run_over(rt, alloc, words, &mut host, &[])
+}
+
+#[test]
+fn a_session_over_a_steady_host(rt: HostRuntime) -> Result<(), Fail> {
+    let told = run_steady(&rt, rt.alloc(), &["toy"])?;
+    assert_eq!(rt; told.code, 0);
+    assert!(rt; told.is_of_a_ping());
+    assert_eq!(rt; told.diag.taken(), b"".as_slice());
+    Ok(())
+}
