@@ -207,7 +207,7 @@ endless means limit first now held calls number many fits d =
       gave = h.course.gave;
       in_time = h.course.in_time;
       few = omega (arith, h.count);
-      ends = record { took = h.took; all = at_wait limit d.1.0 held h.given h.pieces h.course.runs d.0; many = omega (arith, d.1.1); no_fault = h.course.no_fault };
+      ends = record { took = h.took; all = at_wait limit d.1.0 held h.given h.pieces h.course.runs d.0; many = omega (arith, d.1.1); still_open = record { held = held; calls = d.1.0; runs = h.course.runs; waits = d.0 }; no_fault = h.course.no_fault };
     }
 
 flag_le : (b : Bool) → flag b ≤ 1

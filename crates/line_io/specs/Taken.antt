@@ -3,8 +3,8 @@ use Rattle.std.specs.Prelude.{◌≡◌, ℕ, ◌+◌, ◌^◌, ◌<◌, ◌≤�
 use Rattle.std.specs.Io.KnownBytes.{IsAtEnd}
 use Rattle.line_io.specs.Source.{Supplied}
 use Rattle.line_io.specs.Causes.{Rose}
-use Rattle.line_io.specs.Lines.{Piece, Reads, items}
-use Rattle.line_io.specs.Runs.{whole}
+use Rattle.line_io.specs.Lines.{Piece, Held, IsWaiting, Reads, items}
+use Rattle.line_io.specs.Runs.{Runs, whole}
 use Rattle.line_io.specs.Takers.{Meaning}
 use Rattle.line_io.specs.declared.taker.LinesEnd.{LinesEnd}
 use Rattle.line_io.specs.declared.taker.LinesEnd.TheVariants as ends
@@ -58,11 +58,19 @@ pub record TakesToFault {S O X : Type 0} (means : Meaning S O X) (limit : ℕ) (
   pub all : pieces ≡ whole limit given
   pub fault : Rose old.input.faults new.input.faults
 
--- the lines that were whole were taken, up to so many bytes
+-- Calls of the reader of lines got these bytes and these lines. None of them saw the end, and no line that is left is whole.
+pub record IsOpenStill (limit : ℕ) (given : List ℕ) (pieces : List Piece) : Type 0 where
+  pub held : Held
+  pub calls : ℕ
+  pub runs : Runs limit held given pieces calls
+  pub waits : IsWaiting held
+
+-- the lines that were whole were taken, up to so many bytes, and the end was not seen
 pub record TakesMany {S O X : Type 0} (means : Meaning S O X) (limit : ℕ) (given : List ℕ) (pieces : List Piece) (old new : Place S O) : Type 0 where
   pub took : means.took old.taker old.output pieces new.taker new.output
   pub all : pieces ≡ whole limit given
   pub many : 2 ^ 32 ≤ length given
+  pub still_open : IsOpenStill limit given pieces
   pub no_fault : new.input.faults ≡ old.input.faults
 
 -- what each ending says
