@@ -1,5 +1,5 @@
 -- What `==` says of sides, kinds, men, moves and positions: exactly that they are the same.
-use Rattle.std.proofs.Common.{◌≡◌, Bool, ◌&&◌, Option, Some, None, refl, ap, eqb, ℕ}
+use Rattle.std.proofs.Common.{◌≡◌, Bool, ◌&&◌, Option, Some, None, refl, sym, ap, eqb, length, ◌∙◌, ℕ}
 use Rattle.std.proofs.Math.Bool.{beq}
 use Rattle.std.specs.Cmp.{booleans_Decides}
 use Rattle.std.specs.Bool.{Decides}
@@ -16,7 +16,10 @@ use Rattle.chess_board.specs.contracts.board.SidePartialEq.TheImpl as sides
 use Rattle.chess_board.specs.contracts.board.KindPartialEq.TheImpl as kinds
 use Rattle.chess_board.specs.declared.board.Rights.{Rights}
 use Rattle.chess_board.specs.Board.{Man, Men}
-use Rattle.chess_board.specs.Placement.{Placement}
+use Rattle.chess_board.specs.Position.{Position}
+use Rattle.chess_board.specs.declared.men.Board.TheInside.{Inside}
+use Rattle.chess_board.specs.Sets.{men_of, sets_of}
+use Rattle.chess_board.proofs.Sets.{men_of-sets_of}
 use Rattle.chess_board.proofs.Places.{move_same}
 
 -- `==` of two sides, kinds, men and moves
@@ -102,8 +105,12 @@ moves-Decides a b =
 abbrev pub rights_test : Rights → Rights → Bool
 rights_test a b = beq a.wk b.wk && (beq a.wq b.wq && (beq a.bk b.bk && beq a.bq b.bq))
 
-abbrev pub position_test : Placement → Placement → Bool
-position_test p q = eqb p.half q.half && (eqb p.full q.full && (pointwise man_test p.men q.men && (side_test p.side q.side && (rights_test p.rights q.rights && option_eq eqb p.passant q.passant))))
+abbrev pub sets_test : Inside → Inside → Bool
+sets_test a b =
+    eqb a.white b.white && (eqb a.black b.black && (eqb a.pawns b.pawns && (eqb a.knights b.knights && (eqb a.bishops b.bishops && (eqb a.rooks b.rooks && (eqb a.queens b.queens && eqb a.kings b.kings))))))
+
+abbrev pub position_test : Position → Position → Bool
+position_test p q = eqb p.half q.half && (eqb p.full q.full && (sets_test (sets_of p.men) (sets_of q.men) && (side_test p.side q.side && (rights_test p.rights q.rights && option_eq eqb p.passant q.passant))))
 
 abbrev rights_of : Bool → Bool → Bool → Bool → Rights
 rights_of a b c d = record { wk = a; wq = b; bk = c; bq = d }
@@ -117,18 +124,51 @@ rights-Decides a b =
       λ e. law.1 (ap (λ (r : Rights). r.wk) e, (ap (λ (r : Rights). r.wq) e, (ap (λ (r : Rights). r.bk) e, ap (λ (r : Rights). r.bq) e))),
     )
 
-abbrev placed : Men → Side → Rights → Option ℕ → ℕ → ℕ → Placement
+abbrev sets : ℕ → ℕ → ℕ → ℕ → ℕ → ℕ → ℕ → ℕ → Inside
+sets w b p n f r q k = record { white = w; black = b; pawns = p; knights = n; bishops = f; rooks = r; queens = q; kings = k }
+
+sets-Decides : (a b : Inside) → Decides (sets_test a b) (a ≡ b)
+sets-Decides a b =
+    let law = Decides-and (eqb a.white b.white) _ (Decides-eqb a.white b.white) (Decides-and (eqb a.black b.black) _ (Decides-eqb a.black b.black)
+    (Decides-and (eqb a.pawns b.pawns) _ (Decides-eqb a.pawns b.pawns) (Decides-and (eqb a.knights b.knights) _ (Decides-eqb a.knights b.knights)
+    (Decides-and (eqb a.bishops b.bishops) _ (Decides-eqb a.bishops b.bishops) (Decides-and (eqb a.rooks b.rooks) _ (Decides-eqb a.rooks b.rooks)
+    (Decides-and (eqb a.queens b.queens) (eqb a.kings b.kings) (Decides-eqb a.queens b.queens) (Decides-eqb a.kings b.kings))))))) in (
+      λ e. let t = law.0 e in
+          let w = t.0 in let u = t.1.0 in let p = t.1.1.0 in let n = t.1.1.1.0 in let f = t.1.1.1.1.0 in let r = t.1.1.1.1.1.0 in let q = t.1.1.1.1.1.1.0 in let k = t.1.1.1.1.1.1.1 in
+          let whole : sets a.white a.black a.pawns a.knights a.bishops a.rooks a.queens a.kings ≡ sets b.white b.black b.pawns b.knights b.bishops b.rooks b.queens b.kings = cc in whole,
+      λ e. law.1 (
+        ap (λ (x : Inside). x.white) e,
+        (
+          ap (λ (x : Inside). x.black) e,
+          (
+            ap (λ (x : Inside). x.pawns) e,
+            (
+              ap (λ (x : Inside). x.knights) e,
+              (ap (λ (x : Inside). x.bishops) e, (ap (λ (x : Inside). x.rooks) e, (ap (λ (x : Inside). x.queens) e, ap (λ (x : Inside). x.kings) e))),
+            ),
+          ),
+        ),
+      ),
+    )
+
+-- `==` of two boards says that the same men stand on them
+pub boards-Decides : (men others : Men) → length men ≡ 64 → length others ≡ 64 → Decides (sets_test (sets_of men) (sets_of others)) (men ≡ others)
+boards-Decides men others size size' =
+    let law = sets-Decides (sets_of men) (sets_of others) in
+    (λ e. sym (men_of-sets_of men size) ∙ ap men_of (law.0 e) ∙ men_of-sets_of others size', λ e. law.1 (ap sets_of e))
+
+abbrev placed : Men → Side → Rights → Option ℕ → ℕ → ℕ → Position
 placed men side rights passant half full = record { men = men; side = side; rights = rights; passant = passant; half = half; full = full }
 
-pub positions-Decides : (p q : Placement) → Decides (position_test p q) (p ≡ q)
-positions-Decides p q =
-    let men = pointwise man_test p.men q.men in
+pub positions-Decides : (p q : Position) → length p.men ≡ 64 → length q.men ≡ 64 → Decides (position_test p q) (p ≡ q)
+positions-Decides p q size size' =
+    let men = sets_test (sets_of p.men) (sets_of q.men) in
     let side = side_test p.side q.side in
     let rights = rights_test p.rights q.rights in
     let passant = option_eq eqb p.passant q.passant in
     let law = Decides-and (eqb p.half q.half) _ (Decides-eqb p.half q.half) (Decides-and (eqb p.full q.full) _ (Decides-eqb p.full q.full)
-    (Decides-and men _ (slice_eq-Decides men-Decides p.men q.men men refl) (Decides-and side _ (sides-Decides p.side q.side) (Decides-and rights passant (rights-Decides p.rights q.rights) (option-Decides eqb Decides-eqb p.passant q.passant))))) in (
+    (Decides-and men _ (boards-Decides p.men q.men size size') (Decides-and side _ (sides-Decides p.side q.side) (Decides-and rights passant (rights-Decides p.rights q.rights) (option-Decides eqb Decides-eqb p.passant q.passant))))) in (
       λ e. let same = law.0 e in let a = same.0 in let b = same.1.0 in let c = same.1.1.0 in let d = same.1.1.1.0 in let f = same.1.1.1.1.0 in let g = same.1.1.1.1.1 in
           let whole : placed p.men p.side p.rights p.passant p.half p.full ≡ placed q.men q.side q.rights q.passant q.half q.full = cc in whole,
-      λ e. law.1 (ap (λ (x : Placement). x.half) e, (ap (λ (x : Placement). x.full) e, (ap (λ (x : Placement). x.men) e, (ap (λ (x : Placement). x.side) e, (ap (λ (x : Placement). x.rights) e, ap (λ (x : Placement). x.passant) e))))),
+      λ e. law.1 (ap (λ (x : Position). x.half) e, (ap (λ (x : Position). x.full) e, (ap (λ (x : Position). x.men) e, (ap (λ (x : Position). x.side) e, (ap (λ (x : Position). x.rights) e, ap (λ (x : Position). x.passant) e))))),
     )

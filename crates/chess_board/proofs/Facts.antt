@@ -7,7 +7,7 @@ use Rattle.chess_board.specs.declared.board.Side.TheVariants.{White, Black}
 use Rattle.chess_board.specs.declared.board.Rights.{Rights}
 use Rattle.chess_board.specs.Board.{Men, man_at, other, is_of, is_king, is_rook, is_pawn, is_empty, rank_of, squares}
 use Rattle.chess_board.specs.Attack.{is_pawn_strike, is_ahead}
-use Rattle.chess_board.specs.Placement.{Placement}
+use Rattle.chess_board.specs.Position.{Position}
 use Rattle.chess_board.specs.Rules.{is_en_passant, is_legal, is_at, fifth_rank, sixth_rank, beside}
 use Rattle.chess_board.specs.Play.{AreMen, AreRights, IsPosition, Takeable, can_take, fits_board, fits_kings, at_home, rights_at_home, built, settled, settled_at, is_supported, top_count}
 use Rattle.chess_board.proofs.Below.{some_below-found}
@@ -21,7 +21,7 @@ board_fits men are =
     let black : leb (count_by (is_of Black) men) 16 ≡ true = le-leb _ _ are.black_few in
     rw (pawns, white, black) refl
 
-pub kings_fit : (p : Placement) → IsPosition p → fits_kings p.men p.side ≡ true
+pub kings_fit : (p : Position) → IsPosition p → fits_kings p.men p.side ≡ true
 unfolding fits_kings
 kings_fit p is =
     let white : eqb (count_by (is_king White) p.men) 1 ≡ true = eq-eqb _ _ is.men.white_king in
@@ -49,15 +49,15 @@ rights_same men rights are =
     let whole : rights_of (at_home men rights.wk White 4 7) (at_home men rights.wq White 4 0) (at_home men rights.bk Black 60 63) (at_home men rights.bq Black 60 56) ≡ rights_of rights.wk rights.wq rights.bk rights.bq = cc in
     whole
 
-settled_same : (p : Placement) (o : Option ℕ) → Takeable p o → settled_at p o ≡ p
+settled_same : (p : Position) (o : Option ℕ) → Takeable p o → settled_at p o ≡ p
 settled_same p None t = refl
 settled_same p (Some at) t = let e = t.1 in rw e refl
 
-abbrev counted : Placement → Rights → ℕ → ℕ → Placement
+abbrev counted : Position → Rights → ℕ → ℕ → Position
 counted p rights half full = record p { rights = rights; half = half; full = full }
 
 -- a position is what its own parts make
-pub built-same : (p : Placement) → IsPosition p → built p ≡ Ok p
+pub built-same : (p : Position) → IsPosition p → built p ≡ Ok p
 built-same p is =
     let board = board_fits p.men is.men in
     let kings = kings_fit p is in
@@ -67,14 +67,14 @@ built-same p is =
     let same : counted p (rights_at_home p.men p.rights) (min p.half top_count) (max 1 (min p.full top_count)) ≡ counted p p.rights p.half p.full = cc in
     let still : settled_at p p.passant ≡ p = settled_same p p.passant is.passant in
     let last : settled (counted p (rights_at_home p.men p.rights) (min p.half top_count) (max 1 (min p.full top_count))) ≡ p =
-    subst (λ (q : Placement). settled q ≡ p) (sym same) still in
+    subst (λ (q : Position). settled q ≡ p) (sym same) still in
     rw (board, kings) (ap Ok last)
 
 ahead_rank : (side : Side) (rank to : ℕ) → rank ≡ fifth_rank side → is_ahead side rank to 1 ≡ true → to ≡ sixth_rank side
 ahead_rank White rank to five e = let q = eqb-true to (rank + 1) e in omega arith
 ahead_rank Black rank to five e = let q = eqb-true rank (to + 1) e in omega arith
 
-passant_rank_of : (p : Placement) (from at : ℕ) → is_en_passant p from at ≡ true → rank_of at ≡ sixth_rank p.side
+passant_rank_of : (p : Position) (from at : ℕ) → is_en_passant p from at ≡ true → rank_of at ≡ sixth_rank p.side
 unfolding is_en_passant
 passant_rank_of p from at e =
     let strike = is_pawn_strike p.side from at && is_empty (man_at p.men at) in
@@ -83,7 +83,7 @@ passant_rank_of p from at e =
     let strikes = (both (is_pawn_strike p.side from at) (is_empty (man_at p.men at)) (both strike (is_pawn (other p.side) (man_at p.men (beside from at))) parts.1).0).0 in
     ahead_rank p.side (rank_of from) (rank_of at) five (both _ _ strikes).1
 
-take_rank : (p : Placement) (at : ℕ) → can_take p at ≡ true → rank_of at ≡ sixth_rank p.side
+take_rank : (p : Position) (at : ℕ) → can_take p at ≡ true → rank_of at ≡ sixth_rank p.side
 unfolding can_take
 take_rank p at e =
     let found = some_below-found squares (λ from. is_pawn p.side (man_at p.men from) && (is_en_passant p from at && is_legal p from at None)) e in
@@ -92,7 +92,7 @@ take_rank p at e =
     passant_rank_of p from at (both (is_en_passant p from at) (is_legal p from at None) rest.1).0
 
 -- the passant square lies on the sixth rank of the side on move
-pub passant_rank : (p : Placement) → IsPosition p → IfSome p.passant (λ at. rank_of at ≡ sixth_rank p.side)
+pub passant_rank : (p : Position) → IsPosition p → IfSome p.passant (λ at. rank_of at ≡ sixth_rank p.side)
 passant_rank p is = go p.passant is.passant
   where
     go : (o : Option ℕ) → Takeable p o → IfSome o (λ at. rank_of at ≡ sixth_rank p.side)

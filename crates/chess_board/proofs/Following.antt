@@ -9,7 +9,7 @@ use Rattle.chess_board.specs.declared.board.Side.TheVariants.{White, Black}
 use Rattle.chess_board.specs.declared.board.Kind.{Kind}
 use Rattle.chess_board.specs.declared.board.Kind.TheVariants.{Pawn, Knight, Bishop, Rook, Queen, King}
 use Rattle.chess_board.specs.Board.{Man, Men, man_at, other, is_empty, is_pawn_kind, rank_of, files_apart, on_the_way}
-use Rattle.chess_board.specs.Placement.{Placement}
+use Rattle.chess_board.specs.Position.{Position}
 use Rattle.chess_board.specs.Rules.{becomes, moved, taken, hopped, prepared, men_after, king_home, beside, second_rank, is_en_passant, is_double_step, castles_short, castles_long}
 use Rattle.chess_board.specs.Laws.{Ahead, IsOf, TakesPassant, CastlesShort, CastlesLong, IsLegal}
 use Rattle.chess_board.specs.Play.{IsPosition, keeps, rights_after, passed, half_after, kind_on, follow, settled, position_after, top_count}
@@ -40,7 +40,7 @@ length-moved : (men : Men) (side : Side) (piece : Kind) (from to : ℕ) (promo :
 length-moved men side piece from to promo = length-set _ to _ ∙ length-set men from None
 
 -- what else changes
-length-prepared : (p : Placement) (piece : Kind) (from to : ℕ) → length (prepared p piece from to) ≡ length p.men
+length-prepared : (p : Position) (piece : Kind) (from to : ℕ) → length (prepared p piece from to) ≡ length p.men
 length-prepared p Pawn from to = elim (is_en_passant p from to) as (λ v. length (taken p.men v (beside from to)) ≡ length p.men) [ true ↦ length-set p.men (beside from to) None | false ↦ refl ]
 length-prepared p King from to =
     let home = king_home p.side in
@@ -54,20 +54,20 @@ length-prepared p Rook from to = refl
 length-prepared p Queen from to = refl
 
 -- castling short and castling long are different moves
-short_or_long : (p : Placement) (from to : ℕ) → CastlesLong p from to → castles_short p from to ≡ false
+short_or_long : (p : Position) (from to : ℕ) → CastlesLong p from to → castles_short p from to ≡ false
 short_or_long p from to long = false_from_ne_true _ (λ e. let short = (ShortAt p from to).0 e in let a = short.0.1 in let b = long.0.1 in absurd (omega arith))
 
-hopped-short : (p : Placement) (from to : ℕ) → CastlesShort p from to → prepared p King from to ≡ moved p.men p.side Rook (king_home p.side + 3) (king_home p.side + 1) None
+hopped-short : (p : Position) (from to : ℕ) → CastlesShort p from to → prepared p King from to ≡ moved p.men p.side Rook (king_home p.side + 3) (king_home p.side + 1) None
 hopped-short p from to short = let e = (ShortAt p from to).1 short in rw e refl
 
-hopped-long : (p : Placement) (from to : ℕ) → CastlesLong p from to → prepared p King from to ≡ moved p.men p.side Rook (king_home p.side - 4) (king_home p.side - 1) None
+hopped-long : (p : Position) (from to : ℕ) → CastlesLong p from to → prepared p King from to ≡ moved p.men p.side Rook (king_home p.side - 4) (king_home p.side - 1) None
 hopped-long p from to long = let s = short_or_long p from to long in let e = (LongAt p from to).1 long in rw (s, e) refl
 
-taken-passant : (p : Placement) (from to : ℕ) → TakesPassant p from to → prepared p Pawn from to ≡ set p.men (beside from to) None
+taken-passant : (p : Position) (from to : ℕ) → TakesPassant p from to → prepared p Pawn from to ≡ set p.men (beside from to) None
 taken-passant p from to takes = let e = (PassantAt p from to).1 takes in rw e refl
 
 -- squares that no rule speaks of stay
-prepared-others : (p : Placement) (piece : Kind) (from to s : ℕ) → (TakesBeside p piece from to → s ≢ beside from to) →
+prepared-others : (p : Position) (piece : Kind) (from to s : ℕ) → (TakesBeside p piece from to → s ≢ beside from to) →
     ((corner crossed : ℕ) → Hops p piece from to corner crossed → (s ≢ corner) × (s ≢ crossed)) → man_at (prepared p piece from to) s ≡ man_at p.men s
 prepared-others p Pawn from to s beside_off hop_off =
     elim (is_en_passant p from to) as (λ v. is_en_passant p from to ≡ v → man_at (taken p.men v (beside from to)) s ≡ man_at p.men s) [
@@ -91,7 +91,7 @@ prepared-others p Rook from to s beside_off hop_off = refl
 prepared-others p Queen from to s beside_off hop_off = refl
 
 -- the pawn captured en passant is gone
-passant_gone : (p : Placement) (piece : Kind) (from to : ℕ) (promo : Option Kind) → length p.men ≡ 64 → from < 64 → to < 64 → man_at p.men from ≡ Some (p.side, piece) → TakesBeside p piece from to →
+passant_gone : (p : Position) (piece : Kind) (from to : ℕ) (promo : Option Kind) → length p.men ≡ 64 → from < 64 → to < 64 → man_at p.men from ≡ Some (p.side, piece) → TakesBeside p piece from to →
     man_at (moved (prepared p piece from to) p.side piece from to promo) (beside from to) ≡ None
 passant_gone p piece from to promo whole f t man takes =
     let low : beside from to < length p.men = rw whole (grind arith) in
@@ -109,7 +109,7 @@ passant_gone p piece from to promo whole f t man takes =
     side_in side (Some man) = man.0
 
 -- the rook has hopped
-rook_hopped : (p : Placement) (piece : Kind) (from to : ℕ) (promo : Option Kind) (corner crossed : ℕ) → length p.men ≡ 64 → Hops p piece from to corner crossed →
+rook_hopped : (p : Position) (piece : Kind) (from to : ℕ) (promo : Option Kind) (corner crossed : ℕ) → length p.men ≡ 64 → Hops p piece from to corner crossed →
     (man_at (moved (prepared p piece from to) p.side piece from to promo) corner ≡ None) × (man_at (moved (prepared p piece from to) p.side piece from to promo) crossed ≡ Some (p.side, Rook))
 rook_hopped p piece from to promo corner crossed whole hops =
     let range = home_range p.side in
@@ -130,7 +130,7 @@ rook_hopped p piece from to promo corner crossed whole hops =
       man_at-moved (prepared p piece from to) p.side piece from to promo crossed xf xt ∙ (rw ready (moved-arrived p.men p.side Rook corner crossed None xl)),
     )
 
-moves_men : (p : Placement) (from to : ℕ) (promo : Option Kind) → length p.men ≡ 64 → from < 64 → to < 64 → (m : IsLegal p from to promo) → MovesMen p m.piece from to promo (men_after p m.piece from to promo)
+moves_men : (p : Position) (from to : ℕ) (promo : Option Kind) → length p.men ≡ 64 → from < 64 → to < 64 → (m : IsLegal p from to promo) → MovesMen p m.piece from to promo (men_after p m.piece from to promo)
 unfolding men_after
 moves_men p from to promo whole f t m =
     let ready = prepared p m.piece from to in
@@ -170,7 +170,7 @@ passed-is side piece from to at =
     option_same : {a b : ℕ} → Some a ≡ Some b → a ≡ b
     option_same {a} {b} e = cc
 
-begins : (p : Placement) (piece : Kind) (to : ℕ) → (piece ≡ Pawn) ⊎ (man_at p.men to ≢ None) → half_after p piece to ≡ 0
+begins : (p : Position) (piece : Kind) (to : ℕ) → (piece ≡ Pawn) ⊎ (man_at p.men to ≢ None) → half_after p piece to ≡ 0
 begins p piece to h =
     ⊎_elim (λ (e : piece ≡ Pawn). rw e refl)
     (λ (full : man_at p.men to ≢ None).
@@ -182,23 +182,23 @@ begins p piece to h =
     filled None h = absurd (h refl)
     filled (Some man) h = refl
 
-counts : (p : Placement) (piece : Kind) (to : ℕ) → piece ≢ Pawn → man_at p.men to ≡ None → half_after p piece to ≡ min (p.half + 1) top_count
+counts : (p : Position) (piece : Kind) (to : ℕ) → piece ≢ Pawn → man_at p.men to ≡ None → half_after p piece to ≡ min (p.half + 1) top_count
 counts p piece to officer empty =
     let test : is_pawn_kind piece ≡ false = false_from_ne_true _ (λ e. officer (pawn_kind piece e)) in
     rw (test, empty) refl
 
-plays : (p : Placement) (from to : ℕ) (promo : Option Kind) → IsPosition p → from < 64 → to < 64 → (m : IsLegal p from to promo) → Plays p from to promo (settled (follow p m.piece from to promo))
+plays : (p : Position) (from to : ℕ) (promo : Option Kind) → IsPosition p → from < 64 → to < 64 → (m : IsLegal p from to promo) → Plays p from to promo (settled (follow p m.piece from to promo))
 plays p from to promo is f t m =
     let q = follow p m.piece from to promo in
     let only = settled-only q in
-    let rights : (settled q).rights ≡ rights_after p.rights from to = ap (λ (x : Placement). x.rights) only in
-    let men : (settled q).men ≡ men_after p m.piece from to promo = ap (λ (x : Placement). x.men) only in
-    let half : (settled q).half ≡ half_after p m.piece to = ap (λ (x : Placement). x.half) only in
+    let rights : (settled q).rights ≡ rights_after p.rights from to = ap (λ (x : Position). x.rights) only in
+    let men : (settled q).men ≡ men_after p m.piece from to promo = ap (λ (x : Position). x.men) only in
+    let half : (settled q).half ≡ half_after p m.piece to = ap (λ (x : Position). x.half) only in
     record {
       piece = m.piece;
       man = m.man;
       men = rw men (moves_men p from to promo is.men.whole f t m);
-      side = ap (λ (x : Placement). x.side) only;
+      side = ap (λ (x : Position). x.side) only;
       white_short = rw rights (KeepsAt p.rights.wk 4 7 from to);
       white_long = rw rights (KeepsAt p.rights.wq 4 0 from to);
       black_short = rw rights (KeepsAt p.rights.bk 60 63 from to);
@@ -207,7 +207,7 @@ plays p from to promo is f t m =
           (λ h. let parts = here.0 h in (law.0 parts.0, parts.1), λ h. here.1 (law.1 h.0, h.1));
       begun = λ h. half ∙ begins p m.piece to h;
       counted = λ officer empty. half ∙ counts p m.piece to officer empty;
-      full = ap (λ (x : Placement). x.full) only;
+      full = ap (λ (x : Position). x.full) only;
     }
 
 pub play-law : PlayLaw

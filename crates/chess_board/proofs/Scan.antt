@@ -1,6 +1,7 @@
 -- The next square of a set.
-use Rattle.std.proofs.Common.{◌≡◌, ◌≢◌, ◌+◌, ◌-◌, ◌/◌, ◌%◌, ◌^◌, ◌<◌, ◌≤◌, ◌==◌, ℕ, Bool, false, sym, ap, ⊎_elim, ◌∙◌, w64, arith}
+use Rattle.std.proofs.Common.{◌≡◌, ◌≢◌, ◌+◌, ◌-◌, ◌/◌, ◌%◌, ◌^◌, ◌<◌, ◌≤◌, ◌==◌, ◌*◌, ◌&&◌, ℕ, zero, suc, Bool, true, false, refl, sym, ap, ⊎_elim, ◌∙◌, w64, arith}
 use Rattle.std.specs.Int.{bit_at}
+use Rattle.std.specs.Int.Bits.{bit_and}
 use Rattle.std.specs.Int.Count.{count_trailing_zeros}
 use Rattle.std.proofs.Math.Nat.{div-div-eq-div-mul, div-le_self}
 use Rattle.std.proofs.lemmas.Nat.{pow-add}
@@ -8,6 +9,7 @@ use Rattle.std.proofs.lemmas.Nat.Bits.{bit_at-zero, bit_at_above, bit_at-trailin
 use Rattle.std.proofs.lemmas.Bool.{cases_lt, cases_eq}
 use Rattle.chess_board.specs.Board.{some_below}
 use Rattle.chess_board.specs.Reach.{has}
+use Rattle.chess_board.proofs.Sets.{has-both}
 use Rattle.chess_board.proofs.Below.{some_below-none, some_below-at}
 
 shifted : (n k i : ℕ) → bit_at (n / 2 ^ k) i ≡ bit_at n (k + i)
@@ -50,3 +52,28 @@ some_further test set at next beyond before here low passed = some_below-none ne
 
 pub some_first : (test : ℕ → Bool) (set next : ℕ) → ((s : ℕ) → s < 64 → has set s ≡ false → test s ≡ false) → next ≤ 64 → ((s : ℕ) → 0 ≤ s → s < next → has set s ≡ false) → some_below next test ≡ false
 some_first test set next beyond low passed = some_below-none next test (λ k less. beyond k (omega arith) (passed k (omega arith) less))
+
+-- the squares of one file: each eighth bit of the set, shifted by the file's number
+file_bit : (r : ℕ) → r < 8 → bit_at 72340172838076673 (r * 8) ≡ 1
+file_bit zero h = refl
+file_bit (suc zero) h = refl
+file_bit (suc (suc zero)) h = refl
+file_bit (suc (suc (suc zero))) h = refl
+file_bit (suc (suc (suc (suc zero)))) h = refl
+file_bit (suc (suc (suc (suc (suc zero))))) h = refl
+file_bit (suc (suc (suc (suc (suc (suc zero)))))) h = refl
+file_bit (suc (suc (suc (suc (suc (suc (suc zero))))))) h = refl
+file_bit (suc (suc (suc (suc (suc (suc (suc (suc r)))))))) h = absurd (omega arith)
+
+pub on_file : (set file rank : ℕ) → rank < 8 → has (bit_and (set / 2 ^ file) 72340172838076673) (rank * 8) ≡ false → has set (rank * 8 + file) ≡ false
+on_file set file rank low e =
+    let one : has 72340172838076673 (rank * 8) ≡ true = ap (λ (n : ℕ). n == 1) (file_bit rank low) in
+    let here : has (set / 2 ^ file) (rank * 8) ≡ has set (rank * 8 + file) = ap (λ (n : ℕ). n == 1) (shifted set file (rank * 8)) ∙ ap (has set) (turn file (rank * 8)) in
+    sym here ∙ (sym (and_true (has (set / 2 ^ file) (rank * 8)) (has 72340172838076673 (rank * 8)) one) ∙ sym (has-both (set / 2 ^ file) 72340172838076673 (rank * 8)) ∙ e)
+  where
+    turn : (a b : ℕ) → a + b ≡ b + a
+    turn a b = omega arith
+
+    and_true : (a b : Bool) → b ≡ true → (a && b) ≡ a
+    and_true true b h = h
+    and_true false b h = refl

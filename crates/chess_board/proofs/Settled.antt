@@ -7,14 +7,14 @@ use Rattle.std.proofs.lemmas.Bool.Decides.{Decides-and}
 use Rattle.chess_board.specs.declared.board.Side.{Side}
 use Rattle.chess_board.specs.declared.board.Rights.{Rights}
 use Rattle.chess_board.specs.Board.{Men, man_at, is_pawn, squares}
-use Rattle.chess_board.specs.Placement.{Placement}
+use Rattle.chess_board.specs.Position.{Position}
 use Rattle.chess_board.specs.Rules.{is_en_passant, is_legal}
 use Rattle.chess_board.specs.Laws.{CanTake}
 use Rattle.chess_board.specs.Play.{can_take, settled, settled_at}
 use Rattle.chess_board.proofs.Below.{some_below-hit, some_below-found, squares-is}
 use Rattle.chess_board.proofs.Legal.{PawnAt, PassantAt, legal-law}
 
-pub take-law : (p : Placement) (at : ℕ) → Decides (can_take p at) (CanTake p at)
+pub take-law : (p : Position) (at : ℕ) → Decides (can_take p at) (CanTake p at)
 unfolding can_take
 take-law p at =
     let test = λ (from : ℕ). is_pawn p.side (man_at p.men from) && (is_en_passant p from at && is_legal p from at None) in
@@ -25,38 +25,38 @@ take-law p at =
       λ h. some_below-hit squares h.from test (rw squares-is h.low) ((each h.from).1 (h.pawn, (h.way, h.legal))),
     )
 
-abbrev placed : Men → Side → Rights → Option ℕ → ℕ → ℕ → Placement
+abbrev placed : Men → Side → Rights → Option ℕ → ℕ → ℕ → Position
 placed men side rights passant half full = record { men = men; side = side; rights = rights; passant = passant; half = half; full = full }
 
-abbrev pub with_passant : Placement → Option ℕ → Placement
+abbrev pub with_passant : Position → Option ℕ → Position
 with_passant p passant = record p { passant = passant }
 
-with_own : (p : Placement) (o : Option ℕ) → p.passant ≡ o → with_passant p o ≡ p
+with_own : (p : Position) (o : Option ℕ) → p.passant ≡ o → with_passant p o ≡ p
 with_own p o e =
     let whole : placed p.men p.side p.rights o p.half p.full ≡ placed p.men p.side p.rights p.passant p.half p.full = ap (λ (v : Option ℕ). placed p.men p.side p.rights v p.half p.full) (sym e) in
     whole
 
 -- all but the passant square is as it was
-pub settled-only : (p : Placement) → settled p ≡ with_passant p (settled p).passant
+pub settled-only : (p : Position) → settled p ≡ with_passant p (settled p).passant
 settled-only p =
     elim p.passant as (λ v. p.passant ≡ v → settled_at p v ≡ with_passant p (settled_at p v).passant) [
       | None ↦ λ e. sym (with_own p p.passant refl)
       | Some s ↦ λ e. elim (can_take p s) as (λ v. cond v p (with_passant p None) ≡ with_passant p (cond v p (with_passant p None)).passant) [ true ↦ sym (with_own p p.passant refl) | false ↦ refl ]
     ] refl
 
-pub settled-passant : (p : Placement) (at : ℕ) → ((settled p).passant ≡ Some at) ↔ ((p.passant ≡ Some at) × CanTake (with_passant (settled p) (Some at)) at)
+pub settled-passant : (p : Position) (at : ℕ) → ((settled p).passant ≡ Some at) ↔ ((p.passant ≡ Some at) × CanTake (with_passant (settled p) (Some at)) at)
 settled-passant p at =
     elim p.passant as (λ v. p.passant ≡ v → ((settled_at p v).passant ≡ Some at) ↔ ((p.passant ≡ Some at) × CanTake (with_passant (settled_at p v) (Some at)) at)) [
       | None ↦ λ e. (λ h. let no' : None ≡ Some at = sym e ∙ h in absurd (cc), λ h. let h0 = h.0 in let no' : None ≡ Some at = sym e ∙ h0 in absurd (cc))
       | Some s ↦ λ e. elim (can_take p s) as (λ v. can_take p s ≡ v → ((cond v p (with_passant p None)).passant ≡ Some at) ↔ ((p.passant ≡ Some at) × CanTake (with_passant (cond v p (with_passant p None)) (Some at)) at)) [
         | true ↦ λ t. (
-          λ h. let same : s ≡ at = cc in (h, subst (λ (q : Placement). CanTake q at) (sym (with_own p (Some at) h)) ((take-law p at).0 (subst (λ (i : ℕ). can_take p i ≡ true) same t))),
+          λ h. let same : s ≡ at = cc in (h, subst (λ (q : Position). CanTake q at) (sym (with_own p (Some at) h)) ((take-law p at).0 (subst (λ (i : ℕ). can_take p i ≡ true) same t))),
           λ h. h.0,
         )
         | false ↦ λ f. (
           λ h. absurd (cc),
           λ h. let h0 = h.0 in let same : at ≡ s = cc in
-              let taken : CanTake p at = subst (λ (q : Placement). CanTake q at) (with_own p (Some at) h.0) h.1 in
+              let taken : CanTake p at = subst (λ (q : Position). CanTake q at) (with_own p (Some at) h.0) h.1 in
               let yes' : can_take p s ≡ true = subst (λ (i : ℕ). can_take p i ≡ true) same ((take-law p at).1 taken) in
               absurd (false≢true (sym f ∙ yes')),
         )

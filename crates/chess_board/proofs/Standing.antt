@@ -10,7 +10,7 @@ use Rattle.chess_board.specs.declared.board.Kind.TheVariants.{Pawn, Knight, Bish
 use Rattle.chess_board.specs.declared.board.BuildFault.TheVariants.{Board, Kings}
 use Rattle.chess_board.specs.Board.{Man, Men, man_at, other, is_of, is_king, is_rook, rank_of, each_square, squares}
 use Rattle.chess_board.specs.Attack.{is_checked}
-use Rattle.chess_board.specs.Placement.{Placement}
+use Rattle.chess_board.specs.Position.{Position}
 use Rattle.chess_board.specs.Laws.{CanTake}
 use Rattle.chess_board.specs.Play.{IsPosition, Takeable, fits_board, fits_kings, at_home, rights_at_home, built, settled, is_supported, is_end_rank, is_any_pawn, top_count}
 use Rattle.chess_board.specs.Lawful.{AreHome, NoEndPawn, FitsBoard, FitsKings, IsLawful, Settles, Builds}
@@ -100,11 +100,11 @@ supported men right side king rook e has =
     let tests = supports men right side king rook e has in
     ((KingAt side (man_at men king)).0 tests.0, (RookAt side (man_at men rook)).0 tests.1)
 
-takeable : (p : Placement) (o : Option ℕ) → Takeable p o → IfSome o (CanTake p)
+takeable : (p : Position) (o : Option ℕ) → Takeable p o → IfSome o (CanTake p)
 takeable p None t = tt
 takeable p (Some at) t = (take-law p at).0 t.1
 
-pub lawful-is : (p : Placement) → IsPosition p → IsLawful p
+pub lawful-is : (p : Position) → IsPosition p → IsLawful p
 lawful-is p is = record {
   whole = is.men.whole;
   board = (board-law p.men).0 (board_fits p.men is.men);
@@ -118,28 +118,28 @@ lawful-is p is = record {
   full = is.full;
 }
 
-abbrev given_as : Placement → Placement
+abbrev given_as : Position → Position
 given_as given = record given { rights = rights_at_home given.men given.rights; half = min given.half top_count; full = max 1 (min given.full top_count) }
 
-settles : (given : Placement) → Settles given (settled (given_as given))
+settles : (given : Position) → Settles given (settled (given_as given))
 settles given =
     let q = given_as given in
     let only = settled-only q in
     let men = given.men in
-    let rights : (settled q).rights ≡ rights_at_home men given.rights = ap (λ (p : Placement). p.rights) only in
+    let rights : (settled q).rights ≡ rights_at_home men given.rights = ap (λ (p : Position). p.rights) only in
     record {
-      men = ap (λ (p : Placement). p.men) only;
-      side = ap (λ (p : Placement). p.side) only;
+      men = ap (λ (p : Position). p.men) only;
+      side = ap (λ (p : Position). p.side) only;
       white_short = rw rights (RightAt men given.rights.wk White 4 7);
       white_long = rw rights (RightAt men given.rights.wq White 4 0);
       black_short = rw rights (RightAt men given.rights.bk Black 60 63);
       black_long = rw rights (RightAt men given.rights.bq Black 60 56);
       passant = λ at. settled-passant q at;
-      half = ap (λ (p : Placement). p.half) only;
-      full = ap (λ (p : Placement). p.full) only;
+      half = ap (λ (p : Position). p.half) only;
+      full = ap (λ (p : Position). p.full) only;
     }
 
-pub builds-is : (given : Placement) → Builds given (built given)
+pub builds-is : (given : Position) → Builds given (built given)
 builds-is given =
     elim (fits_board given.men) as (λ v. fits_board given.men ≡ v → Builds given (cond (not v) (Err Board) (cond (not (fits_kings given.men given.side)) (Err Kings) (Ok (settled (given_as given)))))) [
       | false ↦ λ e fits. false≢true (sym e ∙ (board-law given.men).1 fits)

@@ -1,8 +1,8 @@
 -- The tables of squares that a man could go to: each row is the set of the squares that pass the test.
 use Rattle.std.proofs.Common.{◌≡◌, ◌<◌, ◌+◌, ◌*◌, ◌/◌, ◌%◌, ℕ, zero, suc, Bool, true, false, not, cond, List, refl, sym, subst, arith, get_or}
-use Rattle.chess_board.specs.declared.board.Kind.TheVariants.{Pawn, Knight, Queen, King}
+use Rattle.chess_board.specs.declared.board.Kind.TheVariants.{Pawn, Knight, Bishop, Rook, Queen, King}
 use Rattle.chess_board.specs.declared.board.Side.TheVariants.{White, Black}
-use Rattle.chess_board.specs.declared.reach.TheConstants.{LINES, JUMPS, KING_WAYS, WHITE_PAWN_WAYS, BLACK_PAWN_WAYS}
+use Rattle.chess_board.specs.declared.reach.TheConstants.{LINES, DIAGONALS, STRAIGHTS, JUMPS, KING_WAYS, WHITE_PAWN_WAYS, BLACK_PAWN_WAYS}
 use Rattle.chess_board.specs.Board.{each_below}
 use Rattle.chess_board.specs.Reach.{form, has, IsSetOf}
 use Rattle.chess_board.proofs.Below.{each_below-at}
@@ -43,6 +43,34 @@ lines-part (suc (suc (suc (suc (suc (suc (suc (suc n)))))))) h = absurd (omega a
 
 pub lines-fits : (from : ℕ) → from < 64 → IsSetOf (form White Queen from) (get_or LINES from 0)
 lines-fits from low = in_part LINES (form White Queen) lines-part from low
+
+diagonals-part : (part : ℕ) → part < 8 → part_fits DIAGONALS (form White Bishop) part ≡ true
+diagonals-part zero h = refl
+diagonals-part (suc zero) h = refl
+diagonals-part (suc (suc zero)) h = refl
+diagonals-part (suc (suc (suc zero))) h = refl
+diagonals-part (suc (suc (suc (suc zero)))) h = refl
+diagonals-part (suc (suc (suc (suc (suc zero))))) h = refl
+diagonals-part (suc (suc (suc (suc (suc (suc zero)))))) h = refl
+diagonals-part (suc (suc (suc (suc (suc (suc (suc zero))))))) h = refl
+diagonals-part (suc (suc (suc (suc (suc (suc (suc (suc n)))))))) h = absurd (omega arith)
+
+pub diagonals-fits : (from : ℕ) → from < 64 → IsSetOf (form White Bishop from) (get_or DIAGONALS from 0)
+diagonals-fits from low = in_part DIAGONALS (form White Bishop) diagonals-part from low
+
+straights-part : (part : ℕ) → part < 8 → part_fits STRAIGHTS (form White Rook) part ≡ true
+straights-part zero h = refl
+straights-part (suc zero) h = refl
+straights-part (suc (suc zero)) h = refl
+straights-part (suc (suc (suc zero))) h = refl
+straights-part (suc (suc (suc (suc zero)))) h = refl
+straights-part (suc (suc (suc (suc (suc zero))))) h = refl
+straights-part (suc (suc (suc (suc (suc (suc zero)))))) h = refl
+straights-part (suc (suc (suc (suc (suc (suc (suc zero))))))) h = refl
+straights-part (suc (suc (suc (suc (suc (suc (suc (suc n)))))))) h = absurd (omega arith)
+
+pub straights-fits : (from : ℕ) → from < 64 → IsSetOf (form White Rook from) (get_or STRAIGHTS from 0)
+straights-fits from low = in_part STRAIGHTS (form White Rook) straights-part from low
 
 jumps-part : (part : ℕ) → part < 8 → part_fits JUMPS (form White Knight) part ≡ true
 jumps-part zero h = refl

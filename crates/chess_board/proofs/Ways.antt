@@ -4,7 +4,7 @@ use Rattle.std.specs.Bool.{Decides}
 use Rattle.chess_board.specs.declared.board.Kind.{Kind}
 use Rattle.chess_board.specs.declared.board.Square.{Square}
 use Rattle.chess_board.specs.Board.{is_of, man_at, squares}
-use Rattle.chess_board.specs.Placement.{Placement}
+use Rattle.chess_board.specs.Position.{Position}
 use Rattle.chess_board.specs.Rules.{is_legal, reaches_to}
 use Rattle.chess_board.specs.Play.{HasLegal}
 use Rattle.chess_board.specs.Place.{promotion, promotion_place, has_way, has_way_from, has_any_way}
@@ -13,17 +13,17 @@ use Rattle.chess_board.proofs.Legal.{legal-law}
 use Rattle.chess_board.proofs.Places.{never_from, never_to, proper, promotion-promotion_place}
 
 -- from a square with no man of the side there is none
-pub no_way_from : (p : Placement) (from : ℕ) → is_of p.side (man_at p.men from) ≡ false → has_way_from p from ≡ false
+pub no_way_from : (p : Position) (from : ℕ) → is_of p.side (man_at p.men from) ≡ false → has_way_from p from ≡ false
 unfolding has_way_from has_way
 no_way_from p from e = some_below-none squares _ (λ to _. some_below-none 5 _ (λ choice _. never_from p from to (promotion choice) e))
 
 -- nor to a square that the man does not reach
-pub no_way : (p : Placement) (from to : ℕ) → reaches_to p from to ≡ false → has_way p from to ≡ false
+pub no_way : (p : Position) (from to : ℕ) → reaches_to p from to ≡ false → has_way p from to ≡ false
 unfolding has_way
 no_way p from to e = some_below-none 5 _ (λ choice _. never_to p from to (promotion choice) e)
 
 -- a legal move is found by its squares and its promotion
-legal_way : (p : Placement) (from to : ℕ) (promo : Option Kind) → is_legal p from to promo ≡ true → has_way p from to ≡ true
+legal_way : (p : Position) (from to : ℕ) (promo : Option Kind) → is_legal p from to promo ≡ true → has_way p from to ≡ true
 unfolding has_way
 legal_way p from to promo e =
     let low = proper p from to promo e in
@@ -33,11 +33,11 @@ legal_way p from to promo e =
 abbrev square : (s : ℕ) → s < 64 → Square
 square s low = record { index = s; on_board = low }
 
-some_move : (p : Placement) (from to : ℕ) (promo : Option Kind) → from < 64 → to < 64 → is_legal p from to promo ≡ true → HasLegal p
+some_move : (p : Position) (from to : ℕ) (promo : Option Kind) → from < 64 → to < 64 → is_legal p from to promo ≡ true → HasLegal p
 some_move p from to promo f t e = record { move = record { from = square from f; to = square to t; promo = promo }; legal = (legal-law p from to promo).0 e }
 
 -- the test decides whether the side on move has a legal move
-pub way-law : (p : Placement) → Decides (has_any_way p) (HasLegal p)
+pub way-law : (p : Position) → Decides (has_any_way p) (HasLegal p)
 unfolding has_any_way has_way_from has_way
 way-law p = (
   λ e.
@@ -53,8 +53,8 @@ way-law p = (
 )
 
 -- the law at a test's answer
-pub way_answer : (r : Bool) (p q : Placement) → p ≡ q → r ≡ has_any_way p → Decides r (HasLegal q)
+pub way_answer : (r : Bool) (p q : Position) → p ≡ q → r ≡ has_any_way p → Decides r (HasLegal q)
 way_answer r p q same e =
     let law = way-law q in
-    let is : r ≡ has_any_way q = subst (λ (s : Placement). r ≡ has_any_way s) same e in
+    let is : r ≡ has_any_way q = subst (λ (s : Position). r ≡ has_any_way s) same e in
     (λ t. law.0 (sym is ∙ t), λ h. is ∙ law.1 h)

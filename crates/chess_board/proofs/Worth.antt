@@ -7,7 +7,7 @@ use Rattle.chess_board.specs.declared.board.Kind.{Kind}
 use Rattle.chess_board.specs.declared.board.Kind.TheVariants.{Pawn, Knight, Bishop, Rook, Queen, King}
 use Rattle.chess_board.specs.Board.{Man, Men, man_at, is_empty, is_pawn_kind, rank_of}
 use Rattle.chess_board.specs.Laws.{IsLegal}
-use Rattle.chess_board.specs.Placement.{Placement}
+use Rattle.chess_board.specs.Position.{Position}
 use Rattle.chess_board.specs.Rules.{becomes, goes, moved, taken, hopped, prepared, men_after, beside, king_home, is_en_passant, castles_short, castles_long}
 use Rattle.chess_board.specs.Play.{IsPosition, AreRights, half_after, follow, settled, position_after, top_count}
 use Rattle.chess_board.proofs.Moved.{apart}
@@ -63,7 +63,7 @@ hopped_total men side rook next whole r b ne there =
     let sums' : total (moved men side Rook rook next None) + (worth next (man_at men next) + worth rook (Some (side, Rook))) ≡ total men + worth next (Some (side, Rook)) = rw there at sums in
     omega arith
 
-king_total : (p : Placement) (from to : ℕ) → length p.men ≡ 64 → AreRights p.men p.rights → total (prepared p King from to) ≤ total p.men
+king_total : (p : Position) (from to : ℕ) → length p.men ≡ 64 → AreRights p.men p.rights → total (prepared p King from to) ≤ total p.men
 king_total p from to whole rights =
     let home = king_home p.side in
     let between = home_between p.side in
@@ -75,14 +75,14 @@ king_total p from to whole rights =
       ] refl
     ] refl
 
-pawn_total : (p : Placement) (from to : ℕ) → length p.men ≡ 64 → from < 64 → to < 64 → total (prepared p Pawn from to) ≤ total p.men
+pawn_total : (p : Position) (from to : ℕ) → length p.men ≡ 64 → from < 64 → to < 64 → total (prepared p Pawn from to) ≤ total p.men
 pawn_total p from to whole f t =
     let low : beside from to < 64 = grind arith in
     let less : beside from to < length p.men = rw whole low in
     let sums = total-set p.men (beside from to) None less in
     elim (is_en_passant p from to) as (λ v. total (taken p.men v (beside from to)) ≤ total p.men) [ true ↦ omega arith | false ↦ omega arith ]
 
-prepared_total : (p : Placement) (piece : Kind) (from to : ℕ) → length p.men ≡ 64 → AreRights p.men p.rights → from < 64 → to < 64 → total (prepared p piece from to) ≤ total p.men
+prepared_total : (p : Position) (piece : Kind) (from to : ℕ) → length p.men ≡ 64 → AreRights p.men p.rights → from < 64 → to < 64 → total (prepared p piece from to) ≤ total p.men
 prepared_total p Pawn from to whole rights f t = pawn_total p from to whole f t
 prepared_total p King from to whole rights f t = king_total p from to whole rights
 prepared_total p Knight from to whole rights f t = omega arith
@@ -119,20 +119,20 @@ some_worth s None e = absurd (cc)
 some_worth s (Some man) e = omega arith
 
 -- how a legal move changes what the men are worth, and the half-move count
-abbrev pub Wears : Placement → Placement → Type 0
+abbrev pub Wears : Position → Position → Type 0
 Wears p q = (total q.men < total p.men) ⊎ ((total q.men ≤ total p.men) × (q.half ≡ min (p.half + 1) top_count))
 
-abbrev Men_wear : Placement → Kind → ℕ → Men → Type 0
+abbrev Men_wear : Position → Kind → ℕ → Men → Type 0
 Men_wear p piece to after = (total after < total p.men) ⊎ ((total after ≤ total p.men) × (half_after p piece to ≡ min (p.half + 1) top_count))
 
-officer_wears : (p : Placement) (piece : Kind) (to : ℕ) (after : Men) → is_pawn_kind piece ≡ false → total after + worth to (man_at p.men to) ≤ total p.men → Men_wear p piece to after
+officer_wears : (p : Position) (piece : Kind) (to : ℕ) (after : Men) → is_pawn_kind piece ≡ false → total after + worth to (man_at p.men to) ≤ total p.men → Men_wear p piece to after
 officer_wears p piece to after officer sums =
     elim (is_empty (man_at p.men to)) as (λ v. is_empty (man_at p.men to) ≡ v → Men_wear p piece to after) [
       | true ↦ λ e. inr (omega arith, rw (officer, e) refl)
       | false ↦ λ e. let some = some_worth to (man_at p.men to) e in inl (omega arith)
     ] refl
 
-men_wear_as : (p : Placement) (from to : ℕ) (promo : Option Kind) → IsPosition p → from < 64 → to < 64 → (m : IsMove p from to promo) → Men_wear p m.piece to (men_after p m.piece from to promo)
+men_wear_as : (p : Position) (from to : ℕ) (promo : Option Kind) → IsPosition p → from < 64 → to < 64 → (m : IsMove p from to promo) → Men_wear p m.piece to (men_after p m.piece from to promo)
 unfolding men_after
 men_wear_as p from to promo is f t m =
     let ready = prepared_ready p m.piece from to is.men is.rights f t m.man in
@@ -155,7 +155,7 @@ men_wear_as p from to promo is f t m =
     ] refl
 
 -- a legal move takes from what the men are worth, or adds nothing and is counted
-pub wears : (p : Placement) (from to : ℕ) (promo : Option Kind) → IsPosition p → from < 64 → to < 64 → IsLegal p from to promo → Wears p (position_after p from to promo)
+pub wears : (p : Position) (from to : ℕ) (promo : Option Kind) → IsPosition p → from < 64 → to < 64 → IsLegal p from to promo → Wears p (position_after p from to promo)
 unfolding position_after
 wears p from to promo is f t legal =
     let m = move_of_legal p from to promo ((legal-law p from to promo).1 legal) in
@@ -163,6 +163,6 @@ wears p from to promo is f t legal =
     let wear = men_wear_as p from to promo is f t m in
     let q = follow p m.piece from to promo in
     let only = settled-only q in
-    let men : (settled q).men ≡ men_after p m.piece from to promo = ap (λ (x : Placement). x.men) only in
-    let half : (settled q).half ≡ half_after p m.piece to = ap (λ (x : Placement). x.half) only in
+    let men : (settled q).men ≡ men_after p m.piece from to promo = ap (λ (x : Position). x.men) only in
+    let half : (settled q).half ≡ half_after p m.piece to = ap (λ (x : Position). x.half) only in
     rw (kind, men, half) wear

@@ -6,7 +6,7 @@ use Rattle.chess_board.specs.declared.board.Kind.TheVariants.{Pawn, Rook, King}
 use Rattle.chess_board.specs.declared.board.BuildFault.{BuildFault}
 use Rattle.chess_board.specs.declared.board.BuildFault.TheVariants.{Board, Kings}
 use Rattle.chess_board.specs.Board.{Men, man_at, other, is_of, is_king, rank_of}
-use Rattle.chess_board.specs.Placement.{Placement}
+use Rattle.chess_board.specs.Position.{Position}
 use Rattle.chess_board.specs.Laws.{IsChecked, CanTake}
 use Rattle.chess_board.specs.Play.{built, top_count}
 
@@ -27,7 +27,7 @@ abbrev pub FitsKings : Men → Side → Type 0
 FitsKings men side = ((s : Side) → count_by (is_king s) men ≡ 1) × (¬ IsChecked men (other side))
 
 -- what holds of every position
-pub record IsLawful (p : Placement) : Type 0 where
+pub record IsLawful (p : Position) : Type 0 where
   pub whole : length p.men ≡ 64
   pub board : FitsBoard p.men
   pub kings : FitsKings p.men p.side
@@ -41,7 +41,7 @@ pub record IsLawful (p : Placement) : Type 0 where
 
 -- The parts of a position as they were given, but for rights whose king or rook is not at home, a passant square
 -- on which no legal capture is possible, and counts out of range.
-pub record Settles (given p : Placement) : Type 0 where
+pub record Settles (given p : Position) : Type 0 where
   pub men : p.men ≡ given.men
   pub side : p.side ≡ given.side
   pub white_short : IsTrue p.rights.wk ↔ (IsTrue given.rights.wk × AreHome given.men White 4 7)
@@ -53,11 +53,11 @@ pub record Settles (given p : Placement) : Type 0 where
   pub full : p.full ≡ max 1 (min given.full top_count)
 
 -- what is put together from parts: a fault of the board, else one of the kings, else a position
-abbrev pub Builds : Placement → Result Placement BuildFault → Type 0
+abbrev pub Builds : Position → Result Position BuildFault → Type 0
 Builds given (Err Board) = ¬ FitsBoard given.men
 Builds given (Err Kings) = FitsBoard given.men × (¬ FitsKings given.men given.side)
 Builds given (Ok p) = FitsBoard given.men × FitsKings given.men given.side × Settles given p
 
 -- what `build` answers is what the Laws say
 abbrev pub BuildLaw : Type 0
-BuildLaw = (given : Placement) → Builds given (built given)
+BuildLaw = (given : Position) → Builds given (built given)

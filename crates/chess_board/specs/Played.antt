@@ -4,13 +4,13 @@ use Rattle.chess_board.specs.declared.board.Side.{Side}
 use Rattle.chess_board.specs.declared.board.Kind.{Kind}
 use Rattle.chess_board.specs.declared.board.Kind.TheVariants.{Pawn, Rook, King}
 use Rattle.chess_board.specs.Board.{Men, man_at, other, rank_of, files_apart, on_the_way}
-use Rattle.chess_board.specs.Placement.{Placement}
+use Rattle.chess_board.specs.Position.{Position}
 use Rattle.chess_board.specs.Rules.{second_rank, king_home, beside, becomes}
 use Rattle.chess_board.specs.Laws.{Ahead, TakesPassant, CastlesShort, CastlesLong, CanTake, IsLegal}
 use Rattle.chess_board.specs.Play.{top_count, full_of, position_after, IsPosition}
 
 -- castling takes a rook from the corner to the square that the king crosses (article 3.8.2)
-abbrev pub Hops : Placement → Kind → ℕ → ℕ → ℕ → ℕ → Type 0
+abbrev pub Hops : Position → Kind → ℕ → ℕ → ℕ → ℕ → Type 0
 Hops p piece from to corner crossed =
     let home = king_home p.side in
     (piece ≡ King)
@@ -18,12 +18,12 @@ Hops p piece from to corner crossed =
     ⊎ (CastlesLong p from to × (corner ≡ home - 4) × (crossed ≡ home - 1)))
 
 -- a pawn captures the one beside it (article 3.7.3)
-abbrev pub TakesBeside : Placement → Kind → ℕ → ℕ → Type 0
+abbrev pub TakesBeside : Position → Kind → ℕ → ℕ → Type 0
 TakesBeside p piece from to = (piece ≡ Pawn) × TakesPassant p from to
 
 -- The man leaves its square and stands on another, in place of what stood there (article 3.1.1). A pawn captured
 -- en passant is gone, and the rook of a castling has hopped. Every other square is as it was.
-pub record MovesMen (p : Placement) (piece : Kind) (from to : ℕ) (promo : Option Kind) (after : Men) : Type 0 where
+pub record MovesMen (p : Position) (piece : Kind) (from to : ℕ) (promo : Option Kind) (after : Men) : Type 0 where
   pub whole : length after ≡ 64
   pub left : man_at after from ≡ None
   pub arrived : man_at after to ≡ Some (p.side, becomes piece promo)
@@ -46,7 +46,7 @@ Passes side piece from to over =
 -- captured at home (article 3.8.2). The square that a pawn passed is the passant square, where a
 -- legal capture on it is possible. The half-move count begins again after a pawn's move or a capture
 -- (article 9.3), and the full-move count grows after Black's move.
-pub record Plays (p : Placement) (from to : ℕ) (promo : Option Kind) (q : Placement) : Type 0 where
+pub record Plays (p : Position) (from to : ℕ) (promo : Option Kind) (q : Position) : Type 0 where
   pub piece : Kind
   pub man : man_at p.men from ≡ Some (p.side, piece)
   pub men : MovesMen p piece from to promo q.men
@@ -62,4 +62,4 @@ pub record Plays (p : Placement) (from to : ℕ) (promo : Option Kind) (q : Plac
 
 -- the position after a legal move is what the Laws say
 abbrev pub PlayLaw : Type 0
-PlayLaw = (p : Placement) (from to : ℕ) (promo : Option Kind) → IsPosition p → from < 64 → to < 64 → IsLegal p from to promo → Plays p from to promo (position_after p from to promo)
+PlayLaw = (p : Position) (from to : ℕ) (promo : Option Kind) → IsPosition p → from < 64 → to < 64 → IsLegal p from to promo → Plays p from to promo (position_after p from to promo)

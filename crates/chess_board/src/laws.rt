@@ -19,6 +19,8 @@ pub fn equal_moves(a: Move, b: Move) -> bool
 pub fn equal_positions(a: &Position, b: &Position) -> bool
     ensures { IsTrue result ↔ (a.now ≡ b.now) }
 {
+    a.facts();
+    b.facts();
     *a == *b
 }
 

@@ -4,7 +4,7 @@ use Rattle.chess_board.specs.declared.board.Kind.{Kind}
 use Rattle.chess_board.specs.declared.board.Kind.TheVariants.{Pawn}
 use Rattle.chess_board.specs.declared.board.Side.{Side}
 use Rattle.chess_board.specs.Reach.{form, has}
-use Rattle.chess_board.proofs.Tables.{lines-fits, jumps-fits, king_ways-fits, white_pawn_ways-fits, black_pawn_ways-fits}
+use Rattle.chess_board.proofs.Tables.{lines-fits, diagonals-fits, straights-fits, jumps-fits, king_ways-fits, white_pawn_ways-fits, black_pawn_ways-fits}
 use Rattle.chess_board.proofs.reach.ways_of.Goals as goal
 
 pub returns-in-White : goal.returns-in-White
@@ -27,11 +27,11 @@ returns-in-King c s low =
 
 pub returns-in-Bishop : goal.returns-in-Bishop
 returns-in-Bishop c s low =
-    ap (λ (n : ℕ). has n s) c.row-in-Bishop.ensures ∙ lines-fits c.args.from.index c.args.from.on_board s low ∙ ap (λ (kind : Kind). form c.args.side kind c.args.from.index s) (sym c.in-Bishop.is)
+    ap (λ (n : ℕ). has n s) c.row-in-Bishop.ensures ∙ diagonals-fits c.args.from.index c.args.from.on_board s low ∙ ap (λ (kind : Kind). form c.args.side kind c.args.from.index s) (sym c.in-Bishop.is)
 
 pub returns-in-Rook : goal.returns-in-Rook
 returns-in-Rook c s low =
-    ap (λ (n : ℕ). has n s) c.row-in-Rook.ensures ∙ lines-fits c.args.from.index c.args.from.on_board s low ∙ ap (λ (kind : Kind). form c.args.side kind c.args.from.index s) (sym c.in-Rook.is)
+    ap (λ (n : ℕ). has n s) c.row-in-Rook.ensures ∙ straights-fits c.args.from.index c.args.from.on_board s low ∙ ap (λ (kind : Kind). form c.args.side kind c.args.from.index s) (sym c.in-Rook.is)
 
 pub returns-in-Queen : goal.returns-in-Queen
 returns-in-Queen c s low =

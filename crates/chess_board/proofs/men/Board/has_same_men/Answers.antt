@@ -1,13 +1,16 @@
-use Rattle.std.proofs.Common.{◌≡◌, subst}
-use Rattle.std.specs.Prelude.{IsTrue, ◌↔◌}
-use Rattle.std.proofs.lemmas.Slice.Eq.{slice_eq-Decides}
+use Rattle.std.proofs.Common.{◌≡◌, Bool, length, ap, subst, sym, ◌∙◌}
+use Rattle.std.specs.Bool.{Decides}
 use Rattle.chess_board.specs.Board.{Men}
-use Rattle.chess_board.proofs.Equal.{men-Decides}
+use Rattle.chess_board.specs.Sets.{sets_of}
+use Rattle.chess_board.proofs.Equal.{sets_test, boards-Decides}
+use Rattle.chess_board.proofs.Sets.{length-men_of}
 use Rattle.chess_board.proofs.men.Board.has_same_men.Goals as goal
 
 pub returns : goal.returns
 returns c =
-    let inner = slice_eq-Decides men-Decides c.self.inside.squares c.other.inside.squares c.eq.result c.eq.ensures in
-    let mine : c.self.inside.squares ≡ c.args.self.now = c.self.view_is in
-    let others : c.other.inside.squares ≡ c.args.other.now = c.other.view_is in
-    subst (λ (m : Men). IsTrue c.eq.result ↔ (c.args.self.now ≡ m)) others (subst (λ (m : Men). IsTrue c.eq.result ↔ (m ≡ c.other.inside.squares)) mine inner)
+    let a = c.args.self.now in
+    let b = c.args.other.now in
+    let size : length a ≡ 64 = ap (λ (men : Men). length men) (sym c.self.view_is) ∙ length-men_of c.self.inside in
+    let size' : length b ≡ 64 = ap (λ (men : Men). length men) (sym c.other.view_is) ∙ length-men_of c.other.inside in
+    let e : c.eq.result ≡ sets_test (sets_of a) (sets_of b) = c.eq.ensures in
+    subst (λ (v : Bool). Decides v (a ≡ b)) (sym e) (boards-Decides a b size size')

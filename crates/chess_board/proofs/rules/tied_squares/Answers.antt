@@ -1,0 +1,31 @@
+use Rattle.std.proofs.Common.{◌≡◌, ◌≢◌, ◌<◌, ◌≤◌, ◌+◌, ℕ, false, Option, None, length, is_some, sym, subst, arith, ⊎_elim, ◌∙◌}
+use Rattle.std.proofs.lemmas.Bool.{cases_lt}
+use Rattle.chess_board.specs.Attack.{is_checked}
+use Rattle.chess_board.specs.Board.{man_at, is_king}
+use Rattle.chess_board.specs.Position.{Position}
+use Rattle.chess_board.specs.Reach.{has, IsSetOf}
+use Rattle.chess_board.proofs.Sets.{has-either}
+use Rattle.chess_board.proofs.Tied.{frees_all, unpinned, neither, no_some}
+use Rattle.chess_board.proofs.rules.tied_squares.Goals as goal
+
+pub returns-then-is_some : goal.returns-then-is_some
+returns-then-is_some c = frees_all c.args.setup.now
+
+pub returns-then-king-ge64 : goal.returns-then-king-ge64
+returns-then-king-ge64 c = frees_all c.args.setup.now
+
+pub returns : goal.returns
+returns c piece from to promo fl tl out man promoted =
+    let p = c.args.setup.now in
+    let kings = c.king_set-kings.result in
+    let k = c.next_in-king.result in
+    let set : IsSetOf (λ s. is_king p.side (man_at p.men s)) kings = subst (λ (q : Position). IsSetOf (λ s. is_king q.side (man_at q.men s)) kings) c.setup.view_is c.king_set-kings.ensures.set in
+    let size : length p.men ≡ 64 = subst (λ (q : Position). length q.men ≡ 64) c.setup.view_is c.king_set-kings.ensures.whole in
+    let quiet : is_checked p.men p.side ≡ false = sym c.in_check.ensures ∙ c.if-in_check.false in
+    let none : p.passant ≡ None = subst (λ (q : Position). q.passant ≡ None) c.setup.view_is (no_some c.setup.inside.passant (sym c.is_some.ensures ∙ c.if-is_some.false)) in
+    let low : k < 64 = omega arith in
+    let apart = neither (has kings from) (has c.ways_of.result from) (sym (has-either kings c.ways_of.result from) ∙ out) in
+    unpinned p k from to piece promo size quiet none low
+    (λ (s : ℕ) (l : s < 64) (other : s ≢ k).
+    sym (set s l) ∙ ⊎_elim (λ (h : s < k). c.next_in-king.ensures.passed s (omega arith) h) (λ (h : k ≤ s). c.next_in.ensures.passed s (omega arith) (omega arith)) (cases_lt s k))
+    fl tl man promoted (sym (set from fl) ∙ apart.0) (sym (c.ways_of.ensures from fl) ∙ apart.1)
