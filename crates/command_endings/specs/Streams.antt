@@ -1,0 +1,31 @@
+-- The streams of the program.
+use Rattle.std.specs.Prelude.{◌≡◌}
+use Rattle.line_io.specs.Causes.{Rose}
+use Rattle.line_io.specs.Source.{Supplied, Received}
+
+-- what is told at one moment of the input, of the output and of the diagnostic
+pub record Streams : Type 0 where
+  pub input : Supplied
+  pub output : Received
+  pub diag : Received
+
+abbrev pub streams : Supplied → Received → Received → Streams
+streams input output diag = record { input = input; output = output; diag = diag }
+
+abbrev pub with_input : Streams → Supplied → Streams
+with_input s input = record { input = input; output = s.output; diag = s.diag }
+
+abbrev pub with_output : Streams → Received → Streams
+with_output s output = record { input = s.input; output = output; diag = s.diag }
+
+-- each count of faults is as before
+pub record AreSame (before after : Streams) : Type 0 where
+  pub read : after.input.faults ≡ before.input.faults
+  pub written : after.output.faults ≡ before.output.faults
+  pub told : after.diag.faults ≡ before.diag.faults
+
+-- no count of faults rose
+pub record IsSteady (before after : Streams) : Type 0 where
+  pub read : Rose before.input.faults after.input.faults → ⊥
+  pub written : Rose before.output.faults after.output.faults → ⊥
+  pub told : Rose before.diag.faults after.diag.faults → ⊥

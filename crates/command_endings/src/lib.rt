@@ -1,0 +1,10 @@
+//! What the commands over the lines of a script share: how one ends, its status and its diagnostic.
+#![tactic(auto)]
+
+mod ending;
+mod limits;
+#[cfg(test)]
+mod tests;
+
+pub use ending::{Ending, tell, tell_short, write_lines};
+pub use limits::LINE_LIMIT;

@@ -1,0 +1,158 @@
+-- How a run over lines ends.
+use Rattle.std.proofs.Common.{◌≡◌, ◌≢◌, ◌⊎◌, inl, inr, ℕ, ◌≤◌, List, [], ◌++◌, length, refl, sym, ap, subst, ◌∙◌, arith, append-nil}
+use Rattle.std.specs.Io.KnownBytes.{Appends}
+use Rattle.line_io.specs.Causes.{Rose}
+use Rattle.line_io.specs.Lines.{Piece, Reads}
+use Rattle.line_io.specs.Out.{Text}
+use Rattle.line_io.specs.Runs.{whole}
+use Rattle.line_io.specs.Source.{Received, Supplied}
+use Rattle.line_io.specs.Taken.{Place, Taken}
+use Rattle.line_io.specs.declared.taker.LinesEnd.TheVariants as ends
+use Rattle.command_endings.specs.declared.ending.Ending.{Ending}
+use Rattle.command_endings.specs.declared.ending.Ending.TheVariants as endings
+use Rattle.command_endings.specs.Ran.{Causes}
+use Rattle.command_endings.specs.Reads.{AreFirst, AreRead, IsAll}
+use Rattle.command_endings.specs.Streams.{Streams, streams}
+use Rattle.command_endings.proofs.Readings.{ended_all, ended_read, read_front, stopped_read, whole_read}
+use Rattle.line_scribe.specs.Putting.{Putting, IsOfLine}
+use Rattle.line_scribe.specs.Scribed.{Scribed, EndsBy, WroteTo, WroteWhole}
+use Rattle.line_scribe.specs.Writing.{Broke, Finished, Left, Said, writes}
+
+to_line : {S : Type 0} (means : Putting S) (s0 : S) (start now : Streams) (e : Ending) → IsOfLine e → WroteTo means s0 e start now → Scribed means s0 e start now
+to_line means s0 start now (endings.NoMark n) i r = r
+to_line means s0 start now (endings.OutOfStep n) i r = r
+to_line means s0 start now (endings.MayNotCome n) i r = r
+to_line means s0 start now (endings.Differs n) i r = r
+to_line means s0 start now (endings.Unlawful n) i r = r
+to_line means s0 start now endings.Done i r = absurd i
+to_line means s0 start now endings.Usage i r = absurd i
+to_line means s0 start now (endings.NoPosition fault) i r = absurd i
+to_line means s0 start now endings.NoMemory i r = absurd i
+to_line means s0 start now endings.ReadingFailed i r = absurd i
+to_line means s0 start now endings.WritingFailed i r = absurd i
+to_line means s0 start now endings.TooLong i r = absurd i
+
+stopped_cut : {S : Type 0} (means : Putting S) (s0 : S) (answer : Ending) (pieces : List Piece) (start now : Streams) → answer ≡ endings.WritingFailed → AreRead start now pieces → Broke means s0 pieces start.output now.output
+    → Scribed means s0 answer start now
+stopped_cut means s0 answer pieces start now e r b = subst (λ (x : Ending). Scribed means s0 x start now) (sym e) (record {
+  lines = b.lines;
+  read = read_front start now pieces b.lines b.more b.first r;
+  text = b.text;
+  is_text = b.is_text;
+  some = b.some;
+  front = b.front;
+  written = b.appended;
+})
+
+said_all : {S : Type 0} (means : Putting S) (s0 : S) (lines : List Piece) (ending : Ending) (before after : Received) → (d : Said means s0 lines ending [] before after) → Appends before.taken after.taken d.text
+said_all means s0 lines ending before after d = subst (Appends before.taken after.taken) (sym (append-nil d.written) ∙ d.all) d.appended
+
+module _ {W S O : Type 0} (scribe : W → S) (text : W → Text) (means : Putting S) (see : O → Received) (old new : Place W O) (output diag diag_now : Received) where
+  abbrev s0 : S
+  s0 = scribe old.taker
+
+  abbrev start : Streams
+  start = streams old.input (see old.output) diag
+
+  abbrev now : Streams
+  now = streams new.input output diag_now
+
+  abbrev Ends : List Piece → Ending → Ending → Type 0
+  Ends pieces ending answer = Finished means s0 pieces ending answer (see old.output) output
+
+  pub go_ended : (answer : Ending) (t : Taken (writes scribe text means see) 131072 ends.Ended old new) → Ends t.pieces endings.Done answer → Scribed means s0 answer start now
+  go_ended answer t (inr b) = stopped_cut means s0 answer t.pieces start now b.0 (ended_read (writes scribe text means see) old new (see old.output) output diag diag_now t) b.1
+  go_ended answer t (inl d) = subst (λ (x : Ending). Scribed means s0 x start now) (sym d.0) (record {
+    got = t.given;
+    reads = record { given = t.gave.given; left = t.gave.left };
+    all = ended_all (writes scribe text means see) old new (see old.output) output diag diag_now t;
+    text = d.1.text;
+    says = subst (λ (ls : List Piece). means.says s0 ls endings.Done d.1.text) t.ends.all d.1.says;
+    written = said_all means s0 t.pieces endings.Done (see old.output) output d.1;
+  })
+
+  -- all whole lines were taken
+  read_of : (given : List ℕ) (pieces : List Piece) → Reads old.input new.input given → pieces ≡ whole 131072 given → AreRead start now pieces
+  read_of given pieces gave all = whole_read (writes scribe text means see) old new (see old.output) output diag diag_now given pieces gave all
+
+  whole_written : (ending : Ending) (least : ℕ) (given : List ℕ) (pieces : List Piece) → Reads old.input new.input given → pieces ≡ whole 131072 given → least ≤ length given
+      → Said means s0 pieces ending [] (see old.output) output → WroteWhole means s0 ending least start now
+  whole_written ending least given pieces gave all l d = record {
+    got = given;
+    reads = record { given = gave.given; left = gave.left };
+    least_is = l;
+    first = subst (AreFirst old.input.left) all (read_of given pieces gave all).of_left;
+    text = d.text;
+    says = subst (λ (ls : List Piece). means.says s0 ls ending d.text) all d.says;
+    written = said_all means s0 pieces ending (see old.output) output d;
+  }
+
+  pub go_failed : (answer : Ending) (t : Taken (writes scribe text means see) 131072 ends.ReadFailed old new) → Ends t.pieces endings.ReadingFailed answer → Scribed means s0 answer start now
+  go_failed answer t (inr b) = stopped_cut means s0 answer t.pieces start now b.0 (read_of t.given t.pieces t.gave t.ends.all) b.1
+  go_failed answer t (inl d) = subst (λ (x : Ending). Scribed means s0 x start now) (sym d.0) (whole_written endings.ReadingFailed 0 t.given t.pieces t.gave t.ends.all (omega arith) d.1)
+
+  pub go_endless : (answer : Ending) (t : Taken (writes scribe text means see) 131072 ends.Endless old new) → Ends t.pieces endings.TooLong answer → Scribed means s0 answer start now
+  go_endless answer t (inr b) = stopped_cut means s0 answer t.pieces start now b.0 (read_of t.given t.pieces t.gave t.ends.all) b.1
+  go_endless answer t (inl d) = subst (λ (x : Ending). Scribed means s0 x start now) (sym d.0) (whole_written endings.TooLong 4294967296 t.given t.pieces t.gave t.ends.all t.ends.many d.1)
+
+  -- no more lines were taken
+  pub go_left : (ending answer : Ending) (t : Taken (writes scribe text means see) 131072 (ends.Stopped ending) old new) → Left means s0 t.pieces ending answer (see old.output) output → Scribed means s0 answer start now
+  go_left ending answer t (inr b) = stopped_cut means s0 answer t.pieces start now b.0 (stopped_read (writes scribe text means see) old new (see old.output) output diag diag_now ending t) b.1
+  go_left ending answer t (inl d) = subst (λ (x : Ending). Scribed means s0 x start now) (sym d.0) (to_line means s0 start now ending d.1 (record {
+    lines = t.pieces;
+    read = stopped_read (writes scribe text means see) old new (see old.output) output diag diag_now ending t;
+    text = d.2.text;
+    says = d.2.says;
+    written = said_all means s0 t.pieces ending (see old.output) output d.2;
+  }))
+
+no_cut : (e : Ending) → IsOfLine e → e ≡ endings.WritingFailed → ⊥
+no_cut e i h = subst IsOfLine h i
+
+no_reading : (e : Ending) → IsOfLine e → e ≡ endings.ReadingFailed → ⊥
+no_reading e i h = subst IsOfLine h i
+
+-- why it ended
+pub causes_left : {S : Type 0} (means : Putting S) (s0 : S) (pieces : List Piece) (ending answer : Ending) (input input_now : Supplied) (output output_now : Received) → Left means s0 pieces ending answer output output_now
+    → input_now.faults ≡ input.faults → Causes answer input input_now output output_now
+causes_left means s0 pieces ending answer input input_now output output_now (inl d) s = record {
+  reading = λ x. absurd (no_reading ending d.1 (sym d.0 ∙ x));
+  writing = λ x. absurd (no_cut ending d.1 (sym d.0 ∙ x));
+  read = λ a b. s;
+  written = λ a. d.2.no_failure;
+}
+causes_left means s0 pieces ending answer input input_now output output_now (inr b) s = record {
+  reading = λ x. let y = sym b.0 ∙ x in cc;
+  writing = λ x. b.1.failure;
+  read = λ a c. absurd (c b.0);
+  written = λ a. absurd (a b.0);
+}
+
+pub causes_by : {S : Type 0} (means : Putting S) (s0 : S) (pieces : List Piece) (ending answer : Ending) (input input_now : Supplied) (output output_now : Received) → Finished means s0 pieces ending answer output output_now
+    → (ending ≡ endings.ReadingFailed → Rose input.faults input_now.faults) → (ending ≢ endings.ReadingFailed → input_now.faults ≡ input.faults) → ending ≢ endings.WritingFailed → Causes answer input input_now output output_now
+causes_by means s0 pieces ending answer input input_now output output_now (inl d) r s n = record {
+  reading = λ x. r (sym d.0 ∙ x);
+  writing = λ x. absurd (n (sym d.0 ∙ x));
+  read = λ a b. s (λ x. a (d.0 ∙ x));
+  written = λ a. d.1.no_failure;
+}
+causes_by means s0 pieces ending answer input input_now output output_now (inr b) r s n = record {
+  reading = λ x. let y = sym b.0 ∙ x in cc;
+  writing = λ x. b.1.failure;
+  read = λ a c. absurd (c b.0);
+  written = λ a. absurd (a b.0);
+}
+
+pub ended : {S : Type 0} (means : Putting S) (s0 : S) (untouched : Type 0) (e : Ending) (start now : Streams) → Scribed means s0 e start now → EndsBy means s0 untouched e start now
+ended means s0 untouched endings.Done start now x = x
+ended means s0 untouched (endings.Differs n) start now x = x
+ended means s0 untouched (endings.Unlawful n) start now x = x
+ended means s0 untouched endings.Usage start now x = x
+ended means s0 untouched (endings.NoPosition fault) start now x = x
+ended means s0 untouched (endings.NoMark n) start now x = x
+ended means s0 untouched (endings.OutOfStep n) start now x = x
+ended means s0 untouched (endings.MayNotCome n) start now x = x
+ended means s0 untouched endings.NoMemory start now x = absurd x
+ended means s0 untouched endings.ReadingFailed start now x = x
+ended means s0 untouched endings.WritingFailed start now x = x
+ended means s0 untouched endings.TooLong start now x = x

@@ -1,0 +1,3 @@
+mod Scribing
+mod Endings
+pub mod Outcomes

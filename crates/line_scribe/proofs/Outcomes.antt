@@ -1,0 +1,199 @@
+-- What the status of a run says.
+use Rattle.std.proofs.Common.{◌≡◌, ◌≢◌, ◌⊎◌, inl, inr, ℕ, ◌^◌, ◌<◌, List, [], ◌++◌, length, Some, refl, sym, ap, subst, ◌∙◌, arith}
+use Rattle.std.specs.Io.KnownBytes.{Appends}
+use Rattle.line_io.specs.Causes.{Rose}
+use Rattle.line_io.specs.Lines.{items}
+use Rattle.line_io.specs.Runs.{whole}
+use Rattle.command_endings.specs.declared.ending.Ending.{Ending}
+use Rattle.command_endings.specs.declared.ending.Ending.TheVariants as endings
+use Rattle.command_endings.specs.Diagnostics.{code_of, diagnostic}
+use Rattle.command_endings.specs.Ran.{Ran, WritingBroke}
+use Rattle.command_endings.specs.Reads.{AreFirst, AreRead, IsAll}
+use Rattle.command_endings.specs.Streams.{Streams, AreSame, IsSteady}
+use Rattle.command_endings.specs.Told.{Told}
+use Rattle.command_endings.proofs.Readings.{few_got, items_read, whole_lines_read}
+use Rattle.line_scribe.specs.Putting.{Putting, IsOfLine}
+use Rattle.line_scribe.specs.Scribed.{EndsBy, Scribed, WroteAll, WroteFront, WroteTo, WroteWhole}
+use Rattle.line_scribe.specs.Outcomes.{LineReported, Outcome, WroteLast}
+
+-- WHICH ENDING HAS A STATUS
+
+is_done : (e : Ending) → code_of e ≡ 0 → e ≡ endings.Done
+is_done endings.Done h = refl
+is_done (endings.Differs n) h = cc
+is_done (endings.Unlawful n) h = cc
+is_done endings.Usage h = cc
+is_done (endings.NoMark n) h = cc
+is_done (endings.OutOfStep n) h = cc
+is_done (endings.MayNotCome n) h = cc
+is_done (endings.NoPosition f) h = cc
+is_done endings.NoMemory h = cc
+is_done endings.ReadingFailed h = cc
+is_done endings.WritingFailed h = cc
+is_done endings.TooLong h = cc
+
+is_memory : (e : Ending) → code_of e ≡ 3 → e ≡ endings.NoMemory
+is_memory endings.Done h = cc
+is_memory (endings.Differs n) h = cc
+is_memory (endings.Unlawful n) h = cc
+is_memory endings.Usage h = cc
+is_memory (endings.NoMark n) h = cc
+is_memory (endings.OutOfStep n) h = cc
+is_memory (endings.MayNotCome n) h = cc
+is_memory (endings.NoPosition f) h = cc
+is_memory endings.NoMemory h = refl
+is_memory endings.ReadingFailed h = cc
+is_memory endings.WritingFailed h = cc
+is_memory endings.TooLong h = cc
+
+is_reading : (e : Ending) → code_of e ≡ 4 → e ≡ endings.ReadingFailed
+is_reading endings.Done h = cc
+is_reading (endings.Differs n) h = cc
+is_reading (endings.Unlawful n) h = cc
+is_reading endings.Usage h = cc
+is_reading (endings.NoMark n) h = cc
+is_reading (endings.OutOfStep n) h = cc
+is_reading (endings.MayNotCome n) h = cc
+is_reading (endings.NoPosition f) h = cc
+is_reading endings.NoMemory h = cc
+is_reading endings.ReadingFailed h = refl
+is_reading endings.WritingFailed h = cc
+is_reading endings.TooLong h = cc
+
+is_writing : (e : Ending) → code_of e ≡ 5 → e ≡ endings.WritingFailed
+is_writing endings.Done h = cc
+is_writing (endings.Differs n) h = cc
+is_writing (endings.Unlawful n) h = cc
+is_writing endings.Usage h = cc
+is_writing (endings.NoMark n) h = cc
+is_writing (endings.OutOfStep n) h = cc
+is_writing (endings.MayNotCome n) h = cc
+is_writing (endings.NoPosition f) h = cc
+is_writing endings.NoMemory h = cc
+is_writing endings.ReadingFailed h = cc
+is_writing endings.WritingFailed h = refl
+is_writing endings.TooLong h = cc
+
+is_long : (e : Ending) → code_of e ≡ 6 → e ≡ endings.TooLong
+is_long endings.Done h = cc
+is_long (endings.Differs n) h = cc
+is_long (endings.Unlawful n) h = cc
+is_long endings.Usage h = cc
+is_long (endings.NoMark n) h = cc
+is_long (endings.OutOfStep n) h = cc
+is_long (endings.MayNotCome n) h = cc
+is_long (endings.NoPosition f) h = cc
+is_long endings.NoMemory h = cc
+is_long endings.ReadingFailed h = cc
+is_long endings.WritingFailed h = cc
+is_long endings.TooLong h = refl
+
+module _ {S : Type 0} (means : Putting S) (s0 : S) (U : Type 0) (start now : Streams) (code : ℕ) (r : Ran (λ e. EndsBy means s0 U e start now) start now code) where
+  abbrev By : Ending → Type 0
+  By e = EndsBy means s0 U e start now
+
+  abbrev Told' : Ending → Type 0
+  Told' e = Told code (code_of e) (diagnostic e) start.diag now.diag
+
+  same_by : (e : Ending) → r.ending ≡ e → e ≢ endings.ReadingFailed → e ≢ endings.WritingFailed → now.diag.faults ≡ start.diag.faults → AreSame start now
+  same_by e is a b d = record { read = r.read (λ x. a (sym is ∙ x)) (λ x. b (sym is ∙ x)); written = r.written (λ x. b (sym is ∙ x)); told = d }
+
+  -- the status is another one, but for a diagnostic that could not be written
+  code_by : (e : Ending) (n : ℕ) → Told' e → code ≡ n → (n ≡ 5 → ⊥) → code_of e ≡ n
+  code_by e n (inl t) z f = sym t.0 ∙ z
+  code_by e n (inr t) z f = absurd (f (sym z ∙ t.0))
+
+  told_by : (e : Ending) (n : ℕ) → Told' e → code ≡ n → (n ≡ 5 → ⊥) → Appends start.diag.taken now.diag.taken (diagnostic e) × (now.diag.faults ≡ start.diag.faults)
+  told_by e n (inl t) z f = (t.1, t.2)
+  told_by e n (inr t) z f = absurd (f (sym z ∙ t.0))
+
+  abbrev Is : Ending → Type 0
+  Is e = (r.ending ≡ e) × By e × Told' e
+
+  -- the ending of this status
+  ending_is : (e : Ending) (n : ℕ) → (n ≡ 5 → ⊥) → ((x : Ending) → code_of x ≡ n → x ≡ e) → code ≡ n → Is e
+  ending_is e n f only z = let same = only r.ending (code_by r.ending n r.tells z f) in (same, subst By same r.ends, subst Told' same r.tells)
+
+  done_of : code ≡ 0 → WroteAll means s0 start now × AreSame start now
+  done_of z = let i = ending_is endings.Done 0 (λ a. cc) is_done z in (i.1, same_by endings.Done i.0 (λ a. cc) (λ a. cc) (told_by endings.Done 0 i.2 z (λ a. cc)).1)
+
+  reported : (e : Ending) (n : ℕ) → IsOfLine e → WroteTo means s0 e start now → Told' e → code ≡ n → (n ≡ 5 → ⊥) → LineReported means s0 start now n
+  reported e n i w t z f = record { ending = e; of_line = i; code_is = sym (code_by e n t z f); wrote = w; told = (told_by e n t z f).0 }
+
+  line_of : (e : Ending) (n : ℕ) → (n ≡ 0 → ⊥) → (n ≡ 3 → ⊥) → (n ≡ 4 → ⊥) → (n ≡ 5 → ⊥) → (n ≡ 6 → ⊥) → By e → Told' e → code ≡ n → LineReported means s0 start now n
+  line_of endings.Done n a b c f d x t z = absurd (a (sym (code_by endings.Done n t z f)))
+  line_of (endings.Differs k) n a b c f d x t z = reported (endings.Differs k) n tt x t z f
+  line_of (endings.Unlawful k) n a b c f d x t z = reported (endings.Unlawful k) n tt x t z f
+  line_of endings.Usage n a b c f d x t z = absurd x
+  line_of (endings.NoMark k) n a b c f d x t z = reported (endings.NoMark k) n tt x t z f
+  line_of (endings.OutOfStep k) n a b c f d x t z = reported (endings.OutOfStep k) n tt x t z f
+  line_of (endings.MayNotCome k) n a b c f d x t z = reported (endings.MayNotCome k) n tt x t z f
+  line_of (endings.NoPosition k) n a b c f d x t z = absurd x
+  line_of endings.NoMemory n a b c f d x t z = absurd (b (sym (code_by endings.NoMemory n t z f)))
+  line_of endings.ReadingFailed n a b c f d x t z = absurd (c (sym (code_by endings.ReadingFailed n t z f)))
+  line_of endings.WritingFailed n a b c f d x t z = absurd (f (sym (code_by endings.WritingFailed n t z f)))
+  line_of endings.TooLong n a b c f d x t z = absurd (d (sym (code_by endings.TooLong n t z f)))
+
+  -- why the status is 5
+  broke_by : (e : Ending) → r.ending ≡ e → Told' e → code ≡ 5 → WritingBroke start now
+  broke_by e is (inr t) z = inr t.1
+  broke_by e is (inl t) z = inl (r.writing (is ∙ is_writing e (sym t.0 ∙ z)))
+
+  abbrev Part : Type 0
+  Part = U ⊎ WroteFront means s0 start now ⊎ WroteLast means s0 start now
+
+  to_last : (e : Ending) → WroteTo means s0 e start now → Part
+  to_last e w = inr (inr (record { ending = e; lines = w.lines; read = w.read; text = w.text; says = w.says; written = w.written }))
+
+  whole_last : (e : Ending) (least : ℕ) → WroteWhole means s0 e least start now → Part
+  whole_last e least w = inr (inr (record { ending = e; lines = whole 131072 w.got; read = whole_lines_read start now w.got w.reads; text = w.text; says = w.says; written = w.written }))
+
+  part_of : (e : Ending) → By e → Part
+  part_of endings.NoMemory x = inl x
+  part_of endings.WritingFailed x = inr (inl x)
+  part_of endings.Done x = inr (inr (record { ending = endings.Done; lines = items 131072 x.got; read = items_read start now x.got x.reads x.all; text = x.text; says = x.says; written = x.written }))
+  part_of (endings.Differs n) x = to_last (endings.Differs n) x
+  part_of (endings.Unlawful n) x = to_last (endings.Unlawful n) x
+  part_of endings.Usage x = absurd x
+  part_of (endings.NoMark n) x = to_last (endings.NoMark n) x
+  part_of (endings.OutOfStep n) x = to_last (endings.OutOfStep n) x
+  part_of (endings.MayNotCome n) x = to_last (endings.MayNotCome n) x
+  part_of (endings.NoPosition f) x = absurd x
+  part_of endings.ReadingFailed x = whole_last endings.ReadingFailed 0 x
+  part_of endings.TooLong x = whole_last endings.TooLong 4294967296 x
+
+  abbrev Completed : Type 0
+  Completed = ((code ≡ 0) × WroteAll means s0 start now) ⊎ LineReported means s0 start now code ⊎ (code ≡ 3)
+
+  steady_told : (e : Ending) → Told' e → IsSteady start now → (code ≡ code_of e) × Appends start.diag.taken now.diag.taken (diagnostic e)
+  steady_told e (inl t) s = (t.0, t.1)
+  steady_told e (inr t) s = absurd (s.told t.1)
+
+  line_complete : (e : Ending) → IsOfLine e → WroteTo means s0 e start now → Told' e → IsSteady start now → Completed
+  line_complete e i w t s = let p = steady_told e t s in inr (inl (record { ending = e; of_line = i; code_is = p.0; wrote = w; told = p.1 }))
+
+  complete_of : (e : Ending) → r.ending ≡ e → By e → Told' e → (x : List ℕ) → start.input.left ≡ Some x → length x < 2 ^ 32 → IsSteady start now → Completed
+  complete_of endings.Done is b t x e l s = inl ((steady_told endings.Done t s).0, b)
+  complete_of (endings.Differs n) is b t x e l s = line_complete (endings.Differs n) tt b t s
+  complete_of (endings.Unlawful n) is b t x e l s = line_complete (endings.Unlawful n) tt b t s
+  complete_of endings.Usage is b t x e l s = absurd b
+  complete_of (endings.NoMark n) is b t x e l s = line_complete (endings.NoMark n) tt b t s
+  complete_of (endings.OutOfStep n) is b t x e l s = line_complete (endings.OutOfStep n) tt b t s
+  complete_of (endings.MayNotCome n) is b t x e l s = line_complete (endings.MayNotCome n) tt b t s
+  complete_of (endings.NoPosition f) is b t x e l s = absurd b
+  complete_of endings.NoMemory is b t x e l s = inr (inr (steady_told endings.NoMemory t s).0)
+  complete_of endings.ReadingFailed is b t x e l s = absurd (s.read (r.reading is))
+  complete_of endings.WritingFailed is b t x e l s = absurd (s.written (r.writing is))
+  complete_of endings.TooLong is b t x e l s = let few = few_got start.input.left now.input.left b.got x b.reads.left e in let many = b.least_is in absurd (let z : ⊥ = omega (arith, few, many, l) in z)
+
+  pub outcome : Outcome means s0 U start now code
+  outcome = record {
+    done = done_of;
+    found = λ z. line_of r.ending 1 (λ a. cc) (λ a. cc) (λ a. cc) (λ a. cc) (λ a. cc) r.ends r.tells z;
+    fault = λ z. line_of r.ending 2 (λ a. cc) (λ a. cc) (λ a. cc) (λ a. cc) (λ a. cc) r.ends r.tells z;
+    memory = λ z. (ending_is endings.NoMemory 3 (λ a. cc) is_memory z).1;
+    reading = λ z. let i = ending_is endings.ReadingFailed 4 (λ a. cc) is_reading z in (r.reading i.0, i.1);
+    writing = λ z. (broke_by r.ending refl r.tells z, part_of r.ending r.ends);
+    too_long = λ z. (ending_is endings.TooLong 6 (λ a. cc) is_long z).1;
+    complete = λ x e l s. complete_of r.ending refl r.ends r.tells x e l s;
+  }

@@ -1,0 +1,168 @@
+-- Lines that a scribe takes.
+use Rattle.std.proofs.Common.{◌≡◌, ◌⊎◌, inl, inr, ℕ, ◌+◌, ◌<◌, ◌≤◌, List, [], ◌∷◌, ◌++◌, length, take, Bool, true, false, Option, Some, None, IfSome, Result, OnOk, OnErr, Ok, Err, refl, sym, ap, subst, ◌∙◌, arith, append_assoc, append-nil, length-append}
+use Rattle.std.proofs.Math.Seq.{take-append-add}
+use Rattle.std.proofs.KnownBytes.{Appends-nil, Appends-trans}
+use Rattle.std.specs.Io.KnownBytes.{Appends}
+use Rattle.std.specs.Result.{is_err}
+use Rattle.line_io.specs.Causes.{Rose}
+use Rattle.line_io.specs.Lines.{Piece}
+use Rattle.line_io.specs.Out.{Text, with}
+use Rattle.line_io.specs.Source.{Received}
+use Rattle.line_io.specs.Takers.{Then}
+use Rattle.command_endings.specs.declared.ending.Ending.{Ending}
+use Rattle.command_endings.specs.declared.ending.Ending.TheVariants as endings
+use Rattle.line_scribe.specs.Putting.{Putting, Puts, Closes, IsOfLine}
+use Rattle.line_scribe.specs.Scribed.{IsText}
+use Rattle.line_scribe.specs.Writing.{Moved, Cut, Stood, Said, Broke, Came, Halted, Finished, Left, MayTake, is_cut, writes}
+
+pub on_err : {T E : Type 0} (r : Result T E) (P : Type 0) → OnErr r P → is_err r ≡ true → P
+on_err (Ok v) P h e = cc
+on_err (Err x) P h e = h
+
+pub on_ok : {T E : Type 0} (r : Result T E) (P : Type 0) → OnOk r P → is_err r ≡ false → P
+on_ok (Ok v) P h e = h
+on_ok (Err x) P h e = cc
+
+rose_from : (a b c : ℕ) → b ≡ a → Rose b c → Rose a c
+rose_from a b c e r = subst (λ x. Rose x c) e r
+
+some_behind : (a b : List ℕ) → 0 < length b → 0 < length (a ++ b)
+some_behind a b l = omega (arith, length-append a b, l)
+
+-- where nothing of it was written
+pub unmoved : (held : Text) (output : Received) → Moved held held output output
+unmoved held output = record { front = []; appended = Appends-nil output.taken; rest = refl; room = refl; no_failure = refl }
+
+-- a piece that is put behind what is held
+put_behind : (written text more : List ℕ) (held held' : Text) → held' ≡ with held more → written ++ held.text ≡ text → written ++ held'.text ≡ text ++ more
+put_behind written text more held held' e all = ap (λ (x : Text). written ++ x.text) e ∙ sym (append_assoc written held.text more) ∙ ap (λ l. l ++ more) all
+
+module _ {S : Type 0} (means : Putting S) where
+  -- a scribe before its first line
+  pub stood_first : (s : S) (held : Text) (output : Received) → means.put s [] s [] → MayTake means s held → held.text ≡ [] → Stood means s [] s held output output
+  stood_first s held output p m e = record { text = []; put = p; may = m; written = []; appended = Appends-nil output.taken; all = e; no_failure = refl }
+
+  pub stood_moved : (s0 : S) (lines : List Piece) (s : S) (held held' : Text) (before mid after : Received) → Stood means s0 lines s held before mid → Moved held held' mid after → Stood means s0 lines s held' before after
+  stood_moved s0 lines s held held' before mid after t m = record {
+    text = t.text;
+    put = t.put;
+    may = (t.may.0, m.room ∙ t.may.1);
+    written = t.written ++ m.front;
+    appended = Appends-trans before.taken mid.taken after.taken t.written m.front t.appended m.appended;
+    all = append_assoc t.written m.front held'.text ∙ ap (λ l. t.written ++ l) m.rest ∙ t.all;
+    no_failure = m.no_failure ∙ t.no_failure;
+  }
+
+  -- a front of the text was written
+  broke_text : (s0 : S) (lines more : List Piece) (text held written : List ℕ) (before mid after : Received) → IsText means s0 lines text → Appends before.taken mid.taken written → written ++ held ≡ text
+      → mid.faults ≡ before.faults → Cut held mid after → Broke means s0 (lines ++ more) before after
+  broke_text s0 lines more text held written before mid after i a e f c = record {
+    lines = lines;
+    more = more;
+    first = refl;
+    text = text;
+    is_text = i;
+    some = subst (λ (l : List ℕ). 0 < length l) e (some_behind written held c.some);
+    front = length written + c.part.0;
+    appended = subst (Appends before.taken after.taken) (sym (take-append-add written held c.part.0) ∙ ap (take (length written + c.part.0)) e)
+        (Appends-trans before.taken mid.taken after.taken written (take c.part.0 held) a c.part.1);
+    failure = rose_from before.faults mid.faults after.faults f c.failure;
+  }
+
+  broke_all : (s0 : S) (lines : List Piece) (text held written : List ℕ) (before mid after : Received) → IsText means s0 lines text → Appends before.taken mid.taken written → written ++ held ≡ text
+      → mid.faults ≡ before.faults → Cut held mid after → Broke means s0 lines before after
+  broke_all s0 lines text held written before mid after i a e f c =
+      subst (λ (ls : List Piece). Broke means s0 ls before after) (append-nil lines) (broke_text s0 lines [] text held written before mid after i a e f c)
+
+  pub stood_cut : (s0 : S) (lines more : List Piece) (s : S) (held : Text) (before mid after : Received) → Stood means s0 lines s held before mid → Cut held.text mid after → Broke means s0 (lines ++ more) before after
+  stood_cut s0 lines more s held before mid after t c = broke_text s0 lines more t.text held.text t.written before mid after (inl (s, t.put)) t.appended t.all t.no_failure c
+
+  pub stood_cut_all : (s0 : S) (lines : List Piece) (s : S) (held : Text) (before mid after : Received) → Stood means s0 lines s held before mid → Cut held.text mid after → Broke means s0 lines before after
+  stood_cut_all s0 lines s held before mid after t c = broke_all s0 lines t.text held.text t.written before mid after (inl (s, t.put)) t.appended t.all t.no_failure c
+
+  pub said_cut : (s0 : S) (lines : List Piece) (ending : Ending) (held : List ℕ) (before mid after : Received) → Said means s0 lines ending held before mid → Cut held mid after → Broke means s0 lines before after
+  said_cut s0 lines ending held before mid after t c = broke_all s0 lines t.text held t.written before mid after (inr (ending, t.says)) t.appended t.all t.no_failure c
+
+  -- all that was held was written
+  pub said_moved : (s0 : S) (lines : List Piece) (ending : Ending) (held held' : Text) (before mid after : Received) → Said means s0 lines ending held.text before mid → Moved held held' mid after → held'.text ≡ []
+      → Said means s0 lines ending [] before after
+  said_moved s0 lines ending held held' before mid after t m e =
+      let front_is = sym (append-nil m.front) ∙ ap (λ l. m.front ++ l) (sym e) ∙ m.rest in
+      record {
+        text = t.text;
+        says = t.says;
+        written = t.written ++ m.front;
+        appended = Appends-trans before.taken mid.taken after.taken t.written m.front t.appended m.appended;
+        all = append-nil (t.written ++ m.front) ∙ ap (λ l. t.written ++ l) front_is ∙ t.all;
+        no_failure = m.no_failure ∙ t.no_failure;
+      }
+
+  -- what is put last
+  pub said_closed : (s0 : S) (lines : List Piece) (ending : Ending) (s : S) (held held' : Text) (before after : Received) → Stood means s0 lines s held before after → Closes means ending s held held'
+      → Said means s0 lines ending held'.text before after
+  said_closed s0 lines ending s held held' before after t c = record {
+    text = t.text ++ c.more;
+    says = c.says s0 lines t.text t.put;
+    written = t.written;
+    appended = t.appended;
+    all = put_behind t.written t.text c.more held held' c.put t.all;
+    no_failure = t.no_failure;
+  }
+
+  -- what is put for a line
+  pub line_put : (s0 : S) (lines : List Piece) (piece : Piece) (number : ℕ) (result : Option Ending) (s s' : S) (held held' : Text) (before after : Received) → Stood means s0 lines s held before after
+      → number ≡ length lines + 1 → (result ≡ None → means.may s') → IfSome result (λ ending. IsOfLine ending) → Puts means number piece result s held s' held'
+      → Came means s0 (lines ++ piece ∷ []) result s' held' before after
+  line_put s0 lines piece number None s s' held held' before after t n may of p = record {
+    text = t.text ++ p.more;
+    put = p.goes s0 lines t.text t.put n;
+    may = (may refl, ap (λ (x : Text). x.room) p.put ∙ t.may.1);
+    written = t.written;
+    appended = t.appended;
+    all = put_behind t.written t.text p.more held held' p.put t.all;
+    no_failure = t.no_failure;
+  }
+  line_put s0 lines piece number (Some ending) s s' held held' before after t n may of p = inr (
+    of,
+    record {
+      text = t.text ++ p.more;
+      says = p.goes s0 lines t.text t.put n;
+      written = t.written;
+      appended = t.appended;
+      all = put_behind t.written t.text p.more held held' p.put t.all;
+      no_failure = t.no_failure;
+    },
+  )
+
+  -- as the driver asks for it
+  pub then_by : {W O : Type 0} (scribe : W → S) (text : W → Text) (see : O → Received) (w0 : W) (o0 : O) (pieces : List Piece) (result : Option Ending) (w : W) (o : O)
+      → Came means (scribe w0) pieces result (scribe w) (text w) (see o0) (see o) → Then (writes scribe text means see) w0 o0 pieces result w o
+  then_by scribe text see w0 o0 pieces None w o h = h
+  then_by scribe text see w0 o0 pieces (Some ending) w o h = h
+
+  cut_is : (e : Ending) → is_cut e ≡ true → IsOfLine e → ⊥
+  cut_is endings.WritingFailed h i = i
+  cut_is (endings.NoMark n) h i = cc
+  cut_is (endings.OutOfStep n) h i = cc
+  cut_is (endings.MayNotCome n) h i = cc
+  cut_is endings.Done h i = i
+  cut_is (endings.Differs n) h i = cc
+  cut_is (endings.Unlawful n) h i = cc
+  cut_is endings.Usage h i = i
+  cut_is (endings.NoPosition fault) h i = i
+  cut_is endings.NoMemory h i = i
+  cut_is endings.ReadingFailed h i = i
+  cut_is endings.TooLong h i = i
+
+  pub left_cut : (s0 : S) (lines : List Piece) (ending : Ending) (held : List ℕ) (before after : Received) → is_cut ending ≡ true → Halted means s0 ending lines held before after → Left means s0 lines ending ending before after
+  left_cut s0 lines ending held before after c (inl b) = inr b
+  left_cut s0 lines ending held before after c (inr p) = absurd (cut_is ending c p.0)
+
+  left_by : (s0 : S) (lines : List Piece) (ending answer : Ending) (before later : Received) → IsOfLine ending → Finished means s0 lines ending answer before later → Left means s0 lines ending answer before later
+  left_by s0 lines ending answer before later i (inl d) = inl (d.0, i, d.1)
+  left_by s0 lines ending answer before later i (inr b) = inr b
+
+  pub left_written : (s0 : S) (lines : List Piece) (ending answer : Ending) (held : List ℕ) (before after later : Received) → is_cut ending ≡ false → Halted means s0 ending lines held before after
+      → (Said means s0 lines ending held before after → Finished means s0 lines ending answer before later) → Left means s0 lines ending answer before later
+  left_written s0 lines ending answer held before after later c (inl b) f = let x : is_cut ending ≡ true = ap is_cut b.0 in let z = sym x ∙ c in cc
+  left_written s0 lines ending answer held before after later c (inr p) f = left_by s0 lines ending answer before later p.0 (f p.1)

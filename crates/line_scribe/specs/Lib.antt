@@ -1,0 +1,4 @@
+pub mod Outcomes
+pub mod Putting
+pub mod Scribed
+pub mod Writing

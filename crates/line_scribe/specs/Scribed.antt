@@ -1,0 +1,69 @@
+-- What a scribe has written of an input.
+use Rattle.std.specs.Prelude.{◌≡◌, ◌⊎◌, ℕ, ◌^◌, ◌≤◌, ◌<◌, List, length, take}
+use Rattle.std.specs.Io.KnownBytes.{Appends}
+use Rattle.line_io.specs.Lines.{Piece, items}
+use Rattle.line_io.specs.Runs.{whole}
+use Rattle.command_endings.specs.declared.ending.Ending.{Ending}
+use Rattle.command_endings.specs.declared.ending.Ending.TheVariants as endings
+use Rattle.command_endings.specs.Reads.{Got, IsAll, AreFirst, AreRead}
+use Rattle.command_endings.specs.Streams.{Streams}
+use Rattle.line_scribe.specs.Putting.{Putting}
+
+-- All of the input was read, and the text of its lines was written.
+pub record WroteAll {S : Type 0} (means : Putting S) (s0 : S) (start now : Streams) : Type 0 where
+  pub got : List ℕ
+  pub reads : Got start now got
+  pub all : IsAll start.input.left got
+  pub text : List ℕ
+  pub says : means.says s0 (items 131072 got) endings.Done text
+  pub written : Appends start.output.taken now.output.taken text
+
+-- The text of all whole lines that were got was written.
+pub record WroteWhole {S : Type 0} (means : Putting S) (s0 : S) (ending : Ending) (least : ℕ) (start now : Streams) : Type 0 where
+  pub got : List ℕ
+  pub reads : Got start now got
+  pub least_is : least ≤ length got
+  pub first : AreFirst start.input.left (whole 131072 got)
+  pub text : List ℕ
+  pub says : means.says s0 (whole 131072 got) ending text
+  pub written : Appends start.output.taken now.output.taken text
+
+-- The text of the first lines was written, up to the one that is the reason to end.
+pub record WroteTo {S : Type 0} (means : Putting S) (s0 : S) (ending : Ending) (start now : Streams) : Type 0 where
+  pub lines : List Piece
+  pub read : AreRead start now lines
+  pub text : List ℕ
+  pub says : means.says s0 lines ending text
+  pub written : Appends start.output.taken now.output.taken text
+
+-- the text of these lines, whether or not more are taken
+abbrev pub IsText : {S : Type 0} → Putting S → S → List Piece → List ℕ → Type 0
+IsText {S} means s0 lines text = ((s : S) × means.put s0 lines s text) ⊎ ((ending : Ending) × means.says s0 lines ending text)
+
+-- A front of the text of the first lines was written.
+pub record WroteFront {S : Type 0} (means : Putting S) (s0 : S) (start now : Streams) : Type 0 where
+  pub lines : List Piece
+  pub read : AreRead start now lines
+  pub text : List ℕ
+  pub is_text : IsText means s0 lines text
+  pub some : 0 < length text
+  pub front : ℕ
+  pub written : Appends start.output.taken now.output.taken (take front text)
+
+-- what each ending says
+abbrev pub Scribed : {S : Type 0} → Putting S → S → Ending → Streams → Streams → Type 0
+Scribed means s0 endings.Done start now = WroteAll means s0 start now
+Scribed means s0 (endings.Differs n) start now = WroteTo means s0 (endings.Differs n) start now
+Scribed means s0 (endings.Unlawful n) start now = WroteTo means s0 (endings.Unlawful n) start now
+Scribed means s0 (endings.NoMark n) start now = WroteTo means s0 (endings.NoMark n) start now
+Scribed means s0 (endings.OutOfStep n) start now = WroteTo means s0 (endings.OutOfStep n) start now
+Scribed means s0 (endings.MayNotCome n) start now = WroteTo means s0 (endings.MayNotCome n) start now
+Scribed means s0 endings.ReadingFailed start now = WroteWhole means s0 endings.ReadingFailed 0 start now
+Scribed means s0 endings.TooLong start now = WroteWhole means s0 endings.TooLong (2 ^ 32) start now
+Scribed means s0 endings.WritingFailed start now = WroteFront means s0 start now
+Scribed means s0 ending start now = ⊥
+
+-- want of memory leaves the input and the output untouched
+abbrev pub EndsBy : {S : Type 0} → Putting S → S → Type 0 → Ending → Streams → Streams → Type 0
+EndsBy means s0 untouched endings.NoMemory start now = untouched
+EndsBy means s0 untouched ending start now = Scribed means s0 ending start now

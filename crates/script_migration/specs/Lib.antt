@@ -1,0 +1,4 @@
+pub mod Begun
+pub mod Migrated
+pub mod Migration
+pub mod Traces

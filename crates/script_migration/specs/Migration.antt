@@ -1,0 +1,62 @@
+-- A script of version 1 as one of version 2.
+use Rattle.std.specs.Prelude.{◌≡◌, ℕ, suc, ◌+◌, List, [], ◌∷◌, ◌++◌, length, true, Option, Some, None, is_some}
+use Rattle.std.specs.List.{AllByRecursion}
+use Rattle.line_io.specs.Lines.{Piece, Whole, TooLong}
+use Rattle.policy_rules.specs.declared.settings.Settings.{Settings}
+use Rattle.script_lines.specs.Header.{header_text}
+use Rattle.script_lines.specs.Marks.{Mark, Happens, mark_of}
+use Rattle.script_lines.specs.StepLine.{step_line, step_number}
+
+-- a line as it stands in a script
+abbrev pub line_text : List ℕ → List ℕ
+line_text line = line ++ 10 ∷ []
+
+-- the mark of a line
+abbrev pub mark_in : Piece → Option Mark
+mark_in (Whole line) = mark_of line
+mark_in TooLong = None
+
+abbrev pub text_in : Piece → List ℕ
+text_in (Whole line) = line_text line
+text_in TooLong = []
+
+-- A line behind so many steps is copied. The mark of an event begins the next step, whose number stands before it.
+abbrev pub line_migrated : ℕ → Option Mark → List ℕ → List ℕ
+line_migrated steps (Some (Happens event)) text = line_text (step_line (step_number steps)) ++ text
+line_migrated steps (Some mark) text = text
+line_migrated steps None text = []
+
+abbrev pub steps_after : ℕ → Option Mark → ℕ
+steps_after steps (Some (Happens event)) = suc steps
+steps_after steps mark = steps
+
+abbrev pub lines_migrated : ℕ → List Piece → List ℕ
+lines_migrated steps [] = []
+lines_migrated steps (line ∷ lines) =
+    line_migrated steps (mark_in line) (text_in line) ++ lines_migrated (steps_after steps (mark_in line)) lines
+
+-- the header, and the number of the first step
+abbrev pub beginning : Settings → List ℕ
+beginning settings = line_text (header_text settings) ++ line_text (step_line 0)
+
+-- the script of version 2 with these settings, for the lines of one of version 1
+abbrev pub migrated : Settings → List Piece → List ℕ
+migrated settings lines = beginning settings ++ lines_migrated 1 lines
+
+-- how many steps lines have behind so many
+abbrev pub steps_over : ℕ → List Piece → ℕ
+steps_over steps [] = steps
+steps_over steps (line ∷ lines) = steps_over (steps_after steps (mark_in line)) lines
+
+-- each line has a mark
+abbrev pub AreMarked : List Piece → Type 0
+AreMarked lines = AllByRecursion (λ line. is_some (mark_in line) ≡ true) lines
+
+-- The line with this number is the last of these, and the first without a mark.
+pub record IsUnmarked (number : ℕ) (lines : List Piece) : Type 0 where
+  pub before : List Piece
+  pub line : Piece
+  pub lines_are : lines ≡ before ++ line ∷ []
+  pub marked : AreMarked before
+  pub no_mark : mark_in line ≡ None
+  pub number_is : number ≡ length before + 1

@@ -1,0 +1,289 @@
+// A session that is replayed, line by line.
+ghost use Rattle.std.specs.Prelude.{◌≡◌, ◌+◌, ◌<◌, ◌≤◌, ◌^◌, List, [], ◌∷◌, ◌++◌, length, Some, None, true, IfOk};
+ghost use Rattle.line_io.specs.Event.{event_of};
+ghost use Rattle.line_io.specs.Lines.{Piece, Whole};
+ghost use Rattle.line_io.specs.Out.{empty};
+ghost use Rattle.line_io.specs.Source.{Received};
+ghost use Rattle.policy_rules.specs.Policy.{IsProper};
+ghost use Rattle.policy_rules.specs.declared.settings.Settings.{Settings as AnySettings};
+ghost use Rattle.adapter_core.specs.Ends.{may};
+ghost use Rattle.adapter_core.specs.Stands.{Stands};
+ghost use Rattle.script_player.specs.Playing.{HasBegun, Playing, Steps, Takes};
+ghost use Rattle.script_player.specs.Replaying.{IsFresh};
+ghost use Rattle.script_player.specs.Stages.{IsNumbered};
+ghost use Rattle.script_player.specs.Versions.{fault_said, kind_of, kind_says};
+ghost use Rattle.script_player.specs.declared.stage.Stage.TheVariants as stages;
+
+use crate::stage::{Said, Stage};
+use adapter_core::Core;
+use command_endings::{Ending, tell};
+use line_io::{Event, Failed, NoMemory, Out, Sink, TakesLines, write_all};
+use policy_rules::Settings;
+use script_lines::{put_numbered_step, put_step, read_header, write_header};
+use std::alloc::Global;
+
+const STEP_ROOM: usize = 2_097_152;
+
+// Room for a header and three steps.
+const TEXT_ROOM: usize = 8_388_608;
+
+/// A session, where the reading of its script stands, and the part of its script that is not written
+/// yet.
+#[derive(Drop)]
+pub struct Player {
+    core: Core,
+    stage: Stage,
+    text: Out,
+}
+
+// One step of the core, and its marks, behind its number where steps are numbered.
+fn step(core: &mut Core, stage: Stage, event: &Event, text: &mut Out)
+    requires may { may core.old.ends (event_of event.now) ≡ true }
+    requires stage { IsNumbered stage }
+    requires room { length text.old.text + 2097152 ≤ text.old.room }
+    ensures steps { Steps stage core.old core.new (event_of event.now) text.old text.new }
+    ensures room { text.new.room ≡ text.old.room }
+{
+    let lines = core.step(event);
+    match stage.number() {
+        Some(number) => put_numbered_step(number, event, lines.iface, lines.engine, text),
+        None => put_step(event, lines.iface, lines.engine, text),
+    }
+}
+
+impl Player {
+    /// A session before the first line. It takes all memory that it ever uses.
+    pub fn make(alloc: Global, settings: &Settings) -> Result<Player, NoMemory>
+        requires { IsProper settings.now }
+        ensures { IfOk result (λ player. IsFresh settings.now player) }
+    {
+        Ok(Player {
+            core: Core::make(alloc, settings)?,
+            stage: Stage::Start,
+            text: Out::make(alloc, TEXT_ROOM)?,
+        })
+    }
+
+    // Opens a session of version 1.
+    fn open_plain(&mut self)
+        requires new { Stands self.old.core.settings self.old.core [] }
+        requires room { length self.old.text.text + 2097152 ≤ self.old.text.room }
+        ensures begun { HasBegun None self.old.core self.old.text
+            self.new.core self.new.stage self.new.text }
+        ensures room { self.new.text.room ≡ self.old.text.room }
+    {
+        step(&mut self.core, Stage::Plain, &Event::Open, &mut self.text);
+        self.stage = Stage::Plain;
+    }
+
+    // Opens a session of version 2.
+    fn open_numbered(&mut self, settings: &Settings)
+        requires proper { IsProper settings.now }
+        requires new { Stands self.old.core.settings self.old.core [] }
+        requires room { length self.old.text.text + 4194432 ≤ self.old.text.room }
+        ensures begun { HasBegun (Some settings.now) self.old.core self.old.text
+            self.new.core self.new.stage self.new.text }
+        ensures room { self.new.text.room ≡ self.old.text.room }
+    {
+        self.core.set(settings);
+        write_header(settings, &mut self.text);
+        self.text.put(b"\n");
+        step(
+            &mut self.core,
+            Stage::Numbered(0),
+            &Event::Open,
+            &mut self.text,
+        );
+        self.stage = Stage::Headed;
+    }
+
+    // Takes a line of a session that was opened.
+    fn take(&mut self, number: u64, line: &[u8]) -> Option<Ending>
+        requires stage { IsNumbered self.old.stage }
+        requires room { length self.old.text.text + 2097152 ≤ self.old.text.room }
+        ensures ending { result ≡ fault_said number
+            (kind_says self.old.stage self.old.core.ends (kind_of (Whole line.now))) }
+        ensures takes { Takes self.old.core self.old.stage self.old.text
+            (kind_says self.old.stage self.old.core.ends (kind_of (Whole line.now)))
+            self.new.core self.new.stage self.new.text }
+        ensures room { self.new.text.room ≡ self.old.text.room }
+        ensures stage { IsNumbered self.new.stage }
+    {
+        match self.stage.says(&self.core, line) {
+            Said::Comes(event) => {
+                step(&mut self.core, self.stage, &event, &mut self.text);
+                self.stage = self.stage.told();
+                None
+            }
+            Said::Passes => None,
+            Said::Starts(step) => {
+                self.stage = self.stage.started(step);
+                None
+            }
+            Said::HasNoMark => Some(Ending::NoMark(number)),
+            Said::IsOutOfStep => Some(Ending::OutOfStep(number)),
+            Said::Cannot => Some(Ending::MayNotCome(number)),
+        }
+    }
+}
+
+impl Player {
+    fn is_new(&self) -> bool
+        ensures { result ≡ is_start self.now.stage }
+    {
+        matches!(self.stage, Stage::Start)
+    }
+
+    // Where another line is taken, the text is to be written first.
+    fn is_full(&self) -> bool
+        ensures { result ≡ false → length self.now.text.text + 2097152 ≤ self.now.text.room }
+    {
+        self.text.spare() < STEP_ROOM
+    }
+
+    // Writes what is not written yet.
+    fn write<O: Sink>(&mut self, output: &mut O) -> Result<(), Failed>
+        ensures ok { OnOk result
+            (Appends (O.state output.old).taken (O.state output.new).taken self.old.text.text
+            × (self.new ≡ with_text self.old (empty self.old.text.room))) }
+        ensures err { OnErr result
+            (TakesPrefix (O.state output.old).taken (O.state output.new).taken self.old.text.text
+            × (self.new ≡ self.old)) }
+        ensures cause { HasCause (O.state output.old).faults (O.state output.new).faults result }
+        ensures some { OnErr result (0 < length self.old.text.text) }
+    {
+        let written = write_all(output, self.text.bytes());
+        if written.is_ok() {
+            self.text.clear();
+        }
+        written
+    }
+
+    // Takes a line of a session that was opened, and first writes where room is short.
+    fn take_on<O: Sink>(&mut self, number: u64, line: &[u8], output: &mut O) -> Option<Ending>
+        requires may { MayGoOn self.old }
+        requires opened { is_start self.old.stage ≡ false }
+        ensures may { MayGoOn self.new }
+        ensures came { (o : AnySettings) (lines : List Piece) (before : Received)
+            → version_in (lines ++ Whole line.now ∷ []) ≡ version_in lines
+            → Playing o lines self.old.core self.old.stage self.old.text.text before
+            (O.state output.old)
+            → (O.state output.old).faults ≡ before.faults → number ≡ length lines + 1
+            → Came o (lines ++ Whole line.now ∷ []) result self.new before (O.state output.new) }
+    {
+        if !self.is_full() {
+            return self.take(number, line);
+        }
+        if self.write(output).is_err() {
+            return Some(Ending::WritingFailed);
+        }
+        self.take(number, line)
+    }
+
+    /// Writes what is left, and gives the ending, or that writing failed.
+    pub fn write_last<O: Sink>(&mut self, ending: Ending, output: &mut O) -> Ending
+        ensures room { self.new.text.room ≡ self.old.text.room }
+        ensures finished { (o : AnySettings) (lines : List Piece) (before : Received)
+            → Scripted o lines self.old.text.text before (O.state output.old)
+            → (O.state output.old).faults ≡ before.faults
+            → Finished o lines ending result before (O.state output.new) }
+    {
+        if self.write(output).is_err() {
+            return Ending::WritingFailed;
+        }
+        ending
+    }
+
+    /// Writes what is left where no more lines are taken.
+    pub fn stop<O: Sink>(&mut self, ending: Ending, output: &mut O) -> Ending
+        ensures room { self.new.text.room ≡ self.old.text.room }
+        ensures left { (o : AnySettings) (lines : List Piece) (before : Received)
+            → Halted o ending lines self.old before (O.state output.old)
+            → Left o lines ending result before (O.state output.new) }
+    {
+        if is_cut(ending) {
+            return ending;
+        }
+        self.write_last(ending, output)
+    }
+
+    /// Opens the session where no line did, and writes what is left.
+    pub fn end<O: Sink>(&mut self, ending: Ending, output: &mut O) -> Ending
+        requires { MayGoOn self.old }
+        ensures room { self.new.text.room ≡ self.old.text.room }
+        ensures finished { (o : AnySettings) (lines : List Piece) (before : Received)
+            → Stood o lines self.old before (O.state output.old)
+            → Finished o lines ending result before (O.state output.new) }
+    {
+        if self.is_new() {
+            self.open_plain();
+            return self.write_last(ending, output);
+        }
+        self.write_last(ending, output)
+    }
+
+    /// Writes the diagnostic of an ending, and gives how the program ends then.
+    pub fn tell<D: Sink>(&mut self, ending: Ending, diag: &mut D) -> Ending
+        requires { 80 ≤ self.old.text.room }
+        ensures { Told (code_of result) (code_of ending) (diagnostic ending)
+            (D.state diag.old) (D.state diag.new) }
+    {
+        tell(ending, &mut self.text, diag)
+    }
+}
+
+ghost use Rattle.std.specs.Prelude.{false, OnOk, OnErr};
+ghost use Rattle.std.specs.Io.KnownBytes.{Appends};
+ghost use Rattle.line_io.specs.Causes.{HasCause};
+ghost use Rattle.line_io.specs.Source.{TakesPrefix};
+ghost use Rattle.command_endings.specs.Diagnostics.{code_of, diagnostic};
+ghost use Rattle.script_player.specs.Playing.{Scripted};
+ghost use Rattle.script_player.specs.Replaying.{is_cut, with_text, MayGoOn, Came, Stood, Finished, Halted, Left};
+ghost use Rattle.script_player.specs.Stages.{is_start};
+ghost use Rattle.command_endings.specs.Told.{Told};
+ghost use Rattle.script_player.specs.Versions.{version_in};
+
+fn is_cut(ending: Ending) -> bool
+    ensures { result ≡ is_cut ending }
+{
+    matches!(ending, Ending::WritingFailed)
+}
+
+impl<O: Sink> TakesLines<O> for Player {
+    ghost use Rattle.script_player.specs.Replaying.{replays};
+
+    type Stop = Ending;
+
+    ghost means = { replays O.state };
+
+    fn line(&mut self, number: u64, line: &[u8], output: &mut O) -> Option<Ending> {
+        if !self.is_new() {
+            return self.take_on(number, line, output);
+        }
+        match read_header(line) {
+            Some(settings) => {
+                self.open_numbered(&settings);
+                None
+            }
+            None => {
+                self.open_plain();
+                self.take_on(number, line, output)
+            }
+        }
+    }
+
+    fn long(&mut self, number: u64, _output: &mut O) -> Option<Ending> {
+        if self.is_new() {
+            self.open_plain();
+            return Some(Ending::NoMark(number));
+        }
+        Some(Ending::NoMark(number))
+    }
+
+    fn flush(&mut self, output: &mut O) -> Option<Ending> {
+        if self.write(output).is_err() {
+            return Some(Ending::WritingFailed);
+        }
+        None
+    }
+}

@@ -1,0 +1,134 @@
+// What the lines of a script say, in order.
+ghost use Rattle.std.specs.Prelude.{◌≡◌, ◌<◌, ◌^◌};
+ghost use Rattle.line_io.specs.Lines.{Whole};
+ghost use Rattle.script_player.specs.Versions.{kind_of, kind_says, stage_started, stage_told};
+ghost use Rattle.script_player.specs.Stages.{kind, number_of, said, IsNumbered};
+
+use adapter_core::Core;
+use line_io::Event;
+use script_lines::{Mark, next_number, read_mark, read_step};
+
+/// What comes next in a script.
+#[derive(Clone, Copy, Debug, PartialEq, Eq)]
+pub enum Stage {
+    /// The first line.
+    Start,
+    /// A mark of version 1.
+    Plain,
+    /// The first step of version 2.
+    Headed,
+    /// What the step with this number wrote, or the next step.
+    Told(u64),
+    /// The event of the step with this number.
+    Numbered(u64),
+}
+
+// A line by itself.
+#[derive(Drop)]
+pub enum Kind<'a> {
+    Tells(Event<'a>),
+    Writes,
+    Numbers(u64),
+    HasNone,
+}
+
+/// What a line says where it stands.
+#[derive(Drop)]
+pub enum Said<'a> {
+    /// An event, which may come.
+    Comes(Event<'a>),
+    /// That a line was written.
+    Passes,
+    /// The number of the step that comes.
+    Starts(u64),
+    HasNoMark,
+    IsOutOfStep,
+    /// An event that may not come.
+    Cannot,
+}
+
+fn kind_of(line: &[u8]) -> Kind<'_>
+    ensures { kind result ≡ kind_of (Whole line.now) }
+{
+    match read_mark(line) {
+        Ok(Mark::Event(event)) => Kind::Tells(event),
+        Ok(_) => Kind::Writes,
+        Err(_) => match read_step(line) {
+            Some(number) => Kind::Numbers(number),
+            None => Kind::HasNone,
+        },
+    }
+}
+
+fn event_says<'a>(core: &Core, event: Event<'a>) -> Said<'a>
+    ensures { said result ≡ event_says core.now.ends (event_of event.entry) }
+{
+    if core.may(&event) {
+        Said::Comes(event)
+    } else {
+        Said::Cannot
+    }
+}
+
+ghost use Rattle.line_io.specs.Event.{event_of};
+ghost use Rattle.script_player.specs.Versions.{event_says, number_says};
+
+fn number_says<'a>(due: u64, number: u64) -> Said<'a>
+    ensures { said result ≡ number_says due number }
+{
+    if number == due {
+        Said::Starts(number)
+    } else {
+        Said::IsOutOfStep
+    }
+}
+
+impl Stage {
+    /// What a line says here.
+    pub fn says<'a>(self, core: &Core, line: &'a [u8]) -> Said<'a>
+        requires { IsNumbered self }
+        ensures { said result ≡ kind_says self core.now.ends (kind_of (Whole line.now)) }
+    {
+        match (self, kind_of(line)) {
+            (Stage::Start, _) | (_, Kind::HasNone) => Said::HasNoMark,
+            (Stage::Plain, Kind::Tells(event)) => event_says(core, event),
+            (Stage::Plain, Kind::Writes) => Said::Passes,
+            (Stage::Plain, Kind::Numbers(_)) => Said::HasNoMark,
+            (Stage::Headed, Kind::Numbers(number)) => number_says(0, number),
+            (Stage::Told(_), Kind::Writes) => Said::Passes,
+            (Stage::Told(last), Kind::Numbers(number)) => number_says(next_number(last), number),
+            (Stage::Numbered(_), Kind::Tells(event)) => event_says(core, event),
+            _ => Said::IsOutOfStep,
+        }
+    }
+
+    /// The number of the step whose event comes.
+    pub fn number(self) -> Option<u64>
+        ensures { result ≡ number_of self }
+    {
+        match self {
+            Stage::Numbered(number) => Some(number),
+            _ => None,
+        }
+    }
+
+    /// The stage behind the number of a step.
+    pub fn started(self, number: u64) -> Stage
+        ensures { result ≡ stage_started self number }
+    {
+        match self {
+            Stage::Headed => Stage::Told(number),
+            _ => Stage::Numbered(number),
+        }
+    }
+
+    /// The stage behind the mark of an event.
+    pub fn told(self) -> Stage
+        ensures { result ≡ stage_told self }
+    {
+        match self {
+            Stage::Numbered(number) => Stage::Told(number),
+            _ => self,
+        }
+    }
+}
