@@ -1,0 +1,111 @@
+-- One line more of a report.
+use Rattle.std.proofs.Common.{◌≡◌, ℕ, ◌+◌, suc, List, [], ◌∷◌, ◌++◌, length, Option, Some, None, inl, inr, refl, sym, ap, ◌∙◌, arith}
+use Rattle.line_io.specs.Lines.{Piece}
+use Rattle.line_io.specs.Out.{Text, with}
+use Rattle.command_endings.specs.declared.ending.Ending.{Ending}
+use Rattle.session_judge.specs.declared.deed.Deed.{Deed}
+use Rattle.session_judge.specs.declared.rule.Rule.{Rule}
+use Rattle.session_judge.specs.declared.talk.Talk.{Talk}
+use Rattle.session_judge.specs.Clean.{verdict}
+use Rattle.session_judge.specs.Talks.{opening}
+use Rattle.std.specs.Prelude.{Ok, Err, IfSome}
+use Rattle.judge_report.specs.Texts.{searched, unlawful_line}
+use Rattle.judge_report.specs.Reports.{Course, Outcome, brought_out, kind_of, of_deed, of_kind, with_outcome, read_on, over, report, last_lines}
+use Rattle.line_scribe.specs.Putting.{IsOfLine, Puts, Then}
+use Rattle.line_scribe.specs.Putting as scribe
+use Rattle.judge_report.specs.Judging.{judges}
+use Rattle.judge_report.specs.Reads.{Stands, Stops, Closes, Comes, Reads, Ends}
+
+read_more : (c : Course) (n m : ℕ) (p : Piece) → n ≡ m → read_on c.ending c n p ≡ read_on c.ending c m p
+read_more c n m p e = ap (λ k. read_on c.ending c k p) e
+
+-- WHAT IS PUT FOR A MARK
+
+-- for one that breaks no rule
+pub put_ok : (t : Talk) (n : ℕ) (d : Deed) (o : Option Rule) (held held' : Text) → Ok tt ≡ verdict o → held' ≡ with held (brought_out t.search d) → held' ≡ with held (of_deed t n d o).more
+put_ok t n d None held held' e h = h
+put_ok t n d (Some r) held held' e h = absurd (cc)
+
+-- and for one that breaks this one first
+pub put_err : (t : Talk) (n : ℕ) (d : Deed) (o : Option Rule) (rule : Rule) (held held' : Text) → Err rule ≡ verdict o → held' ≡ with held (searched t.search ++ unlawful_line n rule) → held' ≡ with held (of_deed t n d o).more
+put_err t n d None rule held held' e h = absurd (cc)
+put_err t n d (Some r) rule held held' e h = let same : rule ≡ r = cc in h ∙ ap (λ x. with held (searched t.search ++ unlawful_line n x)) same
+
+-- the last of some lines
+over_last : (c : Course) (n : ℕ) (ps : List Piece) (p : Piece) → over c n (ps ++ p ∷ []) ≡ read_on (over c n ps).ending (over c n ps) (n + length ps) p
+over_last c n [] p = read_more c n (n + 0) p (omega arith)
+over_last c n (q ∷ qs) p =
+    let d : Course = read_on c.ending c n q in
+    let i : over d (n + 1) (qs ++ p ∷ []) ≡ read_on (over d (n + 1) qs).ending (over d (n + 1) qs) ((n + 1) + length qs) p = over_last d (n + 1) qs p in
+    i ∙ read_more (over d (n + 1) qs) ((n + 1) + length qs) (n + suc (length qs)) p (omega arith)
+
+-- what comes of a line behind these
+abbrev grown : Talk → List ℕ → ℕ → Piece → Course
+grown t text n p = record { talk = (of_kind t n (kind_of n p)).talk; text = text ++ (of_kind t n (kind_of n p)).more; ending = (of_kind t n (kind_of n p)).ending }
+
+next : (lines : List Piece) (t : Talk) (text : List ℕ) (number : ℕ) (piece : Piece) → Stands lines t text → number ≡ length lines + 1 → report (lines ++ piece ∷ []) ≡ grown t text number piece
+next lines t text number piece s e =
+    let c : Course = report lines in
+    over_last (record { talk = opening; text = []; ending = None }) 1 lines piece
+    ∙ read_more c (1 + length lines) number piece (omega arith)
+    ∙ ap (λ o. read_on o c number piece) s.goes_on
+    ∙ ap (λ u. grown u c.text number piece) s.talk_is
+    ∙ ap (λ x. grown t x number piece) s.text_is
+
+comes : (o : Option Ending) (lines : List Piece) (t : Talk) (text : List ℕ) (c : Course) → IfSome o IsOfLine → report lines ≡ c → o ≡ c.ending → t ≡ c.talk → text ≡ c.text → Comes lines o t text
+comes None lines t text c w e o h x = record {
+  talk_is = ap (λ (d : Course). d.talk) e ∙ sym h;
+  text_is = ap (λ (d : Course). d.text) e ∙ sym x;
+  goes_on = ap (λ (d : Course). d.ending) e ∙ sym o;
+}
+comes (Some ending) lines t text c w e o h x = record {
+  of_line = w;
+  ends = ap (λ (d : Course). d.ending) e ∙ sym o;
+  text_is = ap (λ (d : Course). d.text) e ∙ sym x;
+}
+
+-- A line is read by what comes of it.
+pub reads : (number : ℕ) (piece : Piece) (result : Option Ending) (t t' : Talk) (held held' : Text)
+    → result ≡ (of_kind t number (kind_of number piece)).ending → t' ≡ (of_kind t number (kind_of number piece)).talk
+    → held' ≡ with held (of_kind t number (kind_of number piece)).more → IfSome result IsOfLine → Reads number piece result t t' held held'
+reads number piece result t t' held held' r h p w = record {
+  more = (of_kind t number (kind_of number piece)).more;
+  put = p;
+  goes = λ lines text s e. comes result (lines ++ piece ∷ []) t' (text ++ (of_kind t number (kind_of number piece)).more)
+      (grown t text number piece) w (next lines t text number piece s e) r h refl;
+}
+
+-- The report is closed by what is put last.
+pub ends : (ending : Ending) (t : Talk) (held held' : Text) → held' ≡ with held (last_lines t ending) → Ends ending t held held'
+ends ending t held held' p = record {
+  more = last_lines t ending;
+  put = p;
+  goes = λ lines text s. record {
+    goes_on = s.goes_on;
+    text_is = ap (λ (u : Talk). (report lines).text ++ last_lines u ending) s.talk_is ∙ ap (λ x. x ++ last_lines t ending) s.text_is;
+  };
+}
+
+-- AS A SCRIBE
+
+then_by : (o : Option Ending) (t0 : Talk) (lines : List Piece) (t : Talk) (text : List ℕ) → (t0 ≡ opening → Comes lines o t text) → Then judges t0 lines o t text
+then_by None t0 lines t text h = h
+then_by (Some ending) t0 lines t text h = λ first. inl (h first)
+
+pub puts : (number : ℕ) (piece : Piece) (result : Option Ending) (t t' : Talk) (held held' : Text) → Reads number piece result t t' held held' → Puts judges number piece result t held t' held'
+puts number piece result t t' held held' r = record {
+  more = r.more;
+  put = r.put;
+  goes = λ t0 lines text p e. then_by result t0 (lines ++ piece ∷ []) t' (text ++ r.more) (λ first. r.goes lines text (p first) e);
+}
+
+pub closes : (ending : Ending) (t : Talk) (held held' : Text) → (IsOfLine ending → ⊥) → Ends ending t held held' → scribe.Closes judges ending t held held'
+closes ending t held held' unlined r = record {
+  more = r.more;
+  put = r.put;
+  says = λ t0 lines text p first. inr (unlined, r.goes lines text (p first));
+}
+
+-- before the first line
+pub begins : Stands [] opening []
+begins = record { talk_is = refl; text_is = refl; goes_on = refl }

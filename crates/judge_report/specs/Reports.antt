@@ -1,0 +1,94 @@
+-- The report on the lines of a log.
+use Rattle.std.specs.Prelude.{◌≡◌, ℕ, ◌+◌, ◌==◌, ◌&&◌, ◌||◌, List, [], ◌∷◌, ◌++◌, Bool, is_some, if◌then◌else◌, Option, Some, None}
+use Rattle.line_io.specs.Lines.{Piece, Whole, TooLong}
+use Rattle.script_lines.specs.Header.{header_of}
+use Rattle.script_lines.specs.Marks.{Mark, mark_of}
+use Rattle.script_lines.specs.StepLine.{step_of}
+use Rattle.command_endings.specs.declared.ending.Ending.{Ending}
+use Rattle.command_endings.specs.declared.ending.Ending.TheVariants as endings
+use Rattle.session_judge.specs.declared.deed.Order.TheVariants as orders
+use Rattle.session_judge.specs.declared.deed.Deed.{Deed}
+use Rattle.session_judge.specs.declared.deed.Deed.TheVariants as deeds
+use Rattle.session_judge.specs.declared.rule.Rule.{Rule}
+use Rattle.session_judge.specs.declared.search.Search.{Search}
+use Rattle.session_judge.specs.declared.talk.Talk.{Talk}
+use Rattle.session_judge.specs.Deeds.{deed_of}
+use Rattle.session_judge.specs.Rules.{broken}
+use Rattle.session_judge.specs.Talks.{after, opening}
+use Rattle.judge_report.specs.Texts.{searched, lawful_line, unlawful_line}
+
+-- what a line of a log is: a mark, a line that is passed over, or neither
+pub data Kind : Type 0 where
+  Marks : (mark : Mark) → Kind
+  Passes : Kind
+  HasNone : Kind
+
+-- step lines are passed over, and a header in line 1
+abbrev pub is_passed : ℕ → List ℕ → Bool
+is_passed number line = is_some (step_of line) || (number == 1 && is_some (header_of line))
+
+abbrev pub kind_by : Option Mark → Bool → Kind
+kind_by (Some mark) passed = Marks mark
+kind_by None passed = if passed then Passes else HasNone
+
+abbrev pub kind_of : ℕ → Piece → Kind
+kind_of number (Whole line) = kind_by (mark_of line) (is_passed number line)
+kind_of number TooLong = HasNone
+
+-- what comes of a line: the talk then, what is written for it, and whether it is the last
+pub record Outcome : Type 0 where
+  pub talk : Talk
+  pub more : List ℕ
+  pub ending : Option Ending
+
+-- A `go` brings out the line of the search before it.
+abbrev pub brought_out : Option Search → Deed → List ℕ
+brought_out search (deeds.Writes (orders.Go kind)) = searched search
+brought_out search deed = []
+
+abbrev pub of_deed : Talk → ℕ → Deed → Option Rule → Outcome
+of_deed t number deed None = record { talk = after t number deed; more = brought_out t.search deed; ending = None }
+of_deed t number deed (Some rule) =
+    record { talk = t; more = searched t.search ++ unlawful_line number rule; ending = Some (endings.Unlawful number) }
+
+abbrev pub of_kind : Talk → ℕ → Kind → Outcome
+of_kind t number (Marks mark) = of_deed t number (deed_of mark) (broken t (deed_of mark))
+of_kind t number Passes = record { talk = t; more = []; ending = None }
+of_kind t number HasNone = record { talk = t; more = []; ending = Some (endings.NoMark number) }
+
+-- the report so far: the talk, what was written, and why no more lines are read
+pub record Course : Type 0 where
+  pub talk : Talk
+  pub text : List ℕ
+  pub ending : Option Ending
+
+abbrev pub with_outcome : Course → Outcome → Course
+with_outcome c o = record { talk = o.talk; text = c.text ++ o.more; ending = o.ending }
+
+abbrev pub read_on : Option Ending → Course → ℕ → Piece → Course
+read_on (Some ending) c number piece = c
+read_on None c number piece = with_outcome c (of_kind c.talk number (kind_of number piece))
+
+-- the report on these lines, of which the first has this number
+abbrev pub over : Course → ℕ → List Piece → Course
+over c number [] = c
+over c number (piece ∷ pieces) = over (read_on c.ending c number piece) (number + 1) pieces
+
+abbrev pub report : List Piece → Course
+report lines = over (record { talk = opening; text = []; ending = None }) 1 lines
+
+-- what is written at the end of the input; nothing else is where it was not read to its end
+abbrev pub last_lines : Talk → Ending → List ℕ
+last_lines t endings.Done = searched t.search ++ lawful_line
+last_lines t ending = []
+
+-- the reason to end that stands in a line
+abbrev pub ending_in : Ending → Option Ending
+ending_in (endings.Unlawful number) = Some (endings.Unlawful number)
+ending_in (endings.NoMark number) = Some (endings.NoMark number)
+ending_in ending = None
+
+-- The text of the report on these lines, where it ends so.
+pub record IsReport (lines : List Piece) (ending : Ending) (text : List ℕ) : Type 0 where
+  pub ends : (report lines).ending ≡ ending_in ending
+  pub text_is : text ≡ (report lines).text ++ last_lines (report lines).talk ending

@@ -1,0 +1,12 @@
+//! The report of the judge on a log: a line for each search, and last whether the talk with the engine is lawful.
+#![tactic(auto)]
+
+mod report;
+mod run;
+mod text;
+
+pub use report::{LAST_LINES, Report};
+pub use run::run_judge;
+
+#[cfg(test)]
+mod tests;

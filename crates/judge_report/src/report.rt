@@ -1,0 +1,165 @@
+// The report on a log, line by line.
+ghost use Rattle.std.specs.Prelude.{◌≡◌, ◌+◌, ◌≤◌, [], length, IfSome};
+ghost use Rattle.line_io.specs.Lines.{Whole, TooLong};
+ghost use Rattle.line_io.specs.Out.{with};
+ghost use Rattle.session_judge.specs.Talks.{opening};
+ghost use Rattle.session_judge.specs.Rules.{broken};
+ghost use Rattle.judge_report.specs.Reads.{Ends, Reads, Stands};
+ghost use Rattle.line_scribe.specs.Putting.{IsOfLine};
+ghost use Rattle.judge_report.specs.Reports.{brought_out, is_passed, kind_of, last_lines, of_deed, of_kind};
+ghost use Rattle.judge_report.specs.declared.report.TheConstants.{LAST_LINES};
+
+use crate::text::{put_lawful, put_refusal, put_search};
+use command_endings::Ending;
+use line_io::Out;
+use line_scribe::Scribe;
+use script_lines::{read_header, read_mark, read_step};
+use session_judge::{Deed, Judge, Order, Search, deed_of};
+use std::marker::Model;
+
+/// How many bytes are put for a line, or last, at most.
+pub const LAST_LINES: usize = 300;
+
+/// Reports on the lines of a log: what the judge found is put as text.
+#[derive(Drop)]
+pub struct Report {
+    judge: Judge,
+}
+
+impl Model for Report {
+    ghost use Rattle.session_judge.specs.declared.talk.Talk.{Talk};
+
+    ghost Value = { Talk };
+
+    ghost view = { λ r. r.judge };
+}
+
+// Puts the line of the search before, if a `go` begins another.
+fn put_brought_out(before: Option<Search>, deed: &Deed, text: &mut Out)
+    requires { length text.old.text + LAST_LINES ≤ text.old.room }
+    ensures { text.new ≡ with text.old (brought_out before deed.now) }
+{
+    match deed {
+        Deed::Writes(Order::Go(_)) => put_search(before, text),
+        _ => text.put(b""),
+    }
+}
+
+// Step lines are passed over, and a header in line 1.
+fn is_passed(number: u64, line: &[u8]) -> bool
+    ensures { result ≡ is_passed number line.now }
+{
+    read_step(line).is_some() || (number == 1 && read_header(line).is_some())
+}
+
+impl Report {
+    /// No line was read yet.
+    pub fn new() -> Report
+        ensures opening { result ≡ opening }
+        ensures stands { Stands [] result [] }
+    {
+        Report {
+            judge: Judge::new(),
+        }
+    }
+
+    // Hears what a mark is, and puts what comes of it.
+    fn hear(&mut self, number: u64, deed: &Deed, text: &mut Out) -> Option<Ending>
+        requires { length text.old.text + LAST_LINES ≤ text.old.room }
+        ensures ending { result ≡ (of_deed self.old number deed.now (broken self.old deed.now)).ending }
+        ensures talk { self.new ≡ (of_deed self.old number deed.now (broken self.old deed.now)).talk }
+        ensures put { text.new ≡ with text.old
+            (of_deed self.old number deed.now (broken self.old deed.now)).more }
+        ensures of_line { IfSome result (λ ending. IsOfLine ending) }
+    {
+        let before = self.judge.search();
+        match self.judge.hear_deed(number, deed) {
+            Ok(()) => {
+                put_brought_out(before, deed, text);
+                None
+            }
+            Err(rule) => {
+                put_refusal(before, number, rule, text);
+                Some(Ending::Unlawful(number))
+            }
+        }
+    }
+
+    // Reads a line by what it is.
+    fn take(&mut self, number: u64, line: &[u8], text: &mut Out) -> Option<Ending>
+        requires { length text.old.text + LAST_LINES ≤ text.old.room }
+        ensures ending { result ≡ (of_kind self.old number (kind_of number (Whole line.now))).ending }
+        ensures talk { self.new ≡ (of_kind self.old number (kind_of number (Whole line.now))).talk }
+        ensures put { text.new ≡ with text.old
+            (of_kind self.old number (kind_of number (Whole line.now))).more }
+        ensures of_line { IfSome result (λ ending. IsOfLine ending) }
+    {
+        match read_mark(line) {
+            Ok(mark) => self.hear(number, &deed_of(&mark), text),
+            Err(_) if is_passed(number, line) => None,
+            Err(_) => Some(Ending::NoMark(number)),
+        }
+    }
+
+    /// Reads the line with this number, and puts what is due for it: the line of a search once the next is begun, and
+    /// what the judge says of a mark that breaks a rule. An answer is the reason why no more lines are read.
+    pub fn read_line(&mut self, number: u64, line: &[u8], text: &mut Out) -> Option<Ending>
+        requires { length text.old.text + LAST_LINES ≤ text.old.room }
+        ensures of_line { IfSome result (λ ending. IsOfLine ending) }
+        ensures reads { Reads number (Whole line.now) result
+            self.old self.new text.old text.new }
+    {
+        self.take(number, line, text)
+    }
+
+    /// Reads a line that is longer than the limit, which has no mark.
+    pub fn read_long(&mut self, number: u64, text: &mut Out) -> Option<Ending>
+        requires { length text.old.text + LAST_LINES ≤ text.old.room }
+        ensures of_line { IfSome result (λ ending. IsOfLine ending) }
+        ensures reads { Reads number TooLong result self.old self.new text.old text.new }
+    {
+        text.put(b"");
+        Some(Ending::NoMark(number))
+    }
+
+    // What comes last.
+    fn close(&self, ending: Ending, text: &mut Out)
+        requires { length text.old.text + LAST_LINES ≤ text.old.room }
+        ensures { text.new ≡ with text.old (last_lines self.now ending) }
+    {
+        match ending {
+            Ending::Done => {
+                put_search(self.judge.search(), text);
+                put_lawful(text);
+            }
+            _ => text.put(b""),
+        }
+    }
+
+    /// Puts what comes last if no line is the reason to end: the line of the last search, and that the talk is lawful, if
+    /// all of the log was read.
+    pub fn put_last(&self, ending: Ending, text: &mut Out)
+        requires { length text.old.text + LAST_LINES ≤ text.old.room }
+        ensures { Ends ending self.now text.old text.new }
+    {
+        self.close(ending, text);
+    }
+}
+
+impl Scribe for Report {
+    ghost use Rattle.judge_report.specs.Judging.{judges};
+
+    ghost means = { judges };
+
+    fn line(&mut self, number: u64, line: &[u8], text: &mut Out) -> Option<Ending> {
+        self.read_line(number, line, text)
+    }
+
+    fn long(&mut self, number: u64, text: &mut Out) -> Option<Ending> {
+        self.read_long(number, text)
+    }
+
+    fn finish(&mut self, ending: Ending, text: &mut Out) {
+        self.put_last(ending, text);
+    }
+}

@@ -1,0 +1,4 @@
+pub mod Deeds
+pub mod Rules
+pub mod Talks
+pub mod Clean

@@ -1,0 +1,123 @@
+-- The rules of the dialogue with an engine, each a test of what was written and heard before and of an order or a move.
+use Rattle.std.specs.Prelude.{Bool, true, false, not, ◌&&◌, if◌then◌else◌, Option, Some, None}
+use Rattle.chess_board.specs.declared.board.Move.{Move}
+use Rattle.chess_board.specs.Place.{legal}
+use Rattle.peer_words.specs.declared.kinds.GoKind.{GoKind}
+use Rattle.peer_words.specs.declared.kinds.GoKind.TheVariants as kinds
+use Rattle.search_epochs.specs.Tickets.{same_move}
+use Rattle.session_judge.specs.declared.deed.Order.{Order}
+use Rattle.session_judge.specs.declared.deed.Order.TheVariants as orders
+use Rattle.session_judge.specs.declared.deed.Deed.{Deed}
+use Rattle.session_judge.specs.declared.deed.Deed.TheVariants as deeds
+use Rattle.session_judge.specs.declared.rule.Rule.{Rule}
+use Rattle.session_judge.specs.declared.rule.Rule.TheVariants as rules
+use Rattle.session_judge.specs.declared.talk.Answer.{Answer}
+use Rattle.session_judge.specs.declared.talk.Engine.{Engine}
+use Rattle.session_judge.specs.declared.talk.Engine.TheVariants as engines
+use Rattle.session_judge.specs.declared.talk.Stage.{Stage}
+use Rattle.session_judge.specs.declared.talk.Stage.TheVariants as stages
+use Rattle.session_judge.specs.declared.talk.Talk.{Talk}
+
+-- First: the first order is not `uci`, or a later one is.
+abbrev pub breaks_first : Stage → Order → Bool
+breaks_first stages.Start orders.Uci = false
+breaks_first stages.Start order = true
+breaks_first stage orders.Uci = true
+breaks_first stage order = false
+
+-- Gone: an order is written to an engine that is gone.
+abbrev pub breaks_gone : Engine → Bool
+breaks_gone engines.Gone = true
+breaks_gone engine = false
+
+-- Quit: an order stands behind `quit`.
+abbrev pub breaks_quit : Stage → Bool
+breaks_quit stages.Over = true
+breaks_quit stage = false
+
+-- Order: a `go` stands not directly behind a `position`, or another order directly behind one.
+abbrev pub breaks_order : Stage → Order → Bool
+breaks_order stages.Placed (orders.Go kind) = false
+breaks_order stages.Placed order = true
+breaks_order stage (orders.Go kind) = true
+breaks_order stage order = false
+
+abbrev pub needs_idle : Order → Bool
+needs_idle orders.Setup = true
+needs_idle orders.IsReady = true
+needs_idle (orders.Position p) = true
+needs_idle (orders.Go kind) = true
+needs_idle order = false
+
+abbrev pub is_idle : Engine → Bool
+is_idle engines.Idle = true
+is_idle engine = false
+
+-- Busy: settings, `isready`, `position` or `go` for an engine that is not idle.
+abbrev pub breaks_busy : Engine → Order → Bool
+breaks_busy engine order = not (is_idle engine) && needs_idle order
+
+-- an open search that is not stopped
+abbrev pub is_running : Engine → Bool
+is_running (engines.Search kind stopped) = not stopped
+is_running engine = false
+
+abbrev pub is_stop : Order → Bool
+is_stop orders.Stop = true
+is_stop order = false
+
+-- Stop: `stop` outside a search that is not stopped.
+abbrev pub breaks_stop : Engine → Order → Bool
+breaks_stop engine order = is_stop order && not (is_running engine)
+
+-- an open Ponder search that is not stopped
+abbrev pub is_pondering : Engine → Bool
+is_pondering (engines.Search kinds.Ponder stopped) = not stopped
+is_pondering engine = false
+
+abbrev pub is_hit : Order → Bool
+is_hit orders.PonderHit = true
+is_hit order = false
+
+-- Hit: `ponderhit` outside a Ponder search that is not stopped.
+abbrev pub breaks_hit : Engine → Order → Bool
+breaks_hit engine order = is_hit order && not (is_pondering engine)
+
+-- Position: a `position` line that cannot be read.
+abbrev pub breaks_position : Order → Bool
+breaks_position (orders.Position None) = true
+breaks_position order = false
+
+-- the first rule that an order breaks
+abbrev pub broken_by : Talk → Order → Option Rule
+broken_by t order =
+    if breaks_first t.stage order then Some rules.First
+    else (if breaks_gone t.engine then Some rules.Gone
+    else (if breaks_quit t.stage then Some rules.Quit
+    else (if breaks_order t.stage order then Some rules.Order
+    else (if breaks_busy t.engine order then Some rules.Busy
+    else (if breaks_stop t.engine order then Some rules.Stop
+    else (if breaks_hit t.engine order then Some rules.Hit
+    else (if breaks_position order then Some rules.Position else None)))))))
+
+abbrev pub is_best : Option Move → Move → Bool
+is_best None m = false
+is_best (Some best) m = same_move best m
+
+abbrev pub is_for_move : GoKind → Bool
+is_for_move kinds.Move = true
+is_for_move kind = false
+
+-- the move is the answer of a search for a move, was not shown since, and is legal in its position
+abbrev pub is_shown_by : Answer → Move → Bool
+is_shown_by a m = (is_for_move a.kind && not a.told) && (is_best a.best m && legal a.at m)
+
+abbrev pub is_answer : Option Answer → Move → Bool
+is_answer None m = false
+is_answer (Some a) m = is_shown_by a m
+
+-- The first rule that a mark breaks. Move: a move is shown that is not the last answer, in its time.
+abbrev pub broken : Talk → Deed → Option Rule
+broken t (deeds.Writes order) = broken_by t order
+broken t (deeds.Shows m) = if is_answer t.answer m then None else Some rules.Move
+broken t deed = None

@@ -1,0 +1,116 @@
+-- The dialogue with the engine, as the marks of a log show it.
+use Rattle.std.specs.Prelude.{ℕ, ◌+◌, true, false, nat_lt, if◌then◌else◌, Option, Some, None}
+use Rattle.chess_board.specs.declared.board.Move.{Move}
+use Rattle.chess_board.specs.Position.{Position}
+use Rattle.chess_board.specs.Play.{start_position}
+use Rattle.peer_words.specs.declared.kinds.GoKind.{GoKind}
+use Rattle.peer_words.specs.declared.kinds.GoKind.TheVariants as kinds
+use Rattle.session_judge.specs.declared.deed.Order.{Order}
+use Rattle.session_judge.specs.declared.deed.Order.TheVariants as orders
+use Rattle.session_judge.specs.declared.deed.Deed.{Deed}
+use Rattle.session_judge.specs.declared.deed.Deed.TheVariants as deeds
+use Rattle.session_judge.specs.declared.search.Search.{Search}
+use Rattle.session_judge.specs.declared.talk.Answer.{Answer}
+use Rattle.session_judge.specs.declared.talk.Engine.{Engine}
+use Rattle.session_judge.specs.declared.talk.Engine.TheVariants as engines
+use Rattle.session_judge.specs.declared.talk.Stage.{Stage}
+use Rattle.session_judge.specs.declared.talk.Stage.TheVariants as stages
+use Rattle.session_judge.specs.declared.talk.Talk.{Talk}
+use Rattle.session_judge.specs.declared.talk.TheConstants.{LAST_NUMBER}
+
+abbrev pub opening : Talk
+opening = record {
+  engine = engines.Boot;
+  stage = stages.Start;
+  placed = start_position;
+  answer = None;
+  search = None;
+}
+
+-- the engine, by its lines and the orders to it alone
+abbrev pub engine_after : Engine → Deed → Engine
+engine_after engines.Gone deed = engines.Gone
+engine_after engine deeds.Ends = engines.Gone
+engine_after engine (deeds.Writes orders.Uci) = engines.Boot
+engine_after engine (deeds.Writes orders.IsReady) = engines.Getting
+engine_after engine (deeds.Writes (orders.Go kind)) = engines.Search kind false
+engine_after (engines.Search kind stopped) (deeds.Writes orders.Stop) = engines.Search kind true
+engine_after (engines.Search kinds.Ponder stopped) (deeds.Writes orders.PonderHit) = engines.Search kinds.Move false
+engine_after engines.Boot deeds.Boots = engines.Idle
+engine_after engines.Getting deeds.GetsReady = engines.Idle
+engine_after (engines.Search kind stopped) (deeds.Answers best) = engines.Idle
+engine_after engine deed = engine
+
+-- which orders came
+abbrev pub stage_after : Stage → Deed → Stage
+stage_after stages.Over deed = stages.Over
+stage_after stage (deeds.Writes orders.Quit) = stages.Over
+stage_after stage (deeds.Writes (orders.Position p)) = stages.Placed
+stage_after stage (deeds.Writes order) = stages.Open
+stage_after stage deed = stage
+
+-- the position to which the last `position` line leads
+abbrev pub placed_after : Position → Deed → Position
+placed_after p (deeds.Writes (orders.Position (Some q))) = q
+placed_after p deed = p
+
+-- the answer that was heard last in a search
+
+abbrev pub answer_in : Engine → Position → Option Move → Option Answer → Option Answer
+answer_in (engines.Search kind stopped) p best last = Some (record { kind = kind; best = best; at = p; told = false })
+answer_in engine p best last = last
+
+abbrev pub told : Option Answer → Option Answer
+told None = None
+told (Some a) = Some (record a { told = true })
+
+abbrev pub answer_after : Engine → Position → Option Answer → Deed → Option Answer
+answer_after engine p last (deeds.Answers best) = answer_in engine p best last
+answer_after engine p last (deeds.Shows m) = told last
+answer_after engine p last deed = last
+
+-- the search that was begun last
+
+abbrev pub number_after : Option Search → ℕ
+number_after None = 1
+number_after (Some s) = if nat_lt s.number LAST_NUMBER then s.number + 1 else LAST_NUMBER
+
+abbrev pub begun : ℕ → GoKind → ℕ → Search
+begun number kind line = record {
+  number = number;
+  kind = kind;
+  begun = line;
+  ended = None;
+  stopped = false;
+  shown = None;
+}
+
+abbrev pub ended_in : Engine → ℕ → Search → Search
+ended_in (engines.Search kind stopped) line s = record s { ended = Some line }
+ended_in engine line s = s
+
+-- A move is shown in the search that ended last, if no other was begun since.
+abbrev pub shown_by : Option ℕ → Move → Search → Search
+shown_by None m s = s
+shown_by (Some line) m s = record s { shown = Some m }
+
+abbrev pub shown_in : Move → Search → Search
+shown_in m s = shown_by s.ended m s
+
+abbrev pub search_after : Engine → ℕ → Option Search → Deed → Option Search
+search_after engine line search (deeds.Writes (orders.Go kind)) = Some (begun (number_after search) kind line)
+search_after engine line (Some s) (deeds.Writes orders.Stop) = Some (record s { stopped = true })
+search_after engine line (Some s) (deeds.Writes orders.PonderHit) = Some (record s { kind = kinds.Move })
+search_after engine line (Some s) (deeds.Answers best) = Some (ended_in engine line s)
+search_after engine line (Some s) (deeds.Shows m) = Some (shown_in m s)
+search_after engine line search deed = search
+
+-- after a mark in the line with this number
+abbrev pub after : Talk → ℕ → Deed → Talk
+after t line deed = record {
+  engine = engine_after t.engine deed;
+  stage = stage_after t.stage deed;
+  placed = placed_after t.placed deed;
+  answer = answer_after t.engine t.placed t.answer deed;
+  search = search_after t.engine line t.search deed;
+}

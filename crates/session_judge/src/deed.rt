@@ -1,0 +1,135 @@
+// What a mark is to the judge.
+ghost use Rattle.std.specs.Prelude.{◌≡◌};
+ghost use Rattle.script_lines.specs.Marks.{plain};
+ghost use Rattle.uci_lines.specs.Behind.{after};
+ghost use Rattle.uci_lines.specs.Orders.{optional_now};
+ghost use Rattle.uci_talk.specs.Lines.{line_of};
+ghost use Rattle.session_judge.specs.Deeds.{deed_of, end_of, order_in, order_named, said_deed, told_move};
+
+use chess_board::{Move, Position, read_move, write_move};
+use line_io::Event;
+use peer_words::{GoKind, split_token};
+use script_lines::Mark;
+use uci_lines::{EngineMsg, read_engine};
+use uci_talk::{go_kind, spoken};
+
+/// What an order is by its first token (UCI, April 2006, "GUI to engine").
+#[derive(Clone, Copy)]
+pub enum Order {
+    Uci,
+    /// `setoption` or `ucinewgame`.
+    Setup,
+    IsReady,
+    /// With the position after all its moves, if it can be read.
+    Position(Option<Position>),
+    Go(GoKind),
+    Stop,
+    PonderHit,
+    Quit,
+}
+
+/// What a mark is to the judge.
+#[derive(Clone, Copy)]
+pub enum Deed {
+    /// An order was written to the engine.
+    Writes(Order),
+    /// `uciok` came.
+    Boots,
+    /// `readyok` came.
+    GetsReady,
+    /// `bestmove` came, with a move if a move text stands in it.
+    Answers(Option<Move>),
+    /// The engine ended, or was lost.
+    Ends,
+    /// `move M` was written to the interface.
+    Shows(Move),
+    /// It says nothing of the dialogue with the engine.
+    Nothing,
+}
+
+/// The position to which a `position` line leads.
+fn end_of(line: &[u8]) -> Option<Position>
+    ensures { result ≡ end_of (line_of line.now) }
+{
+    match spoken(line) {
+        Some(said) => Some(said.end),
+        None => None,
+    }
+}
+
+fn order_named(word: &[u8], line: &[u8]) -> Option<Order>
+    ensures { result ≡ order_named word.now line.now }
+{
+    if word == b"uci".as_slice() {
+        Some(Order::Uci)
+    } else if word == b"isready".as_slice() {
+        Some(Order::IsReady)
+    } else if word == b"setoption".as_slice() || word == b"ucinewgame".as_slice() {
+        Some(Order::Setup)
+    } else if word == b"position".as_slice() {
+        Some(Order::Position(end_of(line)))
+    } else if word == b"go".as_slice() {
+        Some(Order::Go(go_kind(line)))
+    } else if word == b"stop".as_slice() {
+        Some(Order::Stop)
+    } else if word == b"ponderhit".as_slice() {
+        Some(Order::PonderHit)
+    } else if word == b"quit".as_slice() {
+        Some(Order::Quit)
+    } else {
+        None
+    }
+}
+
+fn order_in(line: &[u8]) -> Deed
+    ensures { result ≡ order_in line.now }
+{
+    match order_named(split_token(line).0, line) {
+        Some(order) => Deed::Writes(order),
+        None => Deed::Nothing,
+    }
+}
+
+/// What stands behind a word at the front.
+fn after<'a>(word: &[u8], line: &'a [u8]) -> Option<&'a [u8]>
+    ensures { optional_now result ≡ after word.now line.now }
+{
+    line.strip_prefix(word)
+}
+
+/// The move that a line shows to the interface: `move` and a move as it is written (CECP).
+fn told_move(line: &[u8]) -> Deed
+    ensures { result ≡ told_move line.now }
+{
+    let Some(text) = after(b"move ", line) else {
+        return Deed::Nothing;
+    };
+    match read_move(text) {
+        Some(m) if write_move(m).as_slice() == text => Deed::Shows(m),
+        _ => Deed::Nothing,
+    }
+}
+
+fn said_in(line: &[u8]) -> Deed
+    ensures { result ≡ said_deed line.now }
+{
+    match read_engine(line) {
+        EngineMsg::UciOk => Deed::Boots,
+        EngineMsg::ReadyOk => Deed::GetsReady,
+        EngineMsg::Best { best, hint: _ } => Deed::Answers(best),
+        _ => Deed::Nothing,
+    }
+}
+
+/// What a mark is to the judge.
+pub fn deed_of(mark: &Mark) -> Deed
+    ensures { result ≡ deed_of (plain mark.now) }
+{
+    match mark {
+        Mark::ToEngine(line) => order_in(line),
+        Mark::ToIface(line) => told_move(line),
+        Mark::Event(Event::Engine(line)) => said_in(line),
+        Mark::Event(Event::EngineEnd) | Mark::Event(Event::EngineLost) => Deed::Ends,
+        _ => Deed::Nothing,
+    }
+}

@@ -1,0 +1,79 @@
+// The judge.
+ghost use Rattle.std.specs.Prelude.{◌≡◌, ◌∷◌, [], List, OnOk, OnErr};
+ghost use Rattle.script_lines.specs.Marks.{plain};
+ghost use Rattle.session_judge.specs.Clean.{Entry, IsClean, broken_rule, talk, verdict};
+ghost use Rattle.session_judge.specs.Deeds.{deed_of};
+ghost use Rattle.session_judge.specs.Rules.{broken};
+ghost use Rattle.session_judge.specs.Talks.{after};
+
+use crate::deed::{Deed, deed_of};
+use crate::rule::Rule;
+use crate::search::Search;
+use crate::talk::Talk;
+use script_lines::Mark;
+use std::marker::Model;
+
+/// Hears the marks of a log in their order, up to the first that breaks a rule.
+#[derive(Drop)]
+pub struct Judge {
+    talk: Talk,
+}
+
+impl Model for Judge {
+    ghost use Rattle.session_judge.specs.declared.talk.Talk.{Talk};
+
+    ghost Value = { Talk };
+
+    ghost view = { λ j. j.talk };
+}
+
+impl Judge {
+    /// Nothing was heard yet.
+    pub fn new() -> Judge
+        ensures { result ≡ talk [] }
+    {
+        Judge { talk: Talk::new() }
+    }
+
+    /// Hears a mark, in the line with this number.
+    ///
+    /// # Errors
+    /// The first rule that the mark breaks behind the marks before it; then nothing changes.
+    pub fn hear(&mut self, line: u64, mark: &Mark) -> Result<(), Rule>
+        ensures step { result ≡ verdict (broken self.old (deed_of (plain mark.now))) }
+        ensures after { OnOk result (self.new ≡ after self.old line (deed_of (plain mark.now))) }
+        ensures err { OnErr result (self.new ≡ self.old) }
+        // A mark is refused exactly by the first rule that it breaks.
+        ensures exact { (log : List Entry) → self.old ≡ talk log
+            → result ≡ verdict (broken_rule log (plain mark.now)) }
+        ensures goes_on { (log : List Entry) → self.old ≡ talk log
+            → OnOk result (self.new ≡ talk (record { line = line; mark = plain mark.now } ∷ log)) }
+    {
+        self.hear_deed(line, &deed_of(mark))
+    }
+
+    /// The same of what a mark is.
+    ///
+    /// # Errors
+    /// The first rule that it breaks; then nothing changes.
+    pub fn hear_deed(&mut self, line: u64, deed: &Deed) -> Result<(), Rule>
+        ensures step { result ≡ verdict (broken self.old deed.now) }
+        ensures after { OnOk result (self.new ≡ after self.old line deed.now) }
+        ensures err { OnErr result (self.new ≡ self.old) }
+    {
+        match self.talk.broken(deed) {
+            Some(rule) => Err(rule),
+            None => {
+                self.talk = self.talk.after(line, deed);
+                Ok(())
+            }
+        }
+    }
+
+    /// The search that was begun last.
+    pub fn search(&self) -> Option<Search>
+        ensures { result ≡ self.now.search }
+    {
+        self.talk.search
+    }
+}

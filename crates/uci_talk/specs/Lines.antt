@@ -1,0 +1,79 @@
+-- What a `position` line says, as a function of its tokens.
+use Rattle.std.specs.Prelude.{ℕ, List, [], ◌∷◌, drop, codes, Bool, if◌then◌else◌, Option, Some, None, Result, Ok, Err}
+use Rattle.peer_words.specs.Tokens.{tokens}
+use Rattle.chess_board.specs.declared.board.Move.{Move}
+use Rattle.chess_board.specs.Position.{Position}
+use Rattle.chess_board.specs.Play.{start_position, position_after}
+use Rattle.chess_board.specs.Place.{legal}
+use Rattle.chess_board.specs.Spelling.{move_of}
+use Rattle.fen_text.specs.declared.fault.FenFault.{FenFault}
+use Rattle.fen_text.specs.Fen.{position_of_fields}
+use Rattle.uci_lines.specs.Cuts.{Found, is_word}
+
+-- the position before the moves, the texts of the moves, and the position after them
+pub record Line : Type 0 where
+  pub start : Position
+  pub moves : List (List ℕ)
+  pub end : Position
+
+-- the position after a move
+abbrev pub played : Position → Move → Position
+played p m = position_after p m.from.index m.to.index m.promo
+
+abbrev pub played_if_legal : Position → Option Move → Option Position
+played_if_legal p None = None
+played_if_legal p (Some m) = if legal p m then Some (played p m) else None
+
+-- the position after the moves of these texts, if each is legal in its turn
+abbrev pub led : List (List ℕ) → Option Position → Option Position
+led [] p = p
+led (t ∷ ts) None = None
+led (t ∷ ts) (Some p) = led ts (played_if_legal p (move_of t))
+
+abbrev pub is_moves : List ℕ → Bool
+is_moves t = is_word (codes "moves") t
+
+-- the tokens before the first `moves`
+abbrev pub before_moves : List (List ℕ) → List (List ℕ)
+before_moves [] = []
+before_moves (t ∷ ts) = if is_moves t then [] else t ∷ before_moves ts
+
+-- the tokens behind it
+abbrev pub behind_moves : List (List ℕ) → List (List ℕ)
+behind_moves [] = []
+behind_moves (t ∷ ts) = if is_moves t then ts else behind_moves ts
+
+-- what stands before and behind a word
+abbrev pub sides : Found → List ℕ × List ℕ
+sides part = (part.before, part.after)
+
+abbrev pub if_right : Result Position FenFault → Option Position
+if_right (Ok p) = Some p
+if_right (Err fault) = None
+
+abbrev pub standard_if_alone : List (List ℕ) → Option Position
+standard_if_alone [] = Some start_position
+standard_if_alone (t ∷ ts) = None
+
+-- `startpos`, or `fen` and the fields of a position
+abbrev pub start_in : List (List ℕ) → Option Position
+start_in [] = None
+start_in (t ∷ ts) =
+    if is_word (codes "startpos") t then standard_if_alone ts
+    else (if is_word (codes "fen") t then if_right (position_of_fields ts) else None)
+
+abbrev pub line_to : Position → List (List ℕ) → Option Position → Option Line
+line_to p moves None = None
+line_to p moves (Some q) = Some (record { start = p; moves = moves; end = q })
+
+abbrev pub line_from : Option Position → List (List ℕ) → Option Line
+line_from None moves = None
+line_from (Some p) moves = line_to p moves (led moves (Some p))
+
+-- what the tokens behind `position` say
+abbrev pub line_in : List (List ℕ) → Option Line
+line_in ts = line_from (start_in (before_moves ts)) (behind_moves ts)
+
+-- what a `position` line says, or nothing if it cannot be read
+unfoldable pub line_of : List ℕ → Option Line
+line_of line = line_in (drop 1 (tokens line))

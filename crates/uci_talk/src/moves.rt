@@ -1,0 +1,47 @@
+// Moves that lead from a position to another.
+ghost use Rattle.std.specs.Prelude.{◌≡◌, Some, true};
+ghost use Rattle.peer_words.specs.Tokens.{tokens};
+ghost use Rattle.chess_board.specs.Place.{legal};
+ghost use Rattle.chess_board.specs.Spelling.{move_of};
+ghost use Rattle.uci_talk.specs.Lines.{led, played, played_if_legal};
+
+use crate::words::next_token;
+use chess_board::{Move, Position, read_move};
+
+fn is_legal(at: &Position, m: Move) -> bool
+    ensures { result ≡ legal at.now m }
+{
+    at.legal(m)
+}
+
+fn play(at: &Position, m: Move) -> Position
+    requires { legal at.now m ≡ true }
+    ensures { result ≡ played at.now m }
+{
+    at.play(m)
+}
+
+/// The position after the move that a text spells, if it is legal.
+fn play_text(at: &Position, text: &[u8]) -> Option<Position>
+    ensures { result ≡ played_if_legal at.now (move_of text.now) }
+{
+    let m = read_move(text)?;
+    if is_legal(at, m) {
+        Some(play(at, m))
+    } else {
+        None
+    }
+}
+
+/// The position after the moves of a text, if each is legal in its turn.
+pub(crate) fn play_all(start: Position, moves: &[u8]) -> Option<Position>
+    ensures { result ≡ led (tokens moves.now) (Some start) }
+{
+    let mut at = start;
+    let mut others = moves;
+    while let Some((text, behind)) = next_token(others) {
+        at = play_text(&at, text)?;
+        others = behind;
+    }
+    Some(at)
+}

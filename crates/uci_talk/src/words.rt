@@ -1,0 +1,80 @@
+// The tokens of a line.
+ghost use Rattle.std.specs.Prelude.{◌≡◌, ◌∷◌, ◌<◌, [], length, drop, position, true, MatchOption, IfSome, codes};
+ghost use Rattle.std.specs.List.{before_first};
+ghost use Rattle.std.specs.Option.{option_map};
+ghost use Rattle.peer_words.specs.Tokens.{tokens, is_white, token_end};
+ghost use Rattle.uci_lines.specs.Cuts.{cut};
+ghost use Rattle.uci_talk.specs.Lines.{before_moves, behind_moves, is_moves, sides};
+
+use peer_words::{is_white, split_token, trim};
+
+/// The first token of a text, and the trimmed rest after it.
+pub(crate) fn next_token(text: &[u8]) -> Option<(&[u8], &[u8])>
+    ensures first { MatchOption result (tokens text.now ≡ [])
+        (λ p. tokens text.now ≡ p.0.now ∷ tokens p.1.now) }
+    ensures shorter { IfSome result (λ p. length p.1.now < length text.now) }
+{
+    let (token, others) = split_token(text);
+    if token.is_empty() {
+        None
+    } else {
+        Some((token, others))
+    }
+}
+
+/// What stands behind the first token.
+pub(crate) fn behind_first(line: &[u8]) -> &[u8]
+    ensures { tokens result.now ≡ drop 1 (tokens line.now) }
+{
+    match next_token(line) {
+        Some((_, others)) => others,
+        None => line,
+    }
+}
+
+fn white_at(text: &[u8]) -> Option<usize>
+    ensures { result ≡ position is_white text.now }
+{
+    text.iter().position(|b| is_white(*b))
+}
+
+/// What stands before the first white space, and what begins with it.
+fn split_at_white(text: &[u8]) -> (&[u8], &[u8])
+    ensures token { result.0.now ≡ before_first is_white text.now }
+    ensures rest { result.1.now ≡ drop (token_end text.now) text.now }
+{
+    match white_at(text) {
+        Some(at) => text.split_at(at),
+        None => (text, &[]),
+    }
+}
+
+/// What stands before and behind the first token `moves`.
+fn find_moves(text: &[u8]) -> Option<(&[u8], &[u8])>
+    ensures { option_map (λ p. (p.0.now, p.1.now)) result
+        ≡ option_map sides (cut is_moves true text.now) }
+{
+    let mut is_fresh = true;
+    for (i, byte) in text.iter().enumerate() {
+        if is_fresh {
+            let (word, after) = split_at_white(&text[i..]);
+            if word == b"moves".as_slice() {
+                return Some((&text[..i], after));
+            }
+        }
+        is_fresh = is_white(*byte);
+    }
+    None
+}
+
+/// What stands before the first token `moves`, and what stands behind it, trimmed; all and nothing if there is
+/// none.
+pub(crate) fn split_at_moves(text: &[u8]) -> (&[u8], &[u8])
+    ensures before { tokens result.0.now ≡ before_moves (tokens text.now) }
+    ensures behind { tokens result.1.now ≡ behind_moves (tokens text.now) }
+{
+    match find_moves(text) {
+        Some((before, after)) => (before, trim(after)),
+        None => (text, &[]),
+    }
+}
