@@ -1,0 +1,2 @@
+pub mod Sans
+pub mod Spaced

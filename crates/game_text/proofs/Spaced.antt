@@ -1,0 +1,62 @@
+-- The parts of the line of a game.
+use Rattle.std.proofs.Common.{◌≡◌, ℕ, ◌≤◌, List, [], ◌∷◌, ◌++◌, Bool, true, false, decimal, length, refl, sym, ap, ◌∙◌, arith, lit<, append_assoc}
+use Rattle.std.specs.Bool.{Decides}
+use Rattle.std.proofs.lemmas.Fmt.{length-decimal-le}
+use Rattle.line_io.specs.Out.{Text, with}
+use Rattle.game_record.proofs.Lines.{put_three}
+use Rattle.std.specs.List.{join_with_byte}
+use Rattle.chess_board.specs.Position.{Position}
+use Rattle.game_record.specs.Game.{Ply, played}
+use Rattle.game_text.specs.San.{san}
+use Rattle.game_text.specs.Text.{number_by, move_parts, spaced}
+
+pub spaced-append : (a b : List (List ℕ)) → spaced (a ++ b) ≡ spaced a ++ spaced b
+spaced-append [] b = refl
+spaced-append (part ∷ a) b =
+    ap (λ (t : List ℕ). part ++ 32 ∷ t) (spaced-append a b)
+    ∙ sym (append_assoc part (32 ∷ spaced a) (spaced b))
+
+-- parts with a blank behind each, and the last part
+pub joined : (parts : List (List ℕ)) (last : List ℕ) → join_with_byte 32 (parts ++ last ∷ []) ≡ spaced parts ++ last
+joined [] last = refl
+joined (part ∷ []) last = sym (append_assoc part (32 ∷ []) last)
+joined (part ∷ next ∷ parts) last =
+    ap (λ (t : List ℕ). part ++ 32 ∷ t) (joined (next ∷ parts) last)
+    ∙ sym (append_assoc part (32 ∷ spaced (next ∷ parts)) last)
+
+-- a move behind its number, and the moves behind it
+pub one_more : (p : Position) (m : Ply) (moves : List Ply)
+    → spaced (move_parts p (m ∷ moves)) ≡ spaced (number_by p.side p.full ++ san p m ∷ []) ++ spaced (move_parts (played p m) moves)
+one_more p m moves =
+    ap spaced (sym (append_assoc (number_by p.side p.full) (san p m ∷ []) (move_parts (played p m) moves)))
+    ∙ spaced-append (number_by p.side p.full ++ san p m ∷ []) (move_parts (played p m) moves)
+
+pub length-number : (n : ℕ) → n ≤ 99999 → length (decimal n) ≤ 5
+length-number n h = length-decimal-le 5 n (lit< tt) (omega arith) (omega arith)
+
+-- a buffer after five pieces
+pub put_five : (o p q r s t : Text) (a b c d e : List ℕ)
+    → p ≡ with o a → q ≡ with p b → r ≡ with q c → s ≡ with r d → t ≡ with s e
+    → t ≡ with o (a ++ (b ++ (c ++ (d ++ e))))
+put_five o p q r s t a b c d e pa qb rc sd te =
+    put_three o p q t a b (c ++ (d ++ e)) pa qb (put_three q r s t c d e rc sd te)
+
+-- the text of a game, part by part
+pub whole_text : (tag : List ℕ) (beginning moves : List (List ℕ)) (result : List ℕ)
+    → tag ++ (join_with_byte 32 (beginning ++ (moves ++ result ∷ [])) ++ 10 ∷ [])
+    ≡ tag ++ (spaced beginning ++ (spaced moves ++ (result ++ 10 ∷ [])))
+whole_text tag beginning moves result =
+    let parts : join_with_byte 32 (beginning ++ (moves ++ result ∷ [])) ≡ (spaced beginning ++ spaced moves) ++ result =
+    ap (join_with_byte 32) (sym (append_assoc beginning moves (result ∷ [])))
+    ∙ joined (beginning ++ moves) result ∙ ap (λ (t : List ℕ). t ++ result) (spaced-append beginning moves) in
+    let line : ((spaced beginning ++ spaced moves) ++ result) ++ 10 ∷ [] ≡ spaced beginning ++ (spaced moves ++ (result ++ 10 ∷ [])) =
+    append_assoc (spaced beginning ++ spaced moves) result (10 ∷ [])
+    ∙ append_assoc (spaced beginning) (spaced moves) (result ++ 10 ∷ []) in
+    ap (λ (t : List ℕ). tag ++ (t ++ 10 ∷ [])) parts ∙ ap (λ (t : List ℕ). tag ++ t) line
+
+-- two tests for one thing
+pub one_test : {P : Type 0} → (a b : Bool) → Decides a P → Decides b P → a ≡ b
+one_test true true d e = refl
+one_test true false d e = sym (e.1 (d.0 refl))
+one_test false true d e = d.1 (e.0 refl)
+one_test false false d e = refl

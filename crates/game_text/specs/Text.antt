@@ -1,0 +1,58 @@
+-- The text of a game: its start, where that is not the standard one, and a line with its moves and
+-- its result (PGN standard, 8.2 and 9.7.2).
+use Rattle.std.specs.Prelude.{ℕ, List, [], ◌∷◌, ◌++◌, if◌then◌else◌, codes, decimal, Option, Some, None}
+use Rattle.std.specs.List.{join_with_byte}
+use Rattle.chess_board.specs.declared.board.Side.{Side}
+use Rattle.chess_board.specs.declared.board.Side.TheVariants.{White, Black}
+use Rattle.chess_board.specs.Position.{Position}
+use Rattle.fen_text.specs.Written.{written}
+use Rattle.game_record.specs.declared.ending.End.{End}
+use Rattle.game_record.specs.declared.ending.End.TheVariants.{Mate}
+use Rattle.game_record.specs.Game.{Ply, Game, played, now_of}
+use Rattle.game_record.specs.Ending.{ended_of}
+use Rattle.game_record.specs.Line.{is_standard}
+use Rattle.game_text.specs.San.{san}
+
+-- `N.` stands before a move of White, and nothing before a move of Black
+abbrev pub number_by : Side → ℕ → List (List ℕ)
+number_by White n = (decimal n ++ codes ".") ∷ []
+number_by Black n = []
+
+-- but `N...` before a game's first move, if Black plays it
+abbrev pub beginning_by : Side → ℕ → List (List ℕ)
+beginning_by White n = []
+beginning_by Black n = (decimal n ++ codes "...") ∷ []
+
+-- each move behind its number
+abbrev pub move_parts : Position → List Ply → List (List ℕ)
+move_parts p [] = []
+move_parts p (m ∷ moves) = number_by p.side p.full ++ san p m ∷ move_parts (played p m) moves
+
+-- who won: not the side on move, if it is mated; nobody, if the game has ended otherwise
+abbrev pub result_by : Side → Option End → List ℕ
+result_by side None = codes "*"
+result_by White (Some Mate) = codes "0-1"
+result_by Black (Some Mate) = codes "1-0"
+result_by side (Some end) = codes "1/2-1/2"
+
+abbrev pub result_of : Game → List ℕ
+result_of g = result_by (now_of g).side (ended_of g)
+
+-- the numbers, the moves and the result
+abbrev pub parts_of : Game → List (List ℕ)
+parts_of g =
+    beginning_by g.start.side g.start.full
+    ++ (move_parts g.start g.moves ++ result_of g ∷ [])
+
+-- the tag of the start: none, where it is the standard start with its counts 0 and 1
+abbrev pub tag_of : Position → List ℕ
+tag_of p = if is_standard p then [] else codes "[FEN \"" ++ (written p ++ codes "\"]\n")
+
+-- One blank stands between the parts of the line.
+unfoldable pub game_text : Game → List ℕ
+game_text g = tag_of g.start ++ (join_with_byte 32 (parts_of g) ++ 10 ∷ [])
+
+-- each part with a blank behind it
+abbrev pub spaced : List (List ℕ) → List ℕ
+spaced [] = []
+spaced (part ∷ parts) = part ++ 32 ∷ spaced parts

@@ -1,0 +1,52 @@
+use crate::{GAME_ROOM, sans_are_lawful, write_game};
+use chess_board::read_move;
+use fen_text::read_fen;
+use game_record::Game;
+use line_io::Out;
+use std::process::Abort;
+use std::test::Fail;
+
+/// A start, or the standard one, the moves, and the text.
+const GAMES: [(&str, &[&str], &str); 4] = [
+    (
+        "",
+        &["f2f3", "e7e5", "g2g4", "d8h4"],
+        "1. f3 e5 2. g4 Qh4# 0-1\n",
+    ),
+    ("", &["e2e4", "e7e5", "g1f3"], "1. e4 e5 2. Nf3 *\n"),
+    // Black's first move, and the number behind it
+    (
+        "4k3/8/8/8/8/8/4p3/2K5 b - - 12 40",
+        &["e2e1q", "c1c2", "e1f2"],
+        "[FEN \"4k3/8/8/8/8/8/4p3/2K5 b - - 12 40\"]\n40... e1=Q+ 41. Kc2 Qf2+ *\n",
+    ),
+    // a stalemate
+    (
+        "7k/8/6K1/8/8/8/8/5Q2 w - - 0 1",
+        &["f1f7"],
+        "[FEN \"7k/8/6K1/8/8/8/8/5Q2 w - - 0 1\"]\n1. Qf7 1/2-1/2\n",
+    ),
+];
+
+fn play(rt: &impl Abort, game: &mut Game, start: &str, moves: &[&str]) {
+    if !start.is_empty() {
+        game.reset(read_fen(start.as_bytes()).expect(rt, "a position"));
+    }
+    for text in moves {
+        let m = read_move(text.as_bytes()).expect(rt, "a move");
+        assert_eq!(rt; game.push(m), Ok(()), "{text}");
+    }
+}
+
+#[test]
+fn writes_games(rt: HostRuntime) -> Result<(), Fail> {
+    sans_are_lawful();
+    for (start, moves, want) in GAMES {
+        let mut game = Game::make(rt.alloc())?;
+        let mut out = Out::make(rt.alloc(), GAME_ROOM)?;
+        play(&rt, &mut game, start, moves);
+        write_game(&game, &mut out);
+        assert_eq!(rt; out.bytes(), want.as_bytes());
+    }
+    Ok(())
+}

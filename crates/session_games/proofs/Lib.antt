@@ -1,0 +1,5 @@
+pub mod Followed
+pub mod Stepped
+pub mod Sessions
+pub mod Came
+pub mod Written

@@ -1,0 +1,292 @@
+-- What the status of the command `games` says.
+use Rattle.std.proofs.Common.{◌≡◌, ◌⊎◌, inl, inr, ℕ, zero, suc, ◌+◌, ◌^◌, ◌<◌, ◌≤◌, List, [], ◌∷◌, ◌++◌, length, take, Option, Some, None, refl, sym, ap, subst, ◌∙◌, arith}
+use Rattle.std.proofs.Math.Seq.{take-length}
+use Rattle.std.proofs.KnownBytes.{Appends-nil}
+use Rattle.std.specs.Io.KnownBytes.{Appends}
+use Rattle.line_io.specs.Causes.{Rose}
+use Rattle.line_io.specs.Lines.{Piece, items}
+use Rattle.line_io.specs.Runs.{whole}
+use Rattle.policy_rules.specs.declared.settings.Settings.{Settings}
+use Rattle.game_record.specs.Game.{Game}
+use Rattle.adapter_core.specs.Trace.{Step, Lawful}
+use Rattle.adapter_core.specs.Parts.{Parts}
+use Rattle.adapter_core.specs.Stands.{Stands}
+use Rattle.adapter_core.proofs.Unique.{unique}
+use Rattle.session_script.specs.Script.{events}
+use Rattle.session_script.proofs.Scripts.{same_trace}
+use Rattle.command_endings.specs.declared.ending.Ending.{Ending}
+use Rattle.command_endings.specs.declared.ending.Ending.TheVariants as endings
+use Rattle.command_endings.specs.Diagnostics.{code_of, diagnostic, tail_of}
+use Rattle.command_endings.specs.Ran.{WritingBroke}
+use Rattle.command_endings.specs.Reads.{AreFirst, AreRead, IsAll}
+use Rattle.command_endings.specs.Streams.{Streams, AreSame}
+use Rattle.command_endings.specs.Told.{Told}
+use Rattle.script_player.specs.Stages.{IsNumbered}
+use Rattle.script_player.specs.Versions.{script_events, script_fault, settings_by, version_in}
+use Rattle.script_player.proofs.VersionLines.{script_fault_stays}
+use Rattle.line_scribe.specs.Outcomes.{LineReported, Outcome, WroteLast}
+use Rattle.line_scribe.specs.Putting.{IsOfLine}
+use Rattle.line_scribe.specs.Scribed.{IsText, WroteFront, WroteAll, WroteWhole}
+use Rattle.session_games.specs.declared.writer.GameWriter.{GameWriter}
+use Rattle.session_games.specs.Games.{game_of, games_over, games_text, running}
+use Rattle.session_games.specs.Gathering.{Faulted, Finished, Gathered, HasSession, IsUnused, MayGather, Says, text_all, text_over, unseen, writes_games}
+use Rattle.session_games.specs.GamesWritten.{AllWritten, CompletesGames, FaultReported, FrontWritten, GamesWritten, IsSession, MuchWritten, TellsFault, WholeWritten, WritesGames}
+use Rattle.session_games.proofs.Sessions.{games_text-append}
+
+-- A WRITER BEFORE ITS FIRST LINE
+
+settings_at_first : (o : Settings) (core : Parts) → Stands o core [] → core.settings ≡ o
+settings_at_first o core st = ap (λ (v : Parts). v.settings) st.0
+
+pub may_gather : (o : Settings) (w : GameWriter) → IsUnused o w → MayGather w
+may_gather o w u = record {
+  new = λ s. subst (λ (x : Settings). Stands x w.core []) (sym (settings_at_first o w.core u.stands)) u.stands;
+  numbered = subst IsNumbered (sym u.is_start) tt;
+  same = u.same;
+  reached = record { settings = o; trace = []; lawful = tt; stands = u.stands };
+}
+
+pub nothing_gathered : (w : GameWriter) (o : Settings) → IsUnused o w → Gathered o [] w []
+nothing_gathered w o u = record {
+  script = [];
+  took = record { is_start = u.is_start; stands = u.stands; is_empty = refl; appended = Appends-nil None };
+  games = refl;
+}
+
+-- THE FIRST FAULT
+
+not_none : (a : Option Ending) (f : Ending) → a ≡ None → a ≡ Some f → ⊥
+not_none None f u v = cc
+not_none (Some g) f u v = cc
+
+one_fault : (a : Option Ending) (f g : Ending) → a ≡ Some f → a ≡ Some g → f ≡ g
+one_fault None f g u v = cc
+one_fault (Some h) f g u v = cc
+
+-- the first fault of the input is that of its first lines
+fault_stays : (l0 : Option (List ℕ)) (lines : List Piece) (x : List ℕ) (f : Ending) → AreFirst l0 lines → l0 ≡ Some x → script_fault lines ≡ Some f → script_fault (items 131072 x) ≡ Some f
+fault_stays l0 lines x f a e i =
+    let first = subst (λ (l : Option (List ℕ)). AreFirst l lines) e a in
+    ap script_fault first.1 ∙ script_fault_stays lines first.0 f i
+
+fault_of_all : (l0 : Option (List ℕ)) (got x : List ℕ) → IsAll l0 got → l0 ≡ Some x → script_fault (items 131072 got) ≡ None → script_fault (items 131072 x) ≡ None
+fault_of_all l0 got x a e n = ap (λ (l : List ℕ). script_fault (items 131072 l)) (subst (λ (l : Option (List ℕ)). IsAll l got) e a) ∙ n
+
+-- A FRONT OF THE TEXT
+
+front_of_more : (n : ℕ) (xs ys : List ℕ) → (k : ℕ) × (take n xs ≡ take k (xs ++ ys))
+front_of_more zero xs ys = (0, refl)
+front_of_more (suc n) [] ys = (0, refl)
+front_of_more (suc n) (x ∷ xs) ys = let r = front_of_more n xs ys in (suc r.0, ap (λ (l : List ℕ). x ∷ l) r.1)
+
+-- a front of the games that are over is one of all games
+front_over : (q : Settings) (trace : List Step) (n : ℕ) → (k : ℕ) × (take n (text_over q trace) ≡ take k (text_all q trace))
+front_over q trace n =
+    let last = running (game_of q trace) in
+    let f = front_of_more n (text_over q trace) (games_text last) in
+    (f.0, f.1 ∙ ap (take f.0) (sym (games_text-append (games_over q trace) last)))
+
+-- WANT OF MEMORY
+
+short_of_memory : (o : Settings) (Unread Kept : Type 0) (start now : Streams) (code : ℕ) → Unread → Kept → (text : List ℕ) → Told code 3 text start.diag now.diag → GamesWritten o Unread Kept start now code
+short_of_memory o Unread Kept start now code unread kept text (inl t) =
+    let z = t.0 in
+    record {
+      all_written = λ c. let n = sym c ∙ z in cc;
+      no_other = λ c. let n = sym c ∙ z in cc;
+      fault_reported = λ c. let n = sym c ∙ z in cc;
+      memory = λ c. (unread, kept);
+      reading_failed = λ c. let n = sym c ∙ z in cc;
+      writing_failed = λ c. let n = sym c ∙ z in cc;
+      too_long = λ c. let n = sym c ∙ z in cc;
+      complete = λ x e l n s. inr z;
+      faults_told = λ x f e l n s. inr z;
+    }
+short_of_memory o Unread Kept start now code unread kept text (inr t) =
+    let z = t.0 in
+    record {
+      all_written = λ c. let n = sym c ∙ z in cc;
+      no_other = λ c. let n = sym c ∙ z in cc;
+      fault_reported = λ c. let n = sym c ∙ z in cc;
+      memory = λ c. (unread, kept);
+      reading_failed = λ c. let n = sym c ∙ z in cc;
+      writing_failed = λ c. (inr t.1, inl (unread, kept));
+      too_long = λ c. let n = sym c ∙ z in cc;
+      complete = λ x e l n s. absurd (s.told t.1);
+      faults_told = λ x f e l n s. absurd (s.told t.1);
+    }
+
+pub want_of_memory : (o : Settings) (Unread Kept : Type 0) (start now : Streams) (code : ℕ) → Unread → Kept → Told code (code_of endings.NoMemory) (tail_of endings.NoMemory) start.diag now.diag → GamesWritten o Unread Kept start now code
+want_of_memory o Unread Kept start now code unread kept told = short_of_memory o Unread Kept start now code unread kept (tail_of endings.NoMemory) told
+
+-- WHAT THE STATUS SAYS
+
+module _ (o : Settings) (w0 : GameWriter) (unused : IsUnused o w0) (Unread Kept : Type 0) (start now : Streams) (code : ℕ) (out : Outcome writes_games w0 (Unread × Kept) start now code) where
+  abbrev Wrote : List ℕ → Type 0
+  Wrote text = Appends start.output.taken now.output.taken text
+
+  session_of : (lines : List Piece) (trace : List Step) → Lawful (settings_by (version_in lines) o) trace → events trace ≡ script_events lines → IsSession o lines trace
+  session_of lines trace l e =
+      let q = settings_by (version_in lines) o in
+      record { lawful = l; events_are = e; only = λ other l' e'. same_trace q (unique q) other trace l' l (e' ∙ sym e) }
+
+  games_by : (text_of : Settings → List Step → List ℕ) (lines : List Piece) (text : List ℕ) → HasSession text_of o lines text → Wrote text → WritesGames text_of o start now lines
+  games_by text_of lines text s a = record {
+    trace = s.trace;
+    session = session_of lines s.trace s.lawful s.events_are;
+    written = subst Wrote s.text_is a;
+  }
+
+  all_by : WroteAll writes_games w0 start now → AreSame start now → AllWritten o start now
+  all_by w s =
+      let says = w.says o unused in
+      record {
+        got = w.got;
+        reads = w.reads;
+        all_read = w.all;
+        faultless = says.0;
+        games = games_by text_all (items 131072 w.got) w.text says.1 w.written;
+        no_failure = s;
+      }
+
+  -- the ending by a line is the first fault
+  faulted_by : (lines : List Piece) (e : Ending) (text : List ℕ) → IsOfLine e → Says o lines e text → Faulted o lines e text × (code_of e ≡ 2)
+  faulted_by lines (endings.NoMark n) text i s = (s, refl)
+  faulted_by lines (endings.OutOfStep n) text i s = (s, refl)
+  faulted_by lines (endings.MayNotCome n) text i s = (s, refl)
+  faulted_by lines (endings.Differs n) text i s = absurd s
+  faulted_by lines (endings.Unlawful n) text i s = absurd s
+  faulted_by lines endings.Done text i s = absurd i
+  faulted_by lines endings.Usage text i s = absurd i
+  faulted_by lines (endings.NoPosition f) text i s = absurd i
+  faulted_by lines endings.NoMemory text i s = absurd i
+  faulted_by lines endings.ReadingFailed text i s = absurd i
+  faulted_by lines endings.WritingFailed text i s = absurd i
+  faulted_by lines endings.TooLong text i s = absurd i
+
+  abbrev Reported : ℕ → Type 0
+  Reported n = LineReported writes_games w0 start now n
+
+  the_fault : (n : ℕ) (r : Reported n) → Faulted o r.wrote.lines r.ending r.wrote.text × (code_of r.ending ≡ 2)
+  the_fault n r = faulted_by r.wrote.lines r.ending r.wrote.text r.of_line (r.wrote.says o unused)
+
+  reported : (n : ℕ) → Reported n → FaultReported o start now
+  reported n r =
+      let f = the_fault n r in
+      record {
+        fault = r.ending;
+        told = r.told;
+        lines = r.wrote.lines;
+        read = r.wrote.read;
+        is_fault = f.0.0;
+        games = games_by text_over r.wrote.lines r.wrote.text f.0.1 r.wrote.written;
+      }
+
+  no_other : code ≡ 1 → ⊥
+  no_other z = let r = out.found z in let n = r.code_is ∙ (the_fault 1 r).1 in cc
+
+  whole_by : (e : Ending) (least : ℕ) → ((lines : List Piece) (text : List ℕ) → Says o lines e text → Finished text_over o lines text) → WroteWhole writes_games w0 e least start now → WholeWritten o start now
+  whole_by e least by w =
+      let f = by (whole 131072 w.got) w.text (w.says o unused) in
+      record { got = w.got; reads = w.reads; first = w.first; faultless = f.0; games = games_by text_over (whole 131072 w.got) w.text f.1 w.written }
+
+  much_by : WroteWhole writes_games w0 endings.TooLong (2 ^ 32) start now → MuchWritten o start now
+  much_by w =
+      let f = w.says o unused in
+      record {
+        games = record { got = w.got; reads = w.reads; first = w.first; faultless = f.0; games = games_by text_over (whole 131072 w.got) w.text f.1 w.written };
+        least = w.least_is;
+      }
+
+  -- A FRONT WAS WRITTEN
+
+  abbrev OverOrAll : List Piece → List ℕ → Type 0
+  OverOrAll lines text = HasSession text_over o lines text ⊎ HasSession text_all o lines text
+
+  front_by : (lines : List Piece) → AreRead start now lines → (text : List ℕ) → OverOrAll lines text → (n : ℕ) → Wrote (take n text) → FrontWritten o start now
+  front_by lines read text (inl s) n a =
+      let q = settings_by (version_in lines) o in
+      let k = front_over q s.trace n in
+      record {
+        lines = lines;
+        read = read;
+        trace = s.trace;
+        session = session_of lines s.trace s.lawful s.events_are;
+        front = k.0;
+        written = subst Wrote (ap (take n) s.text_is ∙ k.1) a;
+      }
+  front_by lines read text (inr s) n a = record {
+    lines = lines;
+    read = read;
+    trace = s.trace;
+    session = session_of lines s.trace s.lawful s.events_are;
+    front = n;
+    written = subst (λ (l : List ℕ). Wrote (take n l)) s.text_is a;
+  }
+
+  said : (lines : List Piece) (e : Ending) (text : List ℕ) → Says o lines e text → OverOrAll lines text
+  said lines endings.Done text s = inr s.1
+  said lines endings.ReadingFailed text s = inl s.1
+  said lines endings.TooLong text s = inl s.1
+  said lines (endings.NoMark n) text s = inl s.1
+  said lines (endings.OutOfStep n) text s = inl s.1
+  said lines (endings.MayNotCome n) text s = inl s.1
+  said lines (endings.Differs n) text s = absurd s
+  said lines (endings.Unlawful n) text s = absurd s
+  said lines endings.Usage text s = absurd s
+  said lines (endings.NoPosition f) text s = absurd s
+  said lines endings.NoMemory text s = absurd s
+  said lines endings.WritingFailed text s = absurd s
+
+  gathered : (lines : List Piece) (w : GameWriter) (text : List ℕ) → Gathered o lines w text → 0 < length text → OverOrAll lines text
+  gathered [] w text g some = let n = ap length g.games in absurd (let z : ⊥ = omega (arith, n, some) in z)
+  gathered (l ∷ ls) w text g some = inl (record {
+    trace = g.took.trace;
+    lawful = g.took.lawful;
+    events_are = g.took.events_are;
+    text_is = g.games g.took.trace g.took.lawful g.took.events_are;
+  })
+
+  text_by : (lines : List Piece) (text : List ℕ) → IsText writes_games w0 lines text → 0 < length text → OverOrAll lines text
+  text_by lines text (inl p) some = gathered lines p.0 text (p.1 o unused) some
+  text_by lines text (inr p) some = said lines p.0 text (p.1 o unused)
+
+  part : (Unread × Kept) ⊎ WroteFront writes_games w0 start now ⊎ WroteLast writes_games w0 start now → (Unread × Kept) ⊎ FrontWritten o start now
+  part (inl u) = inl u
+  part (inr (inl w)) = inr (front_by w.lines w.read w.text (text_by w.lines w.text w.is_text w.some) w.front w.written)
+  part (inr (inr w)) = inr (front_by w.lines w.read w.text (said w.lines w.ending w.text (w.says o unused)) (length w.text) (subst Wrote (sym (take-length w.text)) w.written))
+
+  -- WHICH STATUS COMES
+
+  abbrev Completed : Type 0
+  Completed = ((code ≡ 0) × WroteAll writes_games w0 start now) ⊎ LineReported writes_games w0 start now code ⊎ (code ≡ 3)
+
+  complete : CompletesGames start now code
+  complete x e l none s = of (out.complete x e l s) where
+    of : Completed → (code ≡ 0) ⊎ (code ≡ 3)
+    of (inl p) = inl p.0
+    of (inr (inl r)) = absurd (not_none (script_fault (items 131072 x)) r.ending none (fault_stays start.input.left r.wrote.lines x r.ending r.wrote.read.of_left e (the_fault code r).0.0))
+    of (inr (inr z)) = inr z
+
+  faults_told : TellsFault start now code
+  faults_told x fault e l is s = of (out.complete x e l s) where
+    of : Completed → ((code ≡ 2) × Appends start.diag.taken now.diag.taken (diagnostic fault)) ⊎ (code ≡ 3)
+    of (inl p) = absurd (not_none (script_fault (items 131072 x)) fault (fault_of_all start.input.left p.1.got x p.1.all e (p.1.says o unused).0) is)
+    of (inr (inl r)) =
+        let f = the_fault code r in
+        let same = one_fault (script_fault (items 131072 x)) r.ending fault (fault_stays start.input.left r.wrote.lines x r.ending r.wrote.read.of_left e f.0.0) is in
+        inl (r.code_is ∙ f.1, subst (λ (y : Ending). Appends start.diag.taken now.diag.taken (diagnostic y)) same r.told)
+    of (inr (inr z)) = inr z
+
+  pub games_written : GamesWritten o Unread Kept start now code
+  games_written = record {
+    all_written = λ z. let d = out.done z in all_by d.0 d.1;
+    no_other = no_other;
+    fault_reported = λ z. reported 2 (out.fault z);
+    memory = λ z. out.memory z;
+    reading_failed = λ z. let p = out.reading z in (p.0, whole_by endings.ReadingFailed 0 (λ lines text s. s) p.1);
+    writing_failed = λ z. let p = out.writing z in (p.0, part p.1);
+    too_long = λ z. much_by (out.too_long z);
+    complete = complete;
+    faults_told = faults_told;
+  }

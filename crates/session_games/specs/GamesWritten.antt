@@ -1,0 +1,106 @@
+-- What the command `games` promises.
+use Rattle.std.specs.Prelude.{◌≡◌, ◌⊎◌, ℕ, ◌^◌, ◌≤◌, ◌<◌, List, length, take, Some, None}
+use Rattle.std.specs.Io.KnownBytes.{Appends}
+use Rattle.line_io.specs.Causes.{Rose}
+use Rattle.line_io.specs.Event.{Event}
+use Rattle.line_io.specs.Lines.{Piece, items}
+use Rattle.line_io.specs.Runs.{whole}
+use Rattle.policy_rules.specs.declared.settings.Settings.{Settings}
+use Rattle.adapter_core.specs.Trace.{Step, Lawful}
+use Rattle.session_script.specs.Script.{events}
+use Rattle.command_endings.specs.declared.ending.Ending.{Ending}
+use Rattle.command_endings.specs.declared.ending.Ending.TheVariants as endings
+use Rattle.command_endings.specs.Diagnostics.{diagnostic}
+use Rattle.command_endings.specs.Ran.{Ran, WritingBroke}
+use Rattle.command_endings.specs.Reads.{AreFirst, AreRead, Got, IsAll}
+use Rattle.command_endings.specs.Streams.{Streams, AreSame, IsSteady}
+use Rattle.script_player.specs.Versions.{script_events, script_fault, settings_by, version_in}
+use Rattle.session_games.specs.Gathering.{text_all, text_over}
+
+-- The trace is the one lawful session of these lines: its settings are the header's, if there is one,
+-- and its events those of the lines.
+pub record IsSession (o : Settings) (lines : List Piece) (trace : List Step) : Type 0 where
+  pub lawful : Lawful (settings_by (version_in lines) o) trace
+  pub events_are : events trace ≡ script_events lines
+  pub only : (other : List Step) → Lawful (settings_by (version_in lines) o) other
+      → events other ≡ script_events lines → other ≡ trace
+
+-- The output took the texts of games of the session of these lines: all, or those that were over.
+pub record WritesGames (text_of : Settings → List Step → List ℕ) (o : Settings)
+    (before after : Streams) (lines : List Piece) : Type 0 where
+  pub trace : List Step
+  pub session : IsSession o lines trace
+  pub written : Appends before.output.taken after.output.taken
+      (text_of (settings_by (version_in lines) o) trace)
+
+-- All of the input was read, none of its lines is a fault, all games were written, and no stream
+-- failed.
+pub record AllWritten (o : Settings) (before after : Streams) : Type 0 where
+  pub got : List ℕ
+  pub reads : Got before after got
+  pub all_read : IsAll before.input.left got
+  pub faultless : script_fault (items 131072 got) ≡ None
+  pub games : WritesGames text_all o before after (items 131072 got)
+  pub no_failure : AreSame before after
+
+-- The first fault of the input was told, and the games that were over before it were written.
+pub record FaultReported (o : Settings) (before after : Streams) : Type 0 where
+  pub fault : Ending
+  pub told : Appends before.diag.taken after.diag.taken (diagnostic fault)
+  pub lines : List Piece
+  pub read : AreRead before after lines
+  pub is_fault : script_fault lines ≡ Some fault
+  pub games : WritesGames text_over o before after lines
+
+-- All whole lines that were read have no fault, and the games that were over were written.
+pub record WholeWritten (o : Settings) (before after : Streams) : Type 0 where
+  pub got : List ℕ
+  pub reads : Got before after got
+  pub first : AreFirst before.input.left (whole 131072 got)
+  pub faultless : script_fault (whole 131072 got) ≡ None
+  pub games : WritesGames text_over o before after (whole 131072 got)
+
+-- so it is where the input gave at least 2^32 bytes
+pub record MuchWritten (o : Settings) (before after : Streams) : Type 0 where
+  pub games : WholeWritten o before after
+  pub least : 2 ^ 32 ≤ length games.got
+
+-- The output took a front of the texts of the games of the session of the first lines.
+pub record FrontWritten (o : Settings) (before after : Streams) : Type 0 where
+  pub lines : List Piece
+  pub read : AreRead before after lines
+  pub trace : List Step
+  pub session : IsSession o lines trace
+  pub front : ℕ
+  pub written : Appends before.output.taken after.output.taken
+      (take front (text_all (settings_by (version_in lines) o) trace))
+
+-- The games of an input without a fault of fewer than 2^32 bytes are written, or there was no memory.
+abbrev pub CompletesGames : Streams → Streams → ℕ → Type 0
+CompletesGames before after code =
+    (x : List ℕ) → before.input.left ≡ Some x → length x < 2 ^ 32
+    → script_fault (items 131072 x) ≡ None → IsSteady before after → (code ≡ 0) ⊎ (code ≡ 3)
+
+-- The first fault of an input of fewer than 2^32 bytes is told, or there was no memory.
+abbrev pub TellsFault : Streams → Streams → ℕ → Type 0
+TellsFault before after code =
+    (x : List ℕ) (fault : Ending) → before.input.left ≡ Some x → length x < 2 ^ 32
+    → script_fault (items 131072 x) ≡ Some fault → IsSteady before after
+    → ((code ≡ 2) × Appends before.diag.taken after.diag.taken (diagnostic fault)) ⊎ (code ≡ 3)
+
+-- `Unread` and `Kept` say that the input and the output are just as they were.
+pub record GamesWritten (o : Settings) (Unread Kept : Type 0) (before after : Streams)
+    (code : ℕ) : Type 0 where
+  -- what each status says
+  pub all_written : code ≡ 0 → AllWritten o before after
+  pub no_other : code ≡ 1 → ⊥
+  pub fault_reported : code ≡ 2 → FaultReported o before after
+  pub memory : code ≡ 3 → Unread × Kept
+  pub reading_failed : code ≡ 4 → Rose before.input.faults after.input.faults
+      × WholeWritten o before after
+  pub writing_failed : code ≡ 5 → WritingBroke before after × ((Unread × Kept)
+      ⊎ FrontWritten o before after)
+  pub too_long : code ≡ 6 → MuchWritten o before after
+  -- which status comes
+  pub complete : CompletesGames before after code
+  pub faults_told : TellsFault before after code

@@ -1,0 +1,4 @@
+pub mod Following
+pub mod Games
+pub mod Gathering
+pub mod GamesWritten

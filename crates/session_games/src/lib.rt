@@ -1,0 +1,13 @@
+//! The games of a session, written as they are over.
+#![tactic(auto)]
+
+mod follow;
+mod over;
+mod run;
+mod writer;
+
+pub use run::write_games;
+pub use writer::GameWriter;
+
+#[cfg(test)]
+mod tests;
