@@ -1,0 +1,512 @@
+-- What holds between the upper dialogue, the life and its wire.
+use Rattle.std.proofs.Common.{◌≡◌, ◌&&◌, ◌||◌, ℕ, List, [], ◌∷◌, ◌++◌, Bool, true, false, not, cond, Option, Some, None, refl, sym, ap, ◌∙◌, subst, true≢false, if◌then◌else◌, nat_lt}
+use Rattle.peer_words.specs.declared.kinds.GoKind.{GoKind}
+use Rattle.peer_words.specs.declared.kinds.GoKind.TheVariants as kinds
+use Rattle.cecp_lines.specs.Quit.{is_quit}
+use Rattle.uci_lines.specs.Orders.{Order as AnyOrder}
+use Rattle.uci_lines.specs.Orders as orders
+use Rattle.uci_lines.specs.OrderReading.{order_in}
+use Rattle.engine_revival.specs.declared.words.DialogueState.{DialogueState}
+use Rattle.engine_revival.specs.declared.words.DialogueState.TheVariants as upper
+use Rattle.engine_revival.specs.declared.words.LifeState.{LifeState}
+use Rattle.engine_revival.specs.declared.words.LifeState.TheVariants as life
+use Rattle.engine_revival.specs.declared.words.Said.{Said}
+use Rattle.engine_revival.specs.declared.words.Said.TheVariants as said
+use Rattle.engine_revival.specs.declared.words.Due.{Due}
+use Rattle.engine_revival.specs.declared.words.Due.TheVariants as due
+use Rattle.engine_revival.specs.declared.words.Answer.{Answer}
+use Rattle.engine_revival.specs.declared.words.Answer.TheVariants as answers
+use Rattle.engine_revival.specs.declared.state.State.{State}
+use Rattle.engine_revival.specs.Dialogue.{after_order, after_said, after_hit, after_stop, where_true, said_in, is_before, is_idle, is_placed, kind_of}
+use Rattle.engine_revival.specs.Lists.{can_join, is_nil}
+use Rattle.engine_revival.specs.Steps.{opening, keeping, with_value, with_button, takes_at_once, after_at_once, is_served, life_after_said, due_to, due_orders, after_due, answer_to, after_answer, is_given, gives, accepting, accepted, reading, with_quit, ordering, accepted_at_once, read_at_once, quit_to, at_once, hearing, ending, may_begin, beginning, first_order, closing, due_of, answer_of, settled, settled_orders, is_ended}
+use Rattle.engine_revival.specs.Calls.{Call, Order, Heard, Ended, Begin, Over, may, turned, first_orders, orders_of, after}
+use Rattle.engine_revival.specs.Laws.{Wire, Open, Closed, Gone, Broken, written, all_written, open_or_broken, heard, met, wire_of, is_whole, state_of, MayCome, LivesAreInOrder, is_search, FitsUp, GivenFits, AnswersFit, IsAnswerIn, NoLifeIdles, is_idle_life, waits}
+use Rattle.engine_revival.proofs.Rooms.{both, where_is, unquit}
+use Rattle.engine_revival.proofs.Wires.{telling, told, behind_setups, AreSetups, is_setup, with_setup, is_open, SearchIs, search_more, hit_open, stop_open, search_open, placed_open}
+
+-- what the life says of the upper state
+abbrev pub UpperIs : LifeState → DialogueState → Type 0
+UpperIs life.Fresh u = u ≡ upper.Before
+UpperIs life.Getting u = u ≡ upper.Getting
+UpperIs life.Search u = is_search u ≡ true
+UpperIs state u = Unit {0}
+
+-- and of its wire
+abbrev pub WireIs : LifeState → Bool → DialogueState → Wire → Type 0
+WireIs life.Fresh q u w = w ≡ Open upper.Before
+WireIs life.Ended q u w = w ≡ Gone
+WireIs life.Over q u w = w ≡ Gone
+WireIs life.Boot true u w = w ≡ Closed
+WireIs life.Boot false u w = w ≡ Open upper.Boot
+WireIs life.Getting true u w = w ≡ Closed
+WireIs life.Getting false u w = w ≡ Open upper.Getting
+WireIs life.Idle true u w = w ≡ Closed
+WireIs life.Idle false u w = w ≡ Open upper.Idle
+WireIs life.Search true u w = w ≡ Closed
+WireIs life.Search false u w = w ≡ Open u
+
+pub record Stands (l : LifeState) (q : Bool) (u : DialogueState) (w : Wire) : Type 0 where
+  pub upper_is : UpperIs l u
+  pub wire_is : WireIs l q u w
+
+pub record Agrees (s : State) (w : Wire) : Type 0 where
+  pub stands : Stands s.life s.quit s.upper w
+  pub kept : AreSetups s.kept
+  pub unsent : AreSetups s.unsent
+  pub search : SearchIs s.upper s.search
+
+whole : (l : LifeState) (q : Bool) (u : DialogueState) (w : Wire) → WireIs l q u w → is_whole w ≡ true
+whole life.Fresh q u w h = ap is_whole h
+whole life.Ended q u w h = ap is_whole h
+whole life.Over q u w h = ap is_whole h
+whole life.Boot true u w h = ap is_whole h
+whole life.Boot false u w h = ap is_whole h
+whole life.Getting true u w h = ap is_whole h
+whole life.Getting false u w h = ap is_whole h
+whole life.Idle true u w h = ap is_whole h
+whole life.Idle false u w h = ap is_whole h
+whole life.Search true u w h = ap is_whole h
+whole life.Search false u w h = ap is_whole h
+
+-- THE LIFE IS HEARD
+
+-- the upper state then
+abbrev upper_heard : Said → LifeState → DialogueState → Bool → DialogueState
+upper_heard word l u got_all = if is_given word l u got_all then after_said u word else u
+
+fresh_heard : (word : Said) (q got_all : Bool) → Stands life.Fresh q (upper_heard word life.Fresh upper.Before got_all) (heard word (Open upper.Before))
+fresh_heard said.Introduction q got_all = record { upper_is = refl; wire_is = refl }
+fresh_heard said.UciOk q got_all = record { upper_is = refl; wire_is = refl }
+fresh_heard said.ReadyOk q got_all = record { upper_is = refl; wire_is = refl }
+fresh_heard said.Report q got_all = record { upper_is = refl; wire_is = refl }
+fresh_heard said.Best q got_all = record { upper_is = refl; wire_is = refl }
+fresh_heard said.Nothing q got_all = record { upper_is = refl; wire_is = refl }
+
+getting_heard : (word : Said) (got_all : Bool) (q : Bool) (w : Wire) → WireIs life.Getting q upper.Getting w → Stands (life_after_said life.Getting word) q (upper_heard word life.Getting upper.Getting got_all) (heard word w)
+getting_heard said.Introduction got_all true w h = record { upper_is = refl; wire_is = ap (heard said.Introduction) h }
+getting_heard said.Introduction got_all false w h = record { upper_is = refl; wire_is = ap (heard said.Introduction) h }
+getting_heard said.UciOk got_all true w h = record { upper_is = refl; wire_is = ap (heard said.UciOk) h }
+getting_heard said.UciOk got_all false w h = record { upper_is = refl; wire_is = ap (heard said.UciOk) h }
+getting_heard said.ReadyOk got_all true w h = record { upper_is = tt; wire_is = ap (heard said.ReadyOk) h }
+getting_heard said.ReadyOk got_all false w h = record { upper_is = tt; wire_is = ap (heard said.ReadyOk) h }
+getting_heard said.Report got_all true w h = record { upper_is = refl; wire_is = ap (heard said.Report) h }
+getting_heard said.Report got_all false w h = record { upper_is = refl; wire_is = ap (heard said.Report) h }
+getting_heard said.Best got_all true w h = record { upper_is = refl; wire_is = ap (heard said.Best) h }
+getting_heard said.Best got_all false w h = record { upper_is = refl; wire_is = ap (heard said.Best) h }
+getting_heard said.Nothing got_all true w h = record { upper_is = refl; wire_is = ap (heard said.Nothing) h }
+getting_heard said.Nothing got_all false w h = record { upper_is = refl; wire_is = ap (heard said.Nothing) h }
+
+boot_heard : (word : Said) (q : Bool) (u up : DialogueState) (w : Wire) → WireIs life.Boot q u w → Stands (life_after_said life.Boot word) q up (heard word w)
+boot_heard said.Introduction true u up w h = record { upper_is = tt; wire_is = ap (heard said.Introduction) h }
+boot_heard said.Introduction false u up w h = record { upper_is = tt; wire_is = ap (heard said.Introduction) h }
+boot_heard said.UciOk true u up w h = record { upper_is = tt; wire_is = ap (heard said.UciOk) h }
+boot_heard said.UciOk false u up w h = record { upper_is = tt; wire_is = ap (heard said.UciOk) h }
+boot_heard said.ReadyOk true u up w h = record { upper_is = tt; wire_is = ap (heard said.ReadyOk) h }
+boot_heard said.ReadyOk false u up w h = record { upper_is = tt; wire_is = ap (heard said.ReadyOk) h }
+boot_heard said.Report true u up w h = record { upper_is = tt; wire_is = ap (heard said.Report) h }
+boot_heard said.Report false u up w h = record { upper_is = tt; wire_is = ap (heard said.Report) h }
+boot_heard said.Best true u up w h = record { upper_is = tt; wire_is = ap (heard said.Best) h }
+boot_heard said.Best false u up w h = record { upper_is = tt; wire_is = ap (heard said.Best) h }
+boot_heard said.Nothing true u up w h = record { upper_is = tt; wire_is = ap (heard said.Nothing) h }
+boot_heard said.Nothing false u up w h = record { upper_is = tt; wire_is = ap (heard said.Nothing) h }
+
+search_heard : (word : Said) (got_all : Bool) (q : Bool) (u : DialogueState) (w : Wire) → is_search u ≡ true → WireIs life.Search q u w → Stands (life_after_said life.Search word) q (upper_heard word life.Search u got_all) (heard word w)
+search_heard word got_all q upper.Before w e h = absurd (true≢false (sym e))
+search_heard word got_all q upper.Boot w e h = absurd (true≢false (sym e))
+search_heard word got_all q upper.Getting w e h = absurd (true≢false (sym e))
+search_heard word got_all q upper.Idle w e h = absurd (true≢false (sym e))
+search_heard word got_all q upper.Placed w e h = absurd (true≢false (sym e))
+search_heard said.Introduction got_all true (upper.Search k b) w e h = record { upper_is = refl; wire_is = ap (heard said.Introduction) h }
+search_heard said.Introduction got_all false (upper.Search k b) w e h = record { upper_is = refl; wire_is = ap (heard said.Introduction) h }
+search_heard said.UciOk got_all true (upper.Search k b) w e h = record { upper_is = refl; wire_is = ap (heard said.UciOk) h }
+search_heard said.UciOk got_all false (upper.Search k b) w e h = record { upper_is = refl; wire_is = ap (heard said.UciOk) h }
+search_heard said.ReadyOk got_all true (upper.Search k b) w e h = record { upper_is = refl; wire_is = ap (heard said.ReadyOk) h }
+search_heard said.ReadyOk got_all false (upper.Search k b) w e h = record { upper_is = refl; wire_is = ap (heard said.ReadyOk) h }
+search_heard said.Report got_all true (upper.Search k b) w e h = record { upper_is = refl; wire_is = ap (heard said.Report) h }
+search_heard said.Report got_all false (upper.Search k b) w e h = record { upper_is = refl; wire_is = ap (heard said.Report) h }
+search_heard said.Best got_all true (upper.Search k b) w e h = record { upper_is = tt; wire_is = ap (heard said.Best) h }
+search_heard said.Best got_all false (upper.Search k b) w e h = record { upper_is = tt; wire_is = ap (heard said.Best) h }
+search_heard said.Nothing got_all true (upper.Search k b) w e h = record { upper_is = refl; wire_is = ap (heard said.Nothing) h }
+search_heard said.Nothing got_all false (upper.Search k b) w e h = record { upper_is = refl; wire_is = ap (heard said.Nothing) h }
+
+heard_stands : (l : LifeState) (q : Bool) (u : DialogueState) (w : Wire) (word : Said) (got_all : Bool) → Stands l q u w → Stands (life_after_said l word) q (upper_heard word l u got_all) (heard word w)
+heard_stands life.Fresh q u w word got_all h =
+    subst (λ (x : DialogueState). Stands life.Fresh q (upper_heard word life.Fresh x got_all) (heard word w)) (sym h.upper_is)
+    (subst (λ (x : Wire). Stands life.Fresh q (upper_heard word life.Fresh upper.Before got_all) (heard word x)) (sym h.wire_is) (fresh_heard word q got_all))
+heard_stands life.Boot q u w word got_all h = boot_heard word q u (upper_heard word life.Boot u got_all) w h.wire_is
+heard_stands life.Getting q u w word got_all h =
+    subst (λ (x : DialogueState). Stands (life_after_said life.Getting word) q (upper_heard word life.Getting x got_all) (heard word w)) (sym h.upper_is)
+    (getting_heard word got_all q w (subst (λ (x : DialogueState). WireIs life.Getting q x w) h.upper_is h.wire_is))
+heard_stands life.Idle true u w word got_all h = record { upper_is = tt; wire_is = ap (heard word) h.wire_is }
+heard_stands life.Idle false u w word got_all h = record { upper_is = tt; wire_is = ap (heard word) h.wire_is }
+heard_stands life.Search q u w word got_all h = search_heard word got_all q u w h.upper_is h.wire_is
+heard_stands life.Ended q u w word got_all h = record { upper_is = tt; wire_is = ap (heard word) h.wire_is }
+heard_stands life.Over q u w word got_all h = record { upper_is = tt; wire_is = ap (heard word) h.wire_is }
+
+-- AN ORDER
+
+abbrev as_it_comes : LifeState → AnyOrder → List AnyOrder
+as_it_comes l c = if takes_at_once l c then c ∷ [] else []
+
+some_is : (a b : DialogueState) → Some a ≡ Some b → a ≡ b
+some_is a b e = cc
+
+fresh_ordered : (c : AnyOrder) (up : DialogueState) → after_order c upper.Before ≡ Some up → Stands (after_at_once life.Fresh c) false up (all_written (as_it_comes life.Fresh c) (Open upper.Before))
+fresh_ordered orders.Uci up e = record { upper_is = tt; wire_is = refl }
+fresh_ordered orders.IsReady up e = absurd (cc)
+fresh_ordered orders.NewGame up e = absurd (cc)
+fresh_ordered orders.Stop up e = absurd (cc)
+fresh_ordered orders.PonderHit up e = absurd (cc)
+fresh_ordered orders.Quit up e = absurd (cc)
+fresh_ordered (orders.SetOption n v) up e = absurd (cc)
+fresh_ordered (orders.Position f m) up e = absurd (cc)
+fresh_ordered (orders.Go p t d) up e = absurd (cc)
+
+getting_takes_none : (c : AnyOrder) (up : DialogueState) → after_order c upper.Getting ≡ Some up → ⊥
+getting_takes_none orders.Uci up e = cc
+getting_takes_none orders.IsReady up e = cc
+getting_takes_none orders.NewGame up e = cc
+getting_takes_none orders.Stop up e = cc
+getting_takes_none orders.PonderHit up e = cc
+getting_takes_none orders.Quit up e = cc
+getting_takes_none (orders.SetOption n v) up e = cc
+getting_takes_none (orders.Position f m) up e = cc
+getting_takes_none (orders.Go p t d) up e = cc
+
+stopped_search : (k : GoKind) (b : Bool) (up : DialogueState) → after_stop (upper.Search k b) ≡ Some up → is_search up ≡ true
+stopped_search k true up e = absurd (cc)
+stopped_search k false up e = subst (λ (x : DialogueState). is_search x ≡ true) (some_is (upper.Search k true) up e) refl
+
+hit_search : (k : GoKind) (b : Bool) (up : DialogueState) → after_hit (upper.Search k b) ≡ Some up → is_search up ≡ true
+hit_search kinds.Move b up e = absurd (cc)
+hit_search kinds.Analyse b up e = absurd (cc)
+hit_search kinds.Ponder true up e = absurd (cc)
+hit_search kinds.Ponder false up e = subst (λ (x : DialogueState). is_search x ≡ true) (some_is (upper.Search kinds.Move false) up e) refl
+
+search_ordered : (k : GoKind) (b : Bool) (c : AnyOrder) (up : DialogueState) (w : Wire) → after_order c (upper.Search k b) ≡ Some up → w ≡ Open (upper.Search k b) → Stands (after_at_once life.Search c) false up (all_written (as_it_comes life.Search c) w)
+search_ordered k b orders.Uci up w e h = absurd (cc)
+search_ordered k b orders.IsReady up w e h = absurd (cc)
+search_ordered k b orders.NewGame up w e h = absurd (cc)
+search_ordered k b orders.Stop up w e h = record { upper_is = stopped_search k b up e; wire_is = ap (written orders.Stop) h ∙ ap open_or_broken e }
+search_ordered k b orders.PonderHit up w e h = record { upper_is = hit_search k b up e; wire_is = ap (written orders.PonderHit) h ∙ ap open_or_broken e }
+search_ordered k b orders.Quit up w e h = absurd (cc)
+search_ordered k b (orders.SetOption n v) up w e h = absurd (cc)
+search_ordered k b (orders.Position f m) up w e h = absurd (cc)
+search_ordered k b (orders.Go p t d) up w e h = absurd (cc)
+
+in_search : (u : DialogueState) (c : AnyOrder) (up : DialogueState) (w : Wire) → is_search u ≡ true → after_order c u ≡ Some up → w ≡ Open u → Stands (after_at_once life.Search c) false up (all_written (as_it_comes life.Search c) w)
+in_search upper.Before c up w s e h = absurd (true≢false (sym s))
+in_search upper.Boot c up w s e h = absurd (true≢false (sym s))
+in_search upper.Getting c up w s e h = absurd (true≢false (sym s))
+in_search upper.Idle c up w s e h = absurd (true≢false (sym s))
+in_search upper.Placed c up w s e h = absurd (true≢false (sym s))
+in_search (upper.Search k b) c up w s e h = search_ordered k b c up w e h
+
+ordered_stands : (l : LifeState) (u : DialogueState) (w : Wire) (c : AnyOrder) (up : DialogueState) → after_order c u ≡ Some up → Stands l false u w → Stands (after_at_once l c) false up (all_written (as_it_comes l c) w)
+ordered_stands life.Fresh u w c up e h =
+    subst (λ (x : Wire). Stands (after_at_once life.Fresh c) false up (all_written (as_it_comes life.Fresh c) x)) (sym h.wire_is)
+    (fresh_ordered c up (ap (after_order c) (sym h.upper_is) ∙ e))
+ordered_stands life.Boot u w c up e h = record { upper_is = tt; wire_is = h.wire_is }
+ordered_stands life.Getting u w c up e h = absurd (getting_takes_none c up (ap (after_order c) (sym h.upper_is) ∙ e))
+ordered_stands life.Idle u w c up e h = record { upper_is = tt; wire_is = h.wire_is }
+ordered_stands life.Search u w c up e h = in_search u c up w h.upper_is e h.wire_is
+ordered_stands life.Ended u w c up e h = record { upper_is = tt; wire_is = h.wire_is }
+ordered_stands life.Over u w c up e h = record { upper_is = tt; wire_is = h.wire_is }
+
+quit_in_search : (u : DialogueState) → is_search u ≡ true → written orders.Quit (Open u) ≡ Closed
+quit_in_search upper.Before s = absurd (true≢false (sym s))
+quit_in_search upper.Boot s = absurd (true≢false (sym s))
+quit_in_search upper.Getting s = absurd (true≢false (sym s))
+quit_in_search upper.Idle s = absurd (true≢false (sym s))
+quit_in_search upper.Placed s = absurd (true≢false (sym s))
+quit_in_search (upper.Search k b) s = refl
+
+quit_stands : (l : LifeState) (q : Bool) (u : DialogueState) (w : Wire) → Stands l q u w → Stands l true u (all_written (quit_to q l) w)
+quit_stands life.Fresh true u w h = record { upper_is = h.upper_is; wire_is = h.wire_is }
+quit_stands life.Fresh false u w h = record { upper_is = h.upper_is; wire_is = h.wire_is }
+quit_stands life.Ended true u w h = record { upper_is = h.upper_is; wire_is = h.wire_is }
+quit_stands life.Ended false u w h = record { upper_is = h.upper_is; wire_is = h.wire_is }
+quit_stands life.Over true u w h = record { upper_is = h.upper_is; wire_is = h.wire_is }
+quit_stands life.Over false u w h = record { upper_is = h.upper_is; wire_is = h.wire_is }
+quit_stands life.Boot true u w h = record { upper_is = h.upper_is; wire_is = h.wire_is }
+quit_stands life.Boot false u w h = record { upper_is = h.upper_is; wire_is = ap (written orders.Quit) h.wire_is }
+quit_stands life.Getting true u w h = record { upper_is = h.upper_is; wire_is = h.wire_is }
+quit_stands life.Getting false u w h = record { upper_is = h.upper_is; wire_is = ap (written orders.Quit) h.wire_is }
+quit_stands life.Idle true u w h = record { upper_is = h.upper_is; wire_is = h.wire_is }
+quit_stands life.Idle false u w h = record { upper_is = h.upper_is; wire_is = ap (written orders.Quit) h.wire_is }
+quit_stands life.Search true u w h = record { upper_is = h.upper_is; wire_is = h.wire_is }
+quit_stands life.Search false u w h = record { upper_is = h.upper_is; wire_is = ap (written orders.Quit) h.wire_is ∙ quit_in_search u h.upper_is }
+
+-- A LIFE BEGINS
+
+begin_stands : (u : DialogueState) → Stands (if is_before u then life.Fresh else life.Boot) false u (all_written (first_order u) (Open upper.Before))
+begin_stands upper.Before = record { upper_is = refl; wire_is = refl }
+begin_stands upper.Boot = record { upper_is = tt; wire_is = refl }
+begin_stands upper.Getting = record { upper_is = tt; wire_is = refl }
+begin_stands upper.Idle = record { upper_is = tt; wire_is = refl }
+begin_stands upper.Placed = record { upper_is = tt; wire_is = refl }
+begin_stands (upper.Search k b) = record { upper_is = tt; wire_is = refl }
+
+-- WHAT FOLLOWS
+
+abbrev life_due : Due → LifeState → LifeState
+life_due due.Nothing l = l
+life_due due.Settings l = life.Getting
+life_due due.Search l = life.Search
+
+abbrev upper_answered : Answer → DialogueState → DialogueState
+upper_answered answers.Nothing u = u
+upper_answered a u = upper.Idle
+
+idle_settles : (u : DialogueState) (w : Wire) (unsent search : List AnyOrder) → w ≡ Open upper.Idle → AreSetups unsent → SearchIs u search → Stands (life_due (due_to life.Idle false u) life.Idle) false u (all_written (due_orders (due_to life.Idle false u) unsent search) w)
+idle_settles upper.Before w unsent search h a s = record { upper_is = tt; wire_is = h }
+idle_settles upper.Boot w unsent search h a s = record { upper_is = tt; wire_is = h }
+idle_settles upper.Idle w unsent search h a s = record { upper_is = tt; wire_is = h }
+idle_settles upper.Placed w unsent search h a s = record { upper_is = tt; wire_is = h }
+idle_settles upper.Getting w unsent search h a s = record {
+  upper_is = refl;
+  wire_is = ap (all_written (unsent ++ orders.IsReady ∷ [])) h ∙ told (unsent ++ orders.IsReady ∷ []) upper.Idle upper.Getting (behind_setups unsent (orders.IsReady ∷ []) a);
+}
+idle_settles (upper.Search k b) w unsent search h a s = record {
+  upper_is = refl;
+  wire_is = ap (all_written (unsent ++ search)) h ∙ told (unsent ++ search) upper.Idle (upper.Search k b) (behind_setups unsent search a ∙ s refl);
+}
+
+settles : (l : LifeState) (q : Bool) (u : DialogueState) (w : Wire) (unsent search : List AnyOrder) → Stands l q u w → AreSetups unsent → SearchIs u search → Stands (life_due (due_to l q u) l) q (upper_answered (answer_to l u) u) (all_written (due_orders (due_to l q u) unsent search) w)
+settles life.Idle true u w unsent search h a s = record { upper_is = tt; wire_is = h.wire_is }
+settles life.Idle false u w unsent search h a s = idle_settles u w unsent search h.wire_is a s
+settles life.Fresh q u w unsent search h a s = record { upper_is = h.upper_is; wire_is = h.wire_is }
+settles life.Boot q u w unsent search h a s = record { upper_is = h.upper_is; wire_is = h.wire_is }
+settles life.Getting q u w unsent search h a s = record { upper_is = h.upper_is; wire_is = h.wire_is }
+settles life.Search q u w unsent search h a s = record { upper_is = h.upper_is; wire_is = h.wire_is }
+settles life.Ended q u w unsent search h a s = record { upper_is = h.upper_is; wire_is = h.wire_is }
+settles life.Over q u w unsent search h a s = record { upper_is = tt; wire_is = h.wire_is }
+
+answered_as : (a : Answer) (s : State) (w : Wire) → Stands s.life s.quit (upper_answered a s.upper) w → AreSetups s.kept → AreSetups s.unsent → SearchIs (upper_answered a s.upper) s.search → Agrees (after_answer a s) w
+answered_as answers.Nothing s w h k u e = record { stands = h; kept = k; unsent = u; search = e }
+answered_as answers.UciOk s w h k u e = record { stands = h; kept = k; unsent = u; search = e }
+answered_as answers.ReadyOk s w h k u e = record { stands = h; kept = k; unsent = u; search = e }
+answered_as answers.NoMove s w h k u e = record { stands = h; kept = k; unsent = u; search = e }
+
+answered_search : (a : Answer) (u : DialogueState) (search : List AnyOrder) → SearchIs u search → SearchIs (upper_answered a u) search
+answered_search answers.Nothing u search h = h
+answered_search answers.UciOk u search h = λ e. absurd (true≢false (sym e))
+answered_search answers.ReadyOk u search h = λ e. absurd (true≢false (sym e))
+answered_search answers.NoMove u search h = λ e. absurd (true≢false (sym e))
+
+due_as : (d : Due) (a : Answer) (s : State) (w : Wire) → Stands (life_due d s.life) s.quit (upper_answered a s.upper) w → AreSetups s.kept → AreSetups s.unsent → SearchIs (upper_answered a s.upper) s.search → Agrees (after_answer a (after_due d s)) w
+due_as due.Nothing a s w h k u e = answered_as a s w h k u e
+due_as due.Settings a s w h k u e = answered_as a (after_due due.Settings s) w h k tt e
+due_as due.Search a s w h k u e = answered_as a (after_due due.Search s) w h k tt e
+
+settled_agrees : (s : State) (w : Wire) → Agrees s w → Agrees (settled s) (all_written (settled_orders s) w)
+settled_agrees s w h =
+    due_as (due_of s) (answer_of s) s (all_written (settled_orders s) w)
+    (settles s.life s.quit s.upper w s.unsent s.search h.stands h.unsent h.search)
+    h.kept h.unsent (answered_search (answer_of s) s.upper s.search h.search)
+
+-- AN ORDER THAT IS ACCEPTED
+
+calm : (up next : DialogueState) (search : List AnyOrder) (w : Bool) → where_true w next ≡ Some up → is_open next ≡ false → SearchIs up search
+calm up next search w e n = λ o. absurd (true≢false (sym o ∙ ap is_open (sym (where_is w next up e).1) ∙ n))
+
+value_agrees : (w : Bool) (s : State) (c : AnyOrder) (up : DialogueState) (l : LifeState) (wire : Wire) → Stands l s.quit up wire → AreSetups s.kept → AreSetups s.unsent → SearchIs up s.search → is_setup c ≡ true → Agrees (record (with_value w s c) { upper = up; life = l }) wire
+value_agrees true s c up l wire h k u e n = record { stands = h; kept = with_setup s.kept c k n; unsent = with_setup s.unsent c u n; search = e }
+value_agrees false s c up l wire h k u e n = record { stands = h; kept = k; unsent = u; search = e }
+
+button_agrees : (w : Bool) (s : State) (c : AnyOrder) (up : DialogueState) (l : LifeState) (wire : Wire) → Stands l s.quit up wire → AreSetups s.kept → AreSetups s.unsent → SearchIs up s.search → is_setup c ≡ true → Agrees (record (with_button w s c) { upper = up; life = l }) wire
+button_agrees true s c up l wire h k u e n = record { stands = h; kept = k; unsent = with_setup s.unsent c u n; search = e }
+button_agrees false s c up l wire h k u e n = record { stands = h; kept = k; unsent = u; search = e }
+
+stands_then : (s : State) (c : AnyOrder) (up : DialogueState) (w : Wire) → s.quit ≡ false → after_order c s.upper ≡ Some up → Stands s.life s.quit s.upper w → Stands (after_at_once s.life c) s.quit up (all_written (as_it_comes s.life c) w)
+stands_then s c up w f e h =
+    subst (λ (q : Bool). Stands (after_at_once s.life c) q up (all_written (as_it_comes s.life c) w)) (sym f)
+    (ordered_stands s.life s.upper w c up e (subst (λ (q : Bool). Stands s.life q s.upper w) f h))
+
+accepting_agrees : (s : State) (c : AnyOrder) (up : DialogueState) (w : Wire) → s.quit ≡ false → after_order c s.upper ≡ Some up → Agrees s w → Agrees (accepting (Some up) s c) (all_written (as_it_comes s.life c) w)
+accepting_agrees s orders.Uci up w f e h = record { stands = stands_then s orders.Uci up w f e h.stands; kept = h.kept; unsent = h.unsent; search = calm up upper.Boot s.search (is_before s.upper) e refl }
+accepting_agrees s orders.IsReady up w f e h = record { stands = stands_then s orders.IsReady up w f e h.stands; kept = h.kept; unsent = h.unsent; search = calm up upper.Getting s.search (is_idle s.upper) e refl }
+accepting_agrees s orders.NewGame up w f e h =
+    record { stands = stands_then s orders.NewGame up w f e h.stands; kept = h.kept; unsent = with_setup s.unsent orders.NewGame h.unsent refl; search = calm up upper.Idle s.search (is_idle s.upper) e refl }
+accepting_agrees s (orders.SetOption n (Some v)) up w f e h =
+    let c = orders.SetOption n (Some v) in
+    value_agrees (can_join s.kept c && can_join s.unsent c) s c up (after_at_once s.life c) (all_written (as_it_comes s.life c) w) (stands_then s c up w f e h.stands) h.kept h.unsent (calm up upper.Idle s.search (is_idle s.upper) e refl) refl
+accepting_agrees s (orders.SetOption n None) up w f e h =
+    let c = orders.SetOption n None in
+    button_agrees (can_join s.unsent c) s c up (after_at_once s.life c) (all_written (as_it_comes s.life c) w) (stands_then s c up w f e h.stands) h.kept h.unsent (calm up upper.Idle s.search (is_idle s.upper) e refl) refl
+accepting_agrees s (orders.Position p m) up w f e h =
+    record { stands = stands_then s (orders.Position p m) up w f e h.stands; kept = h.kept; unsent = h.unsent; search = λ o. ap (λ (x : DialogueState). Some x) (where_is (is_idle s.upper) upper.Placed up e).1 }
+accepting_agrees s (orders.Go p t d) up w f e h =
+    let c = orders.Go p t d in
+    record { stands = stands_then s c up w f e h.stands; kept = h.kept; unsent = h.unsent; search = search_more s.upper up s.search c (placed_open s.upper (where_is (is_placed s.upper) (upper.Search (kind_of p t) false) up e).0) e h.search }
+accepting_agrees s orders.PonderHit up w f e h =
+    record { stands = stands_then s orders.PonderHit up w f e h.stands; kept = h.kept; unsent = h.unsent; search = search_more s.upper up s.search orders.PonderHit (search_open s.upper (hit_open s.upper up e)) e h.search }
+accepting_agrees s orders.Stop up w f e h =
+    record { stands = stands_then s orders.Stop up w f e h.stands; kept = h.kept; unsent = h.unsent; search = search_more s.upper up s.search orders.Stop (search_open s.upper (stop_open s.upper up e)) e h.search }
+accepting_agrees s orders.Quit up w f e h = absurd (cc)
+
+no_quit : (q : Bool) (o : Option DialogueState) (up : DialogueState) → (if q then None else o) ≡ Some up → q ≡ false
+no_quit true o up e = absurd (cc)
+no_quit false o up e = refl
+
+accepted_agrees : (s : State) (c : AnyOrder) (o : Option DialogueState) (w : Wire) → accepted s c ≡ o → Agrees s w → Agrees (accepting o s c) (all_written (accepted_at_once o s.life c) w)
+accepted_agrees s c None w e h = h
+accepted_agrees s c (Some up) w e h = accepting_agrees s c up w (no_quit s.quit (after_order c s.upper) up e) (unquit s.quit (after_order c s.upper) up e) h
+
+reading_agrees : (s : State) (o : Option AnyOrder) (w : Wire) → Agrees s w → Agrees (reading s o) (all_written (read_at_once s o) w)
+reading_agrees s None w h = h
+reading_agrees s (Some c) w h = accepted_agrees s c (accepted s c) w refl h
+
+ordering_agrees : (s : State) (line : List ℕ) (q : Bool) (w : Wire) → Agrees s w → Agrees (if q then with_quit s else reading s (order_in line)) (all_written (if q then quit_to s.quit s.life else read_at_once s (order_in line)) w)
+ordering_agrees s line true w h = record { stands = quit_stands s.life s.quit s.upper w h.stands; kept = h.kept; unsent = h.unsent; search = h.search }
+ordering_agrees s line false w h = reading_agrees s (order_in line) w h
+
+-- EACH CALL
+
+said_search : (b : Bool) (u : DialogueState) (word : Said) (search : List AnyOrder) → SearchIs u search → SearchIs (if b then after_said u word else u) search
+said_search false u word search h = h
+said_search true upper.Before word search h = h
+said_search true upper.Boot said.UciOk search h = λ e. absurd (true≢false (sym e))
+said_search true upper.Boot word search h = h
+said_search true upper.Getting said.ReadyOk search h = λ e. absurd (true≢false (sym e))
+said_search true upper.Getting word search h = h
+said_search true upper.Idle word search h = h
+said_search true upper.Placed word search h = h
+said_search true (upper.Search k b) said.Best search h = λ e. absurd (true≢false (sym e))
+said_search true (upper.Search k b) word search h = h
+
+hearing_agrees : (s : State) (word : Said) (w : Wire) → Agrees s w → Agrees (hearing s word) (heard word w)
+hearing_agrees s word w h = record {
+  stands = heard_stands s.life s.quit s.upper w word (is_nil s.unsent) h.stands;
+  kept = h.kept;
+  unsent = h.unsent;
+  search = said_search (gives s word) s.upper word s.search h.search;
+}
+
+not_true : (b : Bool) → not b ≡ true → b ≡ false
+not_true true h = absurd (true≢false (sym h))
+not_true false h = refl
+
+begins_unquit : (s : State) → may_begin s ≡ true → s.quit ≡ false
+begins_unquit s h = not_true s.quit (both (nat_lt s.begun s.lives) (not s.quit) (both (nat_lt s.begun s.lives && not s.quit) (not s.full) h).0).1
+
+pub turned_agrees : (s : State) (call : Call) (w : Wire) → may s call ≡ true → Agrees s w → Agrees (turned s call) (all_written (first_orders s call) (met call w))
+turned_agrees s (Order line) w m h = ordering_agrees s line (is_quit line) w h
+turned_agrees s (Heard line) w m h = hearing_agrees s (said_in line) w h
+turned_agrees s Ended w m h = record { stands = record { upper_is = tt; wire_is = refl }; kept = h.kept; unsent = h.unsent; search = h.search }
+turned_agrees s Begin w m h = record {
+  stands = subst (λ (q : Bool). Stands (if is_before s.upper then life.Fresh else life.Boot) q s.upper (all_written (first_order s.upper) (Open upper.Before))) (sym (begins_unquit s (both (is_ended s.life) (may_begin s) m).1)) (begin_stands s.upper);
+  kept = h.kept;
+  unsent = h.kept;
+  search = h.search;
+}
+turned_agrees s Over w m h = record { stands = record { upper_is = tt; wire_is = refl }; kept = h.kept; unsent = h.unsent; search = h.search }
+
+written_behind : (a b : List AnyOrder) (w : Wire) → all_written (a ++ b) w ≡ all_written b (all_written a w)
+written_behind [] b w = refl
+written_behind (c ∷ cs) b w = written_behind cs b (written c w)
+
+call_agrees : (s : State) (call : Call) (w : Wire) → may s call ≡ true → Agrees s w → Agrees (after s call) (all_written (orders_of s call) (met call w))
+call_agrees s call w m h =
+    subst (λ (x : Wire). Agrees (after s call) x) (sym (written_behind (first_orders s call) (settled_orders (turned s call)) (met call w)))
+    (settled_agrees (turned s call) (all_written (first_orders s call) (met call w)) (turned_agrees s call w m h))
+
+-- THE LAWS
+
+pub agrees : (lives : ℕ) (calls : List Call) → MayCome lives calls → Agrees (state_of lives calls) (wire_of lives calls)
+agrees lives [] m = record { stands = record { upper_is = refl; wire_is = refl }; kept = tt; unsent = tt; search = λ e. absurd (true≢false (sym e)) }
+agrees lives (call ∷ calls) m = call_agrees (state_of lives calls) call (wire_of lives calls) m.1 (agrees lives calls m.0)
+
+pub in_order : LivesAreInOrder
+in_order lives calls m =
+    let s = state_of lives calls in
+    whole s.life s.quit s.upper (wire_of lives calls) (agrees lives calls m).stands.wire_is
+
+given_fits : (word : Said) (l : LifeState) (u : DialogueState) (g : Bool) → UpperIs l u → is_given word l u g ≡ true → FitsUp word u
+given_fits said.Introduction l upper.Before g h e = absurd (true≢false (sym e))
+given_fits said.Introduction l upper.Boot g h e = refl
+given_fits said.Introduction l upper.Getting g h e = absurd (true≢false (sym e))
+given_fits said.Introduction l upper.Idle g h e = absurd (true≢false (sym e))
+given_fits said.Introduction l upper.Placed g h e = absurd (true≢false (sym e))
+given_fits said.Introduction l (upper.Search k b) g h e = absurd (true≢false (sym e))
+given_fits said.UciOk l upper.Before g h e = absurd (true≢false (sym e))
+given_fits said.UciOk l upper.Boot g h e = refl
+given_fits said.UciOk l upper.Getting g h e = absurd (true≢false (sym e))
+given_fits said.UciOk l upper.Idle g h e = absurd (true≢false (sym e))
+given_fits said.UciOk l upper.Placed g h e = absurd (true≢false (sym e))
+given_fits said.UciOk l (upper.Search k b) g h e = absurd (true≢false (sym e))
+given_fits said.ReadyOk life.Fresh u g h e = absurd (true≢false (sym e))
+given_fits said.ReadyOk life.Boot u g h e = absurd (true≢false (sym e))
+given_fits said.ReadyOk life.Getting u g h e = h
+given_fits said.ReadyOk life.Idle u g h e = absurd (true≢false (sym e))
+given_fits said.ReadyOk life.Search u g h e = absurd (true≢false (sym e))
+given_fits said.ReadyOk life.Ended u g h e = absurd (true≢false (sym e))
+given_fits said.ReadyOk life.Over u g h e = absurd (true≢false (sym e))
+given_fits said.Report life.Fresh u g h e = absurd (true≢false (sym e))
+given_fits said.Report life.Boot u g h e = absurd (true≢false (sym e))
+given_fits said.Report life.Getting u g h e = absurd (true≢false (sym e))
+given_fits said.Report life.Idle u g h e = absurd (true≢false (sym e))
+given_fits said.Report life.Search u g h e = h
+given_fits said.Report life.Ended u g h e = absurd (true≢false (sym e))
+given_fits said.Report life.Over u g h e = absurd (true≢false (sym e))
+given_fits said.Best life.Fresh u g h e = absurd (true≢false (sym e))
+given_fits said.Best life.Boot u g h e = absurd (true≢false (sym e))
+given_fits said.Best life.Getting u g h e = absurd (true≢false (sym e))
+given_fits said.Best life.Idle u g h e = absurd (true≢false (sym e))
+given_fits said.Best life.Search u g h e = h
+given_fits said.Best life.Ended u g h e = absurd (true≢false (sym e))
+given_fits said.Best life.Over u g h e = absurd (true≢false (sym e))
+given_fits said.Nothing l u g h e = absurd (true≢false (sym e))
+
+pub given_is_waited_for : GivenFits
+given_is_waited_for lives calls line m e =
+    let s = state_of lives calls in
+    given_fits (said_in line) s.life s.upper (is_nil s.unsent) (agrees lives calls m).stands.upper_is e
+
+answer_fits : (s : State) (l : LifeState) (u : DialogueState) → s.life ≡ l → s.upper ≡ u → IsAnswerIn (answer_to l u) s
+answer_fits s life.Fresh u e f = tt
+answer_fits s life.Boot u e f = tt
+answer_fits s life.Getting u e f = tt
+answer_fits s life.Idle u e f = tt
+answer_fits s life.Search u e f = tt
+answer_fits s life.Ended u e f = tt
+answer_fits s life.Over upper.Before e f = tt
+answer_fits s life.Over upper.Idle e f = tt
+answer_fits s life.Over upper.Placed e f = tt
+answer_fits s life.Over upper.Boot e f = (e, f)
+answer_fits s life.Over upper.Getting e f = (e, f)
+answer_fits s life.Over (upper.Search kinds.Move b) e f = (e, ap is_search f)
+answer_fits s life.Over (upper.Search kinds.Ponder true) e f = (e, ap is_search f)
+answer_fits s life.Over (upper.Search kinds.Ponder false) e f = tt
+answer_fits s life.Over (upper.Search kinds.Analyse true) e f = (e, ap is_search f)
+answer_fits s life.Over (upper.Search kinds.Analyse false) e f = tt
+
+pub answers_are_waited_for : AnswersFit
+answers_are_waited_for s = answer_fits s s.life s.upper refl refl
+
+quiet : (l : LifeState) (q : Bool) (u : DialogueState) → due_to l q u ≡ due.Nothing → q ≡ false → is_idle_life l ≡ true → waits u ≡ false
+quiet life.Fresh q u d e i = absurd (true≢false (sym i))
+quiet life.Boot q u d e i = absurd (true≢false (sym i))
+quiet life.Getting q u d e i = absurd (true≢false (sym i))
+quiet life.Search q u d e i = absurd (true≢false (sym i))
+quiet life.Ended q u d e i = absurd (true≢false (sym i))
+quiet life.Over q u d e i = absurd (true≢false (sym i))
+quiet life.Idle true u d e i = absurd (true≢false e)
+quiet life.Idle false upper.Before d e i = refl
+quiet life.Idle false upper.Boot d e i = refl
+quiet life.Idle false upper.Getting d e i = absurd (cc)
+quiet life.Idle false upper.Idle d e i = refl
+quiet life.Idle false upper.Placed d e i = refl
+quiet life.Idle false (upper.Search k b) d e i = absurd (cc)
+
+no_idle_by : (d : Due) (a : Answer) (t : State) → due_to t.life t.quit t.upper ≡ d → (after_answer a (after_due d t)).quit ≡ false → is_idle_life (after_answer a (after_due d t)).life ≡ true → waits (after_answer a (after_due d t)).upper ≡ false
+no_idle_by d answers.UciOk t e q i = refl
+no_idle_by d answers.ReadyOk t e q i = refl
+no_idle_by d answers.NoMove t e q i = refl
+no_idle_by due.Settings answers.Nothing t e q i = absurd (true≢false (sym i))
+no_idle_by due.Search answers.Nothing t e q i = absurd (true≢false (sym i))
+no_idle_by due.Nothing answers.Nothing t e q i = quiet t.life t.quit t.upper e q i
+
+pub no_idle : NoLifeIdles
+no_idle s call q i = no_idle_by (due_of (turned s call)) (answer_of (turned s call)) (turned s call) refl q i

@@ -1,0 +1,6 @@
+pub mod Read
+pub mod Lines
+pub mod Rooms
+pub mod Wires
+pub mod Agrees
+pub mod Values

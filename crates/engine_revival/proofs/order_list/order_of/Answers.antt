@@ -1,0 +1,5 @@
+use Rattle.engine_revival.proofs.Read.{order_read}
+use Rattle.engine_revival.proofs.order_list.order_of.Goals as goal
+
+pub returns : goal.returns
+returns c = order_read c.args.line.now c.read_order.result c.ok.result c.read_order.ensures.found c.read_order.ensures.only c.ok.ensures.value

@@ -1,0 +1,40 @@
+use Rattle.std.proofs.Common.{◌≡◌, ◌≤◌, ◌+◌, length, List, ℕ, ap, sym, subst, ◌∙◌, arith, length-append}
+use Rattle.line_io.specs.Out.{Text}
+use Rattle.engine_revival.specs.Dialogue.{said_in}
+use Rattle.engine_revival.specs.Rooms.{IsRoomy}
+use Rattle.engine_revival.specs.Steps.{given}
+use Rattle.engine_revival.specs.View.{View, Keeps}
+use Rattle.engine_revival.proofs.Rooms.{hearing_roomy, settled_roomy, given_short}
+use Rattle.engine_revival.proofs.revival.Parts.hear.Goals as goal
+
+pub settle-requires-clause-roomy : goal.settle-requires-clause-roomy
+settle-requires-clause-roomy c =
+    let h : IsRoomy c.clear.new.self.state = subst IsRoomy (sym (ap (λ (v : View). v.state) c.clear.ensures)) c.requires.keeps.roomy in
+    let k : IsRoomy c.hear.new.self = subst IsRoomy (sym c.hear.ensures.state) (hearing_roomy c.clear.new.self.state (said_in c.args.line.now) h) in
+    k
+
+pub settle-requires-clause-up : goal.settle-requires-clause-up
+settle-requires-clause-up c =
+    let was = c.clear.new.self in
+    let room : c.hear.new.up.room ≡ was.up.room = ap (λ (t : Text). t.room) c.hear.ensures.up in
+    omega (
+      arith,
+      ap (λ (t : Text). length t.text) c.hear.ensures.up,
+      length-append was.up.text (given was.state c.args.line.now),
+      given_short was.state c.args.line.now,
+      ap (λ (v : View). length v.up.text) c.clear.ensures,
+      ap (λ (v : View). v.up.room) c.clear.ensures,
+      c.requires.keeps.up,
+      c.requires.short,
+      room,
+    )
+
+pub returns-clause-keeps : goal.returns-clause-keeps
+returns-clause-keeps c =
+    let h : IsRoomy c.clear.new.self.state = subst IsRoomy (sym (ap (λ (v : View). v.state) c.clear.ensures)) c.requires.keeps.roomy in
+    let k : IsRoomy c.hear.new.self = subst IsRoomy (sym c.hear.ensures.state) (hearing_roomy c.clear.new.self.state (said_in c.args.line.now) h) in
+    record {
+      roomy = subst IsRoomy (sym c.settle.ensures.state) (settled_roomy c.hear.new.self k);
+      up = ap (λ (t : Text). t.room) c.settle.ensures.up ∙ ap (λ (t : Text). t.room) c.hear.ensures.up ∙ ap (λ (v : View). v.up.room) c.clear.ensures ∙ c.requires.keeps.up;
+      child = ap (λ (t : Text). t.room) c.settle.ensures.child ∙ ap (λ (v : View). v.child.room) c.clear.ensures ∙ c.requires.keeps.child;
+    }

@@ -1,0 +1,44 @@
+-- How orders are kept: their lines stand in one buffer, each with its line feed.
+use Rattle.std.specs.Prelude.{◌≡◌, ℕ, ◌+◌, ◌≤◌, List, take, drop, map, length, Option, Some, None}
+use Rattle.std.specs.List.{AllByRecursion}
+use Rattle.line_io.specs.Out.{Text}
+use Rattle.uci_lines.specs.Orders.{Order, Uci}
+use Rattle.uci_lines.specs.OrderReading.{order_in, SpellsOrder}
+use Rattle.engine_revival.specs.declared.order_list.Span.{Span}
+use Rattle.engine_revival.specs.declared.order_list.TheConstants.{LIST_ORDERS, LIST_BYTES}
+use Rattle.engine_revival.specs.Lists.{batch_text}
+
+-- the line in a part of the texts
+abbrev pub line_at : List ℕ → Span → List ℕ
+line_at texts s = take s.len (drop s.at texts)
+
+-- the order that a line spells, where it spells one
+abbrev pub or_uci : Option Order → Order
+or_uci None = Uci
+or_uci (Some order) = order
+
+abbrev pub spelled : List ℕ → Order
+spelled line = or_uci (order_in line)
+
+-- The line spells an order.
+abbrev pub Spells : List ℕ → Type 0
+Spells line = SpellsOrder line (spelled line)
+
+abbrev pub orders_at : List ℕ → List Span → List Order
+orders_at texts lines = map (λ s. spelled (line_at texts s)) lines
+
+-- a line lies in the texts and spells an order
+pub record IsLineIn (texts : List ℕ) (s : Span) : Type 0 where
+  pub within : s.at + s.len ≤ length texts
+  pub spells : Spells (line_at texts s)
+
+abbrev pub AreIn : List ℕ → List Span → Type 0
+AreIn texts lines = AllByRecursion (IsLineIn texts) lines
+
+-- what holds of the buffer of lines, the buffer beside it, and where the lines are
+pub record IsKept (texts beside : Text) (lines : List Span) : Type 0 where
+  pub within : AreIn texts.text lines
+  pub whole : texts.text ≡ batch_text (orders_at texts.text lines)
+  pub few : length lines ≤ LIST_ORDERS
+  pub room : texts.room ≡ LIST_BYTES
+  pub other : beside.room ≡ LIST_BYTES

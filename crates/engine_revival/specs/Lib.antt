@@ -1,0 +1,10 @@
+pub mod Dialogue
+pub mod Lists
+pub mod Kept
+pub mod Steps
+pub mod Rooms
+pub mod Calls
+pub mod View
+pub mod Lending
+pub mod Laws
+pub mod Script

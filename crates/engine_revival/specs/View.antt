@@ -1,0 +1,23 @@
+-- What the whole keeps.
+use Rattle.std.specs.Prelude.{◌≡◌, ℕ}
+use Rattle.line_io.specs.Out.{empty}
+use Rattle.engine_revival.specs.declared.revival.Parts.{Parts}
+use Rattle.engine_revival.specs.declared.revival.TheConstants.{UP_ROOM, CHILD_ROOM}
+use Rattle.engine_revival.specs.Rooms.{IsRoomy}
+use Rattle.engine_revival.specs.Steps as steps
+
+-- the state, and the lines of the last call
+abbrev pub View : Type 0
+View = Parts
+
+abbrev pub opening : ℕ → View
+opening lives = record { state = steps.opening lives; up = empty UP_ROOM; child = empty CHILD_ROOM }
+
+-- with no lines
+abbrev pub cleared : View → View
+cleared v = record { state = v.state; up = empty v.up.room; child = empty v.child.room }
+
+pub record Keeps (v : View) : Type 0 where
+  pub roomy : IsRoomy v.state
+  pub up : v.up.room ≡ UP_ROOM
+  pub child : v.child.room ≡ CHILD_ROOM

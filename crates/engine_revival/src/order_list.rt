@@ -1,0 +1,265 @@
+// Lists of orders, kept as their lines.
+ghost use Rattle.std.specs.Prelude.{◌≡◌, ◌≤◌, ◌<◌, ◌+◌, ◌++◌, ◌∷◌, [], length, true, MatchOption};
+ghost use Rattle.std.specs.Option.{option_map};
+ghost use Rattle.line_io.specs.Out.{with};
+ghost use Rattle.uci_lines.specs.OrderReading.{order_in};
+ghost use Rattle.uci_lines.specs.Orders.{order_of as order_of_by};
+ghost use Rattle.engine_revival.specs.Lists.{are_for_same, staying_beside, batch_text, is_nil};
+ghost use Rattle.engine_revival.specs.Kept.{line_at, spelled, Spells, orders_at, IsLineIn, AreIn};
+
+use arrayvec::ArrayVec;
+use line_io::{NoMemory, Out};
+use std::alloc::Global;
+use std::marker::Model;
+use std::mem;
+use uci_lines::{Order, read_order};
+
+/// How many settings a list may have.
+pub const MOST_ORDERS: usize = 512;
+
+/// How many bytes they may have, with their line feeds.
+pub const MOST_BYTES: usize = 1_048_576;
+
+/// A list has room for one `ucinewgame` beside its settings.
+pub(crate) const LIST_ORDERS: usize = 513;
+
+pub(crate) const LIST_BYTES: usize = 1_048_587;
+
+/// Where a line stands in a buffer, without its line feed.
+#[derive(Clone, Copy, Default)]
+pub(crate) struct Span {
+    at: usize,
+    len: usize,
+}
+
+type Lines = ArrayVec<Span, LIST_ORDERS>;
+
+/// The order of a line.
+pub(crate) fn order_of(line: &[u8]) -> Option<Order<'_>>
+    ensures { option_map order_of_by result ≡ order_in line.now }
+{
+    read_order(line).ok()
+}
+
+fn spelled(line: &[u8]) -> Order<'_>
+    ensures { order_of_by result ≡ spelled line.now }
+{
+    match order_of(line) {
+        Some(order) => order,
+        None => Order::Uci,
+    }
+}
+
+// Whether both begin a game, or set the same option.
+fn are_for_same(a: &Order, b: &Order) -> bool
+    ensures { result ≡ are_for_same (order_of_by a.now) (order_of_by b.now) }
+{
+    match (a, b) {
+        (Order::NewGame, Order::NewGame) => true,
+        (
+            Order::SetOption {
+                name: a,
+                value: Some(_),
+            },
+            Order::SetOption {
+                name: b,
+                value: Some(_),
+            },
+        ) => a == b,
+        (
+            Order::SetOption {
+                name: a,
+                value: None,
+            },
+            Order::SetOption {
+                name: b,
+                value: None,
+            },
+        ) => a == b,
+        _ => false,
+    }
+}
+
+fn line_at(texts: &[u8], line: Span) -> &[u8]
+    requires { line.at + line.len ≤ length texts.now }
+    ensures { result.now ≡ line_at texts.now line }
+{
+    &texts[line.at..line.at + line.len]
+}
+
+// The first line, and the others.
+fn next_line(lines: &[Span]) -> Option<(Span, &[Span])>
+    ensures { MatchOption result (lines.now ≡ []) (λ p. lines.now ≡ p.0 ∷ p.1.now) }
+{
+    match lines {
+        [] => None,
+        [line, after @ ..] => Some((*line, after)),
+    }
+}
+
+// Puts a line behind the others.
+fn put_line(line: &[u8], lines: &mut Lines, texts: &mut Out)
+    requires spells { Spells line.now }
+    requires within { AreIn texts.old.text lines.old.items }
+    requires few { length lines.old.items < LIST_ORDERS }
+    requires room { length texts.old.text + length line.now < texts.old.room }
+    ensures texts { texts.new ≡ with texts.old (line.now ++ 10 ∷ []) }
+    ensures orders { orders_at texts.new.text lines.new.items
+        ≡ orders_at texts.old.text lines.old.items ++ spelled line.now ∷ [] }
+    ensures within { AreIn texts.new.text lines.new.items }
+    ensures few { length lines.new.items ≡ length lines.old.items + 1 }
+{
+    let at = texts.bytes().len();
+    texts.put(line);
+    texts.put(b"\n");
+    lines.push(Span {
+        at,
+        len: line.len(),
+    });
+}
+
+// Puts the orders of a list that stay beside another.
+fn put_staying(held: &[Span], old: &[u8], order: &Order, lines: &mut Lines, texts: &mut Out)
+    requires held { AreIn old.now held.now }
+    requires within { AreIn texts.old.text lines.old.items }
+    requires few { length lines.old.items + length held.now ≤ LIST_ORDERS }
+    requires room { length texts.old.text + length (batch_text (orders_at old.now held.now))
+        ≤ texts.old.room }
+    ensures texts { texts.new
+        ≡ with texts.old
+        (batch_text (staying_beside (order_of_by order.now) (orders_at old.now held.now))) }
+    ensures orders { orders_at texts.new.text lines.new.items
+        ≡ orders_at texts.old.text lines.old.items
+        ++ staying_beside (order_of_by order.now) (orders_at old.now held.now) }
+    ensures within { AreIn texts.new.text lines.new.items }
+{
+    let mut others = held;
+    while let Some((span, after)) = next_line(others) {
+        others = after;
+        let line = line_at(old, span);
+        if are_for_same(order, &spelled(line)) {
+            continue;
+        }
+        put_line(line, lines, texts);
+    }
+}
+
+/// Orders in a row, kept as their lines. The memory is taken when it is made.
+#[derive(Drop)]
+pub(crate) struct OrderList {
+    texts: Out,
+    /// The room for the lines that stay, while an order joins them.
+    beside: Out,
+    lines: Lines,
+}
+
+impl Model for OrderList {
+    ghost use Rattle.std.specs.Prelude.{List};
+    ghost use Rattle.uci_lines.specs.Orders.{Order as AnyOrder};
+    ghost use Rattle.engine_revival.specs.Kept.{orders_at, IsKept};
+
+    ghost Value = { List AnyOrder };
+
+    ghost view = { λ l. orders_at l.texts.text l.lines.items };
+
+    ghost invariant = { λ l. IsKept l.texts l.beside l.lines.items };
+}
+
+impl OrderList {
+    ghost use Rattle.std.specs.Prelude.{IfOk};
+    ghost use Rattle.engine_revival.specs.Lists.{can_join, with_order};
+
+    /// An empty list.
+    pub(crate) fn make(alloc: Global) -> Result<OrderList, NoMemory>
+        ensures { IfOk result (λ list. list ≡ []) }
+    {
+        let texts = Out::make(alloc, LIST_BYTES)?;
+        let beside = Out::make(alloc, LIST_BYTES)?;
+        Ok(OrderList {
+            texts,
+            beside,
+            lines: ArrayVec::new(),
+        })
+    }
+
+    /// Whether the order of a line may join within both limits, after what it takes out.
+    pub(crate) fn fits(&mut self, line: &[u8]) -> bool
+        requires { Spells line.now }
+        ensures same { self.new ≡ self.old }
+        ensures fits { result ≡ can_join self.old (spelled line.now) }
+    {
+        self.beside.clear();
+        let mut lines = ArrayVec::new();
+        put_staying(
+            self.lines.as_slice(),
+            self.texts.bytes(),
+            &spelled(line),
+            &mut lines,
+            &mut self.beside,
+        );
+        lines.len() < MOST_ORDERS && self.beside.bytes().len() + line.len() < MOST_BYTES
+    }
+
+    /// Takes out what the order of a line takes the place of, and puts it last.
+    pub(crate) fn replace(&mut self, line: &[u8])
+        requires spells { Spells line.now }
+        requires few { length (with_order self.old (spelled line.now)) ≤ LIST_ORDERS }
+        requires short { length (batch_text (with_order self.old (spelled line.now))) ≤ LIST_BYTES }
+        ensures { self.new ≡ with_order self.old (spelled line.now) }
+    {
+        self.beside.clear();
+        let mut lines = ArrayVec::new();
+        put_staying(
+            self.lines.as_slice(),
+            self.texts.bytes(),
+            &spelled(line),
+            &mut lines,
+            &mut self.beside,
+        );
+        put_line(line, &mut lines, &mut self.beside);
+        mem::swap(&mut self.texts, &mut self.beside);
+        self.lines = lines;
+    }
+
+    /// Puts the order of a line last.
+    pub(crate) fn add(&mut self, line: &[u8])
+        requires spells { Spells line.now }
+        requires few { length self.old < LIST_ORDERS }
+        requires short { length (batch_text self.old) + length line.now < LIST_BYTES }
+        ensures { self.new ≡ self.old ++ spelled line.now ∷ [] }
+    {
+        put_line(line, &mut self.lines, &mut self.texts);
+    }
+
+    /// Writes the orders, each with its line feed.
+    pub(crate) fn write(&self, out: &mut Out)
+        requires { length out.old.text + length (batch_text self.now) ≤ out.old.room }
+        ensures { out.new ≡ with out.old (batch_text self.now) }
+    {
+        out.put(self.texts.bytes());
+    }
+
+    pub(crate) fn is_empty(&self) -> bool
+        ensures { result ≡ is_nil self.now }
+    {
+        self.lines.is_empty()
+    }
+
+    /// Takes all orders out.
+    pub(crate) fn clear(&mut self)
+        ensures { self.new ≡ [] }
+    {
+        self.texts.clear();
+        self.lines.clear();
+    }
+
+    /// Takes the orders of another list in place of its own.
+    pub(crate) fn copy_from(&mut self, other: &OrderList)
+        ensures { self.new ≡ other.now }
+    {
+        self.texts.clear();
+        self.texts.put(other.texts.bytes());
+        self.lines.clear();
+        let _ = self.lines.try_extend_from_slice(other.lines.as_slice());
+    }
+}

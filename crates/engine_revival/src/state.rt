@@ -1,0 +1,477 @@
+// What is kept between two calls.
+ghost use Rattle.std.specs.Prelude.{◌≡◌, ◌≤◌, ◌<◌, ◌+◌, ◌++◌, ◌∷◌, [], length, true, false, not, IfOk, if◌then◌else◌};
+ghost use Rattle.line_io.specs.Out.{with};
+ghost use Rattle.uci_lines.specs.Orders.{order_of as order_of_by};
+ghost use Rattle.uci_lines.specs.Orders as orders;
+ghost use Rattle.engine_revival.specs.Dialogue.{said_in};
+ghost use Rattle.engine_revival.specs.Kept.{Spells, spelled};
+ghost use Rattle.engine_revival.specs.Lists.{batch_text};
+ghost use Rattle.engine_revival.specs.Rooms.{IsRoomy};
+ghost use Rattle.engine_revival.specs.Steps.{opening, keeping, with_value, with_button, answer_text};
+ghost use Rattle.engine_revival.specs.Steps.{is_given, gives, is_served, is_alive, is_ended, takes_at_once};
+ghost use Rattle.engine_revival.specs.Steps.{after_at_once, life_after_said, due_to, answer_to};
+ghost use Rattle.engine_revival.specs.Steps.{ordering, reading, at_once, read_at_once, with_quit};
+ghost use Rattle.engine_revival.specs.Steps.{hearing, beginning, first_order, closing, ending};
+ghost use Rattle.engine_revival.specs.Steps.{settled, settled_orders, answer_of, may_begin, due_of};
+ghost use Rattle.engine_revival.specs.Steps.{due_orders, after_due, after_answer};
+
+use crate::order_list::{OrderList, order_of};
+use crate::words::{Answer, DialogueState, Due, LifeState, Said, said_in};
+use cecp_lines::is_quit;
+use line_io::{NoMemory, Out};
+use peer_words::GoKind;
+use std::alloc::Global;
+use uci_lines::Order;
+
+/// How many bytes a line may have.
+pub const MOST_LINE: usize = 65_536;
+
+/// How many bytes the orders of a search have at most, with their line feeds.
+pub(crate) const SEARCH_BYTES: usize = 131_089;
+
+/// What is kept between two calls.
+#[derive(Drop)]
+pub(crate) struct State {
+    lives: u32,
+    begun: u32,
+    quit: bool,
+    full: bool,
+    upper: DialogueState,
+    life: LifeState,
+    kept: OrderList,
+    unsent: OrderList,
+    search: OrderList,
+}
+
+impl LifeState {
+    fn takes_at_once(self, order: &Order) -> bool
+        ensures { result ≡ takes_at_once self (order_of_by order.now) }
+    {
+        matches!(
+            (self, order),
+            (LifeState::Fresh, Order::Uci)
+                | (LifeState::Search, Order::Stop)
+                | (LifeState::Search, Order::PonderHit)
+        )
+    }
+
+    fn after_at_once(self, order: &Order) -> LifeState
+        ensures { result ≡ after_at_once self (order_of_by order.now) }
+    {
+        match (self, order) {
+            (LifeState::Fresh, Order::Uci) => LifeState::Boot,
+            _ => self,
+        }
+    }
+
+    // Whether it got `uci` and has not ended.
+    fn is_served(self) -> bool
+        ensures { result ≡ is_served self }
+    {
+        matches!(
+            self,
+            LifeState::Boot | LifeState::Getting | LifeState::Idle | LifeState::Search
+        )
+    }
+
+    fn after_said(self, said: Said) -> LifeState
+        ensures { result ≡ life_after_said self said }
+    {
+        match (self, said) {
+            (LifeState::Boot, Said::UciOk) => LifeState::Idle,
+            (LifeState::Getting, Said::ReadyOk) => LifeState::Idle,
+            (LifeState::Search, Said::Best) => LifeState::Idle,
+            _ => self,
+        }
+    }
+}
+
+fn due_to(life: LifeState, quit: bool, upper: DialogueState) -> Due
+    ensures { result ≡ due_to life quit upper }
+{
+    match (life, quit, upper) {
+        (LifeState::Idle, false, DialogueState::Getting) => Due::Settings,
+        (
+            LifeState::Idle,
+            false,
+            DialogueState::Search {
+                kind: _,
+                stopped: _,
+            },
+        ) => Due::Search,
+        _ => Due::Nothing,
+    }
+}
+
+fn answer_to(life: LifeState, upper: DialogueState) -> Answer
+    ensures { result ≡ answer_to life upper }
+{
+    match (life, upper) {
+        (LifeState::Over, DialogueState::Boot) => Answer::UciOk,
+        (LifeState::Over, DialogueState::Getting) => Answer::ReadyOk,
+        (
+            LifeState::Over,
+            DialogueState::Search {
+                kind: GoKind::Move,
+                stopped: _,
+            },
+        ) => Answer::NoMove,
+        (
+            LifeState::Over,
+            DialogueState::Search {
+                kind: _,
+                stopped: true,
+            },
+        ) => Answer::NoMove,
+        _ => Answer::Nothing,
+    }
+}
+
+fn is_given(said: Said, life: LifeState, upper: DialogueState, got_all: bool) -> bool
+    ensures { result ≡ is_given said life upper got_all }
+{
+    match (said, life, upper) {
+        (Said::Introduction, _, DialogueState::Boot) => true,
+        (Said::UciOk, _, DialogueState::Boot) => true,
+        (Said::ReadyOk, LifeState::Getting, DialogueState::Getting) => got_all,
+        (Said::Report, LifeState::Search, _) => true,
+        (Said::Best, LifeState::Search, _) => true,
+        _ => false,
+    }
+}
+
+fn put_line(line: &[u8], out: &mut Out)
+    requires { length out.old.text + length line.now < out.old.room }
+    ensures { out.new ≡ with out.old (line.now ++ 10 ∷ []) }
+{
+    out.put(line);
+    out.put(b"\n");
+}
+
+// Puts the line of an order if it is to be written.
+fn put_if(is_written: bool, line: &[u8], out: &mut Out)
+    requires spells { Spells line.now }
+    requires room { length out.old.text + length line.now < out.old.room }
+    ensures out { out.new
+        ≡ with out.old (batch_text (if is_written then spelled line.now ∷ [] else [])) }
+    ensures short { length out.new.text ≤ length out.old.text + (length line.now + 1) }
+{
+    if is_written {
+        put_line(line, out);
+    }
+}
+
+#[tactic(auto, unfolding(uci_lines::specs::Orders::order_text))]
+fn put_uci(out: &mut Out)
+    requires { length out.old.text + 16 ≤ out.old.room }
+    ensures out { out.new ≡ with out.old (batch_text (orders.Uci ∷ [])) }
+    ensures short { length out.new.text ≤ length out.old.text + 16 }
+{
+    out.put(b"uci\n");
+}
+
+#[tactic(auto, unfolding(uci_lines::specs::Orders::order_text))]
+fn put_ready(out: &mut Out)
+    requires { length out.old.text + 16 ≤ out.old.room }
+    ensures { out.new ≡ with out.old (batch_text (orders.IsReady ∷ [])) }
+{
+    out.put(b"isready\n");
+}
+
+#[tactic(auto, unfolding(uci_lines::specs::Orders::order_text))]
+fn put_quit(out: &mut Out)
+    requires { length out.old.text + 16 ≤ out.old.room }
+    ensures out { out.new ≡ with out.old (batch_text (orders.Quit ∷ [])) }
+    ensures short { length out.new.text ≤ length out.old.text + 16 }
+{
+    out.put(b"quit\n");
+}
+
+fn put_answer(answer: Answer, up: &mut Out)
+    requires { length up.old.text + length (answer_text answer) ≤ up.old.room }
+    ensures { up.new ≡ with up.old (answer_text answer) }
+{
+    match answer {
+        Answer::Nothing => {}
+        Answer::UciOk => up.put(b"uciok\n"),
+        Answer::ReadyOk => up.put(b"readyok\n"),
+        Answer::NoMove => up.put(b"bestmove 0000\n"),
+    }
+}
+
+impl State {
+    pub(crate) fn make(alloc: Global, lives: u32) -> Result<State, NoMemory>
+        ensures { IfOk result (λ state. state ≡ opening lives) }
+    {
+        Ok(State {
+            lives,
+            begun: 1,
+            quit: false,
+            full: false,
+            upper: DialogueState::Before,
+            life: LifeState::Fresh,
+            kept: OrderList::make(alloc)?,
+            unsent: OrderList::make(alloc)?,
+            search: OrderList::make(alloc)?,
+        })
+    }
+
+    ghost use Rattle.std.specs.Prelude.{◌&&◌, Some};
+    ghost use Rattle.uci_lines.specs.OrderReading.{order_in};
+    ghost use Rattle.engine_revival.specs.Lists.{can_join};
+    ghost use Rattle.engine_revival.specs.Steps.{quit_to, given};
+    ghost use Rattle.engine_revival.specs.declared.order_list.TheConstants.{LIST_ORDERS, LIST_BYTES};
+    ghost use Rattle.engine_revival.specs.declared.state.State.{State};
+
+    fn keep_value(&mut self, line: &[u8])
+        requires spells { Spells line.now }
+        requires roomy { IsRoomy self.old }
+        ensures { self.new ≡ with_value (can_join self.old.kept (spelled line.now)
+            && can_join self.old.unsent (spelled line.now)) self.old (spelled line.now) }
+    {
+        if self.kept.fits(line) && self.unsent.fits(line) {
+            self.kept.replace(line);
+            self.unsent.replace(line);
+        } else {
+            self.full = true;
+        }
+    }
+
+    fn keep_button(&mut self, line: &[u8])
+        requires spells { Spells line.now }
+        ensures { self.new
+            ≡ with_button (can_join self.old.unsent (spelled line.now))
+            self.old (spelled line.now) }
+    {
+        if self.unsent.fits(line) {
+            self.unsent.replace(line);
+        } else {
+            self.full = true;
+        }
+    }
+
+    fn keep_search(&mut self, line: &[u8])
+        requires spells { Spells line.now }
+        requires few { length self.old.search < LIST_ORDERS }
+        requires short { length (batch_text self.old.search) + length line.now < LIST_BYTES }
+        ensures { self.new ≡ record self.old { search = self.old.search ++ spelled line.now ∷ [] } }
+    {
+        self.search.add(line);
+    }
+
+    fn keep(&mut self, order: &Order, line: &[u8])
+        requires spells { Spells line.now }
+        requires order { order_of_by order.now ≡ spelled line.now }
+        requires short { length line.now ≤ MOST_LINE }
+        requires roomy { IsRoomy self.old }
+        ensures { self.new ≡ keeping self.old (spelled line.now) }
+    {
+        match order {
+            Order::SetOption {
+                name: _,
+                value: Some(_),
+            } => self.keep_value(line),
+            Order::SetOption {
+                name: _,
+                value: None,
+            } => self.keep_button(line),
+            Order::NewGame => self.unsent.replace(line),
+            Order::Position { fen: _, moves: _ } => {
+                self.search.clear();
+                self.search.add(line);
+            }
+            Order::Go {
+                ponder: _,
+                control: _,
+                depth: _,
+            } => self.keep_search(line),
+            Order::PonderHit => self.keep_search(line),
+            Order::Stop => self.keep_search(line),
+            _ => {}
+        }
+    }
+
+    // An order other than `quit` was read.
+    fn take(&mut self, order: &Order, line: &[u8], child: &mut Out)
+        requires spells { Spells line.now }
+        requires order { order_of_by order.now ≡ spelled line.now }
+        requires short { length line.now ≤ MOST_LINE }
+        requires roomy { IsRoomy self.old }
+        requires room { length child.old.text + MOST_LINE < child.old.room }
+        ensures state { self.new ≡ reading self.old (Some (spelled line.now)) }
+        ensures child { child.new
+            ≡ with child.old (batch_text (read_at_once self.old (Some (spelled line.now)))) }
+        ensures short { length child.new.text ≤ length child.old.text + (MOST_LINE + 1) }
+    {
+        if self.quit {
+            return;
+        }
+        let Some(upper) = self.upper.after_order(order) else {
+            return;
+        };
+        self.keep(order, line);
+        self.upper = upper;
+        put_if(self.life.takes_at_once(order), line, child);
+        self.life = self.life.after_at_once(order);
+    }
+
+    // A line that is not `quit` came.
+    fn take_line(&mut self, line: &[u8], child: &mut Out)
+        requires short { length line.now ≤ MOST_LINE }
+        requires roomy { IsRoomy self.old }
+        requires room { length child.old.text + MOST_LINE < child.old.room }
+        ensures state { self.new ≡ reading self.old (order_in line.now) }
+        ensures child { child.new
+            ≡ with child.old (batch_text (read_at_once self.old (order_in line.now))) }
+        ensures short { length child.new.text ≤ length child.old.text + (MOST_LINE + 1) }
+    {
+        if let Some(order) = order_of(line) {
+            self.take(&order, line, child);
+        }
+    }
+
+    fn take_quit(&mut self, child: &mut Out)
+        requires room { length child.old.text + MOST_LINE < child.old.room }
+        ensures state { self.new ≡ with_quit self.old }
+        ensures child { child.new
+            ≡ with child.old (batch_text (quit_to self.old.quit self.old.life)) }
+        ensures short { length child.new.text ≤ length child.old.text + (MOST_LINE + 1) }
+    {
+        if !self.quit && self.life.is_served() {
+            put_quit(child);
+        }
+        self.quit = true;
+    }
+
+    /// An order came.
+    pub(crate) fn order(&mut self, line: &[u8], child: &mut Out)
+        requires short { length line.now ≤ MOST_LINE }
+        requires roomy { IsRoomy self.old }
+        requires room { length child.old.text + MOST_LINE < child.old.room }
+        ensures state { self.new ≡ ordering self.old line.now }
+        ensures child { child.new ≡ with child.old (batch_text (at_once self.old line.now)) }
+        ensures short { length child.new.text ≤ length child.old.text + (MOST_LINE + 1) }
+    {
+        if is_quit(line) {
+            self.take_quit(child);
+        } else {
+            self.take_line(line, child);
+        }
+    }
+
+    /// The life was heard.
+    pub(crate) fn hear(&mut self, line: &[u8], up: &mut Out)
+        requires { length up.old.text + length line.now < up.old.room }
+        ensures state { self.new ≡ hearing self.old (said_in line.now) }
+        ensures up { up.new ≡ with up.old (given self.old line.now) }
+    {
+        let said = said_in(line);
+        if is_given(said, self.life, self.upper, self.unsent.is_empty()) {
+            put_line(line, up);
+            self.upper = self.upper.after_said(said);
+        }
+        self.life = self.life.after_said(said);
+    }
+
+    /// The life has ended: whether another may begin.
+    pub(crate) fn end(&mut self) -> bool
+        ensures state { self.new ≡ ending self.old }
+        ensures may { result ≡ may_begin self.old }
+    {
+        self.life = LifeState::Ended;
+        self.begun < self.lives && !self.quit && !self.full
+    }
+
+    /// Another life begins.
+    pub(crate) fn begin(&mut self, child: &mut Out)
+        requires few { self.old.begun < self.old.lives }
+        requires room { length child.old.text + MOST_LINE < child.old.room }
+        ensures state { self.new ≡ beginning self.old }
+        ensures child { child.new ≡ with child.old (batch_text (first_order self.old.upper)) }
+        ensures short { length child.new.text ≤ length child.old.text + (MOST_LINE + 1) }
+    {
+        self.begun += 1;
+        self.unsent.copy_from(&self.kept);
+        if self.upper.is_before() {
+            self.life = LifeState::Fresh;
+        } else {
+            put_uci(child);
+            self.life = LifeState::Boot;
+        }
+    }
+
+    /// The life has ended, and no other follows.
+    pub(crate) fn close(&mut self)
+        ensures { self.new ≡ closing self.old }
+    {
+        self.life = LifeState::Over;
+    }
+
+    fn write_due(&mut self, due: Due, child: &mut Out)
+        requires room { length child.old.text + length (batch_text self.old.unsent)
+            + SEARCH_BYTES ≤ child.old.room }
+        requires search { length (batch_text self.old.search) ≤ SEARCH_BYTES }
+        ensures state { self.new ≡ after_due due self.old }
+        ensures child { child.new
+            ≡ with child.old (batch_text (due_orders due self.old.unsent self.old.search)) }
+    {
+        match due {
+            Due::Nothing => {}
+            Due::Settings => {
+                self.unsent.write(child);
+                put_ready(child);
+                self.unsent.clear();
+                self.life = LifeState::Getting;
+            }
+            Due::Search => {
+                self.unsent.write(child);
+                self.search.write(child);
+                self.unsent.clear();
+                self.life = LifeState::Search;
+            }
+        }
+    }
+
+    fn stand_in(&mut self, answer: Answer)
+        ensures { self.new ≡ after_answer answer self.old }
+    {
+        match answer {
+            Answer::Nothing => {}
+            _ => self.upper = DialogueState::Idle,
+        }
+    }
+
+    /// What follows of each call.
+    pub(crate) fn settle(&mut self, up: &mut Out, child: &mut Out)
+        requires roomy { IsRoomy self.old }
+        requires up { length up.old.text + 16 ≤ up.old.room }
+        requires child { length child.old.text + (LIST_BYTES + SEARCH_BYTES) ≤ child.old.room }
+        ensures state { self.new ≡ settled self.old }
+        ensures up { up.new ≡ with up.old (answer_text (answer_of self.old)) }
+        ensures child { child.new ≡ with child.old (batch_text (settled_orders self.old)) }
+    {
+        let due = due_to(self.life, self.quit, self.upper);
+        let answer = answer_to(self.life, self.upper);
+        self.write_due(due, child);
+        put_answer(answer, up);
+        self.stand_in(answer);
+    }
+
+    pub(crate) fn is_alive(&self) -> bool
+        ensures { result ≡ is_alive self.now.life }
+    {
+        !matches!(self.life, LifeState::Ended | LifeState::Over)
+    }
+
+    pub(crate) fn is_ended(&self) -> bool
+        ensures { result ≡ is_ended self.now.life }
+    {
+        matches!(self.life, LifeState::Ended)
+    }
+
+    pub(crate) fn is_full(&self) -> bool
+        ensures { result ≡ self.now.full }
+    {
+        self.full
+    }
+}

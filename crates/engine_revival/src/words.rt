@@ -1,0 +1,212 @@
+// The words of a revival.
+ghost use Rattle.std.specs.Prelude.{◌≡◌, false};
+ghost use Rattle.uci_lines.specs.Orders.{order_of};
+ghost use Rattle.uci_lines.specs.Messages.{engine_message_of};
+ghost use Rattle.engine_revival.specs.Dialogue.{kind_of, said_of, said_in};
+
+use peer_words::GoKind;
+use uci_lines::{EngineMsg, GoControl, Order, read_engine};
+
+/// The state of a dialogue with an engine, by the orders to it and by what it said (UCI, April 2006).
+#[derive(Clone, Copy, Debug, PartialEq, Eq)]
+pub enum DialogueState {
+    /// No `uci` came yet.
+    Before,
+    /// From `uci` to `uciok`.
+    Boot,
+    /// From `isready` to `readyok`.
+    Getting,
+    /// It waits for orders.
+    Idle,
+    /// It waits for the `go` behind a `position`.
+    Placed,
+    /// From `go` to `bestmove`. A `ponderhit` makes a Ponder search one for a Move.
+    Search { kind: GoKind, stopped: bool },
+}
+
+/// The state of the present life of the engine, by what was written to it and heard from it.
+#[derive(Clone, Copy, Debug, PartialEq, Eq)]
+pub enum LifeState {
+    /// It was begun and got no `uci` yet.
+    Fresh,
+    /// From `uci` to `uciok`.
+    Boot,
+    /// From `isready` to `readyok`.
+    Getting,
+    /// It waits for orders.
+    Idle,
+    /// From `go` to `bestmove`.
+    Search,
+    /// It has ended. Whether another life begins comes next.
+    Ended,
+    /// It has ended, and no life follows.
+    Over,
+}
+
+/// What a line of an engine says, as far as it matters here.
+#[derive(Clone, Copy, Debug, PartialEq, Eq)]
+pub enum Said {
+    /// A name or an option.
+    Introduction,
+    UciOk,
+    ReadyOk,
+    /// What it reports of its search.
+    Report,
+    Best,
+    Nothing,
+}
+
+/// What is written to an idle life.
+#[derive(Clone, Copy, Debug, PartialEq, Eq)]
+pub(crate) enum Due {
+    Nothing,
+    /// The settings that it did not get, and `isready`.
+    Settings,
+    /// The settings that it did not get, and the orders of the open search.
+    Search,
+}
+
+/// What stands in for an engine that has no more lives.
+#[derive(Clone, Copy, Debug, PartialEq, Eq)]
+pub(crate) enum Answer {
+    Nothing,
+    UciOk,
+    ReadyOk,
+    /// `bestmove 0000`.
+    NoMove,
+}
+
+fn kind_of(ponder: bool, control: GoControl) -> GoKind
+    ensures { result ≡ kind_of ponder control }
+{
+    match (ponder, control) {
+        (true, _) => GoKind::Ponder,
+        (false, GoControl::Infinite) => GoKind::Analyse,
+        (false, _) => GoKind::Move,
+    }
+}
+
+impl DialogueState {
+    ghost use Rattle.engine_revival.specs.Dialogue.{after_order, after_said, where_true};
+    ghost use Rattle.engine_revival.specs.Dialogue.{is_before, is_idle, is_placed};
+    ghost use Rattle.engine_revival.specs.Dialogue.{after_hit, after_stop};
+
+    pub(crate) fn is_before(self) -> bool
+        ensures { result ≡ is_before self }
+    {
+        matches!(self, DialogueState::Before)
+    }
+
+    // The next state, if the engine is idle.
+    fn if_idle(self, next: DialogueState) -> Option<DialogueState>
+        ensures { result ≡ where_true (is_idle self) next }
+    {
+        match self {
+            DialogueState::Idle => Some(next),
+            _ => None,
+        }
+    }
+
+    fn after_go(self, kind: GoKind) -> Option<DialogueState>
+        ensures { result ≡ where_true (is_placed self) (DialogueState.Search kind false) }
+    {
+        match self {
+            DialogueState::Placed => Some(DialogueState::Search {
+                kind,
+                stopped: false,
+            }),
+            _ => None,
+        }
+    }
+
+    fn after_hit(self) -> Option<DialogueState>
+        ensures { result ≡ after_hit self }
+    {
+        match self {
+            DialogueState::Search {
+                kind: GoKind::Ponder,
+                stopped: false,
+            } => Some(DialogueState::Search {
+                kind: GoKind::Move,
+                stopped: false,
+            }),
+            _ => None,
+        }
+    }
+
+    fn after_stop(self) -> Option<DialogueState>
+        ensures { result ≡ after_stop self }
+    {
+        match self {
+            DialogueState::Search {
+                kind,
+                stopped: false,
+            } => Some(DialogueState::Search {
+                kind,
+                stopped: true,
+            }),
+            _ => None,
+        }
+    }
+
+    /// After an order. None if the order may not stand here.
+    pub fn after_order(self, order: &Order) -> Option<DialogueState>
+        ensures { result ≡ after_order (order_of order.now) self }
+    {
+        match order {
+            Order::Uci if self.is_before() => Some(DialogueState::Boot),
+            Order::Uci => None,
+            Order::SetOption { name: _, value: _ } => self.if_idle(DialogueState::Idle),
+            Order::NewGame => self.if_idle(DialogueState::Idle),
+            Order::IsReady => self.if_idle(DialogueState::Getting),
+            Order::Position { fen: _, moves: _ } => self.if_idle(DialogueState::Placed),
+            Order::Go {
+                ponder,
+                control,
+                depth: _,
+            } => self.after_go(kind_of(*ponder, *control)),
+            Order::PonderHit => self.after_hit(),
+            Order::Stop => self.after_stop(),
+            Order::Quit => None,
+        }
+    }
+
+    /// After the engine was heard.
+    pub fn after_said(self, said: Said) -> DialogueState
+        ensures { result ≡ after_said self said }
+    {
+        match (self, said) {
+            (DialogueState::Boot, Said::UciOk) => DialogueState::Idle,
+            (DialogueState::Getting, Said::ReadyOk) => DialogueState::Idle,
+            (
+                DialogueState::Search {
+                    kind: _,
+                    stopped: _,
+                },
+                Said::Best,
+            ) => DialogueState::Idle,
+            _ => self,
+        }
+    }
+}
+
+fn said_of(msg: EngineMsg) -> Said
+    ensures { result ≡ said_of (engine_message_of msg.entry) }
+{
+    match msg {
+        EngineMsg::Name(_) => Said::Introduction,
+        EngineMsg::OptionLine(_) => Said::Introduction,
+        EngineMsg::UciOk => Said::UciOk,
+        EngineMsg::ReadyOk => Said::ReadyOk,
+        EngineMsg::Info(_) => Said::Report,
+        EngineMsg::Best { best: _, hint: _ } => Said::Best,
+        EngineMsg::Nothing => Said::Nothing,
+    }
+}
+
+/// What a line of the engine says.
+pub fn said_in(line: &[u8]) -> Said
+    ensures { result ≡ said_in line.now }
+{
+    said_of(read_engine(line))
+}
