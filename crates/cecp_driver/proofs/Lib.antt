@@ -1,0 +1,7 @@
+mod Good
+mod Heard
+mod Lasting
+mod Acting
+mod Moves
+mod Puts
+mod Pushing

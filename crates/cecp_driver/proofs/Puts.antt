@@ -1,0 +1,45 @@
+-- Lines that are put one after the other.
+use Rattle.std.proofs.Common.{◌≡◌, ℕ, List, [], ◌∷◌, ◌++◌, Bool, false, None, refl, sym, ap, ◌∙◌, append_assoc, append-nil}
+use Rattle.std.specs.Prelude.{codes}
+use Rattle.line_io.specs.Out.{Text, with}
+use Rattle.chess_board.specs.Position.{Position}
+use Rattle.chess_board.specs.Play.{start_position}
+use Rattle.game_record.specs.Game.{Ply, Game}
+use Rattle.driver_lines.specs.Lines.{Line, New, Force, Post, SetBoard, line_text, lines_text}
+use Rattle.cecp_driver.specs.Same.{same_position}
+use Rattle.cecp_driver.specs.SetUp.{Told, continued, played, start_lines, setup_lines}
+
+joined : (o : Text) (x y : List ℕ) → with (with o x) y ≡ with o (x ++ y)
+joined o x y = ap (λ (t : List ℕ). record { text = t; room = o.room }) (append_assoc o.text x y)
+
+pub put_two : (o a b : Text) (x y : List ℕ) → a ≡ with o x → b ≡ with a y → b ≡ with o (x ++ y)
+put_two o a b x y e f = f ∙ ap (λ (t : Text). with t y) e ∙ joined o x y
+
+pub two_lines : (o a b : Text) (x y : List ℕ) → a ≡ with o x → b ≡ with a y → b ≡ with o (x ++ (y ++ []))
+two_lines o a b x y e f = put_two o a b x y e f ∙ ap (λ (t : List ℕ). with o (x ++ t)) (sym (append-nil y))
+
+pub one_line : (o a : Text) (x : List ℕ) → a ≡ with o x → a ≡ with o (x ++ [])
+one_line o a x e = e ∙ ap (with o) (sym (append-nil x))
+
+pub set_line : (o a b c : Text) (t items w : List ℕ) → t ≡ items → items ≡ w → a ≡ with o (codes "setboard ") → b ≡ with a t → c ≡ with b (10 ∷ []) → c ≡ with o ((codes "setboard " ++ w) ++ 10 ∷ [])
+set_line o a b c t items w e f p q r = put_two o b c (codes "setboard " ++ t) (10 ∷ []) (put_two o a b (codes "setboard ") t p q) r ∙ ap (λ (x : List ℕ). with o ((codes "setboard " ++ x) ++ 10 ∷ [])) (e ∙ f)
+
+pub start_line : (o a : Text) (p : Position) → same_position p start_position ≡ false → a ≡ with o (line_text (SetBoard p)) → a ≡ with o (lines_text (start_lines p))
+start_line o a p e f = rw e (one_line o a (line_text (SetBoard p)) f)
+
+pub lines_append : (a b : List Line) → lines_text (a ++ b) ≡ lines_text a ++ lines_text b
+lines_append [] b = refl
+lines_append (l ∷ ls) b = ap (λ (t : List ℕ). line_text l ++ t) (lines_append ls b) ∙ sym (append_assoc (line_text l) (lines_text ls) (lines_text b))
+
+pub new_setup : (o a b c d e : Text) (s : Position) (has_usermove : Bool) (g : Game) (moves : List Ply) → a ≡ with o (line_text New) → b ≡ with a (line_text Force) → c ≡ with b (line_text Post)
+    → d ≡ with c (lines_text (start_lines s)) → s ≡ g.start → e ≡ with d (lines_text (played has_usermove moves)) → moves ≡ g.moves → e ≡ with o (lines_text (setup_lines None has_usermove g))
+new_setup o a b c d e s has_usermove g moves ea eb ec ed es ee em =
+    put_two o a e (line_text New) _ ea (put_two a b e (line_text Force) _ eb (put_two b c e (line_text Post) _ ec (put_two c d e (lines_text (start_lines s)) (lines_text (played has_usermove moves)) ed ee)))
+    ∙ ap (λ (t : List ℕ). with o (line_text New ++ (line_text Force ++ (line_text Post ++ t))))
+    (sym (lines_append (start_lines s) (played has_usermove moves)) ∙ ap (λ (p : Position). lines_text (start_lines p ++ played has_usermove moves)) es ∙ ap (λ (ms : List Ply). lines_text (start_lines g.start ++ played has_usermove ms)) em)
+
+pub setup_then : (o a b : Text) (told : Told) (g : Game) (has_usermove deep deep' : Bool) (ls : List Line) → deep ≡ deep' → a ≡ with o (lines_text (setup_lines (continued told g deep) has_usermove g)) → b ≡ with a (lines_text ls)
+    → b ≡ with o (lines_text (setup_lines (continued told g deep') has_usermove g ++ ls))
+setup_then o a b told g has_usermove deep deep' ls e f h =
+    put_two o a b _ (lines_text ls) (f ∙ ap (λ (x : Bool). with o (lines_text (setup_lines (continued told g x) has_usermove g))) e) h
+    ∙ ap (with o) (sym (lines_append (setup_lines (continued told g deep') has_usermove g) ls))

@@ -1,0 +1,9 @@
+use Rattle.driver_lines.specs.Lines.{Analyze, line_text, lines_text}
+use Rattle.cecp_driver.specs.Deeds.{leave_lines}
+use Rattle.cecp_driver.proofs.Puts.{put_two, setup_then}
+use Rattle.std.proofs.Common.{◌∷◌}
+use Rattle.cecp_driver.proofs.deeds.write_analyse.Goals as goal
+
+pub returns-clause-text : goal.returns-clause-text
+returns-clause-text c = setup_then c.args.out.now c.set_up.new.out c.write_leave.new.out c.args.told.now c.args.game.now c.args.has_usermove _ _ (Analyze ∷ leave_lines c.args.ping) c.has_depth.ensures c.set_up.ensures.text
+    (put_two c.set_up.new.out c.write_word.new.out c.write_leave.new.out (line_text Analyze) (lines_text (leave_lines c.args.ping)) c.write_word.ensures.text c.write_leave.ensures)

@@ -1,0 +1,23 @@
+-- What is left of the features completes what all change and say.
+use Rattle.std.proofs.Common.{◌≡◌, ◌≤◌, ◌+◌, ◌*◌, ◌++◌, length, false}
+use Rattle.driver_lines.specs.Parts.{parts}
+use Rattle.driver_lines.specs.Lines.{lines_text}
+use Rattle.cecp_driver.specs.Features.{has_all, name_all, answers, greetings}
+use Rattle.cecp_driver.proofs.features.hear_features.Given as goal
+
+abbrev pub invariant-loop-cut : goal.invariant-loop-cut
+invariant-loop-cut l = record {
+  has : has_all l.has (parts l.others) ≡ has_all l.fn.before (parts l.fn.text);
+  name : name_all l.name.text (parts l.others) ≡ name_all l.initial.name.text (parts l.fn.text);
+  up : l.up.text ++ greetings l.has l.name.text (parts l.others) ≡ l.initial.up.text ++ greetings l.fn.before l.initial.name.text (parts l.fn.text);
+  down : l.down.text ++ lines_text (answers (parts l.others)) ≡ l.initial.down.text ++ lines_text (answers (parts l.fn.text));
+  name_room : l.name.room ≡ l.initial.name.room;
+  up_room : l.up.room ≡ l.initial.up.room;
+  down_room : l.down.room ≡ l.initial.down.room;
+  short : length l.others ≤ length l.fn.text;
+  down_fits : length l.down.text + 10 * length l.others ≤ length l.initial.down.text + 10 * length l.fn.text;
+  up_fits : l.has.done ≡ false → length l.up.text + l.name.room + 30 ≤ l.up.room;
+}
+
+abbrev pub decreases-loop-cut : goal.decreases-loop-cut
+decreases-loop-cut l = length l.others

@@ -1,0 +1,66 @@
+-- What the features of the engine change, and what both sides are told of them.
+use Rattle.std.specs.Prelude.{ℕ, Bool, ◌&&◌, ◌||◌, not, if◌then◌else◌, List, [], ◌∷◌, ◌++◌, ◌+◌, length, codes, Option, Some, None}
+use Rattle.std.specs.Str.{bytes_eq}
+use Rattle.driver_lines.specs.Parts.{Feature, Cut}
+use Rattle.driver_lines.specs.Lines.{Line, Accepted, Rejected, named}
+use Rattle.cecp_driver.specs.declared.features.Has.{Has}
+
+abbrev pub has_word : List ℕ → Feature → Bool
+has_word name f = bytes_eq f.name name
+
+-- NAME=1
+abbrev pub is_on : List ℕ → Feature → Bool
+is_on name f = bytes_eq f.name name && bytes_eq f.value (codes "1")
+
+-- `san=1`, `option`, `memory`, `smp` and `egt` are rejected
+abbrev pub rejects : Feature → Bool
+rejects f = (((is_on (codes "san") f || has_word (codes "option") f) || has_word (codes "memory") f) || has_word (codes "smp") f) || has_word (codes "egt") f
+
+abbrev pub answer_line : Feature → Line
+answer_line f = if rejects f then Rejected f.name else Accepted f.name
+
+abbrev pub answers : List Feature → List Line
+answers [] = []
+answers (f ∷ fs) = answer_line f ∷ answers fs
+
+-- a feature that came once stays
+abbrev pub has_after : Has → Feature → Has
+has_after h f = record {
+  ping = h.ping || is_on (codes "ping") f;
+  setboard = h.setboard || is_on (codes "setboard") f;
+  usermove = h.usermove || is_on (codes "usermove") f;
+  analyze = h.analyze || is_on (codes "analyze") f;
+  done = h.done || is_on (codes "done") f;
+}
+
+-- the last `myname` counts
+abbrev pub name_after : List ℕ → Feature → List ℕ
+name_after name f = if has_word (codes "myname") f then f.value else name
+
+abbrev pub has_all : Has → List Feature → Has
+has_all h [] = h
+has_all h (f ∷ fs) = has_all (has_after h f) fs
+
+abbrev pub name_all : List ℕ → List Feature → List ℕ
+name_all name [] = name
+name_all name (f ∷ fs) = name_all (name_after name f) fs
+
+-- the first `done=1`
+abbrev pub greets : Has → Feature → Bool
+greets h f = not h.done && is_on (codes "done") f
+
+-- then the interface gets the name and `uciok`
+abbrev pub greeting : Has → List ℕ → Feature → List ℕ
+greeting h name f = if greets h f then (codes "id name " ++ named name ++ 10 ∷ []) ++ (codes "uciok" ++ 10 ∷ []) else []
+
+abbrev pub greetings : Has → List ℕ → List Feature → List ℕ
+greetings h name [] = []
+greetings h name (f ∷ fs) = greeting h name f ++ greetings (has_after h f) (name_after name f) fs
+
+-- how many bytes a feature and what follows it have at least
+abbrev pub weight_by : Option Feature → List ℕ → ℕ
+weight_by None rest = length rest
+weight_by (Some f) rest = length f.name + length rest + 1
+
+abbrev pub weight : Cut → ℕ
+weight c = weight_by c.part c.rest

@@ -1,0 +1,29 @@
+-- What a driver keeps between calls.
+use Rattle.std.specs.Prelude.{ℕ, ◌≡◌, ◌≤◌, length, true, Option, Some, None}
+use Rattle.chess_board.specs.Place.{legal}
+use Rattle.game_record.specs.Game.{Game, now_of}
+use Rattle.driver_talk.specs.declared.words.Search.{Search}
+use Rattle.driver_talk.specs.declared.words.Phase.{Phase}
+use Rattle.driver_talk.specs.declared.words.Phase.TheVariants.{Thinks, Analyses, Leaves}
+use Rattle.cecp_driver.specs.declared.driver.Parts.{Parts}
+use Rattle.cecp_driver.specs.declared.driver.TheConstants.{LINE_LIMIT, UP_ROOM, DOWN_ROOM}
+use Rattle.cecp_driver.specs.declared.told.TheConstants.{MOST_PLIES}
+use Rattle.cecp_driver.specs.SetUp.{Told}
+
+-- where the engine searches, it was told the ordered game
+abbrev pub TellsGame : Phase → Game → Told → Type 0
+TellsGame (Thinks hurried) game told = told.game ≡ game
+TellsGame Analyses game told = told.game ≡ game
+TellsGame (Leaves next) game told = told.game ≡ game
+TellsGame phase game told = Unit {0}
+
+-- the best move of an open search is legal in the ordered position, whose game is not too long
+abbrev pub Serves : Option Search → Game → Told → Type 0
+Serves None game told = Unit {0}
+Serves (Some s) game told = (legal (now_of game) s.kept ≡ true) × (length game.moves ≤ MOST_PLIES) × TellsGame s.phase game told
+
+pub record Keeps (v : Parts) : Type 0 where
+  pub serves : Serves v.talk.search v.game v.told
+  pub name_room : v.name.room ≡ LINE_LIMIT
+  pub up_room : v.up.room ≡ UP_ROOM
+  pub down_room : v.down.room ≡ DOWN_ROOM

@@ -1,0 +1,29 @@
+-- The position that the interface orders.
+use Rattle.std.specs.Prelude.{ℕ, nat_lt, Bool, ◌&&◌, if◌then◌else◌, List, [], ◌∷◌, length, Option, Some, None}
+use Rattle.chess_board.specs.declared.board.Move.{Move}
+use Rattle.chess_board.specs.Place.{legal}
+use Rattle.chess_board.specs.Spelling.{move_of}
+use Rattle.game_record.specs.Game.{Game, begun, now_of, ply_of, with_ply}
+use Rattle.uci_talk.specs.Lines.{Line, line_of}
+
+-- a move is legal, and the game has room for it
+abbrev pub may_push : Game → Move → Bool
+may_push g m = legal (now_of g) m && nat_lt (length g.moves) 12000
+
+abbrev pub push_one : Game → Option Move → Option Game
+push_one g None = None
+push_one g (Some m) = if may_push g m then Some (with_ply g (ply_of m)) else None
+
+-- the game after the moves that these texts name
+abbrev pub pushed : List (List ℕ) → Option Game → Option Game
+pushed [] g = g
+pushed (t ∷ ts) None = None
+pushed (t ∷ ts) (Some g) = pushed ts (push_one g (move_of t))
+
+abbrev pub ordered_by : Option Line → Option Game
+ordered_by None = None
+ordered_by (Some line) = pushed line.moves (Some (begun line.start))
+
+-- the game that a `position` line orders, if it can be read and has no more than 12,000 moves
+abbrev pub ordered_in : List ℕ → Option Game
+ordered_in line = ordered_by (line_of line)

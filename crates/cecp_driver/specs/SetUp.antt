@@ -1,0 +1,56 @@
+-- What the engine was told of the game, and how a game is set up.
+use Rattle.std.specs.Prelude.{ℕ, ◌==◌, Bool, true, false, not, ◌&&◌, ◌||◌, if◌then◌else◌, List, [], ◌∷◌, ◌++◌, map, is_some, Option, Some, None}
+use Rattle.chess_board.specs.Position.{Position}
+use Rattle.chess_board.specs.Play.{start_position}
+use Rattle.game_record.specs.Game.{Ply, Game, begun, with_ply}
+use Rattle.driver_lines.specs.Lines.{Line, New, Force, Post, SetBoard, Played}
+use Rattle.cecp_driver.specs.Same.{same_position, same_ply}
+
+-- Whether the engine's game is known, whether it has a depth limit, and the game that it was told last.
+pub record Told : Type 0 where
+  pub known : Bool
+  pub limited : Bool
+  pub game : Game
+
+abbrev pub none_told : Told
+none_told = record { known = false; limited = false; game = begun start_position }
+
+-- the moves behind those that are known, where the others begin with these
+abbrev pub further : List Ply → List Ply → Option (List Ply)
+further [] moves = Some moves
+further (k ∷ ks) [] = None
+further (k ∷ ks) (m ∷ moves) = if same_ply k m then further ks moves else None
+
+-- The moves by which a game goes on from the one that is known. A depth limit that the search does not have can only
+-- be taken away by a new game.
+abbrev pub continued : Told → Game → Bool → Option (List Ply)
+continued told game has_depth =
+    if (told.known && not (told.limited && not has_depth)) && same_position told.game.start game.start
+    then further told.game.moves game.moves
+    else None
+
+abbrev pub played : Bool → List Ply → List Line
+played has_usermove [] = []
+played has_usermove (m ∷ moves) = Played has_usermove m ∷ played has_usermove moves
+
+abbrev pub start_lines : Position → List Line
+start_lines start = if same_position start start_position then [] else SetBoard start ∷ []
+
+-- the further moves alone, or all of the game
+abbrev pub setup_lines : Option (List Ply) → Bool → Game → List Line
+setup_lines (Some moves) has_usermove game = Force ∷ played has_usermove moves
+setup_lines None has_usermove game = New ∷ Force ∷ Post ∷ (start_lines game.start ++ played has_usermove game.moves)
+
+-- after a set-up
+abbrev pub set_up : Told → Game → Bool → Told
+set_up told game has_depth = record { known = true; limited = is_some (continued told game has_depth) && told.limited; game = game }
+
+abbrev pub limited : Told → Bool → Told
+limited told has_depth = record { known = told.known; limited = told.limited || has_depth; game = told.game }
+
+-- after a legal move of the engine
+abbrev pub moved : Told → Ply → Told
+moved told m = record { known = told.known; limited = told.limited; game = with_ply told.game m }
+
+abbrev pub lost : Told → Told
+lost told = record { known = false; limited = told.limited; game = told.game }

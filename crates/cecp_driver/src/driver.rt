@@ -1,0 +1,371 @@
+// The driver.
+ghost use Rattle.std.specs.Prelude.{◌≡◌, ◌+◌, ◌*◌, ◌≤◌, length, IfOk, MatchOption};
+ghost use Rattle.std.specs.Borrow.{sem};
+ghost use Rattle.line_io.specs.Out.{empty, with};
+ghost use Rattle.driver_talk.specs.Talk.{turn_of, is_free};
+ghost use Rattle.driver_lines.specs.Says.{engine_message_of, Report, Feature};
+ghost use Rattle.peer_words.specs.Tokens.{tokens};
+ghost use Rattle.cecp_driver.specs.Driver.{cleared, taken, acted, opening, CanTake, CanAct, reach_of, Wants, placed, IsAsked, IsHeard, featured, HeardBy, IsPlain};
+ghost use Rattle.cecp_driver.specs.declared.driver.TheConstants.{LINE_LIMIT, UP_ROOM, DOWN_ROOM};
+
+use crate::deeds::{note_board, write_down, write_up};
+use crate::features::{Has, hear_features};
+use crate::ordered::take_position;
+use crate::told::{MOST_PLIES, Told};
+use driver_lines::{
+    Ordered, Said, first_move, read_clocks, read_ordered, read_said, shown_move, thought_move,
+};
+use driver_talk::{Call, Reach, Stage, Talk, Thought, Turn, Wanted};
+use game_record::Game;
+use line_io::{NoMemory, Out};
+use std::alloc::Global;
+use std::marker::Model;
+use uci_talk::go_kind;
+
+/// The most bytes of a line.
+const LINE_LIMIT: usize = 65_536;
+
+/// The room of the lines to a peer.
+const UP_ROOM: usize = 131_072;
+
+const DOWN_ROOM: usize = 1_048_576;
+
+// The parts of a driver.
+#[derive(Drop)]
+pub(crate) struct Parts {
+    talk: Talk,
+    has: Has,
+    /// What the engine calls itself.
+    name: Out,
+    is_ordered: bool,
+    /// The ordered game, a new one if none is ordered.
+    game: Game,
+    told: Told,
+    up: Out,
+    down: Out,
+}
+
+impl Parts {
+    fn clear(&mut self)
+        ensures { self.new ≡ cleared self.old }
+    {
+        self.up.clear();
+        self.down.clear();
+    }
+
+    // Gives the lines of a turn.
+    fn take(&mut self, turn: Turn)
+        requires { CanTake self.old turn }
+        ensures { self.new ≡ taken self.old turn }
+    {
+        let deed = turn.deed;
+        write_up(deed.up, &mut self.up);
+        write_down(
+            deed.down,
+            &mut self.told,
+            &self.game,
+            self.has.usermove,
+            &mut self.down,
+        );
+        note_board(deed.board, &mut self.told);
+        self.talk = turn.talk;
+    }
+
+    // What comes of a call.
+    fn act(&mut self, call: Call)
+        requires { CanAct self.old call }
+        ensures { self.new ≡ acted self.old call }
+    {
+        let turn = self.talk.step(call);
+        self.take(turn);
+    }
+
+    // What may be asked of the engine for a `go`.
+    fn reach(&self) -> Reach
+        ensures { result ≡ reach_of self.now }
+    {
+        let is_short = self.is_ordered && self.game.plies() as usize <= MOST_PLIES;
+        if !(is_short && (self.has.ping && self.has.setboard)) {
+            Reach::Nothing
+        } else if self.has.analyze {
+            Reach::Analyse
+        } else {
+            Reach::Play
+        }
+    }
+
+    // What a `go` asks for.
+    fn wanted(&self, line: &[u8]) -> Wanted
+        ensures { Wants self.now line.now result }
+    {
+        Wanted {
+            kind: go_kind(line),
+            clocks: read_clocks(line),
+            first: first_move(self.game.now()),
+            reach: self.reach(),
+        }
+    }
+
+    // Takes a position, where one is accepted.
+    fn place(&mut self, line: &[u8])
+        ensures { self.new ≡ placed self.old line.now }
+    {
+        if self.talk.is_free() {
+            self.is_ordered = take_position(line, &mut self.game);
+        }
+    }
+
+    // What an order asks for, besides a position.
+    fn asked(&self, ordered: Ordered, line: &[u8]) -> Call
+        ensures { IsAsked self.now line.now ordered result }
+    {
+        match ordered {
+            Ordered::Quit => Call::Quit,
+            Ordered::Uci => Call::Uci,
+            Ordered::IsReady => Call::IsReady,
+            Ordered::Go => Call::Go(self.wanted(line)),
+            Ordered::Stop => Call::Stop,
+            Ordered::PonderHit => Call::PonderHit,
+            Ordered::Position | Ordered::Other => Call::Other,
+        }
+    }
+
+    // What the engine says of a move.
+    fn thought(&self, depth: u64, score: i64, time: u64, nodes: u64, moves: &[u8]) -> Call
+        ensures { IsHeard self.now (Report depth score time nodes (tokens moves.now)) result }
+    {
+        match thought_move(self.game.now(), moves) {
+            Some(best) => Call::Thought(Thought {
+                depth,
+                score,
+                time,
+                nodes,
+                best,
+            }),
+            None => Call::Other,
+        }
+    }
+
+    // What a line of the engine says, besides features.
+    fn said(&self, said: &Said) -> Call
+        ensures { IsHeard self.now (engine_message_of said.now) result }
+    {
+        match said {
+            Said::Move(text) => Call::Moved(shown_move(self.game.now(), text)),
+            Said::Over => Call::Resigned,
+            Said::Pong(n) => Call::Pong(*n),
+            Said::Report {
+                depth,
+                score,
+                time,
+                nodes,
+                moves,
+            } => self.thought(*depth, *score, *time, *nodes, moves),
+            Said::Feature(_) | Said::Other => Call::Other,
+        }
+    }
+
+    // Hears the features of the engine, before `quit`.
+    fn hear_features(&mut self, text: &[u8])
+        requires name { length text.now ≤ self.old.name.room }
+        requires up { length self.old.up.text + self.old.name.room + 30 ≤ self.old.up.room }
+        requires down { length self.old.down.text + 10 * length text.now ≤ self.old.down.room }
+        ensures { self.new ≡ featured self.old text.now }
+    {
+        if matches!(self.talk.stage, Stage::Over) {
+            return;
+        }
+        self.has = hear_features(text, self.has, &mut self.name, &mut self.up, &mut self.down);
+    }
+}
+
+impl Parts {
+    ghost use Rattle.cecp_driver.specs.Driver.{Orders, Hears, Ends, placed_if};
+    ghost use Rattle.cecp_driver.specs.Keeps.{Keeps};
+
+    fn place_if(&mut self, ordered: Ordered, line: &[u8])
+        ensures { self.new ≡ placed_if ordered self.old line.now }
+    {
+        if let Ordered::Position = ordered {
+            self.place(line);
+        }
+    }
+
+    fn order(&mut self, line: &[u8])
+        requires { Keeps self.old }
+        ensures orders { Orders line.now self.old self.new }
+        ensures keeps { Keeps self.new }
+    {
+        self.clear();
+        let ordered = read_ordered(line);
+        self.place_if(ordered, line);
+        let call = self.asked(ordered, line);
+        self.act(call);
+    }
+
+    // Takes what the engine says, besides features.
+    fn hear_plain(&mut self, said: &Said)
+        requires keeps { Keeps self.old }
+        requires up { length self.old.up.text ≡ 0 }
+        requires down { length self.old.down.text ≡ 0 }
+        requires plain { IsPlain (engine_message_of said.now) }
+        ensures heard { HeardBy (engine_message_of said.now) self.old self.new }
+        ensures keeps { Keeps self.new }
+    {
+        let call = self.said(said);
+        self.act(call);
+    }
+
+    fn hear(&mut self, line: &[u8])
+        requires keeps { Keeps self.old }
+        requires short { length line.now ≤ LINE_LIMIT }
+        ensures hears { Hears line.now self.old self.new }
+        ensures keeps { Keeps self.new }
+    {
+        self.clear();
+        let said = read_said(line);
+        match feature_text(&said) {
+            Some(text) => self.hear_features(text),
+            None => self.hear_plain(&said),
+        }
+    }
+
+    fn end(&mut self)
+        requires { Keeps self.old }
+        ensures ends { Ends self.old self.new }
+        ensures keeps { Keeps self.new }
+    {
+        self.clear();
+        self.act(Call::Ended);
+    }
+}
+
+/// The features that a line of the engine has, if it is such a line.
+fn feature_text<'a>(said: &Said<'a>) -> Option<&'a [u8]>
+    ensures { MatchOption result (IsPlain (engine_message_of said.now))
+        (λ text. engine_message_of said.now ≡ Feature text.now) }
+{
+    match said {
+        Said::Feature(text) => Some(text),
+        Said::Move(_) | Said::Over | Said::Pong(_) | Said::Other => None,
+        Said::Report {
+            depth: _,
+            score: _,
+            time: _,
+            nodes: _,
+            moves: _,
+        } => None,
+    }
+}
+
+/// A driver between a UCI interface and a CECP engine.
+#[derive(Drop)]
+pub struct Driver {
+    parts: Parts,
+}
+
+impl Model for Driver {
+    ghost use Rattle.cecp_driver.specs.declared.driver.Parts.{Parts};
+    ghost use Rattle.cecp_driver.specs.Keeps.{Keeps};
+
+    ghost Value = { Parts };
+
+    ghost view = { λ d. d.parts };
+
+    ghost invariant = { λ d. Keeps d.parts };
+}
+
+/// What a call gave: whole lines for the interface, and for the engine.
+#[derive(Clone, Copy)]
+pub struct Both<'a> {
+    pub up: &'a [u8],
+    pub child: &'a [u8],
+}
+
+fn make_parts(alloc: Global) -> Result<Parts, NoMemory>
+    ensures { IfOk result (λ parts. parts ≡ opening) }
+{
+    Ok(Parts {
+        talk: Talk::new(),
+        has: Has {
+            ping: false,
+            setboard: false,
+            usermove: false,
+            analyze: false,
+            done: false,
+        },
+        name: Out::make(alloc, LINE_LIMIT)?,
+        is_ordered: false,
+        game: Game::make(alloc)?,
+        told: Told::make(alloc)?,
+        up: Out::make(alloc, UP_ROOM)?,
+        down: Out::make(alloc, DOWN_ROOM)?,
+    })
+}
+
+impl Driver {
+    ghost use Rattle.cecp_driver.specs.Driver.{Orders, Hears, Ends};
+    ghost use Rattle.cecp_driver.specs.Lending.{OrdersOn, HearsOn, EndsOn};
+
+    /// A driver before the first call. It takes all memory that it ever uses.
+    pub fn make(alloc: Global) -> Result<Driver, NoMemory>
+        ensures { IfOk result (λ driver. driver ≡ opening) }
+    {
+        let parts = make_parts(alloc)?;
+        Ok(Driver { parts })
+    }
+
+    /// Takes an order of the interface: a line of at most 65,536 bytes, without its line feed.
+    pub fn order<'a>(&'a mut self, line: &[u8]) -> Both<'a>
+        ensures* orders { sem 𝓛 (OrdersOn self.entry line.now result) }
+    {
+        self.take_order(line);
+        self.lines()
+    }
+
+    /// Takes a line of the engine, of at most 65,536 bytes, without its line feed.
+    pub fn heard<'a>(&'a mut self, line: &[u8]) -> Both<'a>
+        requires { length line.now ≤ LINE_LIMIT }
+        ensures* hears { sem 𝓛 (HearsOn self.entry line.now result) }
+    {
+        self.take_line(line);
+        self.lines()
+    }
+
+    /// Takes the end of the engine.
+    pub fn ended(&mut self) -> Both<'_>
+        ensures* ends { sem 𝓛 (EndsOn self.entry result) }
+    {
+        self.take_end();
+        self.lines()
+    }
+
+    fn take_order(&mut self, line: &[u8])
+        ensures { Orders line.now self.old self.new }
+    {
+        self.parts.order(line);
+    }
+
+    fn take_line(&mut self, line: &[u8])
+        requires { length line.now ≤ LINE_LIMIT }
+        ensures { Hears line.now self.old self.new }
+    {
+        self.parts.hear(line);
+    }
+
+    fn take_end(&mut self)
+        ensures { Ends self.old self.new }
+    {
+        self.parts.end();
+    }
+
+    fn lines(&self) -> Both<'_>
+        ensures up { result.up.now ≡ self.now.up.text }
+        ensures child { result.child.now ≡ self.now.down.text }
+    {
+        Both {
+            up: self.parts.up.bytes(),
+            child: self.parts.down.bytes(),
+        }
+    }
+}

@@ -1,0 +1,159 @@
+// The features of the engine.
+ghost use Rattle.std.specs.Prelude.{◌≡◌, ◌+◌, ◌*◌, ◌≤◌, ◌∷◌, [], length, IfSome, false};
+ghost use Rattle.line_io.specs.Out.{with};
+ghost use Rattle.driver_lines.specs.Parts.{feature_of, parts, cut_seen, onto};
+ghost use Rattle.driver_lines.specs.Lines.{lines_text};
+ghost use Rattle.cecp_driver.specs.Features.{has_word, is_on, rejects, answer_line, has_after, name_after, greeting, has_all, name_all, answers, greetings, weight};
+
+use driver_lines::{Cut, Part, next_cut, write_answer, write_id, write_word};
+use line_io::Out;
+
+/// The features that the engine has said it has, and that it has said all.
+#[derive(Clone, Copy, Debug, PartialEq, Eq)]
+pub(crate) struct Has {
+    pub ping: bool,
+    pub setboard: bool,
+    pub usermove: bool,
+    pub analyze: bool,
+    pub done: bool,
+}
+
+fn is_on(part: &Part, name: &[u8]) -> bool
+    ensures { result ≡ is_on name.now (feature_of part.now) }
+{
+    part.name == name && part.value == b"1".as_slice()
+}
+
+fn has_word(part: &Part, name: &[u8]) -> bool
+    ensures { result ≡ has_word name.now (feature_of part.now) }
+{
+    part.name == name
+}
+
+/// Whether a feature is rejected: `san=1`, and what a driver has no use for.
+fn rejects(part: &Part) -> bool
+    ensures { result ≡ rejects (feature_of part.now) }
+{
+    is_on(part, b"san")
+        || has_word(part, b"option")
+        || has_word(part, b"memory")
+        || has_word(part, b"smp")
+        || has_word(part, b"egt")
+}
+
+fn has_after(has: Has, part: &Part) -> Has
+    ensures { result ≡ has_after has (feature_of part.now) }
+{
+    Has {
+        ping: has.ping || is_on(part, b"ping"),
+        setboard: has.setboard || is_on(part, b"setboard"),
+        usermove: has.usermove || is_on(part, b"usermove"),
+        analyze: has.analyze || is_on(part, b"analyze"),
+        done: has.done || is_on(part, b"done"),
+    }
+}
+
+/// Answers a feature.
+fn answer(part: &Part, down: &mut Out)
+    requires room { length down.old.text + length (feature_of part.now).name + 10 ≤ down.old.room }
+    ensures text { down.new ≡ with down.old (lines_text (answer_line (feature_of part.now) ∷ [])) }
+    ensures short { length down.new.text
+        ≤ length down.old.text + length (feature_of part.now).name + 10 }
+{
+    write_answer(part.name, rejects(part), down);
+}
+
+/// Keeps the engine's name.
+fn keep_name(part: &Part, name: &mut Out)
+    requires room { length (feature_of part.now).value ≤ name.old.room }
+    ensures text { name.new.text ≡ name_after name.old.text (feature_of part.now) }
+    ensures room { name.new.room ≡ name.old.room }
+{
+    if has_word(part, b"myname") {
+        name.clear();
+        name.put(part.value);
+    }
+}
+
+/// Tells the interface the engine's name and that it is ready, where the engine has said all its features.
+fn greet(has: Has, part: &Part, name: &[u8], up: &mut Out)
+    requires room { has.done ≡ false → length up.old.text + length name.now + 30 ≤ up.old.room }
+    ensures text { up.new ≡ with up.old (greeting has name.now (feature_of part.now)) }
+    ensures silent { (has_after has (feature_of part.now)).done ≡ false → up.new ≡ up.old }
+{
+    if has.done {
+        return;
+    }
+    if is_on(part, b"done") {
+        write_id(name, up);
+        write_word(b"uciok", up);
+    }
+}
+
+/// What a feature changes, and what both sides are told of it.
+fn hear_part(has: Has, part: &Part, name: &mut Out, up: &mut Out, down: &mut Out) -> Has
+    requires value { length (feature_of part.now).value ≤ name.old.room }
+    requires up { has.done ≡ false → length up.old.text + name.old.room + 30 ≤ up.old.room }
+    requires down { length down.old.text + length (feature_of part.now).name + 10 ≤ down.old.room }
+    ensures has { result ≡ has_after has (feature_of part.now) }
+    ensures silent { result.done ≡ false → up.new ≡ up.old }
+    ensures name { name.new.text ≡ name_after name.old.text (feature_of part.now) }
+    ensures name_room { name.new.room ≡ name.old.room }
+    ensures up { up.new ≡ with up.old (greeting has name.old.text (feature_of part.now)) }
+    ensures down { down.new ≡ with down.old (lines_text (answer_line (feature_of part.now) ∷ [])) }
+    ensures down_short { length down.new.text
+        ≤ length down.old.text + length (feature_of part.now).name + 10 }
+{
+    greet(has, part, name.bytes(), up);
+    answer(part, down);
+    keep_name(part, name);
+    has_after(has, part)
+}
+
+/// The same for what was cut off the front of a text.
+fn hear_cut(has: Has, cut: &Cut, name: &mut Out, up: &mut Out, down: &mut Out) -> Has
+    requires value { IfSome (cut_seen cut.now).part (λ f. length f.value ≤ name.old.room) }
+    requires up { has.done ≡ false → length up.old.text + name.old.room + 30 ≤ up.old.room }
+    requires down { IfSome (cut_seen cut.now).part
+        (λ f. length down.old.text + length f.name + 10 ≤ down.old.room) }
+    ensures has { result ≡ has_all has (onto (cut_seen cut.now).part []) }
+    ensures silent { result.done ≡ false → (has.done ≡ false) × (up.new ≡ up.old) }
+    ensures down_short { length down.new.text + 10 * length (cut_seen cut.now).rest
+        ≤ length down.old.text + 10 * weight (cut_seen cut.now) }
+    ensures name { name.new.text ≡ name_all name.old.text (onto (cut_seen cut.now).part []) }
+    ensures name_room { name.new.room ≡ name.old.room }
+    ensures up { up.new
+        ≡ with up.old (greetings has name.old.text (onto (cut_seen cut.now).part [])) }
+    ensures down { down.new ≡ with down.old (lines_text (answers (onto (cut_seen cut.now).part []))) }
+{
+    match &cut.part {
+        Some(part) => hear_part(has, part, name, up, down),
+        None => has,
+    }
+}
+
+/// What the features of a line change, and what both sides are told of them.
+pub(crate) fn hear_features(
+    text: &[u8],
+    before: Has,
+    name: &mut Out,
+    up: &mut Out,
+    down: &mut Out,
+) -> Has
+    requires name { length text.now ≤ name.old.room }
+    requires up { length up.old.text + name.old.room + 30 ≤ up.old.room }
+    requires down { length down.old.text + 10 * length text.now ≤ down.old.room }
+    ensures has { result ≡ has_all before (parts text.now) }
+    ensures name { name.new.text ≡ name_all name.old.text (parts text.now) }
+    ensures name_room { name.new.room ≡ name.old.room }
+    ensures up { up.new ≡ with up.old (greetings before name.old.text (parts text.now)) }
+    ensures down { down.new ≡ with down.old (lines_text (answers (parts text.now))) }
+{
+    let mut has = before;
+    let mut others = text;
+    while let Some(cut) = next_cut(others) {
+        has = hear_cut(has, &cut, name, up, down);
+        others = cut.rest;
+    }
+    has
+}

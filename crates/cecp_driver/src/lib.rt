@@ -1,0 +1,18 @@
+//! A driver between a UCI interface and a CECP engine (UCI, April 2006; Chess Engine Communication Protocol,
+//! version 2): it takes the interface's orders and the engine's lines, and gives the lines to both.
+//!
+//! The engine must have the features `ping` and `setboard`.
+#![tactic(auto)]
+
+mod deeds;
+mod driver;
+mod features;
+mod further;
+mod ordered;
+mod played;
+mod same;
+#[cfg(test)]
+mod tests;
+mod told;
+
+pub use driver::{Both, Driver};

@@ -1,0 +1,71 @@
+// The position that the interface orders.
+ghost use Rattle.std.specs.Prelude.{◌≡◌, Some, None, is_some, OnOk, true};
+ghost use Rattle.std.specs.Bool.{OnTrue, OnFalse};
+ghost use Rattle.std.specs.Option.{unwrap_or};
+ghost use Rattle.peer_words.specs.Tokens.{tokens};
+ghost use Rattle.chess_board.specs.Place.{legal};
+ghost use Rattle.chess_board.specs.Play.{start_position};
+ghost use Rattle.chess_board.specs.Spelling.{move_of};
+ghost use Rattle.game_record.specs.Game.{begun, now_of};
+ghost use Rattle.cecp_driver.specs.Ordered.{may_push, push_one, pushed, ordered_in};
+
+use chess_board::{Move, Position, read_move};
+use driver_lines::next_token;
+use game_record::{Game, MOST_PLIES};
+use uci_talk::spoken;
+
+fn is_legal(at: &Position, m: Move) -> bool
+    ensures { result ≡ legal at.now m }
+{
+    at.legal(m)
+}
+
+fn may_push(game: &Game, m: Move) -> bool
+    ensures { result ≡ may_push game.now m }
+{
+    is_legal(game.now(), m) && (game.plies() as usize) < MOST_PLIES
+}
+
+/// Plays the move that a text names. False if it may not be played.
+fn push_text(text: &[u8], game: &mut Game) -> bool
+    ensures played { OnTrue result (push_one game.old (move_of text.now) ≡ Some game.new) }
+    ensures not { OnFalse result (push_one game.old (move_of text.now) ≡ None) }
+{
+    match read_move(text) {
+        Some(m) if may_push(game, m) => {
+            let _ = game.push(m);
+            true
+        }
+        _ => false,
+    }
+}
+
+/// Plays the moves that the tokens of a text name. False if one may not be played.
+fn push_all(moves: &[u8], game: &mut Game) -> bool
+    ensures played { OnTrue result (pushed (tokens moves.now) (Some game.old) ≡ Some game.new) }
+    ensures not { OnFalse result (pushed (tokens moves.now) (Some game.old) ≡ None) }
+{
+    let mut others = moves;
+    while let Some((token, after)) = next_token(others) {
+        if !push_text(token, game) {
+            return false;
+        }
+        others = after;
+    }
+    true
+}
+
+/// Sets a game to what a `position` line orders. False if it orders none; the game is a new one then.
+pub(crate) fn take_position(line: &[u8], game: &mut Game) -> bool
+    ensures there { result ≡ is_some (ordered_in line.now) }
+    ensures game { game.new ≡ unwrap_or (ordered_in line.now) (begun start_position) }
+{
+    if let Some(said) = spoken(line) {
+        game.reset(said.start);
+        if push_all(said.moves, game) {
+            return true;
+        }
+    }
+    game.reset(Position::start());
+    false
+}

@@ -1,0 +1,6 @@
+mod Lengths
+mod Cuts
+mod Named
+mod First
+mod Puts
+pub mod FeatureText

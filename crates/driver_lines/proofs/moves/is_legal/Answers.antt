@@ -1,0 +1,5 @@
+use Rattle.driver_lines.proofs.Named.{legal_test}
+use Rattle.driver_lines.proofs.moves.is_legal.Goals as goal
+
+pub returns : goal.returns
+returns c = legal_test c.args.at.now c.args.m c.legal.result c.legal.ensures

@@ -1,0 +1,54 @@
+-- The moves that a CECP engine names in a position.
+use Rattle.std.specs.Prelude.{ℕ, ◌≡◌, ◌⊎◌, List, [], ◌∷◌, Bool, true, false, ◌||◌, if◌then◌else◌, Option, Some, None}
+use Rattle.chess_board.specs.declared.board.Move.{Move}
+use Rattle.chess_board.specs.Position.{Position}
+use Rattle.chess_board.specs.Place.{legal}
+use Rattle.chess_board.specs.Laws.{IsLegal}
+use Rattle.chess_board.specs.Spelling.{move_of}
+use Rattle.chess_board.specs.Text.{ComesBefore}
+use Rattle.san_text.specs.Spelling.{is_short, is_long}
+use Rattle.san_text.specs.Fit.{FitsAlone}
+
+abbrev pub if_legal : Position → Option Move → Option Move
+if_legal p None = None
+if_legal p (Some m) = if legal p m then Some m else None
+
+-- the legal move that a text names by its squares
+abbrev pub coordinates : Position → List ℕ → Option Move
+coordinates p text = if_legal p (move_of text)
+
+-- A text names a legal move by its squares, or else as the one legal move that fits it in standard algebraic notation.
+abbrev pub Names : Position → List ℕ → Move → Type 0
+Names p text m = (coordinates p text ≡ Some m) ⊎ ((coordinates p text ≡ None) × FitsAlone p text m)
+
+abbrev pub NamesNone : Position → List ℕ → Type 0
+NamesNone p text = (coordinates p text ≡ None) × ((m : Move) → FitsAlone p text m → ⊥)
+
+-- `O-O`, `0-0`, `O-O-O`, `0-0-0`
+abbrev pub is_castling : List ℕ → Bool
+is_castling text = is_short text || is_long text
+
+-- the one legal move that fits a text, if there is one
+abbrev pub IsAlone : Position → List ℕ → Option Move → Type 0
+IsAlone p text None = (m : Move) → FitsAlone p text m → ⊥
+IsAlone p text (Some m) = FitsAlone p text m
+
+abbrev pub ShownBy : Bool → Position → List ℕ → Option Move → Type 0
+ShownBy true p text shown = IsAlone p text shown
+ShownBy false p text shown = shown ≡ coordinates p text
+
+-- the legal move behind `move`: castling in a spelling of its own, or a move by its squares
+abbrev pub IsShown : Position → List ℕ → Option Move → Type 0
+IsShown p text shown = ShownBy (is_castling text) p text shown
+
+-- the first token that names a legal move, and that move
+abbrev pub IsThought : Position → List (List ℕ) → Option Move → Type 0
+IsThought p [] best = best ≡ None
+IsThought p (t ∷ ts) best = ((m : Move) × (Names p t m × (best ≡ Some m))) ⊎ (NamesNone p t × IsThought p ts best)
+
+-- the first legal move in the order of the texts
+abbrev pub IsFirstMove : Position → Option Move → Type 0
+IsFirstMove p None = (m : Move) → IsLegal p m.from.index m.to.index m.promo → ⊥
+IsFirstMove p (Some first) =
+    IsLegal p first.from.index first.to.index first.promo
+    × ((m : Move) → IsLegal p m.from.index m.to.index m.promo → (m ≡ first) ⊎ ComesBefore first m)

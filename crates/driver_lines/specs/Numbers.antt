@@ -1,0 +1,29 @@
+-- Numbers in lines.
+use Rattle.std.specs.Prelude.{ℕ, ◌*◌, nat_lt, ◌==◌, if◌then◌else◌, List, [], ◌∷◌, Option, Some, None, ℤ, pos, neg_ℤ}
+use Rattle.std.specs.Option.{option_map}
+use Rattle.std.specs.Int.{int_min, int_max}
+use lib.IntN.{negsuc}
+use Rattle.peer_words.specs.Numbers.{signed}
+
+-- perhaps one plus before it
+abbrev pub plus_signed : List ℕ → Option ℤ
+plus_signed [] = signed []
+plus_signed (b ∷ bs) = if b == 43 then signed bs else signed (b ∷ bs)
+
+-- the number of the first token, and the other tokens
+abbrev pub next_number : List (List ℕ) → Option (ℤ × List (List ℕ))
+next_number [] = None
+next_number (t ∷ ts) = option_map (λ n. (n, ts)) (plus_signed t)
+
+-- a negative number counts as 0
+abbrev pub natural : ℤ → ℕ
+natural (pos n) = n
+natural (negsuc n) = 0
+
+-- a score within nine digits
+abbrev pub clamped : ℤ → ℤ
+clamped score = int_max (int_min score (pos 999999999)) (neg_ℤ (pos 999999999))
+
+-- hundredths of a second as milliseconds, within 18 digits
+abbrev pub ten_times : ℕ → ℕ
+ten_times n = if nat_lt n 100000000000000000 then n * 10 else 999999999999999999

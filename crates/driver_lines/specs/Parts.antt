@@ -1,0 +1,79 @@
+-- The parts of a `feature` line.
+use Rattle.std.specs.Prelude.{ℕ, zero, suc, ◌+◌, ◌≤◌, List, [], ◌∷◌, length, drop, Bool, ◌&&◌, ◌||◌, not, if◌then◌else◌, ◌==◌, Option, Some, None, IfSome}
+use Rattle.std.specs.List.{before_first, after_first, position_or_len}
+use Rattle.std.specs.Option.{option_map}
+use Rattle.peer_words.specs.Tokens.{is_white, trim_left, token_end}
+use Rattle.driver_lines.specs.declared.feature.Part.{Part}
+use Rattle.driver_lines.specs.declared.feature.Cut as code
+
+-- `NAME=VALUE`, the value without its quotes
+pub record Feature : Type 0 where
+  pub name : List ℕ
+  pub value : List ℕ
+
+abbrev pub feature_of : Part → Feature
+feature_of p = record { name = p.name.now; value = p.value.now }
+
+-- a feature, or something else that is passed over; and what follows
+pub record Cut : Type 0 where
+  pub part : Option Feature
+  pub rest : List ℕ
+
+abbrev pub features_of : Option Part → Option Feature
+features_of None = None
+features_of (Some p) = Some (feature_of p)
+
+abbrev pub cut_seen : code.Cut → Cut
+cut_seen c = record { part = features_of c.part; rest = c.rest.now }
+
+-- a name has no white space, no `=` and no quote
+abbrev pub ends_name : ℕ → Bool
+ends_name b = (is_white b || b == 61) || b == 34
+
+abbrev pub is_quote : ℕ → Bool
+is_quote b = b == 34
+
+abbrev pub found : List ℕ → List ℕ → List ℕ → Cut
+found name value rest = record { part = Some (record { name = name; value = value }); rest = rest }
+
+-- A value in quotes goes up to the next quote, another up to the next white space.
+abbrev pub value_cut : List ℕ → List ℕ → Cut
+value_cut name [] = found name [] []
+value_cut name (b ∷ bs) =
+    if b == 34
+    then found name (before_first is_quote bs) (after_first is_quote bs)
+    else found name (before_first is_white (b ∷ bs)) (drop (token_end (b ∷ bs)) (b ∷ bs))
+
+-- passed over up to the next white space
+abbrev pub skipped : List ℕ → Cut
+skipped text = record { part = None; rest = drop (token_end text) text }
+
+-- by the name and what follows it, with what stands behind the first byte
+abbrev pub cut_by : List ℕ → List ℕ → List ℕ → Cut
+cut_by [] after behind = skipped behind
+cut_by (c ∷ cs) [] behind = skipped behind
+cut_by (c ∷ cs) (b ∷ bs) behind = if b == 61 then value_cut (c ∷ cs) bs else skipped behind
+
+abbrev pub cut_of : List ℕ → List ℕ → Cut
+cut_of text behind = cut_by (before_first ends_name text) (drop (position_or_len ends_name text) text) behind
+
+abbrev pub onto : Option Feature → List Feature → List Feature
+onto None fs = fs
+onto (Some f) fs = f ∷ fs
+
+abbrev pub parts_from : List ℕ → (List ℕ → List Feature) → List Feature
+parts_from [] next = []
+parts_from (b ∷ bs) next = onto (cut_of (b ∷ bs) bs).part (next (cut_of (b ∷ bs) bs).rest)
+
+-- the features of a text, up to so many cuts
+abbrev pub parts_within : ℕ → List ℕ → List Feature
+parts_within zero text = []
+parts_within (suc n) text = parts_from (trim_left text) (λ rest. parts_within n rest)
+
+-- the features of a text: each cut takes a byte or more
+unfoldable pub parts : List ℕ → List Feature
+parts text = parts_within (length text) text
+
+-- what a feature and the rest leave of a text
+abbrev pub FitsIn : List ℕ → Cut → Type 0
+FitsIn text c = IfSome c.part (λ f. length f.name + length f.value + length c.rest + 1 ≤ length text)

@@ -1,0 +1,51 @@
+// Numbers in lines.
+ghost use Rattle.std.specs.Prelude.{◌≡◌, ◌∷◌, [], pos};
+ghost use Rattle.std.specs.Option.{option_map};
+ghost use Rattle.peer_words.specs.Tokens.{tokens};
+ghost use Rattle.driver_lines.specs.Numbers.{plus_signed, next_number, natural, clamped, ten_times};
+
+use crate::tokens::next_token;
+use peer_words::read_signed;
+
+/// Perhaps one plus, then perhaps a minus and 1 to 18 digits.
+fn read_plus_signed(text: &[u8]) -> Option<i64>
+    ensures { result ≡ plus_signed text.now }
+{
+    match text {
+        [b'+', others @ ..] => read_signed(others),
+        _ => read_signed(text),
+    }
+}
+
+/// The number that a text begins with, and the text after it.
+pub(crate) fn next_number(text: &[u8]) -> Option<(i64, &[u8])>
+    ensures { option_map (λ p. (p.0, tokens p.1.now)) result ≡ next_number (tokens text.now) }
+{
+    let (token, others) = next_token(text)?;
+    Some((read_plus_signed(token)?, others))
+}
+
+/// A negative number counts as 0.
+pub(crate) fn natural(n: i64) -> u64
+    ensures { result ≡ natural n }
+{
+    if n < 0 { 0 } else { n as u64 }
+}
+
+/// A score within nine digits.
+pub(crate) fn clamped(score: i64) -> i64
+    ensures { result ≡ clamped score }
+{
+    score.min(999_999_999).max(-999_999_999)
+}
+
+/// Hundredths of a second as milliseconds, within 18 digits.
+pub(crate) fn ten_times(n: u64) -> u64
+    ensures { result ≡ ten_times n }
+{
+    if n < 100_000_000_000_000_000 {
+        n * 10
+    } else {
+        999_999_999_999_999_999
+    }
+}

@@ -1,0 +1,118 @@
+// What a line of the engine says.
+ghost use Rattle.std.specs.Prelude.{◌≡◌};
+ghost use Rattle.std.specs.Option.{option_map};
+ghost use Rattle.peer_words.specs.Tokens.{tokens, first_token};
+ghost use Rattle.driver_lines.specs.Says.{engine_message_of, says_in, report_in, pong_in, is_over, word_named};
+
+use crate::numbers::{clamped, natural, next_number, ten_times};
+use crate::tokens::next_token;
+use peer_words::{read_number, split_token};
+
+/// What a line of the engine says (CECP version 2, "Commands from the engine to xboard").
+#[derive(Clone, Copy, Debug, PartialEq, Eq)]
+pub enum Said<'a> {
+    /// A line that says nothing to a driver.
+    Other,
+    /// `move`, and the text behind it, empty if there is none.
+    Move(&'a [u8]),
+    /// `resign`, or a result.
+    Over,
+    Pong(u32),
+    /// `feature`, and the rest.
+    Feature(&'a [u8]),
+    /// A thinking line: its numbers, as a UCI interface wants them, and the text behind these.
+    Report {
+        depth: u64,
+        score: i64,
+        time: u64,
+        nodes: u64,
+        moves: &'a [u8],
+    },
+}
+
+/// The words that a line of the engine may begin with.
+#[derive(Clone, Copy)]
+enum Word {
+    Move,
+    Over,
+    Pong,
+    Feature,
+    Other,
+}
+
+fn is_over(word: &[u8]) -> bool
+    ensures { result ≡ is_over word.now }
+{
+    word == b"resign".as_slice()
+        || word == b"1-0".as_slice()
+        || word == b"0-1".as_slice()
+        || word == b"1/2-1/2".as_slice()
+}
+
+fn word_named(word: &[u8]) -> Word
+    ensures { result ≡ word_named word.now }
+{
+    if word == b"move".as_slice() {
+        Word::Move
+    } else if is_over(word) {
+        Word::Over
+    } else if word == b"pong".as_slice() {
+        Word::Pong
+    } else if word == b"feature".as_slice() {
+        Word::Feature
+    } else {
+        Word::Other
+    }
+}
+
+fn read_report(line: &[u8]) -> Option<Said<'_>>
+    ensures { option_map engine_message_of result ≡ report_in (tokens line.now) }
+{
+    let (depth, others) = next_number(line)?;
+    let (score, others) = next_number(others)?;
+    let (time, others) = next_number(others)?;
+    let (nodes, moves) = next_number(others)?;
+    Some(Said::Report {
+        depth: natural(depth),
+        score: clamped(score),
+        time: ten_times(natural(time)),
+        nodes: natural(nodes),
+        moves,
+    })
+}
+
+/// The number behind `pong`.
+fn read_pong(rest: &[u8]) -> Option<u32>
+    ensures { result ≡ pong_in (tokens rest.now) }
+{
+    read_number(next_token(rest)?.0)
+}
+
+/// The token behind the first, empty if there is none.
+fn second(rest: &[u8]) -> &[u8]
+    ensures { result.now ≡ first_token rest.now }
+{
+    let (token, _) = split_token(rest);
+    token
+}
+
+/// What a line of the engine says, by its first token; a thinking line, by its first four.
+#[tactic(auto, unfolding(crate::specs::Says::says_in))]
+pub fn read_said(line: &[u8]) -> Said<'_>
+    ensures { engine_message_of result ≡ says_in line.now }
+{
+    let (word, rest) = split_token(line);
+    match word_named(word) {
+        Word::Move => Said::Move(second(rest)),
+        Word::Over => Said::Over,
+        Word::Pong => match read_pong(rest) {
+            Some(n) => Said::Pong(n),
+            None => Said::Other,
+        },
+        Word::Feature => Said::Feature(rest),
+        Word::Other => match read_report(line) {
+            Some(report) => report,
+            None => Said::Other,
+        },
+    }
+}

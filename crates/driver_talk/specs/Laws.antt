@@ -1,0 +1,114 @@
+-- Laws of every list of calls. The lists have the newest call first.
+use Rattle.std.specs.Prelude.{ℕ, ◌≡◌, ◌+◌, ◌⊎◌, if◌then◌else◌, Bool, true, false, ◌&&◌, ◌||◌, List, [], ◌∷◌, Option, Some, None, IsSome}
+use Rattle.chess_board.specs.declared.board.Move.{Move}
+use Rattle.peer_words.specs.declared.kinds.GoKind.{GoKind}
+use Rattle.peer_words.specs.declared.kinds.GoKind.TheVariants as kinds
+use Rattle.driver_talk.specs.declared.words.Search.{Search}
+use Rattle.driver_talk.specs.declared.words.Up.{Up}
+use Rattle.driver_talk.specs.declared.words.Up.TheVariants as ups
+use Rattle.driver_talk.specs.declared.words.Down.{Down}
+use Rattle.driver_talk.specs.declared.words.Down.TheVariants as downs
+use Rattle.driver_talk.specs.declared.words.Deed.{Deed}
+use Rattle.driver_talk.specs.declared.talk.Talk.{Talk}
+use Rattle.driver_talk.specs.declared.talk.Reach.TheVariants as reaches
+use Rattle.driver_talk.specs.declared.talk.Call.{Call}
+use Rattle.driver_talk.specs.declared.talk.Call.TheVariants as calls
+use Rattle.driver_talk.specs.Talk.{first_talk, turn_of, quiet, is_free, is_thinking, open_search, is_open_stage}
+
+-- the talk after these calls
+abbrev pub run : List Call → Talk
+run [] = first_talk
+run (c ∷ cs) = (turn_of (run cs) c).talk
+
+-- what comes of a call after these
+abbrev pub deed_after : List Call → Call → Deed
+deed_after cs c = (turn_of (run cs) c).deed
+
+-- COUNTS
+
+abbrev pub is_accepted : Talk → Call → Bool
+is_accepted t (calls.Go wanted) = is_free t
+is_accepted t c = false
+
+abbrev pub is_answer : Up → Bool
+is_answer (ups.Best shown) = true
+is_answer up = false
+
+abbrev pub one_if : Bool → ℕ
+one_if b = if b then 1 else 0
+
+-- how many `go` were accepted
+abbrev pub gos : List Call → ℕ
+gos [] = 0
+gos (c ∷ cs) = one_if (is_accepted (run cs) c) + gos cs
+
+-- how many `bestmove` were given
+abbrev pub answers : List Call → ℕ
+answers [] = 0
+answers (c ∷ cs) = one_if (is_answer (deed_after cs c).up) + answers cs
+
+abbrev pub open_count : Option Search → ℕ
+open_count None = 0
+open_count (Some s) = 1
+
+-- Each accepted `go` has its one `bestmove`, but for the one that is open. This holds after each call, so no
+-- `bestmove` comes before its `go`, and none twice.
+abbrev pub AnsweredOnce : Type 0
+AnsweredOnce = (cs : List Call) → gos cs ≡ answers cs + open_count (run cs).search
+
+-- WHAT AN OPEN SEARCH DOES
+
+abbrev pub tells_to_think : Down → Bool
+tells_to_think (downs.Play clocks hurried) = true
+tells_to_think (downs.Resume clocks) = true
+tells_to_think down = false
+
+-- The engine was told to think since the last `bestmove`.
+abbrev pub thinking : List Call → Bool
+thinking [] = false
+thinking (c ∷ cs) = if is_answer (deed_after cs c).up then false else tells_to_think (deed_after cs c).down || thinking cs
+
+abbrev pub is_open : Option Search → Bool
+is_open None = false
+is_open (Some s) = true
+
+-- a `stop` that reaches an open search
+abbrev pub is_stop : Talk → Call → Bool
+is_stop t calls.Stop = is_open_stage t.stage && is_open t.search
+is_stop t c = false
+
+-- a `stop` came since the last `go` that was accepted
+abbrev pub stopped : List Call → Bool
+stopped [] = false
+stopped (c ∷ cs) = if is_accepted (run cs) c then false else is_stop (run cs) c || stopped cs
+
+abbrev pub is_move : GoKind → Bool
+is_move kinds.Move = true
+is_move kinds.Ponder = false
+is_move kinds.Analyse = false
+
+-- An open search is one whose engine was told to think, an analysis that was not stopped, or one that waits for
+-- the answer to a ping.
+abbrev pub IsBusy : List Call → Search → Type 0
+IsBusy cs s = (thinking cs ≡ true) ⊎ (((is_move s.kind ≡ false) × (stopped cs ≡ false)) ⊎ IsSome (run cs).awaited)
+
+abbrev pub OpenIsBusy : Type 0
+OpenIsBusy = (cs : List Call) (s : Search) → (run cs).search ≡ Some s → IsBusy cs s
+
+-- WHEN NOTHING IS GIVEN
+
+-- A `move`, a resignation or a result outside of thinking gives and changes nothing.
+abbrev pub MovesAreIgnored : Type 0
+MovesAreIgnored = (t : Talk) (shown : Option Move) → is_thinking t ≡ false → (turn_of t (calls.Moved shown) ≡ quiet t) × (turn_of t calls.Resigned ≡ quiet t)
+
+-- why there is no move: no position can be searched, the engine's move is illegal, it gave up, or it ended
+abbrev pub HasNoMove : Talk → Call → Type 0
+HasNoMove t (calls.Go w) = (is_free t ≡ true) × ((w.first ≡ None) ⊎ ((t.gone ≡ true) ⊎ (w.reach ≡ reaches.Nothing)))
+HasNoMove t (calls.Moved None) = is_thinking t ≡ true
+HasNoMove t calls.Resigned = is_thinking t ≡ true
+HasNoMove t calls.Ended = is_open (open_search t) ≡ true
+HasNoMove t c = ⊥
+
+-- `bestmove 0000` comes only so.
+abbrev pub NoMoveHasCause : Type 0
+NoMoveHasCause = (t : Talk) (c : Call) → (turn_of t c).deed.up ≡ ups.Best None → HasNoMove t c

@@ -1,0 +1,19 @@
+// Laws of every list of calls: functions that do nothing, whose contracts are the laws.
+ghost use Rattle.driver_talk.specs.Laws.{AnsweredOnce, OpenIsBusy, MovesAreIgnored, NoMoveHasCause};
+
+/// Each `go` that is accepted gets one `bestmove` at most, and none comes without a `go`.
+pub fn searches_are_answered_once()
+    ensures { AnsweredOnce }
+{}
+
+/// A search is open only while the engine thinks, during an analysis that was not stopped, or as long as the
+/// answer to a `ping` is awaited.
+pub fn open_searches_are_busy()
+    ensures { OpenIsBusy }
+{}
+
+/// What the engine says outside of thinking on a move gives nothing, and `bestmove 0000` has its causes.
+pub fn when_nothing_is_given()
+    ensures ignored { MovesAreIgnored }
+    ensures no_move { NoMoveHasCause }
+{}

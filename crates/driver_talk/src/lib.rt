@@ -1,0 +1,16 @@
+//! What a UCI interface orders and a CECP engine says, and what comes of it: the searches of a driver that
+//! stands between both (UCI, April 2006; Chess Engine Communication Protocol, version 2).
+//!
+//! It knows no chess and no lines: moves and numbers come in as they were read.
+#![tactic(auto)]
+
+mod laws;
+mod search;
+mod talk;
+#[cfg(test)]
+mod tests;
+mod words;
+
+pub use laws::{open_searches_are_busy, searches_are_answered_once, when_nothing_is_given};
+pub use talk::{Call, Reach, Stage, Talk, Turn, Wanted};
+pub use words::{Board, Clocks, Deed, Down, Next, Phase, Search, Thought, Up};
