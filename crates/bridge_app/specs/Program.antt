@@ -43,6 +43,26 @@ pub record Ends (words : List Text) (before after : Outside) (ending : Ending) :
   pub refused : (AreTaken words → ⊥) → (ending ≡ endings.Usage) ⊎ (ending ≡ endings.NoMemory)
   pub did : DoesNothing before after ending ⊎ RunsAsAsked words before after ending
 
+-- no count of faults rose
+pub record HaveNotRisen (before after : Outside) : Type 0 where
+  pub input : Rose before.input.faults after.input.faults → ⊥
+  pub output : Rose before.output.faults after.output.faults → ⊥
+  pub reads : Rose before.faults.reads after.faults.reads → ⊥
+  pub writes : Rose before.faults.writes after.faults.writes → ⊥
+  pub starts : Rose before.faults.starts after.faults.starts → ⊥
+  pub logs : Rose before.faults.logs after.faults.logs → ⊥
+  pub waits : Rose before.faults.waits after.faults.waits → ⊥
+
+-- each count of faults is as before
+pub record AreAsBefore (before after : Outside) : Type 0 where
+  pub input : after.input.faults ≡ before.input.faults
+  pub output : after.output.faults ≡ before.output.faults
+  pub reads : after.faults.reads ≡ before.faults.reads
+  pub writes : after.faults.writes ≡ before.faults.writes
+  pub starts : after.faults.starts ≡ before.faults.starts
+  pub logs : after.faults.logs ≡ before.faults.logs
+  pub waits : after.faults.waits ≡ before.faults.waits
+
 -- the text was written, or a front of it, where a write failed
 abbrev pub IsToldTo : Received → Received → List ℕ → Type 0
 IsToldTo before after text =

@@ -3,8 +3,6 @@
 
 mod ending;
 mod main_call;
-mod standard;
 
 pub use ending::Ending;
-pub use main_call::bridge_main;
-pub use standard::{ClosedStreams, IfOpen};
+pub use main_call::{bridge_main, refuse_for_memory};

@@ -58,6 +58,23 @@ left_of x a a' b e f z = sym f ∙ left_false a b (sym e ∙ z)
 pub right_of : (x a b : Bool) → x ≡ (a || b) → x ≡ false → b ≡ false
 right_of x a b e z = right_false a b (sym e ∙ z)
 
+either_true : (a b : Bool) → (a || b) ≡ true → (a ≡ true) ⊎ (b ≡ true)
+either_true true b e = inl refl
+either_true false b e = inr e
+
+which_reader : {P : Type 0} (a a' b b' : Bool) → a ≡ a' → b ≡ b' → (a ≡ true) ⊎ (b ≡ true) → (a' ≡ true) ⊎ ((b' ≡ true) ⊎ P)
+which_reader a a' b b' e f (inl z) = inl (sym e ∙ z)
+which_reader a a' b b' e f (inr z) = inr (inl (sym f ∙ z))
+
+which : {P : Type 0} (o o' r a a' b b' : Bool) → o ≡ o' → a ≡ a' → b ≡ b' → r ≡ (a || b) → (o' ≡ true → P) → (o ≡ true) ⊎ (r ≡ true) → (a' ≡ true) ⊎ ((b' ≡ true) ⊎ P)
+which o o' r a a' b b' u e f z p (inl x) = inr (inr (p (sym u ∙ x)))
+which o o' r a a' b b' u e f z p (inr x) = which_reader a a' b b' e f (either_true a b (sym z ∙ x))
+
+-- a log that was not opened for want of memory, or a reader that had none
+pub lacked : {P : Type 0} (m o o' r a a' b b' : Bool) → m ≡ (o || r) → o ≡ o' → r ≡ (a || b) → a ≡ a' → b ≡ b' → (o' ≡ true → P) → m ≡ true
+    → (a' ≡ true) ⊎ ((b' ≡ true) ⊎ P)
+lacked m o o' r a a' b b' y u z e f p x = which o o' r a a' b b' u e f z p (either_true o r (sym y ∙ x))
+
 pub log_opened : {L : Type 0} (l : Option L) (o : Option HostFault) → (o ≡ None → log_count l ≡ 1) → is_failed o ≡ false → is_no_memory o ≡ false → log_count l ≡ 1
 log_opened l o some e f = some (fault_none o e f)
 

@@ -19,6 +19,7 @@ bridged_from s i o f f' b b' after failures x =
       end = x.end;
       ran = x.ran;
       told = x.told;
+      memory = x.memory;
       input = x.input;
       output = x.output;
       source = x.source;

@@ -29,6 +29,11 @@ pub record TellsRun (run : RunEnd) (failures : Failures) : Type 0 where
 abbrev pub LogTold : Books → Streams → Type 0
 LogTold books last = (books.logs ≡ last.into.log.taken ∷ []) ⊎ (books.logs ≡ [])
 
+-- why a run that was made tells of no memory: a reader had none for a line, or the log was not opened
+abbrev pub LackedMemory : Books → RunEnd → Type 0
+LackedMemory books run =
+    (lacked_memory run.iface ≡ true) ⊎ ((lacked_memory run.engine ≡ true) ⊎ (books.logs_out ≡ 0))
+
 -- What the bridge read and wrote is that of one run of both pipes, whose engine's streams and whose
 -- log were fresh, and are in the books as they were at its end.
 pub record Bridged (settings : Settings) (before after : Outside) (failures : Failures) : Type 0 where
@@ -37,6 +42,7 @@ pub record Bridged (settings : Settings) (before after : Outside) (failures : Fa
   pub end : RunEnd
   pub ran : Ran settings first last end
   pub told : TellsRun end failures
+  pub memory : failures.memory ≡ true → LackedMemory after.books end
   pub input : (first.input ≡ before.input) × (last.input ≡ after.input)
   pub output : (first.into.output ≡ before.output) × (last.into.output ≡ after.output)
   pub source : IsUnread first.source

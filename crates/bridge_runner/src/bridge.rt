@@ -1,5 +1,5 @@
 // One run of the bridge.
-ghost use Rattle.std.specs.Prelude.{◌≡◌, ◌<◌, ◌+◌, ◌++◌, ◌||◌, length, None, IfOk, IfErr, OnOk, OnErr};
+ghost use Rattle.std.specs.Prelude.{◌≡◌, ◌<◌, ◌+◌, ◌++◌, ◌||◌, length, true, None, IfOk, IfErr, OnOk, OnErr};
 ghost use Rattle.policy_rules.specs.Policy.{IsProper};
 ghost use Rattle.event_pipe.specs.Arrivals.{failed};
 ghost use Rattle.event_pipe.specs.Counts.{Tells};
@@ -12,7 +12,7 @@ ghost use Rattle.bridge_runner.specs.Outside.{outside, unused};
 ghost use Rattle.bridge_runner.specs.Parts.{AreReady};
 
 use crate::parts::{Parts, make_parts};
-use crate::threads::can_start_threads;
+use crate::threads::TriedThreads;
 use child_engine::{Host, HostFault, Started};
 use event_pipe::ReadEnd;
 use line_io::{Sink, Source};
@@ -25,6 +25,8 @@ use std::thread::Threads;
 /// What failed in a run of the bridge.
 #[derive(Clone, Copy, Debug, Default, PartialEq, Eq)]
 pub struct Failures {
+    /// Before the engine was started there was no memory for the run, for a thread of each reader
+    /// or for the engine's command; or later none to open the log or for a line in transit.
     pub memory: bool,
     pub iface_read: bool,
     pub iface_write: bool,
@@ -64,6 +66,7 @@ fn open_log<H: Host>(host: &mut H, alloc: Global, name: &str) -> Opened<H::Log>
     ensures others { H.faults host.new
         ≡ record (H.faults host.old) { logs = (H.faults host.new).logs } }
     ensures some { result.fault ≡ None → log_count result.log ≡ 1 }
+    ensures none { is_no_memory result.fault ≡ true → log_count result.log ≡ 0 }
 {
     match host.open_log(alloc, name) {
         Ok(log) => Opened {
@@ -209,10 +212,14 @@ fn start<H: Host, R: Threads>(
     let Ok(parts) = make_parts(alloc, settings) else {
         return Err(only_memory());
     };
-    if !can_start_threads(rt) {
+    let threads = TriedThreads::ask(rt);
+    if !threads.were_given() {
+        threads.join(rt);
         return Err(only_memory());
     }
-    match host.start(alloc, words) {
+    let started = host.start(alloc, words);
+    threads.join(rt);
+    match started {
         Ok(run) => Ok(Ready { parts, run }),
         Err(HostFault::NoMemory) => Err(only_memory()),
         Err(HostFault::Failed) => Err(only_start()),

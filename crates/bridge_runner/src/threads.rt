@@ -1,15 +1,52 @@
 // Whether threads can be had.
 use std::thread;
-use std::thread::Threads;
+use std::thread::{JoinHandle, Threads};
 
-/// Whether the system gives a thread. It is asked before an engine is started: a run whose readers
-/// get none would wait for ever.
-pub(crate) fn can_start_threads<R: Threads>(rt: &R) -> bool {
-    match thread::spawn(rt, || ()) {
-        Ok(handle) => {
-            handle.join(rt);
-            true
+/// A thread for each reader and one in the engine's stead, each of which does nothing. They are
+/// asked for before an engine is started: a run whose readers get none would wait for ever.
+pub(crate) struct TriedThreads {
+    iface: Option<JoinHandle<()>>,
+    engine: Option<JoinHandle<()>>,
+    process: Option<JoinHandle<()>>,
+}
+
+// A thread that does nothing, where the system gives one. It keeps its stack until it is joined.
+fn try_one<R: Threads>(rt: &R) -> Option<JoinHandle<()>> {
+    thread::spawn(rt, || ()).ok()
+}
+
+// Waits for a thread that was had.
+fn join_one<R: Threads>(rt: &R, thread: Option<JoinHandle<()>>) {
+    if let Some(thread) = thread {
+        thread.join(rt);
+    }
+}
+
+impl TriedThreads {
+    /// Asks for all three at the same time.
+    pub(crate) fn ask<R: Threads>(rt: &R) -> TriedThreads {
+        TriedThreads {
+            iface: try_one(rt),
+            engine: try_one(rt),
+            process: try_one(rt),
         }
-        Err(_) => false,
+    }
+
+    /// Whether the system gave all.
+    pub(crate) fn were_given(&self) -> bool {
+        self.iface.is_some() && self.engine.is_some() && self.process.is_some()
+    }
+
+    /// Waits for them, and leaves their stacks to the readers. Where an engine was started, it boots
+    /// meanwhile.
+    pub(crate) fn join<R: Threads>(self, rt: &R) {
+        let TriedThreads {
+            iface,
+            engine,
+            process,
+        } = self;
+        join_one(rt, iface);
+        join_one(rt, engine);
+        join_one(rt, process);
     }
 }

@@ -1,13 +1,16 @@
 // The edge to the world: programs and files.
 ghost use Rattle.std.specs.Prelude.{◌≡◌, ◌<◌, [], length};
+ghost use Rattle.child_engine.specs.Hosts.{RisesBy};
+ghost use Rattle.child_engine.specs.declared.host.HostFault.TheVariants as faults;
 
 use crate::host::raised;
 use crate::{EngineInput, Faults, Host, HostFault, Started};
 use line_io::{Failed, NoMemory, ReadAdapter, WriteAdapter};
 use std::alloc::Global;
-use std::fs;
 use std::fs::{File, Files};
+use std::io::ErrorKind;
 use std::process::{Child, ChildStdin, ChildStdout, Command, Processes, Stdio, SystemProcess};
+use std::{fs, io};
 
 /// A host of real programs and files, over the handle by which it starts and opens them. The
 /// engine's standard error is that of this process.
@@ -19,6 +22,26 @@ pub struct RealHost<R> {
     logs_out: u8,
     runs_closed: u8,
     logs_closed: u8,
+}
+
+// Why the system did not start a program or open a file.
+fn fault_of(error: io::Error) -> HostFault {
+    if error.kind() == ErrorKind::OutOfMemory {
+        HostFault::NoMemory
+    } else {
+        HostFault::Failed
+    }
+}
+
+// Want of memory is no failure of a host.
+fn counted(count: u64, fault: HostFault) -> u64
+    ensures memory { fault ≡ faults.NoMemory → result ≡ count }
+    ensures failed { fault ≡ faults.Failed → RisesBy 1 count result }
+{
+    match fault {
+        HostFault::NoMemory => count,
+        HostFault::Failed => count.saturating_add(1),
+    }
 }
 
 // The command of these words, with pipes for its input and its output.
@@ -82,9 +105,13 @@ impl<R: Processes<Started = SystemProcess> + Files<File = File>> Host for RealHo
 
     fn start(&mut self, alloc: Global, words: &[String]) -> Result<Engine, HostFault> {
         let mut command = command_of(alloc, words)?;
-        let Ok(mut kid) = command.spawn(&self.rt) else {
-            self.faults.starts = self.faults.starts.saturating_add(1);
-            return Err(HostFault::Failed);
+        let mut kid = match command.spawn(&self.rt) {
+            Ok(kid) => kid,
+            Err(error) => {
+                let fault = fault_of(error);
+                self.faults.starts = counted(self.faults.starts, fault);
+                return Err(fault);
+            }
         };
         let (Some(input), Some(output)) = (kid.stdin.take(), kid.stdout.take()) else {
             self.faults.starts = self.faults.starts.saturating_add(1);
@@ -99,9 +126,13 @@ impl<R: Processes<Started = SystemProcess> + Files<File = File>> Host for RealHo
     }
 
     fn open_log(&mut self, _alloc: Global, name: &str) -> Result<WriteAdapter<File>, HostFault> {
-        let Ok(file) = fs::create(&self.rt, name) else {
-            self.faults.logs = self.faults.logs.saturating_add(1);
-            return Err(HostFault::Failed);
+        let file = match fs::create(&self.rt, name) {
+            Ok(file) => file,
+            Err(error) => {
+                let fault = fault_of(error);
+                self.faults.logs = counted(self.faults.logs, fault);
+                return Err(fault);
+            }
         };
         self.logs_out += 1;
         Ok(WriteAdapter::new(file))

@@ -2,25 +2,31 @@
 #![tactic(auto)]
 
 use line_io::{ReadAdapter, WriteAdapter};
+use program_edges::{ClosedStreams, words_of};
 use scripted_engine::scripted_main;
 use std::fs::File;
-use std::io::Read;
+use std::io::{ErrorKind, Read};
 use std::process::ExitCode;
-use std::{env, fs, io};
+use std::{fs, io, str};
+
+const NO_MEMORY: u8 = 3;
 
 /// A reader that opens its file at the first read, so that a file that cannot be opened is a read
-/// that failed.
+/// that failed. No file has a name that is not UTF-8.
 #[derive(Drop)]
 struct OpenedLate<'a> {
     rt: &'a HostRuntime,
-    path: &'a str,
+    name: &'a [u8],
     file: Option<File>,
 }
 
 impl Read for OpenedLate<'_> {
     fn read(&mut self, buf: &mut [u8]) -> io::Result<usize> {
         if self.file.is_none() {
-            self.file = Some(fs::open(self.rt, self.path)?);
+            let Ok(name) = str::from_utf8(self.name) else {
+                return Err(io::Error::from(ErrorKind::NotFound));
+            };
+            self.file = Some(fs::open(self.rt, name)?);
         }
         match &mut self.file {
             Some(file) => file.read(buf),
@@ -29,21 +35,32 @@ impl Read for OpenedLate<'_> {
     }
 }
 
-fn main(rt: HostRuntime) -> io::Result<ExitCode> {
-    let alloc = rt.alloc();
-    let mut words: Vec<Vec<u8>> = Vec::new(alloc);
-    let mut path = String::new(alloc);
-    for word in env::args(&rt)?.skip(1) {
-        path = word.clone()?;
-        words.push(word.into_bytes())?;
+/// The name of the script, where there are words.
+fn name_in(words: &[Vec<u8>]) -> &[u8] {
+    match words.first() {
+        Some(word) => word.as_slice(),
+        None => b"",
     }
+}
+
+fn main(rt: HostRuntime) -> ExitCode {
+    let closed = ClosedStreams::fill(&rt);
+    let Ok(words) = words_of(&rt, rt.alloc()) else {
+        return ExitCode::from(NO_MEMORY);
+    };
     let mut file = ReadAdapter::new(OpenedLate {
         rt: &rt,
-        path: path.as_str(),
+        name: name_in(words.as_slice()),
         file: None,
     });
-    let mut input = ReadAdapter::new(rt.stdin());
-    let mut output = WriteAdapter::new(rt.stdout());
-    let status = scripted_main(alloc, words.as_slice(), &mut file, &mut input, &mut output);
-    Ok(ExitCode::from(status.code))
+    let mut input = ReadAdapter::new(closed.input(rt.stdin()));
+    let mut output = WriteAdapter::new(closed.output(rt.stdout()));
+    let status = scripted_main(
+        rt.alloc(),
+        words.as_slice(),
+        &mut file,
+        &mut input,
+        &mut output,
+    );
+    ExitCode::from(status.code)
 }

@@ -1,7 +1,7 @@
 use Rattle.std.proofs.Common.{◌≡◌, ◌∙◌, ap, refl, sym, ◌||◌, Bool}
 use Rattle.child_engine.specs.Hosts.{Books}
 use Rattle.bridge_runner.proofs.Counts.{retold, told_by, log_told, reads_kept, writes_kept, waits_kept, starts_kept}
-use Rattle.bridge_runner.proofs.Closes.{all_closed, is_closed, few_logs, same_count, length_told, told_or_none, some_run, never, log_opened, left_of, right_of}
+use Rattle.bridge_runner.proofs.Closes.{all_closed, is_closed, few_logs, same_count, length_told, told_or_none, some_run, never, log_opened, left_of, right_of, lacked}
 use Rattle.bridge_runner.proofs.bridge.run_started.Goals as goal
 
 pub returns : goal.returns
@@ -51,6 +51,9 @@ returns g c =
               engine_memory = λ m. sym c.has_lacked_memory-2.ensures ∙ right_of _ _ _ c.either.ensures (right_of _ _ _ c.either-2.ensures m);
               log = λ l. right_of _ _ _ c.either-3.ensures l;
             };
+            memory =
+                lacked _ _ _ _ _ _ _ _ c.either-2.ensures c.is_open_memory.ensures c.either.ensures c.has_lacked_memory.ensures c.has_lacked_memory-2.ensures
+                (λ m. ap (λ (b : Books). b.logs_out) all ∙ c.open_log-log.ensures.none m);
             input = (refl, refl);
             output = (refl, refl);
             source = c.requires.source;
