@@ -4,12 +4,12 @@ use Rattle.std.specs.Io.KnownBytes.{Appends, Consumes}
 use Rattle.line_io.specs.Causes.{Rose}
 use Rattle.line_io.specs.Lines.{Piece, items}
 use Rattle.line_io.specs.Runs.{whole}
-use Rattle.replay_tool.specs.declared.ending.Ending.{Ending}
-use Rattle.replay_tool.specs.declared.ending.Ending.TheVariants as endings
-use Rattle.replay_tool.specs.Diagnostics.{code_of, diagnostic}
+use Rattle.command_endings.specs.declared.ending.Ending.{Ending}
+use Rattle.command_endings.specs.declared.ending.Ending.TheVariants as endings
+use Rattle.command_endings.specs.Diagnostics.{code_of, diagnostic}
 use Rattle.std.proofs.KnownBytes.{Appends-nil, Appends-trans}
 use Rattle.policy_rules.specs.declared.settings.Settings.{Settings}
-use Rattle.replay_tool.specs.Versions.{Version, script_by, script_events, script_fault, settings_by, version_in}
+use Rattle.script_player.specs.Versions.{Version, script_by, script_events, script_fault, settings_by, version_in}
 use Rattle.line_io.specs.Event.{Event}
 use Rattle.adapter_core.specs.Trace.{Step, Lawful, state}
 use Rattle.adapter_core.specs.Stands.{IsOneDialogue}
@@ -20,20 +20,16 @@ use Rattle.session_script.proofs.Scripts.{all_told, same_trace}
 use Rattle.replay_tool.specs.Reading.{opened}
 use Rattle.replay_tool.proofs.Plain.{first_version, front_version, plain_events, plain_fault}
 use Rattle.replay_tool.proofs.Replayed.{replays_lines, faultless_marked, no_fault_in}
-use Rattle.replay_tool.specs.Told.{Told}
-use Rattle.replay_tool.specs.Replay.{AreFirst, AreRead, EndsAs, IsAll, IsScripted, ReplaysAll, ReplaysTo, ReplaysWhole, CutShort}
-use Rattle.replay_tool.specs.Program.{Ran, WritingBroke}
-use Rattle.replay_tool.specs.Streams.{Streams, AreSame, IsSteady}
+use Rattle.command_endings.specs.Told.{Told}
+use Rattle.command_endings.specs.Reads.{AreFirst, AreRead, IsAll}
+use Rattle.replay_tool.specs.Replay.{EndsAs, IsScripted, ReplaysAll, ReplaysTo, ReplaysWhole, ReplaysMuch, CutShort}
+use Rattle.command_endings.specs.Ran.{Ran, WritingBroke}
+use Rattle.command_endings.specs.Streams.{Streams, AreSame, IsSteady}
 use Rattle.replay_tool.specs.Replayed.{IsTheSession, WritesScript, AllReplayed, FaultReported, WholeReplayed, MuchReplayed, FrontWritten, CompletesReplay, TellsFault, WritesItAgain, Replayed}
-use Rattle.replay_tool.specs.Program.{HasLaws}
+use Rattle.replay_tool.specs.Laws.{HaveLaws}
 use Rattle.session_script.specs.Script.{events}
-use Rattle.replay_tool.proofs.VersionLines.{script_fault_stays}
-use Rattle.replay_tool.proofs.Finishes.{whole_first}
-
-pub few_got : (l0 l : Option (List ℕ)) (got x : List ℕ) → Consumes l0 l got → l0 ≡ Some x → length got ≤ length x
-few_got None l got x c e = cc
-few_got (Some y) None got x c e = absurd c
-few_got (Some y) (Some z) got x c e = let same : y ≡ x = cc in let whole = ap length c in let same' = ap length same in omega (arith, length-append got z)
+use Rattle.script_player.proofs.VersionLines.{script_fault_stays}
+use Rattle.command_endings.proofs.Readings.{few_got, whole_first}
 
 not_none : (a : Option Ending) (f : Ending) → a ≡ None → a ≡ Some f → ⊥
 not_none None f u v = cc
@@ -85,10 +81,11 @@ module _ (o : Settings) (unread kept : Type 0) (start now : Streams) (one : IsOn
   whole_of : (least : ℕ) → ReplaysWhole o least start now → WholeReplayed o start now
   whole_of least r = record { got = r.got; reads = r.reads; first = r.first; faultless = r.fine; script = written_of (whole 131072 r.got) r.scripted }
 
-  much_of : ReplaysWhole o (2 ^ 32) start now → MuchReplayed o start now
-  much_of r = record {
+  much_of : ReplaysMuch o start now → MuchReplayed o start now
+  much_of m = let r = m.replays in record {
     replayed = record { got = r.got; reads = r.reads; first = r.first; faultless = r.fine; script = written_of (whole 131072 r.got) r.scripted };
     least = r.least_is;
+    still_open = m.still_open;
   }
 
   front_of : CutShort o start now → FrontWritten o start now
@@ -109,6 +106,7 @@ module _ (o : Settings) (unread kept : Type 0) (start now : Streams) (one : IsOn
   same_of : (e : Ending) → 0 ≡ code_of e → e ≡ endings.Done
   same_of endings.Done c = refl
   same_of (endings.Differs n) c = cc
+  same_of (endings.Unlawful n) c = cc
   same_of endings.Usage c = cc
   same_of (endings.NoPosition fault) c = cc
   same_of endings.NoMemory c = cc
@@ -128,6 +126,7 @@ module _ (o : Settings) (unread kept : Type 0) (start now : Streams) (one : IsOn
 
   script_of : (e : Ending) → Ends e → 2 ≡ code_of e → Appends start.diag.taken now.diag.taken (diagnostic e) → FaultReported o start now
   script_of (endings.Differs n) ends c a = cc
+  script_of (endings.Unlawful n) ends c a = cc
   script_of endings.Usage ends c a = absurd ends
   script_of (endings.NoPosition fault) ends c a = absurd ends
   script_of (endings.NoMark n) ends c a = fault_of (endings.NoMark n) ends a
@@ -146,6 +145,7 @@ module _ (o : Settings) (unread kept : Type 0) (start now : Streams) (one : IsOn
   memory_of endings.NoMemory ends c = ends
   memory_of endings.Done ends c = cc
   memory_of (endings.Differs n) ends c = cc
+  memory_of (endings.Unlawful n) ends c = cc
   memory_of endings.Usage ends c = cc
   memory_of (endings.NoPosition fault) ends c = cc
   memory_of (endings.NoMark n) ends c = cc
@@ -162,6 +162,7 @@ module _ (o : Settings) (unread kept : Type 0) (start now : Streams) (one : IsOn
   reading_of endings.ReadingFailed ends c rose = (rose refl, whole_of 0 ends)
   reading_of endings.Done ends c rose = cc
   reading_of (endings.Differs n) ends c rose = cc
+  reading_of (endings.Unlawful n) ends c rose = cc
   reading_of endings.Usage ends c rose = cc
   reading_of (endings.NoPosition fault) ends c rose = cc
   reading_of (endings.NoMark n) ends c rose = cc
@@ -178,6 +179,7 @@ module _ (o : Settings) (unread kept : Type 0) (start now : Streams) (one : IsOn
   long_of endings.TooLong ends c = much_of ends
   long_of endings.Done ends c = cc
   long_of (endings.Differs n) ends c = cc
+  long_of (endings.Unlawful n) ends c = cc
   long_of endings.Usage ends c = cc
   long_of (endings.NoPosition fault) ends c = cc
   long_of (endings.NoMark n) ends c = cc
@@ -219,6 +221,7 @@ module _ (o : Settings) (unread kept : Type 0) (start now : Streams) (one : IsOn
 
   ends_cut : (e : Ending) → Ends e → untouched ⊎ CutShort o start now
   ends_cut (endings.Differs n) ends = absurd ends
+  ends_cut (endings.Unlawful n) ends = absurd ends
   ends_cut endings.Usage ends = absurd ends
   ends_cut (endings.NoPosition fault) ends = absurd ends
   ends_cut endings.NoMemory ends = inl ends
@@ -228,12 +231,13 @@ module _ (o : Settings) (unread kept : Type 0) (start now : Streams) (one : IsOn
   ends_cut (endings.OutOfStep n) ends = inr (cut_to (endings.OutOfStep n) ends)
   ends_cut (endings.MayNotCome n) ends = inr (cut_to (endings.MayNotCome n) ends)
   ends_cut endings.ReadingFailed ends = inr (cut_whole 0 ends)
-  ends_cut endings.TooLong ends = inr (cut_whole (2 ^ 32) ends)
+  ends_cut endings.TooLong ends = inr (cut_whole (2 ^ 32) ends.replays)
 
   writing_of : (e : Ending) → 5 ≡ code_of e → (e ≡ endings.WritingFailed → Rose start.output.faults now.output.faults) → Rose start.output.faults now.output.faults
   writing_of endings.WritingFailed c rose = rose refl
   writing_of endings.Done c rose = cc
   writing_of (endings.Differs n) c rose = cc
+  writing_of (endings.Unlawful n) c rose = cc
   writing_of endings.Usage c rose = cc
   writing_of (endings.NoPosition fault) c rose = cc
   writing_of (endings.NoMark n) c rose = cc
@@ -260,6 +264,7 @@ module _ (o : Settings) (unread kept : Type 0) (start now : Streams) (one : IsOn
   complete_of endings.Done p x e l n s = inl refl
   complete_of endings.NoMemory p x e l n s = inr refl
   complete_of (endings.Differs k) p x e l n s = absurd p.0
+  complete_of (endings.Unlawful k) p x e l n s = absurd p.0
   complete_of endings.Usage p x e l n s = absurd p.0
   complete_of (endings.NoPosition fault) p x e l n s = absurd p.0
   complete_of (endings.NoMark k) p x e l n s = let r = p.0 in absurd (not_none (script_fault (items 131072 x)) (endings.NoMark k) n (same_fault start.input.left r.lines x (endings.NoMark k) r.read.of_left e r.is_fault))
@@ -267,7 +272,7 @@ module _ (o : Settings) (unread kept : Type 0) (start now : Streams) (one : IsOn
   complete_of (endings.MayNotCome k) p x e l n s = let r = p.0 in absurd (not_none (script_fault (items 131072 x)) (endings.MayNotCome k) n (same_fault start.input.left r.lines x (endings.MayNotCome k) r.read.of_left e r.is_fault))
   complete_of endings.ReadingFailed p x e l n s = absurd (s.read (p.1 refl))
   complete_of endings.WritingFailed p x e l n s = absurd (s.written (p.2 refl))
-  complete_of endings.TooLong p x e l n s = let r = p.0 in let few = few_got start.input.left now.input.left r.got x r.reads.left e in absurd (omega (arith, r.least_is))
+  complete_of endings.TooLong p x e l n s = let r = p.0.replays in let few = few_got start.input.left now.input.left r.got x r.reads.left e in absurd (omega (arith, r.least_is))
 
   told_as : (code : ℕ) (e : Ending) → Said code e → IsSteady start now → (code ≡ code_of e) × Appends start.diag.taken now.diag.taken (diagnostic e)
   told_as code e (inl t) s = (t.0, t.1)
@@ -287,6 +292,7 @@ module _ (o : Settings) (unread kept : Type 0) (start now : Streams) (one : IsOn
   faulty_of endings.Done p x fault e l n s = let r = p.0 in absurd (not_none (script_fault (items 131072 x)) fault (no_fault start.input.left r.got x r.all e r.fine) n)
   faulty_of endings.NoMemory p x fault e l n s = inr refl
   faulty_of (endings.Differs k) p x fault e l n s = absurd p.0
+  faulty_of (endings.Unlawful k) p x fault e l n s = absurd p.0
   faulty_of endings.Usage p x fault e l n s = absurd p.0
   faulty_of (endings.NoPosition bad) p x fault e l n s = absurd p.0
   faulty_of (endings.NoMark k) p x fault e l n s = let r = p.0 in inl (refl, one_fault (script_fault (items 131072 x)) (endings.NoMark k) fault (same_fault start.input.left r.lines x (endings.NoMark k) r.read.of_left e r.is_fault) n)
@@ -294,7 +300,7 @@ module _ (o : Settings) (unread kept : Type 0) (start now : Streams) (one : IsOn
   faulty_of (endings.MayNotCome k) p x fault e l n s = let r = p.0 in inl (refl, one_fault (script_fault (items 131072 x)) (endings.MayNotCome k) fault (same_fault start.input.left r.lines x (endings.MayNotCome k) r.read.of_left e r.is_fault) n)
   faulty_of endings.ReadingFailed p x fault e l n s = absurd (s.read (p.1 refl))
   faulty_of endings.WritingFailed p x fault e l n s = absurd (s.written (p.2 refl))
-  faulty_of endings.TooLong p x fault e l n s = let r = p.0 in let few = few_got start.input.left now.input.left r.got x r.reads.left e in absurd (omega (arith, r.least_is))
+  faulty_of endings.TooLong p x fault e l n s = let r = p.0.replays in let few = few_got start.input.left now.input.left r.got x r.reads.left e in absurd (omega (arith, r.least_is))
 
   fault_told : (code : ℕ) (e fault : Ending) → (code ≡ code_of e) × Appends start.diag.taken now.diag.taken (diagnostic e) → Tellable e fault → ((code ≡ 2) × Appends start.diag.taken now.diag.taken (diagnostic fault)) ⊎ (code ≡ 3)
   fault_told code e fault c (inl t) = inl (c.0 ∙ t.0, subst (λ (x : Ending). Appends start.diag.taken now.diag.taken (diagnostic x)) t.1 c.1)
@@ -329,6 +335,7 @@ module _ (o : Settings) (unread kept : Type 0) (start now : Streams) (one : IsOn
     again_of : (e : Ending) → Ends e → (code : ℕ) → code ≡ code_of e → code ≢ 3 → code ≢ 4 → code ≢ 5 → code ≢ 6 → (code ≡ 0) × Appends start.output.taken now.output.taken (whole_script t)
     again_of endings.Done p code c n3 n4 n5 n6 = (c, whole_again p)
     again_of (endings.Differs k) p code c n3 n4 n5 n6 = absurd p
+    again_of (endings.Unlawful k) p code c n3 n4 n5 n6 = absurd p
     again_of endings.Usage p code c n3 n4 n5 n6 = absurd p
     again_of (endings.NoPosition fault) p code c n3 n4 n5 n6 = absurd p
     again_of (endings.NoMark k) p code c n3 n4 n5 n6 = absurd (no_fault_to (endings.NoMark k) p)
@@ -342,7 +349,7 @@ module _ (o : Settings) (unread kept : Type 0) (start now : Streams) (one : IsOn
   again : (code : ℕ) → R code → WritesItAgain o start now code
   again code r t l op e n3 n4 n5 n6 = again_of t l op e r.ending r.ends code (code_is code r.ending r.tells n5).0 n3 n4 n5 n6
 
-  pub replayed : (code : ℕ) → HasLaws o → R code → Replayed o unread kept start now code
+  pub replayed : (code : ℕ) → HaveLaws o → R code → Replayed o unread kept start now code
   replayed code laws r = record {
     ended = r;
     all_replayed = done code r;

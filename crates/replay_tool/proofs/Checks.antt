@@ -10,34 +10,34 @@ use Rattle.script_lines.proofs.Numerals.{step_again, number_below}
 use Rattle.policy_rules.specs.declared.settings.Settings.{Settings}
 use Rattle.adapter_core.specs.Ends.{may, is_over}
 use Rattle.adapter_core.specs.Trace.{Step, Lawful, state}
-use Rattle.adapter_core.specs.View.{View}
+use Rattle.adapter_core.specs.Parts.{Parts}
 use Rattle.desk_rules.specs.Fits.{IsSound}
 use Rattle.adapter_core.specs.Stands.{Stands, step_by}
 use Rattle.adapter_core.proofs.Unique.{unique}
 use Rattle.adapter_core.proofs.Holds.{extended}
 use Rattle.adapter_core.proofs.Traces.{lasts}
-use Rattle.session_script.specs.Script.{event_told, told_in}
+use Rattle.session_script.specs.Script.{event_told, reply_in}
 use Rattle.session_script.proofs.Lines.{lines_of, event_lines, step_lines, AreTold, script1_lines}
 use Rattle.session_script.proofs.Numbered.{number_line, lines_of2, script2_lines, script2_told, numbered_added, numbered_lines_added, NextNumbered, next_numbered}
 use Rattle.session_script.proofs.Scripts.{Next, added, later_events, script_told, all_told, some_opened, events_later, goes_on, same_trace, lines_added, next_line, event_line}
 use Rattle.replay_tool.specs.Check.{lines_by, ScriptBy, BeginBy, AwaitBy, mark_in}
 use Rattle.replay_tool.specs.Walked.{IsProperIn}
-use Rattle.replay_tool.specs.Versions.{Version, First, Second, settings_by, script_by, Tells, Numbers, kind_by, kind_of}
+use Rattle.script_player.specs.Versions.{Version, First, Second, settings_by, script_by, Tells, Numbers, kind_by, kind_of}
 use Rattle.replay_tool.proofs.StageLines.{some_may}
 
 -- the events that lines tell
-abbrev pub told_of : Piece → List Event
-told_of l = event_told (mark_in l)
+abbrev pub reply_of : Piece → List Event
+reply_of l = event_told (mark_in l)
 
 abbrev pub all_told_of : List Piece → List Event
 all_told_of [] = []
-all_told_of (l ∷ ls) = told_of l ++ all_told_of ls
+all_told_of (l ∷ ls) = reply_of l ++ all_told_of ls
 
 pub both_told : (ls ms : List Piece) → all_told_of (ls ++ ms) ≡ all_told_of ls ++ all_told_of ms
 both_told [] ms = refl
-both_told (l ∷ ls) ms = ap (λ es. told_of l ++ es) (both_told ls ms) ∙ sym (append_assoc (told_of l) (all_told_of ls) (all_told_of ms))
+both_told (l ∷ ls) ms = ap (λ es. reply_of l ++ es) (both_told ls ms) ∙ sym (append_assoc (reply_of l) (all_told_of ls) (all_told_of ms))
 
-pub whole_told : (ls : List (List ℕ)) → all_told_of (map Whole ls) ≡ told_in ls
+pub whole_told : (ls : List (List ℕ)) → all_told_of (map Whole ls) ≡ reply_in ls
 whole_told [] = refl
 whole_told (l ∷ ls) = ap (λ es. event_told (mark_of l) ++ es) (whole_told ls)
 
@@ -59,7 +59,7 @@ both_in : (v : Version) (newer t : List Step) → lines_in v (newer ++ t) ≡ li
 both_in First newer t = lines_added newer t
 both_in (Second s) newer t = ap (λ ls. header_text s ∷ ls) (numbered_lines_added newer t)
 
-told_by : (v : Version) (t : List Step) → AreTold t → told_in (lines_in v t) ≡ later_events t
+told_by : (v : Version) (t : List Step) → AreTold t → reply_in (lines_in v t) ≡ later_events t
 told_by First t a = script_told t a
 told_by (Second s) t a = script2_told s t a
 
@@ -227,10 +227,10 @@ module _ (o s : Settings) (proper : IsProperIn (Second s)) (t : List Step) (l : 
       omega arith
 
   -- where an event may come they begin a script
-  pub begin_number : (core : View) → Stands s core t → is_over core.ends ≡ false → (lines : List Piece) → lines_by (Second s) t ++ Whole (number_line (length t)) ∷ [] ≡ lines → BeginBy o (Second s) lines
+  pub begin_number : (core : Parts) → Stands s core t → is_over core.ends ≡ false → (lines : List Piece) → lines_by (Second s) t ++ Whole (number_line (length t)) ∷ [] ≡ lines → BeginBy o (Second s) lines
   begin_number core st over lines e =
-      let m = some_may core.ends (ap (λ (w : View). w.ends.opened) st.0 ∙ op) over in
-      let sound = subst (λ (w : View). IsSound w.desk) (sym st.0) ((lasts s t l).sound) in
+      let m = some_may core.ends (ap (λ (w : Parts). w.ends.opened) st.0 ∙ op) over in
+      let sound = subst (λ (w : Parts). IsSound w.desk) (sym st.0) ((lasts s t l).sound) in
       let x = extended s core t m.0 m.1 sound l st in
       let step = step_by core m.0 in
       let ls = longer_lines o (Second s) proper (step ∷ []) t x.0 l in

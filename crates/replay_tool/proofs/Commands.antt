@@ -7,14 +7,18 @@ use Rattle.replay_tool.specs.Commands as asked
 use Rattle.replay_tool.specs.Does.{Does}
 use Rattle.replay_tool.specs.Drilled.{Drilled}
 use Rattle.replay_tool.specs.Listed.{Listed}
-use Rattle.replay_tool.specs.Program.{Refused}
+use Rattle.command_endings.specs.Ran.{Refused}
 use Rattle.replay_tool.specs.Replayed.{Replayed}
-use Rattle.replay_tool.specs.Streams.{Streams}
+use Rattle.command_endings.specs.Streams.{Streams}
+use Rattle.judge_report.specs.Judged.{Judged}
+use Rattle.script_migration.specs.Migrated.{Migrated}
+use Rattle.session_games.specs.GamesWritten.{GamesWritten}
+use Rattle.script_player.specs.Versions.{First}
 use Rattle.replay_tool.proofs.Answers as ran
 use Rattle.replay_tool.proofs.Verdicts as checks
 use Rattle.replay_tool.proofs.Listing as listing
 use Rattle.replay_tool.proofs.Drilling as drilling
-use Rattle.replay_tool.proofs.Telling as told
+use Rattle.command_endings.proofs.Telling as told
 
 module _ (unread kept silent : Type 0) (start now : Streams) (code : ℕ) where
   abbrev D : Option Asked → Type 0
@@ -31,10 +35,19 @@ module _ (unread kept silent : Type 0) (start now : Streams) (code : ℕ) where
   usage command d e = subst D e d
 
   pub replayed : (command : Option Asked) → D command → (o : Settings) → command ≡ Some (asked.Replay o) → Replayed o unread kept start now code
-  replayed command d o e = let x : D (Some (asked.Replay o)) = subst D e d in ran.replayed o unread kept start now x.0.one_dialogue code x.0 x.1
+  replayed command d o e = let x : D (Some (asked.Replay o)) = subst D e d in ran.replayed o unread kept start now (x.0 First).one_dialogue code x.0 x.1
 
   pub checked : (command : Option Asked) → D command → (o : Settings) → command ≡ Some (asked.Check o) → Checked o unread kept start now code
   checked command d o e = let x : D (Some (asked.Check o)) = subst D e d in checks.checked o unread kept start now x.0 code x.1
+
+  pub migrated : (command : Option Asked) → D command → (o : Settings) → command ≡ Some (asked.Migrate o) → Migrated o unread kept start now code
+  migrated command d o e = subst D e d
+
+  pub judged : (command : Option Asked) → D command → command ≡ Some asked.Judge → Judged (unread × kept) start now code
+  judged command d e = subst D e d
+
+  pub games_written : (command : Option Asked) → D command → (o : Settings) → command ≡ Some (asked.Games o) → GamesWritten o unread kept start now code
+  games_written command d o e = subst D e d
 
   pub listed : (command : Option Asked) → D command → (text : List ℕ) → command ≡ Some (asked.Moves text) → Listed text unread kept silent start now code
   listed command d text e = let x : D (Some (asked.Moves text)) = subst D e d in listing.listed text unread kept silent start now code x.0 x.1
@@ -44,7 +57,10 @@ module _ (unread kept silent : Type 0) (start now : Streams) (code : ℕ) where
 
   pub memory : (command : Option Asked) → D command → code ≡ 3 → unread × kept
   memory None d z = absurd (told.no_told code start.diag now.diag 2 _ 3 (λ e. cc) (λ e. cc) d.told z)
-  memory (Some (asked.Replay o)) d z = ran.memory o unread kept start now d.0.one_dialogue code d.1 z
+  memory (Some (asked.Replay o)) d z = ran.memory o unread kept start now (d.0 First).one_dialogue code d.1 z
   memory (Some (asked.Check o)) d z = checks.memory o unread kept start now d.0 code d.1 z
+  memory (Some (asked.Migrate o)) d z = d.memory z
+  memory (Some asked.Judge) d z = d.memory z
+  memory (Some (asked.Games o)) d z = d.memory z
   memory (Some (asked.Drill number count)) d z = (d.0, drilling.wants _ _ _ _ _ _ _ _ _ d.1 z)
   memory (Some (asked.Moves text)) d z = (d.0, listing.wants _ _ _ _ _ _ _ _ d.1 z)

@@ -1,13 +1,14 @@
 -- How a replay ended.
 use Rattle.policy_rules.specs.declared.settings.Settings.{Settings}
-use Rattle.replay_tool.specs.declared.ending.Ending.{Ending}
-use Rattle.replay_tool.specs.declared.ending.Ending.TheVariants as endings
+use Rattle.command_endings.specs.declared.ending.Ending.{Ending}
+use Rattle.command_endings.specs.declared.ending.Ending.TheVariants as endings
 use Rattle.replay_tool.specs.Replay.{EndsAs, Stopped}
-use Rattle.replay_tool.specs.Streams.{Streams}
+use Rattle.command_endings.specs.Streams.{Streams}
 
 pub ended : (o : Settings) (untouched : Type 0) (e : Ending) (start now : Streams) → Stopped o e start now → EndsAs o untouched e start now
 ended o untouched endings.Done start now x = x
 ended o untouched (endings.Differs n) start now x = x
+ended o untouched (endings.Unlawful n) start now x = x
 ended o untouched endings.Usage start now x = x
 ended o untouched (endings.NoPosition fault) start now x = x
 ended o untouched (endings.NoMark n) start now x = x

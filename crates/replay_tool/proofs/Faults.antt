@@ -13,14 +13,14 @@ use Rattle.adapter_core.specs.Trace.{Step, state}
 use Rattle.session_script.specs.Script.{events, event_told}
 use Rattle.session_script.proofs.Numbered.{header_quiet}
 use Rattle.session_script.proofs.Scripts.{later_events, events_later}
-use Rattle.replay_tool.specs.declared.ending.Ending.TheVariants as endings
-use Rattle.replay_tool.specs.declared.stage.Stage.{Stage}
-use Rattle.replay_tool.specs.declared.stage.Stage.TheVariants as stages
+use Rattle.command_endings.specs.declared.ending.Ending.TheVariants as endings
+use Rattle.script_player.specs.declared.stage.Stage.{Stage}
+use Rattle.script_player.specs.declared.stage.Stage.TheVariants as stages
 use Rattle.replay_tool.specs.Check.{lines_by, BeginBy, BeginScript, AwaitBy, AwaitEvent, kind_in, kind_under}
-use Rattle.replay_tool.specs.Versions.{Kind, Tells, Writes, Numbers, HasNone, kind_by, kind_of, Version, First, Second, version_by, version_in, behind_header, header_lines, settings_by, Place, Said, Comes, Passes, Starts, HasNoMark, IsOutOfStep, Cannot, kind_says, line_says, place_said, place_over, stage_told, fault_said, or_later, first_fault, opened, beginning, fault_by, script_fault}
+use Rattle.script_player.specs.Versions.{Kind, Tells, Writes, Numbers, HasNone, kind_by, kind_of, Version, First, Second, version_by, version_in, behind_header, header_lines, settings_by, Place, Said, Comes, Passes, Starts, HasNoMark, IsOutOfStep, Cannot, kind_says, line_says, place_said, place_over, stage_told, fault_said, or_later, first_fault, opened, beginning, fault_by, script_fault}
 use Rattle.replay_tool.specs.Walked.{IsProperIn}
-use Rattle.replay_tool.proofs.VersionLines.{no_earlier, version_stays, behind_more}
-use Rattle.replay_tool.proofs.Checks.{told_of, all_told_of, both_told, tells, lines_are}
+use Rattle.script_player.proofs.VersionLines.{no_earlier, version_stays, behind_more}
+use Rattle.replay_tool.proofs.Checks.{reply_of, all_told_of, both_told, tells, lines_are}
 
 pub version_front : (before : List Piece) (line : Piece) (later : List Piece) → version_in ((before ++ line ∷ []) ++ later) ≡ version_in (before ++ line ∷ [])
 version_front [] line later = version_stays line [] later
@@ -139,7 +139,7 @@ abbrev kind_told : Kind → List Event
 kind_told (Tells e) = e ∷ []
 kind_told k = []
 
-told_kind : (p : Piece) → told_of p ≡ kind_told (kind_of p)
+told_kind : (p : Piece) → reply_of p ≡ kind_told (kind_of p)
 told_kind TooLong = refl
 told_kind (Whole line) = by (mark_of line) (step_of line) where
   by : (m : Option Mark) (s : Option ℕ) → event_told m ≡ kind_told (kind_by m s)
@@ -183,7 +183,7 @@ over_told n place (l ∷ ls) e =
     let p = no_earlier (fault_said n (line_says place l)) (first_fault (n + 1) (place_said place (line_says place l)) ls) e in
     over_told (n + 1) (place_said place (line_says place l)) ls p.1
     ∙ ap (λ (x : Ends). ends_along x (all_told_of ls)) (one_said n place (kind_of l) p.0 ∙ ap (ends_along place.ends) (sym (told_kind l)))
-    ∙ sym (along_both place.ends (told_of l) (all_told_of ls))
+    ∙ sym (along_both place.ends (reply_of l) (all_told_of ls))
 
 says_cannot : (n : ℕ) (stage : Stage) (ends : Ends) (e : Event) → may ends e ≡ false → fault_said n (kind_says stage ends (Tells e)) ≡ None → ⊥
 says_cannot n stages.Start ends e m f = cc

@@ -1,5 +1,4 @@
 mod Marks
-mod Pieces
 mod Lines
 mod Turns
 mod Opens
@@ -12,16 +11,11 @@ mod StageLines
 mod Checks
 mod Places
 mod Numbers
-mod Audits
+mod Checkers
 mod Faults
 mod Verdicts
-mod VersionLines
 mod Replayed
 mod Ended
-pub mod Telling
 pub mod Drilling
-mod Plays
-mod Players
-mod Hearing
 mod Finishes
 mod Plain

@@ -3,20 +3,20 @@ use Rattle.std.proofs.Common.{◌≡◌, ◌⊎◌, ℕ, List, Result, Ok, Err, 
 use Rattle.std.specs.Io.KnownBytes.{Appends}
 use Rattle.line_io.specs.Causes.{Rose}
 use Rattle.line_io.specs.Source.{Received}
-use Rattle.chess_board.specs.Placement.{Placement}
+use Rattle.chess_board.specs.Position.{Position}
 use Rattle.fen_text.specs.declared.fault.FenFault.{FenFault}
 use Rattle.replay_tool.specs.Moves.{WritesMoves, move_lines, Lists, WantsMemory, Refuses, Writes_all, ListsAll, ListsFront, FindsNoPosition}
 use Rattle.fen_text.specs.Fen.{position_of}
-use Rattle.replay_tool.specs.Diagnostics.{position_fault}
+use Rattle.command_endings.specs.Diagnostics.{position_fault}
 use Rattle.replay_tool.specs.Listed.{Listed}
-use Rattle.replay_tool.specs.Streams.{Streams}
-use Rattle.replay_tool.proofs.Telling as told
+use Rattle.command_endings.specs.Streams.{Streams}
+use Rattle.command_endings.proofs.Telling as told
 
-module _ (spelled : Result Placement FenFault) (kept silent : Type 0) (code : ℕ) (output output_now diag diag_now : Received) where
+module _ (spelled : Result Position FenFault) (kept silent : Type 0) (code : ℕ) (output output_now diag diag_now : Received) where
   abbrev L : Type 0
   L = Lists spelled kept silent code output output_now diag diag_now
 
-  all_listed : (p : Placement) → spelled ≡ Ok p → WritesMoves p silent code output output_now diag diag_now → code ≡ 0 → silent × (output_now.faults ≡ output.faults) × ListsAll spelled output output_now
+  all_listed : (p : Position) → spelled ≡ Ok p → WritesMoves p silent code output output_now diag diag_now → code ≡ 0 → silent × (output_now.faults ≡ output.faults) × ListsAll spelled output output_now
   all_listed p s w z = let x = told.written_zero silent code output output_now diag diag_now (move_lines w.moves) w.writes z in (x.0, x.2, record { position = p; is_spelled = s; moves = w.moves; legal = w.legal; written = x.1 })
 
   all : L → code ≡ 0 → silent × (output_now.faults ≡ output.faults) × ListsAll spelled output output_now
@@ -49,11 +49,11 @@ module _ (spelled : Result Placement FenFault) (kept silent : Type 0) (code : �
   not_long (Refuses f s k t) z = told.no_told code diag diag_now 2 _ 6 (λ e. cc) (λ e. cc) t z
   not_long (Writes_all p s w) z = told.no_written silent code output output_now diag diag_now _ 6 (λ e. cc) (λ e. cc) w.writes z
 
-  no_ok : (s : Result Placement FenFault) (f : FenFault) → s ≡ Err f → IsOk s → ⊥
+  no_ok : (s : Result Position FenFault) (f : FenFault) → s ≡ Err f → IsOk s → ⊥
   no_ok (Ok p) f e k = cc
   no_ok (Err g) f e k = cc
 
-  one_fault : (s : Result Placement FenFault) (f g : FenFault) → s ≡ Err f → s ≡ Err g → f ≡ g
+  one_fault : (s : Result Position FenFault) (f g : FenFault) → s ≡ Err f → s ≡ Err g → f ≡ g
   one_fault (Ok p) f g a b = cc
   one_fault (Err h) f g a b = cc
 

@@ -12,16 +12,16 @@ use Rattle.policy_rules.specs.declared.settings.Settings.{Settings}
 use Rattle.adapter_core.specs.declared.ends.Ends.{Ends}
 use Rattle.adapter_core.specs.Ends.{may, is_over}
 use Rattle.adapter_core.specs.Trace.{state, iface_text, engine_text}
-use Rattle.adapter_core.specs.View.{View}
+use Rattle.adapter_core.specs.Parts.{Parts}
 use Rattle.session_script.proofs.Lines.{written_lines}
 use Rattle.session_script.proofs.Numbered.{number_line}
 use Rattle.session_script.proofs.Scripts.{event_line, some_opened}
-use Rattle.replay_tool.specs.declared.ending.Ending.{Ending}
-use Rattle.replay_tool.specs.declared.ending.Ending.TheVariants as endings
-use Rattle.replay_tool.specs.declared.stage.Stage.{Stage}
-use Rattle.replay_tool.specs.declared.stage.Stage.TheVariants as stages
+use Rattle.command_endings.specs.declared.ending.Ending.{Ending}
+use Rattle.command_endings.specs.declared.ending.Ending.TheVariants as endings
+use Rattle.script_player.specs.declared.stage.Stage.{Stage}
+use Rattle.script_player.specs.declared.stage.Stage.TheVariants as stages
 use Rattle.replay_tool.specs.Check.{lines_by, BeginBy, AwaitBy, kind_in}
-use Rattle.replay_tool.specs.Versions.{Second, Kind, Tells, Writes, Numbers, HasNone, kind_of, kind_says, Comes, Starts, HasNoMark, IsOutOfStep, Cannot}
+use Rattle.script_player.specs.Versions.{Second, Kind, Tells, Writes, Numbers, HasNone, kind_of, kind_says, Comes, Starts, HasNoMark, IsOutOfStep, Cannot}
 use Rattle.replay_tool.specs.Walked.{Fit, TakesEvent, TakesNumber, TakesDue, Fails, said_undue, undue, other_than, fit, fault_in, Followed, Standing}
 use Rattle.replay_tool.proofs.Checks.{longer_lines, next_number, next_event, no_await, number_kind, header_some}
 use Rattle.replay_tool.proofs.Places.{Taken, Goes, Unmarked, MayNot, Other, same_bytes, other_bytes, no_bytes, nothing, is_quiet, shows_next, by_other, written_is, written_still, tells_text, numbers_text, one_event, whole_one, ends_are}
@@ -32,7 +32,7 @@ more_some before p = omega (arith, length-append before (p ∷ []))
 
 -- BEHIND A STEP
 
-module _ (o s : Settings) (core : View) (last : ℕ) (due : List ℕ) (before : List Piece) (st : Standing o (Second s) core (stages.Told last) due before) (some : 1 ≤ length before) (line : List ℕ) (number : ℕ) (core' : View) (stage' : Stage) (due' : List ℕ) where
+module _ (o s : Settings) (core : Parts) (last : ℕ) (due : List ℕ) (before : List Piece) (st : Standing o (Second s) core (stages.Told last) due before) (some : 1 ≤ length before) (line : List ℕ) (number : ℕ) (core' : Parts) (stage' : Stage) (due' : List ℕ) where
   abbrev p : Piece
   p = Whole line
 
@@ -66,7 +66,7 @@ module _ (o s : Settings) (core : View) (last : ℕ) (due : List ℕ) (before : 
       let ends = ends_are o (Second s) core (stages.Told last) due before st some in
       Other a (λ b. let x = (next2 d b).1 in over_may (state s st.trace).ends x.0 st.opened (ap is_over (sym ends) ∙ v) x.1) (numbers_marked n k) (λ x h w. let z = sym k ∙ h in cc)
   by_over d n k e false v = λ answer a f.
-      Goes a (subst (λ (x : View). Standing o (Second s) x stage' due' (before ++ p ∷ [])) (sym f.0) (subst (λ (x : Stage). Standing o (Second s) core x due' (before ++ p ∷ [])) (sym f.1) (record {
+      Goes a (subst (λ (x : Parts). Standing o (Second s) x stage' due' (before ++ p ∷ [])) (sym f.0) (subst (λ (x : Stage). Standing o (Second s) core x due' (before ++ p ∷ [])) (sym f.1) (record {
         proper = st.proper;
         trace = st.trace;
         lawful = st.lawful;
@@ -110,7 +110,7 @@ module _ (o s : Settings) (core : View) (last : ℕ) (due : List ℕ) (before : 
   marked2 HasNone never h = never refl
 
   by_same2 : (length due == 0) ≡ false → (b : Bool) → bytes_eq line (before_first is_feed due) ≡ b → Goal2 (cond b TakesDue (Fails (other_than (stages.Told last) core.ends number line)))
-  by_same2 d true e = λ answer a f. Goes a (subst (λ (x : View). Standing o (Second s) x stage' due' (before ++ p ∷ [])) (sym f.0) (subst (λ (x : Stage). Standing o (Second s) core x due' (before ++ p ∷ [])) (sym f.1) (record {
+  by_same2 d true e = λ answer a f. Goes a (subst (λ (x : Parts). Standing o (Second s) x stage' due' (before ++ p ∷ [])) (sym f.0) (subst (λ (x : Stage). Standing o (Second s) core x due' (before ++ p ∷ [])) (sym f.1) (record {
     proper = st.proper;
     trace = st.trace;
     lawful = st.lawful;
@@ -131,7 +131,7 @@ module _ (o s : Settings) (core : View) (last : ℕ) (due : List ℕ) (before : 
 
 -- BEHIND A NUMBER
 
-module _ (o s : Settings) (core : View) (step : ℕ) (due : List ℕ) (before : List Piece) (st : Standing o (Second s) core (stages.Numbered step) due before) (line : List ℕ) (number : ℕ) (core' : View) (stage' : Stage) (due' : List ℕ) where
+module _ (o s : Settings) (core : Parts) (step : ℕ) (due : List ℕ) (before : List Piece) (st : Standing o (Second s) core (stages.Numbered step) due before) (line : List ℕ) (number : ℕ) (core' : Parts) (stage' : Stage) (due' : List ℕ) where
   abbrev p3 : Piece
   p3 = Whole line
 
@@ -190,7 +190,7 @@ module _ (o s : Settings) (core : View) (step : ℕ) (due : List ℕ) (before : 
   by_may3 : (e : Event) → kind_of p3 ≡ Tells e → (b : Bool) → may core.ends e ≡ b → Goal3 (said_undue core.ends number (cond b (Comes e) Cannot))
   by_may3 e k true m = event3 e k m
   by_may3 e k false m = λ answer a f.
-      let ends : core.ends ≡ (state s st.trace).ends = ap (λ (w : View). w.ends) st.stands.0 in
+      let ends : core.ends ≡ (state s st.trace).ends = ap (λ (w : Parts). w.ends) st.stands.0 in
       let not : may (state s st.trace).ends e ≡ false = ap (λ (x : Ends). may x e) (sym ends) ∙ m in
       MayNot a (λ b. let n = next3 b in let same = one_event (sym n.1 ∙ k) in let z = sym n.2 ∙ ap (may (state s st.trace).ends) same ∙ not in cc) e k
       (record { trace = st.trace; lawful = st.lawful; opened = st.opened; same = before_is }) not

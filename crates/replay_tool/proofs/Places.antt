@@ -15,16 +15,16 @@ use Rattle.policy_rules.specs.declared.settings.Settings.{Settings}
 use Rattle.adapter_core.specs.declared.ends.Ends.{Ends}
 use Rattle.adapter_core.specs.Ends.{may}
 use Rattle.adapter_core.specs.Trace.{Step, state, iface_text, engine_text}
-use Rattle.adapter_core.specs.View.{View}
-use Rattle.session_script.specs.Script.{written_text, told_in, event_told}
+use Rattle.adapter_core.specs.Parts.{Parts}
+use Rattle.session_script.specs.Script.{written_text, reply_in, event_told}
 use Rattle.session_script.proofs.Lines.{written_lines, written_parts, step_lines}
 use Rattle.session_script.proofs.Scripts.{event_line, some_opened, written_quiet}
-use Rattle.replay_tool.specs.declared.ending.Ending.{Ending}
-use Rattle.replay_tool.specs.declared.ending.Ending.TheVariants as endings
-use Rattle.replay_tool.specs.declared.stage.Stage.{Stage}
-use Rattle.replay_tool.specs.declared.stage.Stage.TheVariants as stages
+use Rattle.command_endings.specs.declared.ending.Ending.{Ending}
+use Rattle.command_endings.specs.declared.ending.Ending.TheVariants as endings
+use Rattle.script_player.specs.declared.stage.Stage.{Stage}
+use Rattle.script_player.specs.declared.stage.Stage.TheVariants as stages
 use Rattle.replay_tool.specs.Check.{lines_by, ScriptBy, BeginBy, AwaitBy, kind_in, kind_under}
-use Rattle.replay_tool.specs.Versions.{Version, First, settings_by, Kind, Tells, Writes, Numbers, HasNone, kind_by, kind_of, kind_says, Said, Comes, Passes, Starts, HasNoMark, IsOutOfStep, Cannot}
+use Rattle.script_player.specs.Versions.{Version, First, settings_by, Kind, Tells, Writes, Numbers, HasNone, kind_by, kind_of, kind_says, Said, Comes, Passes, Starts, HasNoMark, IsOutOfStep, Cannot}
 use Rattle.replay_tool.specs.Walked.{Fit, TakesEvent, TakesDue, Fails, said_undue, said_other, undue, other_than, fit, fault_in, Followed, at_end as ending_at, Shows, Standing}
 use Rattle.replay_tool.proofs.Checks.{all_told_of, whole_told, IsSomeIn, longer_lines, none_missing, is_due, next_plain}
 
@@ -48,7 +48,7 @@ tail_quiet [] ys h = h
 tail_quiet (x ∷ xs) ys h = cc
 
 -- what a line comes to
-pub data Taken (o : Settings) (v : Version) (before : List Piece) (p : Piece) (number : ℕ) (answer : Option Ending) (core : View) (stage : Stage) (due : List ℕ) : Type 0 where
+pub data Taken (o : Settings) (v : Version) (before : List Piece) (p : Piece) (number : ℕ) (answer : Option Ending) (core : Parts) (stage : Stage) (due : List ℕ) : Type 0 where
   Goes : answer ≡ None → Standing o v core stage due (before ++ p ∷ []) → Taken o v before p number answer core stage due
   Unmarked : answer ≡ Some (endings.NoMark number) → (BeginBy o v (before ++ p ∷ []) → ⊥) → kind_in v p ≡ HasNone → Taken o v before p number answer core stage due
   MayNot : answer ≡ Some (endings.MayNotCome number) → (BeginBy o v (before ++ p ∷ []) → ⊥) → (e : Event) → kind_of p ≡ Tells e → (a : AwaitBy o v before) → may (state (settings_by v o) a.trace).ends e ≡ false
@@ -60,8 +60,8 @@ pub data Taken (o : Settings) (v : Version) (before : List Piece) (p : Piece) (n
 pub written_is : (s : Step) (due : List ℕ) → due ≡ written_text s → parts due ≡ written_lines (iface_text s) (engine_text s)
 written_is s due e = ap parts (e ∙ sym (append-nil (written_text s))) ∙ written_parts (iface_text s) (engine_text s) [] ∙ append-nil (written_lines (iface_text s) (engine_text s))
 
-pub written_still : (s : Step) (due : List ℕ) → due ≡ written_text s → told_in (parts due) ≡ []
-written_still s due e = ap told_in (written_is s due e) ∙ written_quiet (iface_text s) (engine_text s)
+pub written_still : (s : Step) (due : List ℕ) → due ≡ written_text s → reply_in (parts due) ≡ []
+written_still s due e = ap reply_in (written_is s due e) ∙ written_quiet (iface_text s) (engine_text s)
 
 pub tells_text : (p : Piece) (e : Event) → kind_of p ≡ Tells e → p ≡ Whole (event_text e)
 tells_text TooLong e k = cc
@@ -83,7 +83,7 @@ numbers_text (Whole line) n k = by (mark_of line) (step_of line) refl k where
   by (Some (Happens e)) s h k = cc
   by (Some m) s h k = cc
 
-module _ (o : Settings) (v : Version) (core : View) (stage : Stage) (due : List ℕ) (before : List Piece) (st : Standing o v core stage due before) (some : IsSomeIn v before) where
+module _ (o : Settings) (v : Version) (core : Parts) (stage : Stage) (due : List ℕ) (before : List Piece) (st : Standing o v core stage due before) (some : IsSomeIn v before) where
   abbrev q : Settings
   q = settings_by v o
 
@@ -94,7 +94,7 @@ module _ (o : Settings) (v : Version) (core : View) (stage : Stage) (due : List 
   t = st.trace
 
   pub ends_are : core.ends ≡ (state q t).ends
-  ends_are = ap (λ (w : View). w.ends) st.stands.0
+  ends_are = ap (λ (w : Parts). w.ends) st.stands.0
 
   pub nothing : (length due == 0) ≡ true → due_lines ≡ []
   nothing e = ap (λ (xs : List ℕ). map Whole (parts xs)) (no_bytes due e)
@@ -118,7 +118,7 @@ module _ (o : Settings) (v : Version) (core : View) (stage : Stage) (due : List 
 
   -- THE LINE THAT IS DUE
 
-  module _ (p : Piece) (number : ℕ) (core' : View) (stage' : Stage) (due' : List ℕ) where
+  module _ (p : Piece) (number : ℕ) (core' : Parts) (stage' : Stage) (due' : List ℕ) where
     abbrev Result : Option Ending → Type 0
     Result answer = Taken o v before p number answer core' stage' due'
 
@@ -126,7 +126,7 @@ module _ (o : Settings) (v : Version) (core : View) (stage : Stage) (due : List 
     shows_next w d e f = record {
       same = w.same ∙ ap (λ (ls : List Piece). before ++ ls) (something d ∙ ap (λ (x : Piece). x ∷ map Whole (parts (after_first is_feed due))) (sym e) ∙ ap (λ (xs : List ℕ). p ∷ map Whole (parts xs)) (sym f))
           ∙ sym (append_assoc before (p ∷ []) (map Whole (parts due')));
-      quiet = ap (λ (xs : List ℕ). told_in (parts xs)) f ∙ tail_quiet (event_told (mark_of (before_first is_feed due))) (told_in (parts (after_first is_feed due))) (sym (ap told_in (some_parts due d)) ∙ w.quiet);
+      quiet = ap (λ (xs : List ℕ). reply_in (parts xs)) f ∙ tail_quiet (event_told (mark_of (before_first is_feed due))) (reply_in (parts (after_first is_feed due))) (sym (ap reply_in (some_parts due d)) ∙ w.quiet);
     }
 
     not_due : Shows v t due before → (length due == 0) ≡ false → (p ≡ Whole (before_first is_feed due) → ⊥) → BeginBy o v (before ++ p ∷ []) → ⊥
@@ -154,7 +154,7 @@ whole_one h = cc
 
 -- VERSION 1
 
-module _ (o : Settings) (core : View) (due : List ℕ) (before : List Piece) (st : Standing o First core stages.Plain due before) (line : List ℕ) (number : ℕ) (core' : View) (stage' : Stage) (due' : List ℕ) where
+module _ (o : Settings) (core : Parts) (due : List ℕ) (before : List Piece) (st : Standing o First core stages.Plain due before) (line : List ℕ) (number : ℕ) (core' : Parts) (stage' : Stage) (due' : List ℕ) where
   abbrev p : Piece
   p = Whole line
 
@@ -226,7 +226,7 @@ module _ (o : Settings) (core : View) (due : List ℕ) (before : List Piece) (st
   marked1 HasNone never h = never refl
 
   by_same1 : (length due == 0) ≡ false → (b : Bool) → bytes_eq line (before_first is_feed due) ≡ b → Goal1 (cond b TakesDue (Fails (other_than stages.Plain core.ends number line)))
-  by_same1 d true e = λ answer a f. Goes a (subst (λ (x : View). Standing o First x stage' due' (before ++ p ∷ [])) (sym f.0) (subst (λ (x : Stage). Standing o First core x due' (before ++ p ∷ [])) (sym f.1) (record {
+  by_same1 d true e = λ answer a f. Goes a (subst (λ (x : Parts). Standing o First x stage' due' (before ++ p ∷ [])) (sym f.0) (subst (λ (x : Stage). Standing o First core x due' (before ++ p ∷ [])) (sym f.1) (record {
     proper = tt;
     trace = st.trace;
     lawful = st.lawful;

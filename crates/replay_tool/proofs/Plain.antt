@@ -10,9 +10,9 @@ use Rattle.adapter_core.specs.Ends.{may, ends_after}
 use Rattle.adapter_core.specs.Trace.{Step, iface_text, engine_text}
 use Rattle.session_script.specs.Script.{script1}
 use Rattle.session_script.proofs.Lines.{AreTold, behind, event_lines, lines_of, script1_lines, step_lines, written_lines}
-use Rattle.replay_tool.specs.declared.stage.Stage.TheVariants as stages
+use Rattle.script_player.specs.declared.stage.Stage.TheVariants as stages
 use Rattle.replay_tool.specs.Reading as plain
-use Rattle.replay_tool.specs.Versions.{Version, First, version_by, version_in, Place, Said, Comes, Passes, HasNoMark, Cannot, kind_by, kind_says, events_of, events_said, fault_said, first_fault, line_says, or_later, place_said, script_events, script_fault, opened, fault_by, events_by}
+use Rattle.script_player.specs.Versions.{Version, First, version_by, version_in, Place, Said, Comes, Passes, HasNoMark, Cannot, kind_by, kind_says, events_of, events_said, fault_said, first_fault, line_says, or_later, place_said, script_events, script_fault, opened, fault_by, events_by}
 
 -- THE FIRST LINE IS NO HEADER
 

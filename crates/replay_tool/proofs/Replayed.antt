@@ -18,7 +18,7 @@ use Rattle.session_script.proofs.Scripts.{all_told, goes_on, added, lines_added,
 use Rattle.script_lines.proofs.Spelled.{read_spelled}
 use Rattle.script_lines.proofs.Scripts.{has_lines, has_short_lines}
 use Rattle.replay_tool.specs.Check.{mark_in, AreMarked}
-use Rattle.replay_tool.specs.declared.ending.Ending.{Ending}
+use Rattle.command_endings.specs.declared.ending.Ending.{Ending}
 use Rattle.replay_tool.specs.Reading.{Said, Comes, Passes, HasNoMark, Cannot, mark_says, line_says, ends_said, ends_over, fault_said, or_later, first_fault, events_said, events_of, opened}
 use Rattle.replay_tool.proofs.Lines.{no_earlier}
 

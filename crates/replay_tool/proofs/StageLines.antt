@@ -7,13 +7,13 @@ use Rattle.script_lines.specs.StepLine.{step_number}
 use Rattle.script_lines.proofs.Numerals.{number_below}
 use Rattle.adapter_core.specs.declared.ends.Ends.{Ends}
 use Rattle.adapter_core.specs.Ends.{may, is_over}
-use Rattle.adapter_core.specs.View.{View}
+use Rattle.adapter_core.specs.Parts.{Parts}
 use Rattle.adapter_core.specs.Stands.{Stands}
-use Rattle.replay_tool.specs.declared.ending.Ending.TheVariants as endings
-use Rattle.replay_tool.specs.declared.stage.Stage.{Stage}
-use Rattle.replay_tool.specs.declared.stage.Stage.TheVariants as stages
+use Rattle.command_endings.specs.declared.ending.Ending.TheVariants as endings
+use Rattle.script_player.specs.declared.stage.Stage.{Stage}
+use Rattle.script_player.specs.declared.stage.Stage.TheVariants as stages
 use Rattle.replay_tool.specs.Walked.{IsOpen, MayTake, said_other}
-use Rattle.replay_tool.specs.Versions.{Kind, Tells, Writes, Numbers, HasNone, Said, Comes, Passes, Starts, HasNoMark, IsOutOfStep, Cannot, event_says, number_says, kind_says, stage_started}
+use Rattle.script_player.specs.Versions.{Kind, Tells, Writes, Numbers, HasNone, Said, Comes, Passes, Starts, HasNoMark, IsOutOfStep, Cannot, event_says, number_says, kind_says, stage_started}
 
 no_start : (due n : ℕ) (e : Event) → number_says due n ≡ Comes e → ⊥
 no_start due n e h = by (n == due) h where
@@ -80,14 +80,14 @@ starts_open (stages.Numbered n) ends (Numbers k) m o h = cc
 starts_open (stages.Numbered n) ends HasNone m o h = cc
 
 -- a line may be taken in a session that was opened
-pub open_takes : (core : View) (stage : Stage) → IsOpen stage → MayTake core stage
+pub open_takes : (core : Parts) (stage : Stage) → IsOpen stage → MayTake core stage
 open_takes core stages.Start o = absurd o
 open_takes core stages.Plain o = o
 open_takes core stages.Headed o = o
 open_takes core (stages.Told n) o = o
 open_takes core (stages.Numbered n) o = o
 
-pub unread_takes : (core : View) (stage : Stage) → Stands core.settings core [] → stage ≡ stages.Start → MayTake core stage
+pub unread_takes : (core : Parts) (stage : Stage) → Stands core.settings core [] → stage ≡ stages.Start → MayTake core stage
 unread_takes core stage st e = subst (MayTake core) (sym e) st
 
 -- no line is a failure of reading

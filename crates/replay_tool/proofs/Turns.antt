@@ -8,8 +8,8 @@ use Rattle.line_io.specs.Lending.{outcome, AnswersWhen}
 use Rattle.line_io.specs.Lines.{Piece, Held, Advances, EndsAt, Reads, rest, items, flag, weight}
 use Rattle.line_io.specs.Runs.{Runs, begins, goes, Call}
 use Rattle.line_io.proofs.Runs.{so_far}
-use Rattle.replay_tool.specs.Streams.{Streams}
-use Rattle.replay_tool.specs.Replay.{Got, AreFirst, AreRead, IsAll}
+use Rattle.command_endings.specs.Streams.{Streams}
+use Rattle.command_endings.specs.Reads.{Got, AreFirst, AreRead, IsAll}
 
 -- what a call of the reader tells
 abbrev pub Next : Held → Held → Streams → Streams → Result Item ReadFault → Type 0
@@ -27,11 +27,6 @@ got_more start before after got more r s = record {
   given = Appends-trans start.input.given before.input.given after.input.given got more r.given s.given;
   left = Consumes-trans start.input.left before.input.left after.input.left got more r.left s.left;
 }
-
-pub all_got : (l0 l : Option (List ℕ)) (got : List ℕ) → Consumes l0 l got → IsAtEnd l → IsAll l0 got
-all_got None l got c a = tt
-all_got (Some x) None got c a = absurd c
-all_got (Some x) (Some y) got c a = c ∙ ap (λ l. got ++ l) a ∙ append-nil got
 
 pub no_more : (l0 : Option (List ℕ)) (got more : List ℕ) → more ≡ [] → IsAll l0 got → IsAll l0 (got ++ more)
 no_more None got more e a = tt

@@ -6,18 +6,21 @@ use Rattle.line_io.specs.Causes.{Rose}
 use Rattle.line_io.specs.Lines.{Piece, items}
 use Rattle.line_io.specs.Source.{TakesPrefix}
 use Rattle.policy_rules.specs.declared.settings.Settings.{Settings}
-use Rattle.replay_tool.specs.declared.ending.Ending.{Ending}
-use Rattle.replay_tool.specs.declared.ending.Ending.TheVariants as endings
-use Rattle.replay_tool.specs.Diagnostics.{code_of, diagnostic, verdict}
-use Rattle.replay_tool.specs.Replay.{AreFirst, IsAll}
-use Rattle.replay_tool.specs.Versions.{Version, version_in, script_fault}
+use Rattle.command_endings.specs.declared.ending.Ending.{Ending}
+use Rattle.command_endings.specs.declared.ending.Ending.TheVariants as endings
+use Rattle.command_endings.specs.Diagnostics.{code_of, diagnostic}
+use Rattle.replay_tool.specs.Verdict.{verdict}
+use Rattle.command_endings.specs.Reads.{AreFirst, IsAll}
+use Rattle.script_player.specs.Versions.{Version, version_in, script_fault}
 use Rattle.replay_tool.proofs.Faults.{no_bare, may_behind, version_front}
 use Rattle.replay_tool.specs.Check.{AreScript, BeginBy, BeginScript, Parts, Differs, ByLine, AtEnd, BeginsWhole, BeginsMuch, Finds, ChecksAs, WritesPart}
-use Rattle.replay_tool.specs.Told.{Told, Wrote}
-use Rattle.replay_tool.specs.Program.{HasLaws, Ran, WritingBroke}
+use Rattle.command_endings.specs.Told.{Told}
+use Rattle.replay_tool.specs.Verdict.{Wrote}
+use Rattle.replay_tool.specs.Laws.{HaveLaws}
+use Rattle.command_endings.specs.Ran.{Ran, WritingBroke}
 use Rattle.replay_tool.specs.Checked.{FoundLawful, FoundDifference, FoundBadLine, IsExactCheck, CompletesCheck, CompletesMarked, Checked}
-use Rattle.replay_tool.specs.Streams.{Streams, AreSame, IsSteady}
-use Rattle.replay_tool.proofs.Answers.{few_got}
+use Rattle.command_endings.specs.Streams.{Streams, AreSame, IsSteady}
+use Rattle.command_endings.proofs.Readings.{few_got}
 
 module _ (o : Settings) (unread kept : Type 0) (start now : Streams) where
   abbrev Ends : Ending → Type 0
@@ -35,6 +38,7 @@ module _ (o : Settings) (unread kept : Type 0) (start now : Streams) where
     as_found endings.TooLong f a k = (f, a, k)
     as_found endings.WritingFailed f a k = absurd f
     as_found endings.Usage f a k = absurd f
+    as_found (endings.Unlawful n) f a k = absurd f
     as_found (endings.OutOfStep n) f a k = absurd f
     as_found (endings.NoPosition fault) f a k = absurd f
     as_found endings.NoMemory f a k = absurd f
@@ -56,6 +60,7 @@ module _ (o : Settings) (unread kept : Type 0) (start now : Streams) where
   ends_part endings.ReadingFailed x = inr (all_part endings.ReadingFailed x.0 x.1)
   ends_part endings.TooLong x = inr (all_part endings.TooLong x.0 x.1)
   ends_part endings.Usage x = absurd x.0
+  ends_part (endings.Unlawful n) x = absurd x.0
   ends_part (endings.OutOfStep n) x = absurd x.0
   ends_part (endings.NoPosition fault) x = absurd x.0
 
@@ -90,7 +95,7 @@ module _ (o : Settings) (unread kept : Type 0) (start now : Streams) where
     written = λ e. absurd (e w.0);
   }
 
-  module _ (laws : HasLaws o) where
+  module _ (laws : HaveLaws o) where
     -- a status other than 5 is that of the ending
     code_is : (code : ℕ) (e : Ending) → Said code e → (code ≡ 5 → ⊥) → (code ≡ code_of e) × Appends start.diag.taken now.diag.taken (diagnostic e) × (now.diag.faults ≡ start.diag.faults)
     code_is code e (inl x) other = x
@@ -106,22 +111,24 @@ module _ (o : Settings) (unread kept : Type 0) (start now : Streams) where
     ending_0 endings.TooLong c = cc
     ending_0 endings.WritingFailed c = cc
     ending_0 endings.Usage c = cc
+    ending_0 (endings.Unlawful n) c = cc
     ending_0 (endings.OutOfStep n) c = cc
     ending_0 (endings.NoPosition fault) c = cc
     ending_0 endings.NoMemory c = cc
 
-    ending_1 : (e : Ending) → 1 ≡ code_of e → (n : ℕ) × (e ≡ endings.Differs n)
-    ending_1 endings.Done c = cc
-    ending_1 (endings.Differs n) c = (n, refl)
-    ending_1 (endings.NoMark n) c = cc
-    ending_1 (endings.MayNotCome n) c = cc
-    ending_1 endings.ReadingFailed c = cc
-    ending_1 endings.TooLong c = cc
-    ending_1 endings.WritingFailed c = cc
-    ending_1 endings.Usage c = cc
-    ending_1 (endings.OutOfStep n) c = cc
-    ending_1 (endings.NoPosition fault) c = cc
-    ending_1 endings.NoMemory c = cc
+    ending_1 : (e : Ending) → Ends e → 1 ≡ code_of e → (n : ℕ) × (e ≡ endings.Differs n)
+    ending_1 endings.Done x c = cc
+    ending_1 (endings.Differs n) x c = (n, refl)
+    ending_1 (endings.Unlawful n) x c = absurd x.0
+    ending_1 (endings.NoMark n) x c = cc
+    ending_1 (endings.MayNotCome n) x c = cc
+    ending_1 endings.ReadingFailed x c = cc
+    ending_1 endings.TooLong x c = cc
+    ending_1 endings.WritingFailed x c = cc
+    ending_1 endings.Usage x c = cc
+    ending_1 (endings.OutOfStep n) x c = cc
+    ending_1 (endings.NoPosition fault) x c = cc
+    ending_1 endings.NoMemory x c = cc
 
     same_by : (e : Ending) (code : ℕ) (r : R code) → r.ending ≡ e → (e ≡ endings.ReadingFailed → ⊥) → (e ≡ endings.WritingFailed → ⊥) → (code ≡ 5 → ⊥) → AreSame start now
     same_by e code r is f g five = record {
@@ -140,7 +147,7 @@ module _ (o : Settings) (unread kept : Type 0) (start now : Streams) where
     differs : (code : ℕ) → R code → code ≡ 1 → FoundDifference o start now
     differs code r z =
         let c = code_is code r.ending r.tells (λ f. cc) in
-        let n = ending_1 r.ending (sym z ∙ c.0) in
+        let n = ending_1 r.ending r.ends (sym z ∙ c.0) in
         let x = subst Ends n.1 r.ends in
         record { number = n.0; differs = x.0; written = x.1; no_failure = same_by (endings.Differs n.0) code r n.1 (λ f. cc) (λ f. cc) (λ f. cc) }
 
@@ -148,6 +155,7 @@ module _ (o : Settings) (unread kept : Type 0) (start now : Streams) where
     bad_of (endings.NoMark n) x c a = record { fault = endings.NoMark n; is_fault = refl; found = x.0; told = a; unwritten = x.2 refl }
     bad_of (endings.MayNotCome n) x c a = record { fault = endings.MayNotCome n; is_fault = refl; found = x.0; told = a; unwritten = x.2 refl }
     bad_of endings.Usage x c a = absurd x.0
+    bad_of (endings.Unlawful n) x c a = cc
     bad_of (endings.OutOfStep n) x c a = absurd x.0
     bad_of (endings.NoPosition fault) x c a = absurd x.0
     bad_of endings.Done x c a = cc
@@ -170,6 +178,7 @@ module _ (o : Settings) (unread kept : Type 0) (start now : Streams) where
     memory_of endings.TooLong x c = cc
     memory_of endings.WritingFailed x c = cc
     memory_of endings.Usage x c = cc
+    memory_of (endings.Unlawful n) x c = cc
     memory_of (endings.OutOfStep n) x c = cc
     memory_of (endings.NoPosition fault) x c = cc
 
@@ -186,6 +195,7 @@ module _ (o : Settings) (unread kept : Type 0) (start now : Streams) where
     reading_of endings.TooLong x c rose = cc
     reading_of endings.WritingFailed x c rose = cc
     reading_of endings.Usage x c rose = cc
+    reading_of (endings.Unlawful n) x c rose = cc
     reading_of (endings.OutOfStep n) x c rose = cc
     reading_of (endings.NoPosition fault) x c rose = cc
 
@@ -202,6 +212,7 @@ module _ (o : Settings) (unread kept : Type 0) (start now : Streams) where
     long_of endings.ReadingFailed x c = cc
     long_of endings.WritingFailed x c = cc
     long_of endings.Usage x c = cc
+    long_of (endings.Unlawful n) x c = cc
     long_of (endings.OutOfStep n) x c = cc
     long_of (endings.NoPosition fault) x c = cc
 
@@ -218,6 +229,7 @@ module _ (o : Settings) (unread kept : Type 0) (start now : Streams) where
     writing_of endings.ReadingFailed c rose = cc
     writing_of endings.TooLong c rose = cc
     writing_of endings.Usage c rose = cc
+    writing_of (endings.Unlawful n) c rose = cc
     writing_of (endings.OutOfStep n) c rose = cc
     writing_of (endings.NoPosition fault) c rose = cc
 
@@ -256,6 +268,7 @@ module _ (o : Settings) (unread kept : Type 0) (start now : Streams) where
     exact_of endings.TooLong y code c x e n3 n4 n5 n6 = absurd (n6 c)
     exact_of endings.WritingFailed y code c x e n3 n4 n5 n6 = absurd (n5 c)
     exact_of endings.Usage y code c x e n3 n4 n5 n6 = absurd y.0
+    exact_of (endings.Unlawful n) y code c x e n3 n4 n5 n6 = absurd y.0
     exact_of (endings.OutOfStep n) y code c x e n3 n4 n5 n6 = absurd y.0
     exact_of (endings.NoPosition fault) y code c x e n3 n4 n5 n6 = absurd y.0
     exact_of endings.NoMemory y code c x e n3 n4 n5 n6 = absurd (n3 c)
@@ -279,6 +292,7 @@ module _ (o : Settings) (unread kept : Type 0) (start now : Streams) where
     complete_of endings.ReadingFailed y read written code c x e l s = absurd (s.read (read refl))
     complete_of endings.WritingFailed y read written code c x e l s = absurd (s.written (written refl))
     complete_of endings.Usage y read written code c x e l s = absurd y.0
+    complete_of (endings.Unlawful n) y read written code c x e l s = absurd y.0
     complete_of (endings.OutOfStep n) y read written code c x e l s = absurd y.0
     complete_of (endings.NoPosition fault) y read written code c x e l s = absurd y.0
     complete_of endings.TooLong y read written code c x e l s = let few = few_got start.input.left now.input.left y.0.begins.got x y.0.begins.reads.left e in absurd (omega (arith, y.0.least))
@@ -304,6 +318,7 @@ module _ (o : Settings) (unread kept : Type 0) (start now : Streams) where
         let at = cut_at x p.parts.before p.parts.line p.parts.read.of_left e in
         may_behind o p.parts.before p.parts.line at.0 p.event p.awaited p.parts.differs (ap script_fault (sym at.1) ∙ free) p.is_event p.may_not
     no_fault_of endings.Usage y x e free c = y.0
+    no_fault_of (endings.Unlawful n) y x e free c = cc
     no_fault_of (endings.OutOfStep n) y x e free c = y.0
     no_fault_of (endings.NoPosition fault) y x e free c = y.0
     no_fault_of endings.Done y x e free c = cc

@@ -11,12 +11,12 @@ use Rattle.line_io.specs.Source.{TakesPrefix}
 use Rattle.policy_rules.specs.declared.settings.Settings.{Settings}
 use Rattle.adapter_core.specs.Ends.{may}
 use Rattle.adapter_core.specs.Trace.{Step, Lawful, state}
-use Rattle.replay_tool.specs.declared.ending.Ending.{Ending}
-use Rattle.replay_tool.specs.declared.ending.Ending.TheVariants as endings
-use Rattle.replay_tool.specs.Diagnostics.{verdict}
-use Rattle.replay_tool.specs.Streams.{Streams}
-use Rattle.replay_tool.specs.Versions.{Kind, Tells, Writes, HasNone, kind_of, Version, First, Second, version_in, settings_by, script_by}
-use Rattle.replay_tool.specs.Replay.{Got, IsAll, AreRead, AreFirst}
+use Rattle.command_endings.specs.declared.ending.Ending.{Ending}
+use Rattle.command_endings.specs.declared.ending.Ending.TheVariants as endings
+use Rattle.replay_tool.specs.Verdict.{verdict}
+use Rattle.command_endings.specs.Streams.{Streams}
+use Rattle.script_player.specs.Versions.{Kind, Tells, Writes, HasNone, kind_of, Version, First, Second, version_in, settings_by, script_by}
+use Rattle.command_endings.specs.Reads.{Got, IsAll, AreRead, AreFirst}
 
 -- the lines of a script: none of them is too long
 abbrev pub lines_by : Version → List Step → List Piece
@@ -148,14 +148,10 @@ abbrev pub Finds : Settings → Ending → Streams → Streams → Type 0
 Finds o endings.Done start now = IsLawfulScript o start now
 Finds o (endings.Differs n) start now = Differs o n start now
 Finds o (endings.NoMark n) start now = PartsUnmarked o n start now
-Finds o (endings.OutOfStep n) start now = ⊥
 Finds o (endings.MayNotCome n) start now = PartsByEvent o n start now
 Finds o endings.ReadingFailed start now = BeginsWhole o start now
 Finds o endings.TooLong start now = BeginsMuch o start now
-Finds o endings.WritingFailed start now = ⊥
-Finds o endings.Usage start now = ⊥
-Finds o (endings.NoPosition fault) start now = ⊥
-Finds o endings.NoMemory start now = ⊥
+Finds o ending start now = ⊥
 
 -- what was found could not be written, or not be told
 pub record WritesPart (o : Settings) (start now : Streams) : Type 0 where

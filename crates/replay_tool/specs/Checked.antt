@@ -4,13 +4,15 @@ use Rattle.std.specs.Io.KnownBytes.{Appends}
 use Rattle.line_io.specs.Causes.{Rose}
 use Rattle.line_io.specs.Lines.{items}
 use Rattle.policy_rules.specs.declared.settings.Settings.{Settings}
-use Rattle.replay_tool.specs.declared.ending.Ending.{Ending}
-use Rattle.replay_tool.specs.declared.ending.Ending.TheVariants as endings
+use Rattle.command_endings.specs.declared.ending.Ending.{Ending}
+use Rattle.command_endings.specs.declared.ending.Ending.TheVariants as endings
 use Rattle.replay_tool.specs.Check.{AreScript, BeginsWhole, BeginsMuch, ChecksAs, Differs, Finds, IsLawfulScript, WritesPart}
-use Rattle.replay_tool.specs.Diagnostics.{code_of, diagnostic, verdict}
-use Rattle.replay_tool.specs.Program.{HasLaws, Ran, WritingBroke}
-use Rattle.replay_tool.specs.Streams.{Streams, AreSame, IsSteady}
-use Rattle.replay_tool.specs.Versions.{script_fault}
+use Rattle.command_endings.specs.Diagnostics.{code_of, diagnostic}
+use Rattle.replay_tool.specs.Verdict.{verdict}
+use Rattle.replay_tool.specs.Laws.{HaveLaws}
+use Rattle.command_endings.specs.Ran.{Ran, WritingBroke}
+use Rattle.command_endings.specs.Streams.{Streams, AreSame, IsSteady}
+use Rattle.script_player.specs.Versions.{script_fault}
 
 -- All of the input was read and is the script of a lawful trace, that was written, and no stream
 -- failed.
@@ -73,4 +75,4 @@ pub record Checked (o : Settings) (Unread Kept : Type 0) (before after : Streams
   pub complete : CompletesCheck before after code
   pub complete_marked : CompletesMarked before after code
   -- of the session
-  pub laws : HasLaws o
+  pub laws : HaveLaws o

@@ -9,10 +9,14 @@ use Rattle.policy_rules.specs.Policy.{IsProper}
 use Rattle.replay_tool.specs.Moves.{fen_of}
 use Rattle.replay_tool.specs.Words.{number_of, settings_of}
 
--- what is asked for: a replay or a check with settings, a drill, or the moves of what a text spells
+-- what is asked for: a replay, a check, a migration or the games with settings, a drill, or the moves
+-- of what a text spells
 pub data Asked : Type 0 where
   Replay : (settings : Settings) → Asked
   Check : (settings : Settings) → Asked
+  Migrate : (settings : Settings) → Asked
+  Judge : Asked
+  Games : (settings : Settings) → Asked
   Drill : (number : ℕ) → (count : ℕ) → Asked
   Moves : (text : List ℕ) → Asked
 
@@ -30,16 +34,24 @@ drill_of (number ∷ count ∷ []) = drill_by (number_of 10 0 2147483647 number)
     (number_of 10 0 100000 count)
 drill_of words = None
 
--- the command of this name with these words: settings stand behind `replay` and `check`, one or
--- more
--- words behind `moves`, and two numbers behind `drill`
+-- a command that takes no words
+abbrev pub alone : Asked → List (List ℕ) → Option Asked
+alone command [] = Some command
+alone command (word ∷ words) = None
+
+-- the command of this name with these words: settings stand behind `replay`, `check`,
+-- `migrate` and `games`, none behind `judge`, one or more words behind `moves`, and two numbers
+-- behind `drill`
 abbrev pub command_named : List ℕ → List (List ℕ) → Option Asked
 command_named name words =
     if bytes_eq name (codes "replay") then option_map (λ s. Replay s) (settings_of words)
     else (if bytes_eq name (codes "check") then option_map (λ s. Check s) (settings_of words)
+    else (if bytes_eq name (codes "migrate") then option_map (λ s. Migrate s) (settings_of words)
+    else (if bytes_eq name (codes "judge") then alone Judge words
+    else (if bytes_eq name (codes "games") then option_map (λ s. Games s) (settings_of words)
     else (if bytes_eq name (codes "drill") then drill_of words
     else (if bytes_eq name (codes "moves") && nat_lt 0 (length words) then Some (Moves
-    (fen_of words)) else None)))
+    (fen_of words)) else None))))))
 
 -- the command of the words, where they fit one
 abbrev pub command_of : List (List ℕ) → Option Asked
@@ -50,6 +62,9 @@ command_of (name ∷ words) = command_named name words
 abbrev pub asked : Command → Asked
 asked (commands.Replay s) = Replay s
 asked (commands.Check s) = Check s
+asked (commands.Migrate s) = Migrate s
+asked commands.Judge = Judge
+asked (commands.Games s) = Games s
 asked (commands.Drill number count) = Drill number count
 asked (commands.Moves words) = Moves (fen_of (texts words.now))
 
@@ -57,5 +72,7 @@ asked (commands.Moves words) = Moves (fen_of (texts words.now))
 abbrev pub HasProper : Command → Type 0
 HasProper (commands.Replay s) = IsProper s
 HasProper (commands.Check s) = IsProper s
+HasProper (commands.Migrate s) = IsProper s
+HasProper (commands.Games s) = IsProper s
 HasProper (commands.Drill number count) = count ≤ 100000
 HasProper command = Unit {0}

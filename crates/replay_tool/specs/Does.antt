@@ -6,16 +6,23 @@ use Rattle.replay_tool.specs.Commands.{Asked}
 use Rattle.replay_tool.specs.Commands as asked
 use Rattle.replay_tool.specs.Drilled.{PlaysDrill}
 use Rattle.replay_tool.specs.Moves.{Lists}
-use Rattle.replay_tool.specs.Program.{HasLaws, Ran, Refused}
+use Rattle.replay_tool.specs.Laws.{HaveLaws}
+use Rattle.command_endings.specs.Ran.{Ran, Refused}
 use Rattle.replay_tool.specs.Replay.{EndsAs}
-use Rattle.replay_tool.specs.Streams.{Streams}
+use Rattle.command_endings.specs.Streams.{Streams}
+use Rattle.script_migration.specs.Migrated.{Migrated}
+use Rattle.judge_report.specs.Judged.{Judged}
+use Rattle.session_games.specs.GamesWritten.{GamesWritten}
 
 abbrev pub Does : Option Asked → Type 0 → Type 0 → Type 0 → Streams → Streams → ℕ → Type 0
 Does None unread kept silent before after code = Refused unread kept before after code
 Does (Some (asked.Replay o)) unread kept silent before after code =
-    HasLaws o × Ran (λ e. EndsAs o (unread × kept) e before after) before after code
+    HaveLaws o × Ran (λ e. EndsAs o (unread × kept) e before after) before after code
 Does (Some (asked.Check o)) unread kept silent before after code =
-    HasLaws o × Ran (λ e. ChecksAs o unread kept e before after) before after code
+    HaveLaws o × Ran (λ e. ChecksAs o unread kept e before after) before after code
+Does (Some (asked.Migrate o)) unread kept silent before after code = Migrated o unread kept before after code
+Does (Some asked.Judge) unread kept silent before after code = Judged (unread × kept) before after code
+Does (Some (asked.Games o)) unread kept silent before after code = GamesWritten o unread kept before after code
 Does (Some (asked.Moves text)) unread kept silent before after code =
     unread × Lists (position_of text) kept silent code before.output after.output before.diag
     after.diag

@@ -1,27 +1,27 @@
 -- What the command `moves` promises.
 use Rattle.std.specs.Prelude.{◌≡◌, ◌⊎◌, ℕ, List, Result, Err, IsOk}
 use Rattle.std.specs.Io.KnownBytes.{Appends}
-use Rattle.chess_board.specs.Placement.{Placement}
+use Rattle.chess_board.specs.Position.{Position}
 use Rattle.fen_text.specs.Fen.{position_of}
 use Rattle.fen_text.specs.declared.fault.FenFault.{FenFault}
-use Rattle.replay_tool.specs.Diagnostics.{position_fault}
+use Rattle.command_endings.specs.Diagnostics.{position_fault}
 use Rattle.replay_tool.specs.Moves.{FindsNoPosition, Lists, ListsAll, ListsFront}
-use Rattle.replay_tool.specs.Program.{WritingBroke}
-use Rattle.replay_tool.specs.Streams.{Streams, IsSteady}
+use Rattle.command_endings.specs.Ran.{WritingBroke}
+use Rattle.command_endings.specs.Streams.{Streams, IsSteady}
 
 -- The moves of a text that spells a position are written, or there was no memory.
-abbrev pub CompletesList : Result Placement FenFault → Streams → Streams → ℕ → Type 0
+abbrev pub CompletesList : Result Position FenFault → Streams → Streams → ℕ → Type 0
 CompletesList spelled before after code = IsOk spelled → IsSteady before after → (code ≡ 0)
     ⊎ (code ≡ 3)
 
 -- The fault of a text that spells none is told, or there was no memory.
-abbrev pub TellsPosition : Result Placement FenFault → Streams → Streams → ℕ → Type 0
+abbrev pub TellsPosition : Result Position FenFault → Streams → Streams → ℕ → Type 0
 TellsPosition spelled before after code =
     (fault : FenFault) → spelled ≡ Err fault → IsSteady before after
     → ((code ≡ 2) × Appends before.diag.taken after.diag.taken (position_fault fault)) ⊎ (code ≡ 3)
 
 -- exactly the legal moves were written, and nothing to the diagnostic
-pub record MovesWritten (spelled : Result Placement FenFault) (Silent : Type 0)
+pub record MovesWritten (spelled : Result Position FenFault) (Silent : Type 0)
     (before after : Streams) : Type 0 where
   pub moves : ListsAll spelled before.output after.output
   pub silent : Silent

@@ -4,12 +4,12 @@ use Rattle.std.specs.List.{join_with_byte}
 use Rattle.std.specs.Io.KnownBytes.{Appends}
 use Rattle.line_io.specs.Source.{Received, TakesPrefix}
 use Rattle.chess_board.specs.declared.board.Move.{Move}
-use Rattle.chess_board.specs.Placement.{Placement}
+use Rattle.chess_board.specs.Position.{Position}
 use Rattle.chess_board.specs.Text.{text_of, AreLegalMoves}
 use Rattle.fen_text.specs.declared.fault.FenFault.{FenFault}
-use Rattle.replay_tool.specs.declared.ending.Ending.TheVariants as endings
-use Rattle.replay_tool.specs.Diagnostics.{one_line, position_fault, tail_of}
-use Rattle.replay_tool.specs.Told.{Told, Writes}
+use Rattle.command_endings.specs.declared.ending.Ending.TheVariants as endings
+use Rattle.command_endings.specs.Diagnostics.{one_line, position_fault, tail_of}
+use Rattle.command_endings.specs.Told.{Told, Writes}
 
 -- each word behind a blank
 abbrev pub behind_blanks : List (List ℕ) → List ℕ
@@ -26,7 +26,7 @@ move_lines [] = []
 move_lines (m ∷ moves) = one_line (text_of m) ++ move_lines moves
 
 -- exactly the legal moves were written, or a front of them
-pub record WritesMoves (p : Placement) (silent : Type 0) (code : ℕ)
+pub record WritesMoves (p : Position) (silent : Type 0) (code : ℕ)
     (output output_now diag diag_now : Received) : Type 0 where
   pub moves : List Move
   pub legal : AreLegalMoves p moves
@@ -34,37 +34,37 @@ pub record WritesMoves (p : Placement) (silent : Type 0) (code : ℕ)
 
 -- How the moves of what a text spells were listed. Nothing is written to the output where there is
 -- no memory or no position.
-pub data Lists (spelled : Result Placement FenFault) (kept silent : Type 0) (code : ℕ)
+pub data Lists (spelled : Result Position FenFault) (kept silent : Type 0) (code : ℕ)
     (output output_now diag diag_now : Received) : Type 0 where
   WantsMemory : kept → Told code 3 (tail_of endings.NoMemory) diag diag_now
       → Lists spelled kept silent code output output_now diag diag_now
   Refuses : (fault : FenFault) → spelled ≡ Err fault → kept → Told code 2
       (position_fault fault) diag diag_now
       → Lists spelled kept silent code output output_now diag diag_now
-  Writes_all : (p : Placement) → spelled ≡ Ok p → WritesMoves p silent code output output_now diag
+  Writes_all : (p : Position) → spelled ≡ Ok p → WritesMoves p silent code output output_now diag
       diag_now
       → Lists spelled kept silent code output output_now diag diag_now
 
 -- the output took exactly the legal moves of the position that was spelled
-pub record ListsAll (spelled : Result Placement FenFault)
+pub record ListsAll (spelled : Result Position FenFault)
     (output output_now : Received) : Type 0 where
-  pub position : Placement
+  pub position : Position
   pub is_spelled : spelled ≡ Ok position
   pub moves : List Move
   pub legal : AreLegalMoves position moves
   pub written : Appends output.taken output_now.taken (move_lines moves)
 
 -- the output took a front of the legal moves of the position that was spelled
-pub record ListsFront (spelled : Result Placement FenFault)
+pub record ListsFront (spelled : Result Position FenFault)
     (output output_now : Received) : Type 0 where
-  pub position : Placement
+  pub position : Position
   pub is_spelled : spelled ≡ Ok position
   pub moves : List Move
   pub legal : AreLegalMoves position moves
   pub written : TakesPrefix output.taken output_now.taken (move_lines moves)
 
 -- the text spells no position, and its fault was told
-pub record FindsNoPosition (spelled : Result Placement FenFault)
+pub record FindsNoPosition (spelled : Result Position FenFault)
     (diag diag_now : Received) : Type 0 where
   pub fault : FenFault
   pub is_spelled : spelled ≡ Err fault

@@ -5,8 +5,8 @@ use Rattle.line_io.specs.Lines.{Piece, Whole, TooLong}
 use Rattle.script_lines.specs.Marks.{Mark, Happens, mark_of}
 use Rattle.adapter_core.specs.declared.ends.Ends.{Ends}
 use Rattle.adapter_core.specs.Ends.{may, ends_after, at_start}
-use Rattle.replay_tool.specs.declared.ending.Ending.{Ending}
-use Rattle.replay_tool.specs.declared.ending.Ending.TheVariants as endings
+use Rattle.command_endings.specs.declared.ending.Ending.{Ending}
+use Rattle.command_endings.specs.declared.ending.Ending.TheVariants as endings
 
 -- what a line says, where these events came before: an event that may come, one that may not, a
 -- line that was written, or nothing

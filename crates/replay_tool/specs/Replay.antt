@@ -4,22 +4,17 @@ use Rattle.std.specs.Io.KnownBytes.{Appends}
 use Rattle.line_io.specs.Causes.{Rose}
 use Rattle.line_io.specs.Lines.{Piece, Reads, items}
 use Rattle.line_io.specs.Runs.{whole}
+use Rattle.line_io.specs.Taken.{IsOpenStill}
 use Rattle.line_io.specs.Source.{Supplied, Received}
 use Rattle.policy_rules.specs.declared.settings.Settings.{Settings}
 use Rattle.adapter_core.specs.Trace.{Step, Lawful}
 use Rattle.session_script.specs.Script.{events}
-use Rattle.replay_tool.specs.Streams.{Streams}
-use Rattle.replay_tool.specs.Playing.{Scripted}
-use Rattle.replay_tool.specs.Versions.{script_by, script_events, script_fault, settings_by, version_in}
-use Rattle.replay_tool.specs.declared.ending.Ending.{Ending}
-use Rattle.replay_tool.specs.declared.ending.Ending.TheVariants as endings
-
-abbrev pub Got : Streams → Streams → List ℕ → Type 0
-Got start now got = Reads start.input now.input got
-
--- the bytes are all that was left
-abbrev pub IsAll : Option (List ℕ) → List ℕ → Type 0
-IsAll left got = IfSome left (λ x. x ≡ got)
+use Rattle.command_endings.specs.Reads.{Got, IsAll, AreFirst, AreRead}
+use Rattle.command_endings.specs.Streams.{Streams}
+use Rattle.script_player.specs.Playing.{Scripted}
+use Rattle.script_player.specs.Versions.{script_by, script_events, script_fault, settings_by, version_in}
+use Rattle.command_endings.specs.declared.ending.Ending.{Ending}
+use Rattle.command_endings.specs.declared.ending.Ending.TheVariants as endings
 
 -- the output got the script of a lawful trace whose events are those of the lines
 abbrev pub IsScripted : Settings → Streams → Streams → List Piece → Type 0
@@ -32,17 +27,6 @@ pub record ReplaysAll (o : Settings) (start now : Streams) : Type 0 where
   pub all : IsAll start.input.left got
   pub fine : script_fault (items 131072 got) ≡ None
   pub scripted : IsScripted o start now (items 131072 got)
-
--- the lines are the first of the input
-abbrev pub AreFirst : Option (List ℕ) → List Piece → Type 0
-AreFirst left lines = IfSome left (λ x. (ls : List Piece) × (items 131072 x ≡ lines ++ ls))
-
--- the lines were read: they are the first of the bytes got, and of all bytes that were left
-pub record AreRead (start now : Streams) (lines : List Piece) : Type 0 where
-  pub got : List ℕ
-  pub reads : Got start now got
-  pub of_got : (ls : List Piece) × (items 131072 got ≡ lines ++ ls)
-  pub of_left : AreFirst start.input.left lines
 
 -- the first lines of the input were replayed, up to a fault
 pub record ReplaysTo (o : Settings) (fault : Ending) (start now : Streams) : Type 0 where
@@ -59,6 +43,11 @@ pub record ReplaysWhole (o : Settings) (least : ℕ) (start now : Streams) : Typ
   pub first : AreFirst start.input.left (whole 131072 got)
   pub fine : script_fault (whole 131072 got) ≡ None
   pub scripted : IsScripted o start now (whole 131072 got)
+
+-- the input is too long: all whole lines of 2^32 bytes or more were replayed, and no read saw the end
+pub record ReplaysMuch (o : Settings) (start now : Streams) : Type 0 where
+  pub replays : ReplaysWhole o (2 ^ 32) start now
+  pub still_open : IsOpenStill 131072 replays.got (whole 131072 replays.got)
 
 -- The output got a front of the script of a lawful trace. Its events are those of the first lines of the input.
 pub record CutShort (o : Settings) (start now : Streams) : Type 0 where
@@ -78,21 +67,11 @@ Stopped o (endings.OutOfStep n) start now = ReplaysTo o (endings.OutOfStep n) st
 Stopped o (endings.MayNotCome n) start now = ReplaysTo o (endings.MayNotCome n) start now
 Stopped o endings.ReadingFailed start now = ReplaysWhole o 0 start now
 -- the input is too long
-Stopped o endings.TooLong start now = ReplaysWhole o (2 ^ 32) start now
+Stopped o endings.TooLong start now = ReplaysMuch o start now
 Stopped o endings.WritingFailed start now = CutShort o start now
-Stopped o (endings.Differs n) start now = ⊥
-Stopped o endings.Usage start now = ⊥
-Stopped o (endings.NoPosition fault) start now = ⊥
-Stopped o endings.NoMemory start now = ⊥
+Stopped o ending start now = ⊥
 
 -- how a replay ended: want of memory leaves the input and the output untouched
 abbrev pub EndsAs : Settings → Type 0 → Ending → Streams → Streams → Type 0
 EndsAs o untouched endings.NoMemory start now = untouched
 EndsAs o untouched ending start now = Stopped o ending start now
-
--- Why a run stopped. A count is as before where no failure took place.
-pub record Causes (ending : Ending) (input input_now : Supplied) (output output_now : Received) : Type 0 where
-  pub reading : ending ≡ endings.ReadingFailed → Rose input.faults input_now.faults
-  pub writing : ending ≡ endings.WritingFailed → Rose output.faults output_now.faults
-  pub read : ending ≢ endings.ReadingFailed → ending ≢ endings.WritingFailed → input_now.faults ≡ input.faults
-  pub written : ending ≢ endings.WritingFailed → output_now.faults ≡ output.faults

@@ -5,15 +5,18 @@ use Rattle.line_io.specs.Causes.{Rose}
 use Rattle.line_io.specs.Event.{Event}
 use Rattle.line_io.specs.Lines.{Piece, items}
 use Rattle.line_io.specs.Runs.{whole}
+use Rattle.line_io.specs.Taken.{IsOpenStill}
 use Rattle.policy_rules.specs.declared.settings.Settings.{Settings}
 use Rattle.adapter_core.specs.Trace.{Step, Lawful, state}
 use Rattle.session_script.specs.Script.{script1, events, AreShort}
-use Rattle.replay_tool.specs.declared.ending.Ending.{Ending}
-use Rattle.replay_tool.specs.Diagnostics.{diagnostic}
-use Rattle.replay_tool.specs.Program.{HasLaws, Ran, WritingBroke}
-use Rattle.replay_tool.specs.Replay.{AreFirst, AreRead, EndsAs, Got, IsAll}
-use Rattle.replay_tool.specs.Streams.{Streams, AreSame, IsSteady}
-use Rattle.replay_tool.specs.Versions.{script_by, script_events, script_fault, settings_by, version_in}
+use Rattle.command_endings.specs.declared.ending.Ending.{Ending}
+use Rattle.command_endings.specs.Diagnostics.{diagnostic}
+use Rattle.replay_tool.specs.Laws.{HaveLaws}
+use Rattle.command_endings.specs.Ran.{Ran, WritingBroke}
+use Rattle.command_endings.specs.Reads.{AreFirst, AreRead, Got, IsAll}
+use Rattle.replay_tool.specs.Replay.{EndsAs}
+use Rattle.command_endings.specs.Streams.{Streams, AreSame, IsSteady}
+use Rattle.script_player.specs.Versions.{script_by, script_events, script_fault, settings_by, version_in}
 
 -- The trace is the lawful one with these settings and these events: there is no other.
 pub record IsTheSession (o : Settings) (happened : List Event) (trace : List Step) : Type 0 where
@@ -58,10 +61,11 @@ pub record WholeReplayed (o : Settings) (before after : Streams) : Type 0 where
   pub faultless : script_fault (whole 131072 got) ≡ None
   pub script : WritesScript o before after (whole 131072 got)
 
--- so it is where the input gave at least 2^32 bytes
+-- so it is where the input gave at least 2^32 bytes, and none of the reads saw its end
 pub record MuchReplayed (o : Settings) (before after : Streams) : Type 0 where
   pub replayed : WholeReplayed o before after
   pub least : 2 ^ 32 ≤ length replayed.got
+  pub still_open : IsOpenStill 131072 replayed.got (whole 131072 replayed.got)
 
 -- The output took a front of the script of the session of the first lines.
 pub record FrontWritten (o : Settings) (before after : Streams) : Type 0 where
@@ -110,4 +114,4 @@ pub record Replayed (o : Settings) (Unread Kept : Type 0) (before after : Stream
   pub faults_told : TellsFault before after code
   pub again : WritesItAgain o before after code
   -- of the session
-  pub laws : HasLaws o
+  pub laws : HaveLaws o

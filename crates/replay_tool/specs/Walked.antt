@@ -12,19 +12,19 @@ use Rattle.policy_rules.specs.declared.settings.Settings.{Settings}
 use Rattle.adapter_core.specs.declared.ends.Ends.{Ends}
 use Rattle.adapter_core.specs.Ends.{is_over}
 use Rattle.adapter_core.specs.Trace.{Step, Lawful, state}
-use Rattle.adapter_core.specs.View.{View}
+use Rattle.adapter_core.specs.Parts.{Parts}
 use Rattle.adapter_core.specs.Stands.{Stands}
-use Rattle.session_script.specs.Script.{written_text, told_in}
-use Rattle.replay_tool.specs.declared.ending.Ending.{Ending}
-use Rattle.replay_tool.specs.declared.ending.Ending.TheVariants as endings
-use Rattle.replay_tool.specs.declared.check.Audit.{Audit}
-use Rattle.replay_tool.specs.declared.stage.Stage.{Stage}
-use Rattle.replay_tool.specs.declared.stage.Stage.TheVariants as stages
+use Rattle.session_script.specs.Script.{written_text, reply_in}
+use Rattle.command_endings.specs.declared.ending.Ending.{Ending}
+use Rattle.command_endings.specs.declared.ending.Ending.TheVariants as endings
+use Rattle.replay_tool.specs.declared.check.Checker.{Checker}
+use Rattle.script_player.specs.declared.stage.Stage.{Stage}
+use Rattle.script_player.specs.declared.stage.Stage.TheVariants as stages
 use Rattle.replay_tool.specs.Check.{Finds, lines_by}
-use Rattle.replay_tool.specs.Playing.{Adds}
-use Rattle.replay_tool.specs.Streams.{Streams}
-use Rattle.replay_tool.specs.Replay.{Got, IsAll}
-use Rattle.replay_tool.specs.Versions.{Said, Comes, Passes, Starts, HasNoMark, IsOutOfStep, Cannot, Version, First, Second, kind_of, kind_says, settings_by, stage_started, stage_told, version_in}
+use Rattle.script_player.specs.Playing.{Adds}
+use Rattle.command_endings.specs.Streams.{Streams}
+use Rattle.command_endings.specs.Reads.{Got, IsAll}
+use Rattle.script_player.specs.Versions.{Said, Comes, Passes, Starts, HasNoMark, IsOutOfStep, Cannot, Version, First, Second, kind_of, kind_says, settings_by, stage_started, stage_told, version_in}
 
 -- what a line is: the event that may come where nothing is due, the number of the next step, the line that is due, or another
 pub data Fit : Type 0 where
@@ -74,47 +74,47 @@ fault_in TakesDue = None
 fault_in (Fails e) = Some e
 
 -- a step of this event was taken, and its written lines are due
-pub record Fills (old new : View) (e : Event) (due : List ℕ) : Type 0 where
+pub record Fills (old new : Parts) (e : Event) (due : List ℕ) : Type 0 where
   pub step : Step
   pub adds : Adds old new e step
   pub due_is : due ≡ written_text step
 
 -- what was done with a line
-abbrev pub Followed : View → Stage → List ℕ → Fit → View → Stage → List ℕ → Type 0
+abbrev pub Followed : Parts → Stage → List ℕ → Fit → Parts → Stage → List ℕ → Type 0
 Followed old stage due (TakesEvent e) new stage' due' = Fills old new e due' × (stage' ≡ stage_told stage)
 Followed old stage due (TakesNumber n) new stage' due' = (new ≡ old) × (stage' ≡ stage_started stage n) × (due' ≡ due)
 Followed old stage due TakesDue new stage' due' = (new ≡ old) × (stage' ≡ stage) × (due' ≡ after_first is_feed due)
 Followed old stage due (Fails e) new stage' due' = ⊤
 
 -- The header was taken: the session has its settings, its first step was taken, and the number of that and its written lines are due.
-pub record Heads (settings : Settings) (new : View) (due : List ℕ) : Type 0 where
-  pub set : View
+pub record Heads (settings : Settings) (new : Parts) (due : List ℕ) : Type 0 where
+  pub set : Parts
   pub stands : Stands settings set []
   pub step : Step
   pub adds : Adds set new Open step
   pub due_is : due ≡ step_line 0 ++ 10 ∷ written_text step
 
 -- The session was opened without a header, and then the line was taken.
-pub record OpensWith (old : View) (number : ℕ) (line : List ℕ) (answer : Option Ending) (new : View) (stage : Stage) (due : List ℕ) : Type 0 where
-  pub core : View
+pub record OpensWith (old : Parts) (number : ℕ) (line : List ℕ) (answer : Option Ending) (new : Parts) (stage : Stage) (due : List ℕ) : Type 0 where
+  pub core : Parts
   pub lines : List ℕ
   pub opens : Fills old core Open lines
   pub ending : answer ≡ fault_in (fit stages.Plain core.ends lines number line)
   pub follows : Followed core stages.Plain lines (fit stages.Plain core.ends lines number line) new stage due
 
 -- what was done with the first line, which is this header or none
-abbrev pub TakesFirst : Option Settings → View → ℕ → List ℕ → Option Ending → View → Stage → List ℕ → Type 0
+abbrev pub TakesFirst : Option Settings → Parts → ℕ → List ℕ → Option Ending → Parts → Stage → List ℕ → Type 0
 TakesFirst (Some settings) old number line answer new stage due =
     Heads settings new due × (stage ≡ stages.Told 0) × (answer ≡ None)
 TakesFirst None old number line answer new stage due = OpensWith old number line answer new stage due
 
 -- a line of a session that was opened
-pub record TakesLater (old : View) (stage : Stage) (due : List ℕ) (number : ℕ) (line : List ℕ) (answer : Option Ending) (new : View) (stage' : Stage) (due' : List ℕ) : Type 0 where
+pub record TakesLater (old : Parts) (stage : Stage) (due : List ℕ) (number : ℕ) (line : List ℕ) (answer : Option Ending) (new : Parts) (stage' : Stage) (due' : List ℕ) : Type 0 where
   pub ending : answer ≡ fault_in (fit stage old.ends due number line)
   pub follows : Followed old stage due (fit stage old.ends due number line) new stage' due'
 
 -- what was done with a line
-abbrev pub TakesAny : View → Stage → List ℕ → ℕ → List ℕ → Option Ending → View → Stage → List ℕ → Type 0
+abbrev pub TakesAny : Parts → Stage → List ℕ → ℕ → List ℕ → Option Ending → Parts → Stage → List ℕ → Type 0
 TakesAny old stages.Start due number line answer new stage' due' = TakesFirst (header_of line) old number line answer new stage' due'
 TakesAny old stage due number line answer new stage' due' = TakesLater old stage due number line answer new stage' due'
 
@@ -123,14 +123,14 @@ abbrev pub at_end : List ℕ → ℕ → Ending
 at_end due n = if length due == 0 then endings.Done else endings.Differs (n + 1)
 
 -- The session was opened without a header, and then the end came.
-pub record OpensAtEnd (old : View) (number : ℕ) (answer : Ending) : Type 0 where
-  pub core : View
+pub record OpensAtEnd (old : Parts) (number : ℕ) (answer : Ending) : Type 0 where
+  pub core : Parts
   pub lines : List ℕ
   pub opens : Fills old core Open lines
   pub ending : answer ≡ at_end lines number
 
 -- what the end of the input shows
-abbrev pub EndsAt : View → Stage → List ℕ → ℕ → Ending → Type 0
+abbrev pub EndsAt : Parts → Stage → List ℕ → ℕ → Ending → Type 0
 EndsAt core stages.Start due n answer = OpensAtEnd core n answer
 EndsAt core stages.Plain due n answer = answer ≡ at_end due n
 EndsAt core (stages.Told number) due n answer = answer ≡ at_end due n
@@ -146,7 +146,7 @@ IsOpen (stages.Told number) = number < 10 ^ 18
 IsOpen (stages.Numbered number) = number < 10 ^ 18
 
 -- a line may be taken
-abbrev pub MayTake : View → Stage → Type 0
+abbrev pub MayTake : Parts → Stage → Type 0
 MayTake core stages.Start = Stands core.settings core []
 MayTake core stages.Plain = ⊤
 MayTake core stages.Headed = ⊥
@@ -154,16 +154,16 @@ MayTake core (stages.Told number) = number < 10 ^ 18
 MayTake core (stages.Numbered number) = number < 10 ^ 18
 
 -- a check before its first line
-pub record IsUnread (o : Settings) (audit : Audit) : Type 0 where
-  pub core : Stands o audit.core []
-  pub stage : audit.stage ≡ stages.Start
-  pub lines : audit.lines ≡ unread 131072
-  pub number : audit.number ≡ 0
+pub record IsUnread (o : Settings) (checker : Checker) : Type 0 where
+  pub core : Stands o checker.core []
+  pub stage : checker.stage ≡ stages.Start
+  pub lines : checker.lines ≡ unread 131072
+  pub number : checker.number ≡ 0
 
 -- the lines and those that are due are a script, and only written lines and the first step line are due
 pub record Shows (version : Version) (trace : List Step) (due : List ℕ) (lines : List Piece) : Type 0 where
   pub same : lines_by version trace ≡ lines ++ map Whole (parts due)
-  pub quiet : told_in (parts due) ≡ []
+  pub quiet : reply_in (parts due) ≡ []
 
 -- the step of this number was the last
 pub record WasLast (number : ℕ) (trace : List Step) : Type 0 where
@@ -190,7 +190,7 @@ IsProperIn First = ⊤
 IsProperIn (Second settings) = IsProper settings
 
 -- The lines were taken, and they and those that are due are a lawful script.
-pub record Standing (o : Settings) (version : Version) (core : View) (stage : Stage) (due : List ℕ) (lines : List Piece) : Type 0 where
+pub record Standing (o : Settings) (version : Version) (core : Parts) (stage : Stage) (due : List ℕ) (lines : List Piece) : Type 0 where
   pub proper : IsProperIn version
   pub trace : List Step
   pub lawful : Lawful (settings_by version o) trace
@@ -199,21 +199,21 @@ pub record Standing (o : Settings) (version : Version) (core : View) (stage : St
   pub at : AreAt version core.ends stage trace due lines
 
 -- no line was taken yet, or these
-abbrev pub Placed : Settings → View → Stage → List ℕ → List Piece → Type 0
+abbrev pub Placed : Settings → Parts → Stage → List ℕ → List Piece → Type 0
 Placed o core stage due [] = Stands o core [] × (stage ≡ stages.Start)
 Placed o core stage due (line ∷ lines) = Standing o (version_in (line ∷ lines)) core stage due (line ∷ lines)
 
 -- So many calls of the reader were made, none of which ended it, and the lines that they gave and those that are due are a lawful script.
-pub record Walked (o : Settings) (audit : Audit) (start now : Streams) (calls : ℕ) : Type 0 where
+pub record Walked (o : Settings) (checker : Checker) (start now : Streams) (calls : ℕ) : Type 0 where
   pub got : List ℕ
   pub lines : List Piece
-  pub runs : Runs 131072 audit.lines got lines calls
+  pub runs : Runs 131072 checker.lines got lines calls
   pub reads : Got start now got
-  pub ended : audit.lines.ended ≡ true → IsAll start.input.left got
-  pub number : audit.number ≡ length lines
-  pub placed : Placed o audit.core audit.stage audit.due lines
+  pub ended : checker.lines.ended ≡ true → IsAll start.input.left got
+  pub number : checker.number ≡ length lines
+  pub placed : Placed o checker.core checker.stage checker.due lines
 
 -- what a turn came to
-abbrev pub Audited : Settings → Option Ending → Audit → Streams → Streams → ℕ → Type 0
-Audited o None audit start now calls = Walked o audit start now (suc calls)
-Audited o (Some ending) audit start now calls = Finds o ending start now
+abbrev pub Examined : Settings → Option Ending → Checker → Streams → Streams → ℕ → Type 0
+Examined o None checker start now calls = Walked o checker start now (suc calls)
+Examined o (Some ending) checker start now calls = Finds o ending start now

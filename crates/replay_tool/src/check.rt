@@ -8,34 +8,34 @@ ghost use Rattle.policy_rules.specs.Policy.{IsProper};
 ghost use Rattle.policy_rules.specs.declared.settings.Settings.{Settings as SpecSettings};
 ghost use Rattle.adapter_core.specs.Ends.{may};
 ghost use Rattle.adapter_core.specs.Stands.{Stands};
-ghost use Rattle.replay_tool.specs.declared.ending.Ending.TheVariants as endings;
+ghost use Rattle.command_endings.specs.declared.ending.Ending.TheVariants as endings;
 ghost use Rattle.replay_tool.specs.Check.{Finds};
-ghost use Rattle.replay_tool.specs.Streams.{Streams, with_input};
-ghost use Rattle.replay_tool.specs.Walked.{Audited, EndsAt, Fills, Followed, Heads, IsOpen, IsUnread, MayTake, TakesAny, TakesFirst, Walked, fault_in, fit, number_undue, undue};
+ghost use Rattle.command_endings.specs.Streams.{Streams, with_input};
+ghost use Rattle.replay_tool.specs.Walked.{Examined, EndsAt, Fills, Followed, Heads, IsOpen, IsUnread, MayTake, TakesAny, TakesFirst, Walked, fault_in, fit, number_undue, undue};
 
-use crate::due::Due;
-use crate::ending::Ending;
-use crate::limits::{LAST_TURNS, LINE_LIMIT, TURNS};
-use crate::stage::{Said, Stage};
+use crate::expected_lines::ExpectedLines;
+use crate::limits::{LAST_TURNS, TURNS};
 use adapter_core::Core;
+use command_endings::{Ending, LINE_LIMIT};
 use line_io::{Event, Item, Lines, NoMemory, Source};
 use policy_rules::Settings;
 use script_lines::read_header;
+use script_player::{Said, Stage};
 use std::alloc::Global;
 
 // A session, the lines of a log, where the reading stands, and the lines that are due in it.
 #[derive(Drop)]
-pub(crate) struct Audit {
+pub(crate) struct Checker {
     core: Core,
     lines: Lines,
     stage: Stage,
-    due: Due,
+    due: ExpectedLines,
     /// How many lines were taken.
     number: u64,
 }
 
 // One step of the core: its lines are due.
-fn step(core: &mut Core, event: &Event, due: &mut Due)
+fn step(core: &mut Core, event: &Event, due: &mut ExpectedLines)
     requires { may core.old.ends (event_of event.now) ≡ true }
     ensures { Fills core.old core.new (event_of event.now) due.new }
 {
@@ -44,7 +44,7 @@ fn step(core: &mut Core, event: &Event, due: &mut Due)
 }
 
 // The first step of a log of version 2: its number is due, and its lines.
-fn open_numbered(core: &mut Core, settings: &Settings, due: &mut Due)
+fn open_numbered(core: &mut Core, settings: &Settings, due: &mut ExpectedLines)
     requires proper { IsProper settings.now }
     requires new { Stands core.old.settings core.old [] }
     ensures { Heads settings.now core.new due.new }
@@ -60,11 +60,12 @@ fn take_undue(
     stage: &mut Stage,
     number: u64,
     line: &[u8],
-    due: &mut Due,
+    due: &mut ExpectedLines,
 ) -> Option<Ending>
     requires { IsOpen stage.old }
     ensures ending { result ≡ fault_in (undue stage.old core.old.ends number line.now) }
-    ensures follows { Followed core.old stage.old due.old (undue stage.old core.old.ends number line.now)
+    ensures follows { Followed core.old stage.old due.old
+        (undue stage.old core.old.ends number line.now)
         core.new stage.new due.new }
     ensures open { IsOpen stage.new }
     ensures unread { result ≢ Some endings.ReadingFailed }
@@ -105,11 +106,12 @@ fn take_line(
     stage: &mut Stage,
     number: u64,
     line: &[u8],
-    due: &mut Due,
+    due: &mut ExpectedLines,
 ) -> Option<Ending>
     requires { IsOpen stage.old }
     ensures ending { result ≡ fault_in (fit stage.old core.old.ends due.old number line.now) }
-    ensures follows { Followed core.old stage.old due.old (fit stage.old core.old.ends due.old number line.now)
+    ensures follows { Followed core.old stage.old due.old
+        (fit stage.old core.old.ends due.old number line.now)
         core.new stage.new due.new }
     ensures open { IsOpen stage.new }
     ensures unread { result ≢ Some endings.ReadingFailed }
@@ -131,10 +133,11 @@ fn take_first(
     stage: &mut Stage,
     number: u64,
     line: &[u8],
-    due: &mut Due,
+    due: &mut ExpectedLines,
 ) -> Option<Ending>
     requires { Stands core.old.settings core.old [] }
-    ensures taken { TakesFirst (header_of line.now) core.old number line.now result core.new stage.new due.new }
+    ensures taken { TakesFirst
+        (header_of line.now) core.old number line.now result core.new stage.new due.new }
     ensures open { IsOpen stage.new }
     ensures unread { result ≢ Some endings.ReadingFailed }
 {
@@ -158,7 +161,7 @@ fn take_any(
     stage: &mut Stage,
     number: u64,
     line: &[u8],
-    due: &mut Due,
+    due: &mut ExpectedLines,
 ) -> Option<Ending>
     requires { MayTake core.old stage.old }
     ensures taken { TakesAny core.old stage.old due.old number line.now result core.new stage.new due.new }
@@ -173,7 +176,7 @@ fn take_any(
     }
 }
 
-fn ending_at(due: &Due, number: u64) -> Ending
+fn ending_at(due: &ExpectedLines, number: u64) -> Ending
     requires { number < 18446744073709551615 }
     ensures { result ≡ at_end due.now number }
 {
@@ -187,7 +190,7 @@ fn ending_at(due: &Due, number: u64) -> Ending
 ghost use Rattle.replay_tool.specs.Walked.{at_end};
 
 // The end of the input: no line that is due, and no event of a step, is to be missing.
-fn end_of(core: &mut Core, stage: Stage, number: u64, due: &mut Due) -> Ending
+fn end_of(core: &mut Core, stage: Stage, number: u64, due: &mut ExpectedLines) -> Ending
     requires may { MayTake core.old stage }
     requires number { number < 18446744073709551615 }
     ensures { EndsAt core.old stage due.old number result }
@@ -202,18 +205,18 @@ fn end_of(core: &mut Core, stage: Stage, number: u64, due: &mut Due) -> Ending
     }
 }
 
-impl Audit {
+impl Checker {
     /// An audit before its first line. It takes all memory that it ever uses.
-    pub fn make(alloc: Global, settings: &Settings) -> Result<Audit, NoMemory>
+    pub fn make(alloc: Global, settings: &Settings) -> Result<Checker, NoMemory>
         requires { IsProper settings.now }
-        ensures unread { IfOk result (λ audit. IsUnread audit.core.settings audit) }
-        ensures settings { IfOk result (λ audit. audit.core.settings ≡ settings.now) }
+        ensures unread { IfOk result (λ checker. IsUnread checker.core.settings checker) }
+        ensures settings { IfOk result (λ checker. checker.core.settings ≡ settings.now) }
     {
-        Ok(Audit {
+        Ok(Checker {
             core: Core::make(alloc, settings)?,
             lines: Lines::make(alloc, LINE_LIMIT)?,
             stage: Stage::Start,
-            due: Due::make(alloc)?,
+            due: ExpectedLines::make(alloc)?,
             number: 0,
         })
     }
@@ -224,7 +227,7 @@ impl Audit {
         requires number { self.old.number < 18446744073709551615 }
         ensures audited { (o : SpecSettings) (start now : Streams) (calls : ℕ)
             → Walked o self.old start (with_input now (I.state input.old)) calls
-            → Audited o result self.new start (with_input now (I.state input.new)) calls }
+            → Examined o result self.new start (with_input now (I.state input.new)) calls }
         ensures may { result ≡ None → MayTake self.new.core self.new.stage }
         ensures same { result ≢ Some endings.ReadingFailed → (I.state input.new).faults ≡
             (I.state input.old).faults }

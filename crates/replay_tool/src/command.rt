@@ -1,7 +1,7 @@
 // The commands of the program.
 ghost use Rattle.std.specs.Prelude.{◌≡◌, IfSome};
 ghost use Rattle.std.specs.Option.{option_map};
-ghost use Rattle.replay_tool.specs.Commands.{HasProper, asked, command_of, command_named, drill_of, texts};
+ghost use Rattle.replay_tool.specs.Commands.{Judge, HasProper, alone, asked, command_of, command_named, drill_of, texts};
 
 use crate::settings::{read_number, read_settings};
 use policy_rules::Settings;
@@ -13,6 +13,12 @@ pub enum Command<'a> {
     Replay(Settings),
     /// Compares the input with the lawful script of its events.
     Check(Settings),
+    /// Turns the input, a script of version 1, into one of version 2 with these settings.
+    Migrate(Settings),
+    /// Judges the log of any bridge.
+    Judge,
+    /// Writes the games of the session in the input, with these settings.
+    Games(Settings),
     /// Plays the drill of a number, with so many rounds.
     Drill { number: u32, count: u32 },
     /// Lists the legal moves of the position that these words spell.
@@ -32,6 +38,17 @@ fn read_drill(words: &[Vec<u8>]) -> Option<Command>
     })
 }
 
+/// The command `judge`, which takes no words.
+fn read_judge<'a>(words: &[Vec<u8>]) -> Option<Command<'a>>
+    ensures value { option_map asked result ≡ alone Judge (texts words.now) }
+    ensures proper { IfSome result (λ command. HasProper command) }
+{
+    match words {
+        [] => Some(Command::Judge),
+        _ => None,
+    }
+}
+
 fn read_named<'a>(name: &[u8], words: &'a [Vec<u8>]) -> Option<Command<'a>>
     ensures value { option_map asked result ≡ command_named name.now (texts words.now) }
     ensures proper { IfSome result (λ command. HasProper command) }
@@ -40,6 +57,12 @@ fn read_named<'a>(name: &[u8], words: &'a [Vec<u8>]) -> Option<Command<'a>>
         Some(Command::Replay(read_settings(words)?))
     } else if name == b"check".as_slice() {
         Some(Command::Check(read_settings(words)?))
+    } else if name == b"migrate".as_slice() {
+        Some(Command::Migrate(read_settings(words)?))
+    } else if name == b"judge".as_slice() {
+        read_judge(words)
+    } else if name == b"games".as_slice() {
+        Some(Command::Games(read_settings(words)?))
     } else if name == b"drill".as_slice() {
         read_drill(words)
     } else if name == b"moves".as_slice() && !words.is_empty() {

@@ -3,17 +3,15 @@
 
 mod check;
 mod command;
-mod due;
-mod ending;
+mod expected_lines;
 mod limits;
 mod moves;
 mod play;
-mod player;
 mod replay;
 mod run;
 mod settings;
-mod stage;
 #[cfg(test)]
 mod tests;
+mod verdict;
 
 pub use replay::{refuse_for_memory, replay_main};

@@ -1,8 +1,5 @@
 // The limits of a run.
 
-/// How many bytes a line of a script has at most.
-pub const LINE_LIMIT: usize = 131_072;
-
 /// Calls of the reader by which 2^32 bytes were read: at most two for each byte.
 pub const TURNS: u64 = 8_589_934_592;
 

@@ -5,11 +5,11 @@ ghost use Rattle.chess_board.specs.declared.board.Move.{Move as AnyMove};
 ghost use Rattle.chess_board.specs.Text.{IsOfficer, text_of};
 ghost use Rattle.fen_text.specs.Fen.{position_of};
 ghost use Rattle.replay_tool.specs.Commands.{texts};
-ghost use Rattle.replay_tool.specs.Diagnostics.{code_of, one_line};
+ghost use Rattle.command_endings.specs.Diagnostics.{code_of, one_line};
 ghost use Rattle.replay_tool.specs.Moves.{Lists, WritesMoves, fen_of, move_lines};
 
-use crate::ending::{Ending, tell_short, write_lines};
 use chess_board::{Move, Position, move_texts_are_exact, move_texts_are_short, write_move};
+use command_endings::{Ending, tell_short, write_lines};
 use fen_text::read_fen;
 use line_io::{NoMemory, Out, Sink};
 use std::alloc::Global;

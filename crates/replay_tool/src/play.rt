@@ -1,9 +1,9 @@
 // The command `drill`.
 ghost use Rattle.std.specs.Prelude.{◌≡◌, ◌≤◌};
 ghost use Rattle.replay_tool.specs.Drilled.{PlaysDrill};
-ghost use Rattle.replay_tool.specs.Diagnostics.{code_of};
+ghost use Rattle.command_endings.specs.Diagnostics.{code_of};
 
-use crate::ending::{Ending, tell_short, write_lines};
+use command_endings::{Ending, tell_short, write_lines};
 use drill::drill_line;
 use line_io::Sink;
 use std::alloc::Global;

@@ -7,34 +7,39 @@ ghost use Rattle.replay_tool.specs.Check.{ChecksAs};
 ghost use Rattle.replay_tool.specs.Checked.{Checked};
 ghost use Rattle.replay_tool.specs.Commands as asked;
 ghost use Rattle.replay_tool.specs.Commands.{command_of, texts};
-ghost use Rattle.replay_tool.specs.Diagnostics.{code_of, tail_of};
+ghost use Rattle.command_endings.specs.Diagnostics.{code_of, tail_of};
 ghost use Rattle.replay_tool.specs.Does.{Does};
 ghost use Rattle.replay_tool.specs.Drilled.{Drilled};
 ghost use Rattle.replay_tool.specs.Listed.{Listed};
-ghost use Rattle.replay_tool.specs.Program.{HasLaws, Ran, Refused};
+ghost use Rattle.replay_tool.specs.Laws.{HaveLaws};
+ghost use Rattle.command_endings.specs.Ran.{Ran, Refused};
 ghost use Rattle.replay_tool.specs.Replay.{EndsAs};
 ghost use Rattle.replay_tool.specs.Replayed.{Replayed};
-ghost use Rattle.replay_tool.specs.Streams.{streams};
+ghost use Rattle.command_endings.specs.Streams.{streams};
 ghost use Rattle.replay_tool.specs.Walked.{IsUnread};
+ghost use Rattle.judge_report.specs.Judged.{Judged};
+ghost use Rattle.script_migration.specs.Migrated.{Migrated};
+ghost use Rattle.session_games.specs.GamesWritten.{GamesWritten};
 
-use crate::check::Audit;
+use crate::check::Checker;
 use crate::command::{Command, read_command};
-use crate::ending::{Ending, tell, tell_short, write_verdict};
 use crate::moves::list_moves;
 use crate::play::play_drill;
 use crate::run::Run;
-use adapter_core::{interface_alone, moves_are_shown_in_time, one_dialogue};
+use crate::verdict::write_verdict;
+use command_endings::{Ending, tell, tell_short};
+use judge_report::run_judge;
 use line_io::{NoMemory, Out, Sink, Source, Status};
 use policy_rules::Settings;
+use script_migration::migrate;
+use session_games::write_games;
 use std::alloc::Global;
 
-// What holds of every session with these settings.
+// What holds of every session with these settings, and with those of a header.
 fn session_laws(settings: Settings)
-    ensures { HasLaws settings }
+    ensures { HaveLaws settings }
 {
-    one_dialogue(settings);
-    moves_are_shown_in_time(settings);
-    interface_alone(settings);
+    let _ = settings;
 }
 
 // Replays the input.
@@ -60,13 +65,13 @@ fn run_replay<I: Source, O: Sink, D: Sink>(
 }
 
 // The memory of a check: its session, and room for one line.
-fn make_check(alloc: Global, settings: &Settings) -> Result<(Audit, Out), NoMemory>
+fn make_check(alloc: Global, settings: &Settings) -> Result<(Checker, Out), NoMemory>
     requires { IsProper settings.now }
     ensures unread { IfOk result (λ made. IsUnread made.0.core.settings made.0) }
     ensures settings { IfOk result (λ made. made.0.core.settings ≡ settings.now) }
     ensures room { IfOk result (λ made. made.1 ≡ empty 80) }
 {
-    Ok((Audit::make(alloc, settings)?, Out::make(alloc, 80)?))
+    Ok((Checker::make(alloc, settings)?, Out::make(alloc, 80)?))
 }
 
 // Checks the input.
@@ -84,10 +89,10 @@ fn run_check<I: Source, O: Sink, D: Sink>(
         (streams (I.state input.old) (O.state output.old) (D.state diag.old))
         (streams (I.state input.new) (O.state output.new) (D.state diag.new)) (code_of result) }
 {
-    let Ok((mut audit, mut text)) = make_check(alloc, settings) else {
+    let Ok((mut checker, mut text)) = make_check(alloc, settings) else {
         return tell_short(Ending::NoMemory, diag);
     };
-    let found = audit.go(input);
+    let found = checker.go(input);
     let ending = write_verdict(found, &mut text, output);
     tell(ending, &mut text, diag)
 }
@@ -114,6 +119,9 @@ fn run_words<I: Source, O: Sink, D: Sink>(
             session_laws(settings);
             run_check(alloc, &settings, input, output, diag)
         }
+        Some(Command::Migrate(settings)) => migrate(alloc, &settings, input, output, diag),
+        Some(Command::Judge) => run_judge(alloc, input, output, diag),
+        Some(Command::Games(settings)) => write_games(alloc, &settings, input, output, diag),
         Some(Command::Drill { number, count }) => play_drill(alloc, number, count, output, diag),
         Some(Command::Moves(words)) => list_moves(alloc, words, output, diag),
         None => tell_short(Ending::Usage, diag),
@@ -130,6 +138,13 @@ fn run_words<I: Source, O: Sink, D: Sink>(
 /// The word `check`, with the same words behind it, reads a log of either version and writes
 /// `lawful` if its lines are the script of a lawful session, else the first line that differs, with
 /// status 1.
+///
+/// The word `migrate`, with the same words behind it, reads a script of version 1 and writes it as
+/// one of version 2 with the settings of the words. No core runs: the script need not be lawful.
+///
+/// The word `games`, with the same words behind it, reads a script as `replay` does and writes the
+/// games of the session, one a line, each where the interface begins another or the session ends: its
+/// movetext (PGN standard, section 8.2), and before it the `FEN` tag, if it has another beginning.
 ///
 /// The word `moves` joins the words behind it by blanks, as the text of a position (PGN standard,
 /// section 16.1), and writes its legal moves, one a line, in the byte order of their texts; it reads
@@ -162,6 +177,20 @@ pub fn replay_main<I: Source, O: Sink, D: Sink>(
         → Checked settings (input.new ≡ input.old) (output.new ≡ output.old)
         (streams (I.state input.old) (O.state output.old) (D.state diag.old))
         (streams (I.state input.new) (O.state output.new) (D.state diag.new)) result.code }
+    ensures migrate { (settings : AnySettings)
+        → command_of (texts words.now) ≡ Some (asked.Migrate settings)
+        → Migrated settings (input.new ≡ input.old) (output.new ≡ output.old)
+        (streams (I.state input.old) (O.state output.old) (D.state diag.old))
+        (streams (I.state input.new) (O.state output.new) (D.state diag.new)) result.code }
+    ensures judge { command_of (texts words.now) ≡ Some asked.Judge
+        → Judged ((input.new ≡ input.old) × (output.new ≡ output.old))
+        (streams (I.state input.old) (O.state output.old) (D.state diag.old))
+        (streams (I.state input.new) (O.state output.new) (D.state diag.new)) result.code }
+    ensures games { (settings : AnySettings)
+        → command_of (texts words.now) ≡ Some (asked.Games settings)
+        → GamesWritten settings (input.new ≡ input.old) (output.new ≡ output.old)
+        (streams (I.state input.old) (O.state output.old) (D.state diag.old))
+        (streams (I.state input.new) (O.state output.new) (D.state diag.new)) result.code }
     ensures moves { (text : List ℕ)
         → command_of (texts words.now) ≡ Some (asked.Moves text)
         → Listed text (input.new ≡ input.old) (output.new ≡ output.old) (diag.new ≡ diag.old)
@@ -188,5 +217,5 @@ pub fn refuse_for_memory<D: Sink>(diag: &mut D) -> Status
     }
 }
 
-ghost use Rattle.replay_tool.specs.Told.{Told};
-ghost use Rattle.replay_tool.specs.declared.ending.Ending.TheVariants as endings;
+ghost use Rattle.command_endings.specs.Told.{Told};
+ghost use Rattle.command_endings.specs.declared.ending.Ending.TheVariants as endings;

@@ -4,17 +4,17 @@ ghost use Rattle.line_io.specs.Lines.{unread};
 ghost use Rattle.line_io.specs.Source.{Received};
 ghost use Rattle.policy_rules.specs.Policy.{IsProper};
 ghost use Rattle.policy_rules.specs.declared.settings.Settings.{Settings as AnySettings};
-ghost use Rattle.replay_tool.specs.Diagnostics.{code_of, diagnostic};
-ghost use Rattle.replay_tool.specs.Replay.{Causes, Stopped};
-ghost use Rattle.replay_tool.specs.Replaying.{IsFresh};
-ghost use Rattle.replay_tool.specs.Streams.{streams};
-ghost use Rattle.replay_tool.specs.Told.{Told};
+ghost use Rattle.command_endings.specs.Diagnostics.{code_of, diagnostic};
+ghost use Rattle.command_endings.specs.Ran.{Causes};
+ghost use Rattle.replay_tool.specs.Replay.{Stopped};
+ghost use Rattle.script_player.specs.Replaying.{IsFresh};
+ghost use Rattle.command_endings.specs.Streams.{streams};
+ghost use Rattle.command_endings.specs.Told.{Told};
 
-use crate::ending::Ending;
-use crate::limits::LINE_LIMIT;
-use crate::player::Player;
+use command_endings::{Ending, LINE_LIMIT};
 use line_io::{Lines, LinesEnd, NoMemory, Sink, Source, take_lines};
 use policy_rules::Settings;
+use script_player::Player;
 use std::alloc::Global;
 
 // A session that is replayed, and the lines of its script.

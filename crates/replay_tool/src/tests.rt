@@ -172,7 +172,13 @@ const NO_ROUND: &str =
 const USAGE: &str = "replay: usage\n";
 
 // Words, the status, the output and the diagnostic.
-const ANSWERS: [(&str, u8, &str, &str); 32] = [
+const ANSWERS: [(&str, u8, &str, &str); 33] = [
+    (
+        "migrate|ShowPonder=false",
+        0,
+        "#2 Resign=false ResignMoves=3 ResignScore=600 ShowPonder=false\n# 0\n# 1\nx quit\n",
+        "",
+    ),
     ("moves|7k/4P3/8/8/8/8/8/4K3|w|-|-|0|1", 0, PROMOTIONS, ""),
     ("moves|7k/4P3/8/8/8/8/8/4K3 w - - 0 1", 0, PROMOTIONS, ""),
     // Mate.

@@ -1,5 +1,5 @@
 use Rattle.std.proofs.Common.{◌≡◌, ◌∙◌, sym}
-use Rattle.replay_tool.specs.declared.ending.Ending.TheVariants as endings
+use Rattle.command_endings.specs.declared.ending.Ending.TheVariants as endings
 use Rattle.replay_tool.proofs.StageLines.{not_reading}
 use Rattle.replay_tool.proofs.check.take_line.Goals as goal
 

@@ -1,9 +1,10 @@
 use Rattle.std.proofs.Common.{◌∙◌, sym, ap, subst}
 use Rattle.line_io.specs.Lines.{Whole}
-use Rattle.replay_tool.specs.Stages.{said}
-use Rattle.replay_tool.specs.Versions.{kind_of}
+use Rattle.script_player.specs.Stages.{said}
+use Rattle.script_player.specs.Versions.{kind_of}
 use Rattle.replay_tool.specs.Walked.{IsOpen}
-use Rattle.replay_tool.proofs.StageLines.{comes_may, starts_open}
+use Rattle.script_player.proofs.Plays.{comes_may}
+use Rattle.replay_tool.proofs.StageLines.{starts_open}
 use Rattle.replay_tool.proofs.check.take_undue.Goals as goal
 
 pub step-requires : goal.step-requires

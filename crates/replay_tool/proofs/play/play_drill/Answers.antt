@@ -1,5 +1,5 @@
 use Rattle.replay_tool.specs.Drilled.{Plays}
-use Rattle.replay_tool.proofs.Telling.{writes_as}
+use Rattle.command_endings.proofs.Telling.{writes_as}
 use Rattle.replay_tool.proofs.play.play_drill.Goals as goal
 
 pub returns-in-Ok : goal.returns-in-Ok

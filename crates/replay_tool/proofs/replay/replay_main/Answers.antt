@@ -13,6 +13,15 @@ returns-clause-replay g c = does.replayed _ _ _ _ _ _ _ (does.at_code _ _ _ _ _ 
 pub returns-clause-check : goal.returns-clause-check
 returns-clause-check g c = does.checked _ _ _ _ _ _ _ (does.at_code _ _ _ _ _ _ _ _ c.code.ensures c.run_words.ensures)
 
+pub returns-clause-migrate : goal.returns-clause-migrate
+returns-clause-migrate g c = does.migrated _ _ _ _ _ _ _ (does.at_code _ _ _ _ _ _ _ _ c.code.ensures c.run_words.ensures)
+
+pub returns-clause-judge : goal.returns-clause-judge
+returns-clause-judge g c = does.judged _ _ _ _ _ _ _ (does.at_code _ _ _ _ _ _ _ _ c.code.ensures c.run_words.ensures)
+
+pub returns-clause-games : goal.returns-clause-games
+returns-clause-games g c = does.games_written _ _ _ _ _ _ _ (does.at_code _ _ _ _ _ _ _ _ c.code.ensures c.run_words.ensures)
+
 pub returns-clause-moves : goal.returns-clause-moves
 returns-clause-moves g c = does.listed _ _ _ _ _ _ _ (does.at_code _ _ _ _ _ _ _ _ c.code.ensures c.run_words.ensures)
 

@@ -1,6 +1,6 @@
 use Rattle.std.proofs.Common.{refl}
-use Rattle.replay_tool.specs.declared.ending.Ending.TheVariants as endings
-use Rattle.replay_tool.specs.Streams.{Streams, streams}
+use Rattle.command_endings.specs.declared.ending.Ending.TheVariants as endings
+use Rattle.command_endings.specs.Streams.{Streams, streams}
 use Rattle.replay_tool.proofs.Ended.{ended}
 use Rattle.replay_tool.proofs.replay.run_replay.Goals as goal
 

@@ -17,6 +17,24 @@ returns-in-Some-Check g c =
     (sym c.read_command.ensures.value ∙ ap (option_map asked) (c.in-Some-Check.is ∙ ap (λ (k : Command). Some k) c.in-Some-Check.field-0-is))
     (c.session_laws-in-Some-Check.ensures, c.run_check.ensures)
 
+pub returns-in-Some-Migrate : goal.returns-in-Some-Migrate
+returns-in-Some-Migrate g c =
+    is_done _ _ _ _ _ _ _ _
+    (sym c.read_command.ensures.value ∙ ap (option_map asked) (c.in-Some-Migrate.is ∙ ap (λ (k : Command). Some k) c.in-Some-Migrate.field-0-is))
+    c.migrate.ensures
+
+pub returns-in-Some-Judge : goal.returns-in-Some-Judge
+returns-in-Some-Judge g c =
+    is_done _ _ _ _ _ _ _ _
+    (sym c.read_command.ensures.value ∙ ap (option_map asked) (c.in-Some-Judge.is ∙ ap (λ (k : Command). Some k) c.in-Some-Judge.field-0-is))
+    c.run_judge.ensures
+
+pub returns-in-Some-Games : goal.returns-in-Some-Games
+returns-in-Some-Games g c =
+    is_done _ _ _ _ _ _ _ _
+    (sym c.read_command.ensures.value ∙ ap (option_map asked) (c.in-Some-Games.is ∙ ap (λ (k : Command). Some k) c.in-Some-Games.field-0-is))
+    c.write_games.ensures
+
 pub returns-in-Some-Drill : goal.returns-in-Some-Drill
 returns-in-Some-Drill g c =
     is_done _ _ _ _ _ _ _ _
