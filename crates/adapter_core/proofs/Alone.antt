@@ -2,46 +2,46 @@
 use Rattle.std.proofs.Common.{◌≡◌, ℕ, List, [], ◌∷◌, ◌++◌, map, Bool, true, false, not, cond, ◌&&◌, ◌||◌, Option, Some, None, Result, Ok, Err, refl, sym, ap, ◌∙◌}
 use Rattle.line_io.specs.Event.{Event}
 use Rattle.line_io.specs.Event as events
-use Rattle.cecp_lines.specs.Messages.{Message}
+use Rattle.cecp_lines.specs.Messages.{IfaceMsg}
 use Rattle.cecp_lines.specs.Messages as says
 use Rattle.cecp_lines.specs.Reading.{reading}
-use Rattle.cecp_lines.specs.Replies.{Told}
-use Rattle.cecp_lines.specs.Replies as told
+use Rattle.cecp_lines.specs.Replies.{Reply}
+use Rattle.cecp_lines.specs.Replies as reply
 use Rattle.cecp_lines.specs.declared.iface.IfaceFault.{IfaceFault}
 use Rattle.cecp_lines.specs.declared.iface.IfaceFault.TheVariants as faults
 use Rattle.cecp_lines.specs.declared.reply.Reason.TheVariants as reasons
-use Rattle.uci_lines.specs.Orders.{Command}
+use Rattle.uci_lines.specs.Orders.{Order}
 use Rattle.option_map.specs.declared.fault.OptFault.{OptFault}
 use Rattle.option_map.specs.declared.fault.OptFault.TheVariants.{UnknownOption, BadValue}
 use Rattle.option_map.specs.Settings.{Setting}
 use Rattle.option_map.specs.Asked.{asked}
 use Rattle.policy_rules.specs.declared.settings.Settings.{Settings}
 use Rattle.policy_rules.specs.Scores.{Score, does_accept}
-use Rattle.search_epochs.specs.Talk.{is_move}
-use Rattle.desk_rules.specs.declared.deed.Refusal.{Refusal}
-use Rattle.desk_rules.specs.declared.deed.Refusal.TheVariants as refusals
+use Rattle.search_epochs.specs.Tickets.{is_move}
+use Rattle.desk_rules.specs.declared.effect.Refusal.{Refusal}
+use Rattle.desk_rules.specs.declared.effect.Refusal.TheVariants as refusals
 use Rattle.desk_rules.specs.declared.desk.Desk.{Desk}
-use Rattle.desk_rules.specs.Desk.{Here, table, plays, has_ended, is_gone, is_boot, owes_move, owed_at, call_of, call_before}
+use Rattle.desk_rules.specs.Desk.{Situation, table, plays, has_ended, is_gone, is_boot, owes_move, owed_at, call_of, call_before}
 use Rattle.desk_rules.specs.Lines.{verdict, judged, asks, or_else, where_true, refused_option, does_not_fit, refusal, change}
-use Rattle.desk_rules.specs.Steps.{Deed, Nothing, Opens, LongLine, Refuses, Accepts, Names, Declares, Boots, Readies, Thinks, Shows, Forfeits, Answers, Dies, comes, line_deed, desk_after_deed, answers_pings, is_death}
+use Rattle.desk_rules.specs.Steps.{Effect, Nothing, Opens, LongLine, Refuses, Accepts, Names, Declares, Boots, Readies, Thinks, Shows, Forfeits, Answers, Dies, classify, line_effect, desk_after_effect, answers_pings, is_death}
 use Rattle.desk_rules.specs.Replies.{row, row_accepted, result_of, result_at, offer_where, hint_row, replies_of}
 use Rattle.adapter_core.specs.Ends.{ends_after}
-use Rattle.adapter_core.specs.Trace.{State, Step, IsLawful, Lawful, state, state_after, here, deed, owing, closed_after, desk_of, replies}
-use Rattle.adapter_core.specs.Alone.{Commanded, commanded, Alone, lone_here, lone_deed, lone_owes, lone_after, lone_replies, alone, is_of_iface, iface_events, is_answer, is_overfull, tells_of_engine, IsWithoutSay, DeskIsAlone, IsApartFromEngine, RepliesAreAlone}
+use Rattle.adapter_core.specs.Trace.{State, Step, IsLawful, Lawful, state, state_after, situation, effect, owing, closed_after, desk_of, replies}
+use Rattle.adapter_core.specs.Alone.{Commanded, commanded, Alone, lone_situation, lone_effect, lone_owes, lone_after, lone_replies, alone, is_of_iface, iface_events, is_answer, is_overfull, tells_of_engine, IsWithoutSay, DeskIsAlone, IsApartFromEngine, RepliesAreAlone}
 use Rattle.adapter_core.proofs.Fresh.{calls_move, call_is}
 use Rattle.adapter_core.proofs.Traces.{Lasts, lasts, gone_is, owed_is}
 use Rattle.adapter_core.proofs.Commands.{alike_changed, is_setting, setting_changes, plain_option, refused_by, option_refusal, fit_refusal, refusal_is, is_full_refusal, unfilled, lone_fits}
-use Rattle.adapter_core.proofs.Sides.{IsIfaceDeed, iface_deed, no_death, no_answer, no_hint, no_scores, still_unbooted, IsQuietDeed, quiet_desk, engine_deed, closed_same, closed_still, or_no, neither, kept_pings, answered}
+use Rattle.adapter_core.proofs.Sides.{IsIfaceDeed, iface_effect, no_death, no_answer, no_hint, no_scores, still_unbooted, IsQuietDeed, quiet_desk, engine_effect, closed_same, closed_still, or_no, neither, kept_pings, answered}
 
 -- TWO THAT STAND ALIKE
 
--- the deeds are equal, or each leaves the desk as it is and the reply tells of the engine
-abbrev IsIdleDeed : Deed → Type 0
+-- the effects are equal, or each leaves the desk as it is and the reply tells of the engine
+abbrev IsIdleDeed : Effect → Type 0
 IsIdleDeed (Refuses r line) = Unit {0}
 IsIdleDeed (Accepts m) = is_setting m ≡ true
 IsIdleDeed d = ⊥
 
-data Pair (d x : Deed) : Type 0 where
+data Pair (d x : Effect) : Type 0 where
   Equal : d ≡ x → Pair d x
   Idle : IsIdleDeed d → IsIdleDeed x → (tells_of_engine d ≡ false → ⊥) → Pair d x
 
@@ -54,18 +54,18 @@ record Alike (o : Settings) (s : State) (a : Alone) : Type 0 where
   lone_hint : a.desk.hint ≡ None
   unbooted : a.desk.booted ≡ false
 
-idle_judged : (m : Message) (o : Option Refusal) (line : List ℕ) → is_setting m ≡ true → IsIdleDeed (line_deed (judged m o) line)
+idle_judged : (m : IfaceMsg) (o : Option Refusal) (line : List ℕ) → is_setting m ≡ true → IsIdleDeed (line_effect (judged m o) line)
 idle_judged m None line p = p
 idle_judged m (Some r) line p = tt
 
-tells_setting : (m : Message) → is_setting m ≡ true → tells_of_engine (Accepts m) ≡ true
+tells_setting : (m : IfaceMsg) → is_setting m ≡ true → tells_of_engine (Accepts m) ≡ true
 tells_setting (says.SetOption name value) p = refl
 tells_setting (says.Memory n) p = refl
 tells_setting (says.Cores n) p = refl
 tells_setting (says.EgtPath kind path) p = refl
 tells_setting m p = cc
 
-setting_refusal : (h : Here) (held : List Command) (m : Message) → is_setting m ≡ true → refusal h held m ≡ or_else (option_refusal h m) (or_else (fit_refusal h held m) None)
+setting_refusal : (h : Situation) (held : List Order) (m : IfaceMsg) → is_setting m ≡ true → refusal h held m ≡ or_else (option_refusal h m) (or_else (fit_refusal h held m) None)
 unfolding refusal
 setting_refusal h held (says.SetOption name value) p = refl
 setting_refusal h held (says.Memory n) p = refl
@@ -77,19 +77,19 @@ differ : (b : Bool) → b ≡ false → b ≡ true → ⊥
 differ true p q = cc
 differ false p q = cc
 
-tells_judged : (m : Message) (a : Result (Option Command) OptFault) (b : Bool) (line : List ℕ) → is_setting m ≡ true
-    → (let d = line_deed (judged m (or_else (refused_option a) (or_else (where_true b reasons.TooManySettings) None))) line in is_overfull d ≡ false → tells_of_engine d ≡ false → ⊥)
+tells_judged : (m : IfaceMsg) (a : Result (Option Order) OptFault) (b : Bool) (line : List ℕ) → is_setting m ≡ true
+    → (let d = line_effect (judged m (or_else (refused_option a) (or_else (where_true b reasons.TooManySettings) None))) line in is_overfull d ≡ false → tells_of_engine d ≡ false → ⊥)
 tells_judged m (Err UnknownOption) b line p n t = cc
 tells_judged m (Err BadValue) b line p n t = cc
 tells_judged m (Ok order) true line p n t = cc
 tells_judged m (Ok order) false line p n t = differ (tells_of_engine (Accepts m)) t (tells_setting m p)
 
-full_deed : (m : Message) (r : Option Refusal) (line : List ℕ) → is_overfull (line_deed (judged m r) line) ≡ false → is_full_refusal r ≡ false
-full_deed m None line n = refl
-full_deed m (Some (refusals.Because reasons.TooManySettings)) line n = cc
-full_deed m (Some r) line n = refl
+full_effect : (m : IfaceMsg) (r : Option Refusal) (line : List ℕ) → is_overfull (line_effect (judged m r) line) ≡ false → is_full_refusal r ≡ false
+full_effect m None line n = refl
+full_effect m (Some (refusals.Because reasons.TooManySettings)) line n = cc
+full_effect m (Some r) line n = refl
 
-closed_pair : (b c : Bool) (d x : Deed) → b ≡ c → is_overfull (cond b Nothing d) ≡ false → (is_overfull d ≡ false → Pair d x) → Pair (cond b Nothing d) (cond c Nothing x)
+closed_pair : (b c : Bool) (d x : Effect) → b ≡ c → is_overfull (cond b Nothing d) ≡ false → (is_overfull d ≡ false → Pair d x) → Pair (cond b Nothing d) (cond c Nothing x)
 closed_pair true true d x e n f = Equal refl
 closed_pair false false d x e n f = f n
 closed_pair true false d x e n f = absurd (cc)
@@ -103,8 +103,8 @@ owed_unspent : (b : Bool) (c : _) → (b ≡ true → is_move c ≡ false) → i
 owed_unspent true c f = sym (f refl)
 owed_unspent false c f = refl
 
-idle_desk : (h : Here) (d : Deed) → IsIdleDeed d → commanded (desk_after_deed h d) ≡ commanded h.desk
-unfolding desk_after_deed
+idle_desk : (h : Situation) (d : Effect) → IsIdleDeed d → commanded (desk_after_effect h d) ≡ commanded h.desk
+unfolding desk_after_effect
 idle_desk h (Refuses r line) i = refl
 idle_desk h (Accepts m) i = ap commanded (setting_changes (is_boot h.engine) h.desk m i)
 idle_desk h Nothing i = absurd i
@@ -132,7 +132,7 @@ calls_alike closed closed' gone gone' d d' c g e =
 
 -- REFUSALS ALIKE
 
-refused_alike : (gone gone' owes owes' : Bool) (d d' : Desk) (option option' fit fit' : Option Refusal) (m : Message) → gone ≡ gone' → owes ≡ owes' → commanded d ≡ commanded d' → option ≡ option' → fit ≡ fit'
+refused_alike : (gone gone' owes owes' : Bool) (d d' : Desk) (option option' fit fit' : Option Refusal) (m : IfaceMsg) → gone ≡ gone' → owes ≡ owes' → commanded d ≡ commanded d' → option ≡ option' → fit ≡ fit'
     → refused_by gone d.game d.mode d.pings owes option fit m ≡ refused_by gone' d'.game d'.mode d'.pings owes' option' fit' m
 refused_alike gone gone' owes owes' d d' option option' fit fit' m g w e p f =
     ap (λ (b : Bool). refused_by b d.game d.mode d.pings owes option fit m) g
@@ -141,20 +141,20 @@ refused_alike gone gone' owes owes' d d' option option' fit fit' m g w e p f =
     ∙ ap (λ (r : Option Refusal). refused_by gone' d'.game d'.mode d'.pings owes' r fit m) p
     ∙ ap (λ (r : Option Refusal). refused_by gone' d'.game d'.mode d'.pings owes' option' r m) f
 
-module _ (o : Settings) (s : State) (a : Alone) (holds : Lasts s) (alike : Alike o s a) (there : is_gone (here s).engine ≡ false) where
-  abbrev h : Here
-  h = here s
+module _ (o : Settings) (s : State) (a : Alone) (holds : Lasts s) (alike : Alike o s a) (there : is_gone (situation s).engine ≡ false) where
+  abbrev h : Situation
+  h = situation s
 
-  abbrev g : Here
-  g = lone_here o a
+  abbrev g : Situation
+  g = lone_situation o a
 
-  abbrev held : List Command
+  abbrev held : List Order
   held = s.held
 
   owes_alike : owes_move h ≡ owes_move g
   owes_alike = owed_unspent h.spent (call_before h) holds.unspent ∙ calls_alike s.ends.closed a.ends.closed (is_gone h.engine) false s.desk a.desk alike.closed there alike.parts
 
-  refusal_alike : (m : Message) → is_setting m ≡ false → is_full_refusal (refusal h held m) ≡ false → refusal h held m ≡ refusal g [] m
+  refusal_alike : (m : IfaceMsg) → is_setting m ≡ false → is_full_refusal (refusal h held m) ≡ false → refusal h held m ≡ refusal g [] m
   refusal_alike m p n =
       let unfit = does_not_fit held (asks (is_gone h.engine) h.desk m) in
       let is = refusal_is h held m in
@@ -166,23 +166,23 @@ module _ (o : Settings) (s : State) (a : Alone) (holds : Lasts s) (alike : Alike
       (ap (λ (b : Bool). where_true b reasons.TooManySettings) (sym (lone_fits a.desk m (no_table a.desk.booted a.desk.options alike.unbooted) p)))
       ∙ sym (refusal_is g [] m)
 
-  judged_pair : (m : Message) (line : List ℕ) (b : Bool) → is_setting m ≡ b → is_overfull (line_deed (judged m (refusal h held m)) line) ≡ false
-      → Pair (line_deed (judged m (refusal h held m)) line) (line_deed (judged m (refusal g [] m)) line)
-  judged_pair m line false p n = Equal (ap (λ (r : Option Refusal). line_deed (judged m r) line) (refusal_alike m p (full_deed m (refusal h held m) line n)))
+  judged_pair : (m : IfaceMsg) (line : List ℕ) (b : Bool) → is_setting m ≡ b → is_overfull (line_effect (judged m (refusal h held m)) line) ≡ false
+      → Pair (line_effect (judged m (refusal h held m)) line) (line_effect (judged m (refusal g [] m)) line)
+  judged_pair m line false p n = Equal (ap (λ (r : Option Refusal). line_effect (judged m r) line) (refusal_alike m p (full_effect m (refusal h held m) line n)))
   judged_pair m line true p n =
       let r = setting_refusal h held m p in
       Idle (idle_judged m (refusal h held m) line p) (idle_judged m (refusal g [] m) line p)
       (λ t. tells_judged m (asked (table h.desk) m) (does_not_fit held (asks (is_gone h.engine) h.desk m)) line p
-      (ap (λ (x : Option Refusal). is_overfull (line_deed (judged m x) line)) (sym r) ∙ n) (ap (λ (x : Option Refusal). tells_of_engine (line_deed (judged m x) line)) (sym r) ∙ t))
+      (ap (λ (x : Option Refusal). is_overfull (line_effect (judged m x) line)) (sym r) ∙ n) (ap (λ (x : Option Refusal). tells_of_engine (line_effect (judged m x) line)) (sym r) ∙ t))
 
-  line_pair : (line : List ℕ) (r : Result Message IfaceFault) → is_overfull (line_deed (verdict h held r) line) ≡ false → Pair (line_deed (verdict h held r) line) (line_deed (verdict g [] r) line)
+  line_pair : (line : List ℕ) (r : Result IfaceMsg IfaceFault) → is_overfull (line_effect (verdict h held r) line) ≡ false → Pair (line_effect (verdict h held r) line) (line_effect (verdict g [] r) line)
   unfolding verdict
   line_pair line (Err faults.UnknownCommand) n = Equal refl
   line_pair line (Err faults.BadArgument) n = Equal refl
   line_pair line (Ok m) n = judged_pair m line (is_setting m) refl n
 
-  event_pair : (e : Event) → is_of_iface e ≡ true → is_overfull (deed s e) ≡ false → Pair (deed s e) (lone_deed o a e)
-  unfolding comes
+  event_pair : (e : Event) → is_of_iface e ≡ true → is_overfull (effect s e) ≡ false → Pair (effect s e) (lone_effect o a e)
+  unfolding classify
   event_pair (events.Iface line) i n = closed_pair s.ends.closed a.ends.closed _ _ alike.closed n (line_pair line (reading line))
   event_pair events.IfaceLong i n = closed_pair s.ends.closed a.ends.closed _ _ alike.closed n (λ x. Equal refl)
   event_pair events.IfaceEnd i n = Equal refl
@@ -195,30 +195,30 @@ module _ (o : Settings) (s : State) (a : Alone) (holds : Lasts s) (alike : Alike
 
   -- THE DESK AFTER A DEED
 
-  alike_deed : (d : Deed) → IsIfaceDeed d → commanded (desk_after_deed h d) ≡ commanded (desk_after_deed g d)
-  unfolding desk_after_deed
-  alike_deed (Accepts m) i = alike_changed (is_boot h.engine) false s.desk a.desk m alike.parts
-  alike_deed Nothing i = alike.parts
-  alike_deed LongLine i = alike.parts
-  alike_deed (Refuses r line) i = alike.parts
-  alike_deed Opens i = absurd i
-  alike_deed (Names text) i = absurd i
-  alike_deed (Declares name shape) i = absurd i
-  alike_deed Boots i = absurd i
-  alike_deed Readies i = absurd i
-  alike_deed (Thinks k facts) i = absurd i
-  alike_deed (Shows best hint) i = absurd i
-  alike_deed Forfeits i = absurd i
-  alike_deed Answers i = absurd i
-  alike_deed Dies i = absurd i
+  alike_effect : (d : Effect) → IsIfaceDeed d → commanded (desk_after_effect h d) ≡ commanded (desk_after_effect g d)
+  unfolding desk_after_effect
+  alike_effect (Accepts m) i = alike_changed (is_boot h.engine) false s.desk a.desk m alike.parts
+  alike_effect Nothing i = alike.parts
+  alike_effect LongLine i = alike.parts
+  alike_effect (Refuses r line) i = alike.parts
+  alike_effect Opens i = absurd i
+  alike_effect (Names text) i = absurd i
+  alike_effect (Declares name shape) i = absurd i
+  alike_effect Boots i = absurd i
+  alike_effect Readies i = absurd i
+  alike_effect (Thinks k facts) i = absurd i
+  alike_effect (Shows best hint) i = absurd i
+  alike_effect Forfeits i = absurd i
+  alike_effect Answers i = absurd i
+  alike_effect Dies i = absurd i
 
-  pair_desk : (d x : Deed) → IsIfaceDeed d → Pair d x → commanded (desk_after_deed h d) ≡ commanded (desk_after_deed g x)
-  pair_desk d x i (Equal q) = alike_deed d i ∙ ap (λ (y : Deed). commanded (desk_after_deed g y)) q
+  pair_desk : (d x : Effect) → IsIfaceDeed d → Pair d x → commanded (desk_after_effect h d) ≡ commanded (desk_after_effect g x)
+  pair_desk d x i (Equal q) = alike_effect d i ∙ ap (λ (y : Effect). commanded (desk_after_effect g y)) q
   pair_desk d x i (Idle p q n) = idle_desk h d p ∙ alike.parts ∙ sym (idle_desk g x q)
 
   -- A ROW ALIKE
 
-  result_alike : (m : Message) → result_at (change false h.desk m) ≡ result_at (change false g.desk m)
+  result_alike : (m : IfaceMsg) → result_at (change false h.desk m) ≡ result_at (change false g.desk m)
   result_alike m = ap (λ (c : Commanded). cond (plays c.mode) (result_of c.game) []) (alike_changed false false s.desk a.desk m alike.parts)
 
   offer_alike : offer_where (plays s.desk.mode && not (has_ended s.desk.game) && h.accepts) ≡ offer_where (plays a.desk.mode && not (has_ended a.desk.game) && g.accepts)
@@ -227,7 +227,7 @@ module _ (o : Settings) (s : State) (a : Alone) (holds : Lasts s) (alike : Alike
       ∙ ap (λ (x : Settings). offer_where (plays a.desk.mode && not (has_ended a.desk.game) && does_accept x s.scores)) alike.settings
       ∙ ap (λ (xs : List Score). offer_where (plays a.desk.mode && not (has_ended a.desk.game) && does_accept o xs)) alike.scores
 
-  accepted_alike : (m : Message) → tells_of_engine (Accepts m) ≡ false → row_accepted h m ≡ row_accepted g m
+  accepted_alike : (m : IfaceMsg) → tells_of_engine (Accepts m) ≡ false → row_accepted h m ≡ row_accepted g m
   unfolding row_accepted
   accepted_alike (says.Protover n) t = cc
   accepted_alike says.Dot t = cc
@@ -238,7 +238,7 @@ module _ (o : Settings) (s : State) (a : Alone) (holds : Lasts s) (alike : Alike
   accepted_alike says.Hint t = ap hint_row (alike.hint ∙ sym alike.lone_hint)
   accepted_alike m t = refl
 
-  row_alike : (d : Deed) → IsIfaceDeed d → tells_of_engine d ≡ false → row h d ≡ row g d
+  row_alike : (d : Effect) → IsIfaceDeed d → tells_of_engine d ≡ false → row h d ≡ row g d
   unfolding row
   row_alike (Accepts m) i t = accepted_alike m t
   row_alike (Refuses r line) i t = refl
@@ -261,11 +261,11 @@ module _ (o : Settings) (s : State) (a : Alone) (holds : Lasts s) (alike : Alike
     abbrev e : Event
     e = step.event
 
-    abbrev d : Deed
-    d = deed s e
+    abbrev d : Effect
+    d = effect s e
 
-    abbrev x : Deed
-    x = lone_deed o a e
+    abbrev x : Effect
+    x = lone_effect o a e
 
     abbrev owes : Bool
     owes = is_move (owing s e)
@@ -278,25 +278,25 @@ module _ (o : Settings) (s : State) (a : Alone) (holds : Lasts s) (alike : Alike
 
     module _ (i : is_of_iface e ≡ true) (p : Pair d x) where
       of_iface : IsIfaceDeed d
-      of_iface = iface_deed h held e i
+      of_iface = iface_effect h held e i
 
       of_lone : IsIfaceDeed x
-      of_lone = iface_deed g [] e i
+      of_lone = iface_effect g [] e i
 
-      desk_alike : commanded (desk_after_deed h d) ≡ commanded (desk_after_deed g x)
+      desk_alike : commanded (desk_after_effect h d) ≡ commanded (desk_after_effect g x)
       desk_alike = pair_desk d x of_iface p
 
       gone_alike : (is_gone h.engine || is_death d) ≡ is_death x
       gone_alike = ap (λ (b : Bool). b || is_death d) there ∙ no_death d of_iface ∙ sym (no_death x of_lone)
 
       owed_alike : owes ≡ lone_owes o a e
-      owed_alike = owed_is s step holds l ∙ calls_alike (closed_after s e) closed_then (is_gone h.engine || is_death d) (is_death x) (desk_after_deed h d) (desk_after_deed g x) closed_alike gone_alike desk_alike
+      owed_alike = owed_is s step holds l ∙ calls_alike (closed_after s e) closed_then (is_gone h.engine || is_death d) (is_death x) (desk_after_effect h d) (desk_after_effect g x) closed_alike gone_alike desk_alike
 
       iface_parts : commanded (desk_of s e) ≡ commanded (lone_after o a e).desk
       iface_parts =
           ap (answered (answers_pings (closed_after s e) owes)) desk_alike
-          ∙ ap (λ (b : Bool). answered (answers_pings b owes) (commanded (desk_after_deed g x))) closed_alike
-          ∙ ap (λ (b : Bool). answered (answers_pings closed_then b) (commanded (desk_after_deed g x))) owed_alike
+          ∙ ap (λ (b : Bool). answered (answers_pings b owes) (commanded (desk_after_effect g x))) closed_alike
+          ∙ ap (λ (b : Bool). answered (answers_pings closed_then b) (commanded (desk_after_effect g x))) owed_alike
 
       iface_alike : Alike o (state_after s step) (lone_after o a e)
       iface_alike = record {
@@ -313,9 +313,9 @@ module _ (o : Settings) (s : State) (a : Alone) (holds : Lasts s) (alike : Alike
       equal_replies q t =
           ap (λ (b : Bool). replies_of b owes h d) closed_alike
           ∙ ap (λ (b : Bool). replies_of closed_then b h d) owed_alike
-          ∙ ap (λ (rows : List Told). cond closed_then [] (rows ++ cond (lone_owes o a e) [] (map told.Pong (desk_after_deed h d).pings))) (row_alike d of_iface t)
-          ∙ ap (λ (c : Commanded). cond closed_then [] (row g d ++ cond (lone_owes o a e) [] (map told.Pong c.pings))) (alike_deed d of_iface)
-          ∙ ap (λ (y : Deed). replies_of closed_then (lone_owes o a e) g y) q
+          ∙ ap (λ (rows : List Reply). cond closed_then [] (rows ++ cond (lone_owes o a e) [] (map reply.Pong (desk_after_effect h d).pings))) (row_alike d of_iface t)
+          ∙ ap (λ (c : Commanded). cond closed_then [] (row g d ++ cond (lone_owes o a e) [] (map reply.Pong c.pings))) (alike_effect d of_iface)
+          ∙ ap (λ (y : Effect). replies_of closed_then (lone_owes o a e) g y) q
 
     iface_replies : is_of_iface e ≡ true → Pair d x → tells_of_engine d ≡ false → replies s e ≡ lone_replies o a e
     iface_replies i (Equal q) t = equal_replies i (Equal q) q t
@@ -323,12 +323,12 @@ module _ (o : Settings) (s : State) (a : Alone) (holds : Lasts s) (alike : Alike
 
     module _ (i : is_of_iface e ≡ false) (n : is_answer d ≡ false) (m : is_death d ≡ false) where
       quiet : IsQuietDeed d
-      quiet = engine_deed h held e i n m
+      quiet = engine_effect h held e i n m
 
       quiet_before : closed_after s e ≡ false → owes ≡ false → s.desk.pings ≡ []
       quiet_before c w =
           holds.pings (sym (closed_still s.ends e i) ∙ c)
-          (calls_alike s.ends.closed (closed_after s e) (is_gone h.engine) (is_gone h.engine || is_death d) s.desk (desk_after_deed h d)
+          (calls_alike s.ends.closed (closed_after s e) (is_gone h.engine) (is_gone h.engine || is_death d) s.desk (desk_after_effect h d)
           (sym (closed_still s.ends e i)) (sym (or_no (is_gone h.engine) (is_death d) m)) (sym (quiet_desk h d quiet))
           ∙ sym (owed_is s step holds l) ∙ w)
 
@@ -351,11 +351,11 @@ module _ (o : Settings) (s : State) (a : Alone) (holds : Lasts s) (alike : Alike
 -- WHOLE TRACES
 
 -- the engine was there before the step, and did not end in it
-still_there : (o : Settings) (step : Step) (t : List Step) → Lawful o (step ∷ t) → is_gone (here (state o (step ∷ t))).engine ≡ false
-    → (is_gone (here (state o t)).engine ≡ false) × (is_death (deed (state o t) step.event) ≡ false)
+still_there : (o : Settings) (step : Step) (t : List Step) → Lawful o (step ∷ t) → is_gone (situation (state o (step ∷ t))).engine ≡ false
+    → (is_gone (situation (state o t)).engine ≡ false) × (is_death (effect (state o t) step.event) ≡ false)
 still_there o step t l g =
     let s = state o t in
-    neither (is_gone (here s).engine) (is_death (deed s step.event)) (sym (gone_is s step (lasts o t l.0) l.1) ∙ g)
+    neither (is_gone (situation s).engine) (is_death (effect s step.event)) (sym (gone_is s step (lasts o t l.0) l.1) ∙ g)
 
 before : (o : Settings) (step : Step) (t : List Step) → Lawful o (step ∷ t) → IsWithoutSay o (step ∷ t) → IsWithoutSay o t
 before o step t l w = record { unanswered = w.unanswered.0; there = (still_there o step t l w.there).0 }

@@ -2,17 +2,17 @@
 use Rattle.std.proofs.Common.{◌≡◌, ℕ, List, Bool, true, false, not, cond, ◌&&◌, ◌||◌, Option, Some, None, Result, Ok, Err, refl, ◌∙◌}
 use Rattle.line_io.specs.Event.{Event, is_line}
 use Rattle.line_io.specs.Event as events
-use Rattle.cecp_lines.specs.Messages.{Message}
+use Rattle.cecp_lines.specs.Messages.{IfaceMsg}
 use Rattle.cecp_lines.specs.Messages as says
 use Rattle.cecp_lines.specs.Reading.{reading}
 use Rattle.cecp_lines.specs.declared.iface.IfaceFault.{IfaceFault}
 use Rattle.cecp_lines.specs.declared.iface.IfaceFault.TheVariants as faults
-use Rattle.uci_lines.specs.Orders.{Command}
+use Rattle.uci_lines.specs.Orders.{Order}
 use Rattle.uci_lines.specs.Engine.{engine_message}
-use Rattle.desk_rules.specs.declared.deed.Refusal.{Refusal}
-use Rattle.desk_rules.specs.Desk.{Here, is_gone}
+use Rattle.desk_rules.specs.declared.effect.Refusal.{Refusal}
+use Rattle.desk_rules.specs.Desk.{Situation, is_gone}
 use Rattle.desk_rules.specs.Lines.{verdict, judged, refusal, is_epoch_line}
-use Rattle.desk_rules.specs.Steps.{Deed, Nothing, LongLine, Accepts, Boots, Dies, comes, line_deed, engine_says, rises}
+use Rattle.desk_rules.specs.Steps.{Effect, Nothing, LongLine, Accepts, Boots, Dies, classify, line_effect, engine_says, begins_epoch}
 use Rattle.desk_rules.specs.Fits.{IsLineEvent}
 use Rattle.adapter_core.specs.declared.ends.Ends.{Ends}
 use Rattle.adapter_core.specs.Ends.{may, ends_after, is_open}
@@ -72,34 +72,34 @@ open_before ends e n = elim (ends.closed) as (λ b. ends.closed ≡ b → b ≡ 
 -- NOTHING RISES
 
 -- nothing rises in a step after which the session is closed
-nothing_rises : (h : Here) (b : Bool) (d : Deed) → b ≡ true → rises h (cond b Nothing d) ≡ false
+nothing_rises : (h : Situation) (b : Bool) (d : Effect) → b ≡ true → begins_epoch h (cond b Nothing d) ≡ false
 nothing_rises h true d e = refl
 nothing_rises h false d e = cc
 
-quit_rises : (h : Here) (line : List ℕ) (r : Option Refusal) → rises h (line_deed (judged says.Quit r) line) ≡ false
+quit_rises : (h : Situation) (line : List ℕ) (r : Option Refusal) → begins_epoch h (line_effect (judged says.Quit r) line) ≡ false
 unfolding is_epoch_line
 quit_rises h line None = refl
 quit_rises h line (Some r) = refl
 
-line_rises : (h : Here) (held : List Command) (line : List ℕ) (r : Result Message IfaceFault) → is_quit_message r ≡ true → rises h (line_deed (verdict h held r) line) ≡ false
+line_rises : (h : Situation) (held : List Order) (line : List ℕ) (r : Result IfaceMsg IfaceFault) → is_quit_message r ≡ true → begins_epoch h (line_effect (verdict h held r) line) ≡ false
 unfolding verdict
 line_rises h held line (Err faults.UnknownCommand) q = cc
 line_rises h held line (Err faults.BadArgument) q = cc
 line_rises h held line (Ok says.Quit) q = quit_rises h line (refusal h held says.Quit)
 line_rises h held line (Ok m) q = cc
 
-either_rises : (h : Here) (held : List Command) (b q : Bool) (line : List ℕ) (r : Result Message IfaceFault) → is_quit_message r ≡ q → (b || q) ≡ true
-    → rises h (cond b Nothing (line_deed (verdict h held r) line)) ≡ false
+either_rises : (h : Situation) (held : List Order) (b q : Bool) (line : List ℕ) (r : Result IfaceMsg IfaceFault) → is_quit_message r ≡ q → (b || q) ≡ true
+    → begins_epoch h (cond b Nothing (line_effect (verdict h held r) line)) ≡ false
 either_rises h held true q line r e c = refl
 either_rises h held false true line r e c = line_rises h held line r e
 either_rises h held false false line r e c = cc
 
-dead_rises : (h : Here) (b : Bool) → rises h (cond b Nothing Dies) ≡ false
+dead_rises : (h : Situation) (b : Bool) → begins_epoch h (cond b Nothing Dies) ≡ false
 dead_rises h true = refl
 dead_rises h false = refl
 
-pub closed_rises : (ends : Ends) (h : Here) (held : List Command) (e : Event) → h.closed ≡ ends.closed → (ends_after ends e).closed ≡ true → rises h (comes h held e) ≡ false
-unfolding comes
+pub closed_rises : (ends : Ends) (h : Situation) (held : List Order) (e : Event) → h.closed ≡ ends.closed → (ends_after ends e).closed ≡ true → begins_epoch h (classify h held e) ≡ false
+unfolding classify
 closed_rises ends h held events.Open same c = refl
 closed_rises ends h held (events.Iface line) same c = either_rises h held h.closed (is_quit line) line (reading line) refl (rw same c)
 closed_rises ends h held events.IfaceLong same c = nothing_rises h h.closed LongLine (same ∙ c)
@@ -111,8 +111,8 @@ closed_rises ends h held events.EngineEnd same c = dead_rises h (is_gone h.engin
 closed_rises ends h held events.EngineLost same c = dead_rises h (is_gone h.engine)
 
 -- nor at Open
-pub open_rises : (h : Here) (held : List Command) (e : Event) → is_open e ≡ true → rises h (comes h held e) ≡ false
-unfolding comes
+pub open_rises : (h : Situation) (held : List Order) (e : Event) → is_open e ≡ true → begins_epoch h (classify h held e) ≡ false
+unfolding classify
 open_rises h held events.Open o = refl
 open_rises h held (events.Iface line) o = cc
 open_rises h held events.IfaceLong o = cc
@@ -126,28 +126,28 @@ open_rises h held events.EngineLost o = cc
 -- WHAT CLOSES
 
 -- what can come in a step after which the session is closed
-abbrev pub Closes : Deed → Type 0
+abbrev pub Closes : Effect → Type 0
 Closes (Accepts says.Quit) = Unit {0}
 Closes (Accepts m) = ⊥
 Closes Boots = ⊥
 Closes d = Unit {0}
 
-quit_closes : (line : List ℕ) (r : Option Refusal) → Closes (line_deed (judged says.Quit r) line)
+quit_closes : (line : List ℕ) (r : Option Refusal) → Closes (line_effect (judged says.Quit r) line)
 quit_closes line None = tt
 quit_closes line (Some r) = tt
 
-line_closes : (h : Here) (held : List Command) (line : List ℕ) (r : Result Message IfaceFault) → is_quit_message r ≡ true → Closes (line_deed (verdict h held r) line)
+line_closes : (h : Situation) (held : List Order) (line : List ℕ) (r : Result IfaceMsg IfaceFault) → is_quit_message r ≡ true → Closes (line_effect (verdict h held r) line)
 unfolding verdict
 line_closes h held line (Err faults.UnknownCommand) q = cc
 line_closes h held line (Err faults.BadArgument) q = cc
 line_closes h held line (Ok says.Quit) q = quit_closes line (refusal h held says.Quit)
 line_closes h held line (Ok m) q = cc
 
-cond_closes : (b : Bool) (d : Deed) → b ≡ true → Closes (cond b Nothing d)
+cond_closes : (b : Bool) (d : Effect) → b ≡ true → Closes (cond b Nothing d)
 cond_closes true d e = tt
 cond_closes false d e = cc
 
-either_closes : (h : Here) (held : List Command) (b q : Bool) (line : List ℕ) (r : Result Message IfaceFault) → is_quit_message r ≡ q → (b || q) ≡ true → Closes (cond b Nothing (line_deed (verdict h held r) line))
+either_closes : (h : Situation) (held : List Order) (b q : Bool) (line : List ℕ) (r : Result IfaceMsg IfaceFault) → is_quit_message r ≡ q → (b || q) ≡ true → Closes (cond b Nothing (line_effect (verdict h held r) line))
 either_closes h held true q line r e c = tt
 either_closes h held false true line r e c = line_closes h held line r e
 either_closes h held false false line r e c = cc
@@ -156,8 +156,8 @@ dead_closes : (b : Bool) → Closes (cond b Nothing Dies)
 dead_closes true = tt
 dead_closes false = tt
 
-pub closing : (ends : Ends) (h : Here) (held : List Command) (e : Event) → h.closed ≡ ends.closed → (ends_after ends e).closed ≡ true → Closes (comes h held e)
-unfolding comes
+pub closing : (ends : Ends) (h : Situation) (held : List Order) (e : Event) → h.closed ≡ ends.closed → (ends_after ends e).closed ≡ true → Closes (classify h held e)
+unfolding classify
 closing ends h held events.Open same c = tt
 closing ends h held (events.Iface line) same c = either_closes h held h.closed (is_quit line) line (reading line) refl (rw same c)
 closing ends h held events.IfaceLong same c = cond_closes h.closed LongLine (same ∙ c)

@@ -1,17 +1,17 @@
 -- What a message commands and why it is refused, by the parts of the desk that the interface commands.
 use Rattle.std.proofs.Common.{◌≡◌, ℕ, List, [], ◌∷◌, length, Bool, true, false, not, ◌&&◌, nat_le, Option, Some, None, Ok, Err, refl, sym, ap, ◌∙◌}
-use Rattle.cecp_lines.specs.Messages.{Message}
+use Rattle.cecp_lines.specs.Messages.{IfaceMsg}
 use Rattle.cecp_lines.specs.Messages as says
 use Rattle.cecp_lines.specs.declared.reply.Reason.TheVariants as reasons
-use Rattle.uci_lines.specs.Orders.{Command, command_text}
-use Rattle.game_record.specs.Course.{Course, begun}
+use Rattle.uci_lines.specs.Orders.{Order, order_text}
+use Rattle.game_record.specs.Game.{Game, begun}
 use Rattle.option_map.specs.Settings.{Setting}
 use Rattle.option_map.specs.Asked.{asked}
 use Rattle.desk_rules.specs.declared.mode.Mode.{Mode}
-use Rattle.desk_rules.specs.declared.deed.Refusal.{Refusal}
-use Rattle.desk_rules.specs.declared.deed.Refusal.TheVariants as refusals
+use Rattle.desk_rules.specs.declared.effect.Refusal.{Refusal}
+use Rattle.desk_rules.specs.declared.effect.Refusal.TheVariants as refusals
 use Rattle.desk_rules.specs.declared.desk.Desk.{Desk}
-use Rattle.desk_rules.specs.Desk.{Here, opening_desk, table, analyses, is_gone, owes_move, ponder_name, analyse_name}
+use Rattle.desk_rules.specs.Desk.{Situation, opening_desk, table, analyses, is_gone, owes_move, ponder_name, analyse_name}
 use Rattle.desk_rules.specs.Lines.{asks, asks_for_mode, tells, or_else, where_true, needs_engine, needs_analysis, lacks_moves, illegal_move, move_too_many, illegal_position, refused_option, does_not_fit, pings_too_often, refusal, at_position, change}
 use Rattle.adapter_core.specs.Alone.{Commanded, commanded}
 
@@ -25,19 +25,19 @@ set_position : (d d' : Desk) (r : _) → commanded d ≡ commanded d' → comman
 set_position d d' (Ok p) e = ap (λ (c : Commanded). let x : Commanded = record c { game = begun p } in x) e
 set_position d d' (Err fault) e = e
 
-changed : (boot : Bool) (d : Desk) (m : Message) → commanded (change boot d m) ≡ commanded (change false (as_desk (commanded d)) m)
+changed : (boot : Bool) (d : Desk) (m : IfaceMsg) → commanded (change boot d m) ≡ commanded (change false (as_desk (commanded d)) m)
 unfolding change as_desk
 changed boot d (says.SetBoard text) = set_position d (as_desk (commanded d)) _ refl
 changed boot d m = refl
 
 -- the same message changes the same
-pub alike_changed : (boot boot' : Bool) (d d' : Desk) (m : Message) → commanded d ≡ commanded d' → commanded (change boot d m) ≡ commanded (change boot' d' m)
+pub alike_changed : (boot boot' : Bool) (d d' : Desk) (m : IfaceMsg) → commanded d ≡ commanded d' → commanded (change boot d m) ≡ commanded (change boot' d' m)
 alike_changed boot boot' d d' m e = changed boot d m ∙ ap (λ (c : Commanded). commanded (change false (as_desk c) m)) e ∙ sym (changed boot' d' m)
 
 -- SETTINGS
 
 -- the messages that set options
-abbrev pub is_setting : Message → Bool
+abbrev pub is_setting : IfaceMsg → Bool
 is_setting (says.SetOption name value) = true
 is_setting (says.Memory n) = true
 is_setting (says.Cores n) = true
@@ -45,7 +45,7 @@ is_setting (says.EgtPath kind path) = true
 is_setting m = false
 
 -- change nothing
-pub setting_changes : (boot : Bool) (d : Desk) (m : Message) → is_setting m ≡ true → change boot d m ≡ d
+pub setting_changes : (boot : Bool) (d : Desk) (m : IfaceMsg) → is_setting m ≡ true → change boot d m ≡ d
 unfolding change
 setting_changes boot d (says.SetOption name value) e = refl
 setting_changes boot d (says.Memory n) e = refl
@@ -54,7 +54,7 @@ setting_changes boot d (says.EgtPath kind path) e = refl
 setting_changes boot d m e = cc
 
 -- other messages set none
-pub plain_option : (os : List Setting) (m : Message) → is_setting m ≡ false → refused_option (asked os m) ≡ None
+pub plain_option : (os : List Setting) (m : IfaceMsg) → is_setting m ≡ false → refused_option (asked os m) ≡ None
 plain_option os (says.SetOption name value) e = cc
 plain_option os (says.Memory n) e = cc
 plain_option os (says.Cores n) e = cc
@@ -63,16 +63,16 @@ plain_option os m e = refl
 
 -- REFUSALS
 
-abbrev pings_by : Bool → List ℕ → Message → Bool
+abbrev pings_by : Bool → List ℕ → IfaceMsg → Bool
 pings_by owes pings (says.Ping n) = owes && nat_le 64 (length pings)
 pings_by owes pings m = false
 
-pings_are : (h : Here) (m : Message) → pings_too_often h m ≡ pings_by (owes_move h) h.desk.pings m
+pings_are : (h : Situation) (m : IfaceMsg) → pings_too_often h m ≡ pings_by (owes_move h) h.desk.pings m
 pings_are h (says.Ping n) = refl
 pings_are h m = refl
 
 -- why a message is refused, by the parts that the interface commands, whether the engine is Gone and a Move is owed, and what is said of options
-pub refused_by : Bool → Course → Mode → List ℕ → Bool → Option Refusal → Option Refusal → Message → Option Refusal
+pub refused_by : Bool → Game → Mode → List ℕ → Bool → Option Refusal → Option Refusal → IfaceMsg → Option Refusal
 refused_by gone g mode pings owes option fit m =
     or_else (where_true (needs_engine m && gone) reasons.EngineEnded)
     (or_else (where_true (needs_analysis m && not (analyses mode)) reasons.NotAnalyzing)
@@ -84,13 +84,13 @@ refused_by gone g mode pings owes option fit m =
     (or_else fit
     (where_true (pings_by owes pings m) reasons.TooManyPings))))))))
 
-abbrev pub option_refusal : Here → Message → Option Refusal
+abbrev pub option_refusal : Situation → IfaceMsg → Option Refusal
 option_refusal h m = refused_option (asked (table h.desk) m)
 
-abbrev pub fit_refusal : Here → List Command → Message → Option Refusal
+abbrev pub fit_refusal : Situation → List Order → IfaceMsg → Option Refusal
 fit_refusal h held m = where_true (does_not_fit held (asks (is_gone h.engine) h.desk m)) reasons.TooManySettings
 
-pub refusal_is : (h : Here) (held : List Command) (m : Message)
+pub refusal_is : (h : Situation) (held : List Order) (m : IfaceMsg)
     → refusal h held m ≡ refused_by (is_gone h.engine) h.desk.game h.desk.mode h.desk.pings (owes_move h) (option_refusal h m) (fit_refusal h held m) m
 unfolding refusal refused_by
 refusal_is h held m =
@@ -118,7 +118,7 @@ fits_last true x n = cc
 fits_last false x n = refl
 
 -- where that is not so, the settings do not matter
-pub unfilled : (gone : Bool) (g : Course) (mode : Mode) (pings : List ℕ) (owes : Bool) (option : Option Refusal) (b : Bool) (m : Message)
+pub unfilled : (gone : Bool) (g : Game) (mode : Mode) (pings : List ℕ) (owes : Bool) (option : Option Refusal) (b : Bool) (m : IfaceMsg)
     → is_full_refusal (refused_by gone g mode pings owes option (where_true b reasons.TooManySettings) m) ≡ false
     → refused_by gone g mode pings owes option (where_true b reasons.TooManySettings) m ≡ refused_by gone g mode pings owes option None m
 unfolding refused_by
@@ -145,8 +145,8 @@ none_for_mode os true true e = refl
 none_for_mode os false false e = refl
 
 -- every order fits where none is held and no option is declared
-pub lone_fits : (d : Desk) (m : Message) → table d ≡ [] → is_setting m ≡ false → does_not_fit [] (asks false d m) ≡ false
-unfolding asks command_text
+pub lone_fits : (d : Desk) (m : IfaceMsg) → table d ≡ [] → is_setting m ≡ false → does_not_fit [] (asks false d m) ≡ false
+unfolding asks order_text
 lone_fits d says.New e p = refl
 lone_fits d says.Force e p = ap (does_not_fit []) (none_for_mode (table d) (analyses d.mode) false e)
 lone_fits d says.Go e p = ap (does_not_fit []) (none_for_mode (table d) (analyses d.mode) false e)

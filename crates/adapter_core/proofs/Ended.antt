@@ -2,15 +2,15 @@
 use Rattle.std.proofs.Common.{◌≡◌, ℕ, List, [], ◌∷◌, map, Bool, true, false, cond, not, ◌||◌, Option, Some, None, refl, sym, ap, subst, ◌∙◌}
 use Rattle.line_io.specs.Event.{Event, is_line}
 use Rattle.line_io.specs.Event as events
-use Rattle.uci_lines.specs.Orders.{Command}
-use Rattle.cecp_lines.specs.Replies.{Told}
+use Rattle.uci_lines.specs.Orders.{Order}
+use Rattle.cecp_lines.specs.Replies.{Reply}
 use Rattle.policy_rules.specs.declared.settings.Settings.{Settings}
-use Rattle.search_epochs.specs.Talk.{Engine, Boot, Getting, Idle, Search, Gone, Word, MaySendAll, sent_all, heard, said_of}
-use Rattle.search_epochs.specs.View.{forget}
+use Rattle.search_epochs.specs.Tickets.{Engine, Boot, Getting, Idle, Search, Gone, Word, MaySendAll, sent_all, heard, said_of}
+use Rattle.search_epochs.specs.Dialogue.{forget}
 use Rattle.desk_rules.specs.Desk.{is_gone}
-use Rattle.cecp_lines.specs.Messages.{Message}
+use Rattle.cecp_lines.specs.Messages.{IfaceMsg}
 use Rattle.cecp_lines.specs.Messages as says
-use Rattle.desk_rules.specs.Steps.{Deed, Nothing, Opens, LongLine, Refuses, Accepts, Names, Declares, Boots, Readies, Thinks, Shows, Forfeits, Answers, Dies, comes, what_of, what_accepted, is_death, dies}
+use Rattle.desk_rules.specs.Steps.{Effect, Nothing, Opens, LongLine, Refuses, Accepts, Names, Declares, Boots, Readies, Thinks, Shows, Forfeits, Answers, Dies, classify, what_of, what_accepted, is_death, dies}
 use Rattle.desk_rules.specs.Orders.{word_of}
 use Rattle.search_epochs.specs.declared.words.Said.{Said}
 use Rattle.search_epochs.specs.declared.words.Said.TheVariants as said
@@ -18,7 +18,7 @@ use Rattle.uci_lines.specs.Orders as orders
 use Rattle.adapter_core.specs.declared.ends.Ends.{Ends}
 use Rattle.adapter_core.specs.Ends.{may, ends_after, is_open}
 use Rattle.cecp_lines.specs.Quit.{is_quit}
-use Rattle.adapter_core.specs.Trace.{State, Step, Lawful, state, deed, turn, mid, closed_after, gone_after, last_orders}
+use Rattle.adapter_core.specs.Trace.{State, Step, Lawful, state, effect, turn, mid, closed_after, gone_after, last_orders}
 use Rattle.adapter_core.specs.Stands.{IsSilentToIface, IsSilentToEngine}
 use Rattle.adapter_core.proofs.Closing.{opened_later}
 
@@ -54,7 +54,7 @@ closed_by : (o : Settings) (t : List Step) → iface_gone (state o t).ends ≡ t
 closed_by o [] g = cc
 closed_by o (step ∷ t) g = ended_closed (state o t).ends step.event (closed_by o t) g
 
-no_replies : (b : Bool) (rs : List Told) → b ≡ true → cond b [] rs ≡ []
+no_replies : (b : Bool) (rs : List Reply) → b ≡ true → cond b [] rs ≡ []
 no_replies true rs e = refl
 no_replies false rs e = cc
 
@@ -84,14 +84,14 @@ death epoch Idle = refl
 death epoch (Search k t s) = refl
 death epoch Gone = refl
 
-stays_gone : (s : State) (e : Event) → s.talk.engine ≡ Gone → (mid s e).engine ≡ Gone
+stays_gone : (s : State) (e : Event) → s.dialogue.engine ≡ Gone → (mid s e).engine ≡ Gone
 stays_gone s e g = ap (λ (x : Engine). heard x (said_of (turn s e).what)) g ∙ gone_hears (said_of (turn s e).what)
 
 -- an engine that has ended is Gone before the orders of the step
-mid_gone : (s : State) (e : Event) → (engine_gone s.ends ≡ true → s.talk.engine ≡ Gone) → engine_gone (ends_after s.ends e) ≡ true → (mid s e).engine ≡ Gone
-unfolding comes
-mid_gone s events.EngineEnd h g = death s.talk.epoch s.talk.engine
-mid_gone s events.EngineLost h g = death s.talk.epoch s.talk.engine
+mid_gone : (s : State) (e : Event) → (engine_gone s.ends ≡ true → s.dialogue.engine ≡ Gone) → engine_gone (ends_after s.ends e) ≡ true → (mid s e).engine ≡ Gone
+unfolding classify
+mid_gone s events.EngineEnd h g = death s.dialogue.epoch s.dialogue.engine
+mid_gone s events.EngineLost h g = death s.dialogue.epoch s.dialogue.engine
 mid_gone s events.Open h g = stays_gone s events.Open (h g)
 mid_gone s (events.Iface line) h g = stays_gone s (events.Iface line) (h g)
 mid_gone s events.IfaceLong h g = stays_gone s events.IfaceLong (h g)
@@ -100,7 +100,7 @@ mid_gone s events.IfaceLost h g = stays_gone s events.IfaceLost (h g)
 mid_gone s (events.Engine line) h g = stays_gone s (events.Engine line) (h g)
 mid_gone s events.EngineLong h g = stays_gone s events.EngineLong (h g)
 
-gone_by : (o : Settings) (t : List Step) → engine_gone (state o t).ends ≡ true → (state o t).talk.engine ≡ Gone
+gone_by : (o : Settings) (t : List Step) → engine_gone (state o t).ends ≡ true → (state o t).dialogue.engine ≡ Gone
 gone_by o [] g = cc
 gone_by o (step ∷ t) g =
     let s = state o t in
@@ -111,7 +111,7 @@ not_gone : (e : Engine) (w : Option Said) → w ≡ None → heard e w ≡ Gone 
 not_gone e None n g = g
 not_gone e (Some said) n g = cc
 
-quiet_line : (m : Message) → said_of (what_accepted m) ≡ None
+quiet_line : (m : IfaceMsg) → said_of (what_accepted m) ≡ None
 quiet_line (says.UserMove m) = refl
 quiet_line says.MoveNow = refl
 quiet_line m = refl
@@ -123,7 +123,7 @@ gone_known epoch Getting b g = cc
 gone_known epoch Idle b g = cc
 gone_known epoch (Search k t s) b g = cc
 
-gone_is : (epoch : ℕ) (e : Engine) (d : Deed) → heard e (said_of (what_of d)) ≡ Gone → (is_gone (forget epoch e) || is_death d) ≡ true
+gone_is : (epoch : ℕ) (e : Engine) (d : Effect) → heard e (said_of (what_of d)) ≡ Gone → (is_gone (forget epoch e) || is_death d) ≡ true
 gone_is epoch e (Accepts m) g = gone_known epoch e false (not_gone e (said_of (what_accepted m)) (quiet_line m) g)
 gone_is epoch Boot Nothing g = cc
 gone_is epoch Boot Opens g = cc
@@ -179,7 +179,7 @@ gone_is epoch (Search k t s) Answers g = cc
 gone_is epoch (Search k t s) Dies g = refl
 gone_is epoch Gone d g = refl
 
-no_order : (epoch : ℕ) (os : List Command) → MaySendAll epoch Gone (map word_of os) → os ≡ []
+no_order : (epoch : ℕ) (os : List Order) → MaySendAll epoch Gone (map word_of os) → os ≡ []
 no_order epoch [] m = refl
 no_order epoch (orders.Uci ∷ os) m = absurd (m.0)
 no_order epoch (orders.IsReady ∷ os) m = let e = m.0 in cc
@@ -228,7 +228,7 @@ silent_step o t step l g true before after op b a =
 silent_step o t step l g false true after op b a = l.1.closed op b
 silent_step o t step l g false false true op b a =
     let s = state o t in
-    l.1.closes b a ∙ none_at_last (gone_after s step.event) (gone_is s.talk.epoch s.talk.engine (deed s step.event) (mid_gone s step.event (gone_by o t) g))
+    l.1.closes b a ∙ none_at_last (gone_after s step.event) (gone_is s.dialogue.epoch s.dialogue.engine (effect s step.event) (mid_gone s step.event (gone_by o t) g))
 silent_step o t step l g false false false op b a =
     let s = state o t in
     let settled = l.1.settled op a in

@@ -1,19 +1,19 @@
 -- Before `uciok` no more than a new game is held, and no option counts.
 use Rattle.std.proofs.Common.{◌≡◌, ℕ, List, [], Bool, true, false, cond, refl, ◌∙◌, inl}
-use Rattle.uci_lines.specs.Orders.{Command}
+use Rattle.uci_lines.specs.Orders.{Order}
 use Rattle.search_epochs.specs.declared.words.Said.TheVariants as said
 use Rattle.search_epochs.specs.declared.words.EngineState.{EngineState}
 use Rattle.search_epochs.specs.declared.words.EngineState.TheVariants as states
 use Rattle.search_epochs.specs.declared.words.Orders.{Orders}
 use Rattle.search_epochs.specs.declared.words.Orders.TheVariants as chosen
-use Rattle.search_epochs.specs.Talk.{What, Says}
-use Rattle.search_epochs.specs.View as dialogue
-use Rattle.search_epochs.specs.View.{after_what, mid_view, stale_state, heard_state, settled_state}
-use Rattle.desk_rules.specs.Desk.{Here}
-use Rattle.desk_rules.specs.Steps.{Deed, Boots, what_of, desk_after_deed}
+use Rattle.search_epochs.specs.Tickets.{What, Says}
+use Rattle.search_epochs.specs.Dialogue as dialogues
+use Rattle.search_epochs.specs.Dialogue.{after_what, mid_dialogue, stale_state, heard_state, settled_state}
+use Rattle.desk_rules.specs.Desk.{Situation}
+use Rattle.desk_rules.specs.Steps.{Effect, Boots, what_of, desk_after_effect}
 use Rattle.desk_rules.specs.Orders.{waiting}
 use Rattle.desk_rules.specs.Fits.{IsFirst}
-use Rattle.desk_rules.proofs.Firsts.{IsBoots, orders_first, deed_booted}
+use Rattle.desk_rules.proofs.Firsts.{IsBoots, orders_first, effect_booted}
 
 -- BOOT IS NEVER ENTERED AGAIN
 
@@ -52,18 +52,18 @@ no_end states.Idle x = cc
 no_end (states.Search k stale s) x = cc
 no_end states.Gone x = cc
 
-was_what : (v : dialogue.View) (w : What) → (after_what v w).state ≡ states.Boot → v.state ≡ states.Boot
+was_what : (v : dialogues.Dialogue) (w : What) → (after_what v w).state ≡ states.Boot → v.state ≡ states.Boot
 was_what v (Says said.UciOk) x = absurd (no_uciok v.state x)
 was_what v (Says said.ReadyOk) x = was_readyok v.state x
 was_what v (Says said.Best) x = was_best v.state x
 was_what v (Says said.Ended) x = absurd (no_end v.state x)
 was_what v w x = x
 
-no_boots : (v : dialogue.View) (d : Deed) → (after_what v (what_of d)).state ≡ states.Boot → IsBoots d → ⊥
+no_boots : (v : dialogues.Dialogue) (d : Effect) → (after_what v (what_of d)).state ≡ states.Boot → IsBoots d → ⊥
 no_boots v Boots x b = no_uciok v.state x
 no_boots v d x b = b
 
-risen : (v : dialogue.View) (d : Deed) (r : Bool) → (mid_view v (what_of d) r).state ≡ states.Boot → (after_what v (what_of d)).state ≡ states.Boot
+risen : (v : dialogues.Dialogue) (d : Effect) (r : Bool) → (mid_dialogue v (what_of d) r).state ≡ states.Boot → (after_what v (what_of d)).state ≡ states.Boot
 risen v d true x = was_stale (after_what v (what_of d)).state x
 risen v d false x = x
 
@@ -78,15 +78,15 @@ was_settled states.Getting chosen.Stop x = x
 was_settled states.Idle chosen.Stop x = x
 was_settled states.Gone chosen.Stop x = x
 
-batch_first : (b : Bool) (ls : List Command) → IsFirst ls → IsFirst (cond b [] ls)
+batch_first : (b : Bool) (ls : List Order) → IsFirst ls → IsFirst (cond b [] ls)
 batch_first true ls f = inl refl
 batch_first false ls f = f
 
 -- what is held after the step, and whether options count, where the engine is in Boot then
-pub first_after : (h : Here) (held : List Command) (d : Deed) (v : dialogue.View) (r b : Bool) (o : Orders) → (v.state ≡ states.Boot → IsFirst held × (h.desk.booted ≡ false))
-    → settled_state (mid_view v (what_of d) r).state o ≡ states.Boot → IsFirst (cond b [] (waiting h held d)) × ((desk_after_deed h d).booted ≡ false)
+pub first_after : (h : Situation) (held : List Order) (d : Effect) (v : dialogues.Dialogue) (r b : Bool) (o : Orders) → (v.state ≡ states.Boot → IsFirst held × (h.desk.booted ≡ false))
+    → settled_state (mid_dialogue v (what_of d) r).state o ≡ states.Boot → IsFirst (cond b [] (waiting h held d)) × ((desk_after_effect h d).booted ≡ false)
 first_after h held d v r b o f x =
-    let said = risen v d r (was_settled (mid_view v (what_of d) r).state o x) in
+    let said = risen v d r (was_settled (mid_dialogue v (what_of d) r).state o x) in
     let none = no_boots v d said in
     let before = f (was_what v (what_of d) said) in
-    (batch_first b (waiting h held d) (orders_first h held d none before.1 before.0), deed_booted h d none ∙ before.1)
+    (batch_first b (waiting h held d) (orders_first h held d none before.1 before.0), effect_booted h d none ∙ before.1)

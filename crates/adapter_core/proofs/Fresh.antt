@@ -3,34 +3,34 @@ use Rattle.std.proofs.Common.{◌≡◌, Bool, true, false, not, cond, ◌&&◌,
 use Rattle.std.specs.Option.{is_some}
 use Rattle.chess_board.specs.declared.board.Move.{Move}
 use Rattle.chess_board.specs.Board.{same_side}
-use Rattle.cecp_lines.specs.Messages.{Message}
+use Rattle.cecp_lines.specs.Messages.{IfaceMsg}
 use Rattle.cecp_lines.specs.Messages as says
 use Rattle.option_map.specs.Shown.{check_named}
-use Rattle.game_record.specs.Course.{Course, now_of}
+use Rattle.game_record.specs.Game.{Game, now_of}
 use Rattle.game_record.specs.Ending.{has_legal}
 use Rattle.search_epochs.specs.declared.words.Call.{Call}
 use Rattle.search_epochs.specs.declared.words.Call.TheVariants as calls
-use Rattle.search_epochs.specs.Talk.{is_move}
+use Rattle.search_epochs.specs.Tickets.{is_move}
 use Rattle.desk_rules.specs.declared.mode.Mode.{Mode}
 use Rattle.desk_rules.specs.declared.mode.Mode.TheVariants as modes
 use Rattle.desk_rules.specs.declared.desk.Desk.{Desk}
-use Rattle.desk_rules.specs.Desk.{Here, call_of, call_in, call_for_hint, call_while_waiting, call_before, has_ended, on_move, played, is_gone, is_boot, is_full, owes_move, table, ponder_name}
+use Rattle.desk_rules.specs.Desk.{Situation, call_of, call_in, call_for_hint, call_while_waiting, call_before, has_ended, on_move, played, is_gone, is_boot, is_full, owes_move, table, ponder_name}
 use Rattle.desk_rules.specs.Lines.{asks, change, is_epoch_line}
-use Rattle.desk_rules.specs.Steps.{Deed, Accepts, Shows, Forfeits, Dies, desk_after_deed, rises, call_after, is_death, over_where, resigns_at_end}
+use Rattle.desk_rules.specs.Steps.{Effect, Accepts, Shows, Forfeits, Dies, desk_after_effect, begins_epoch, call_after, is_death, over_where, resigns_at_end}
 
 -- a Move is called for, by the game and the mode
-abbrev pub plays_now : Course → Mode → Bool
+abbrev pub plays_now : Game → Mode → Bool
 plays_now g (modes.Plays s) = not (has_ended g) && same_side s (on_move g)
 plays_now g m = false
 
-abbrev pub calls_move : Bool → Bool → Course → Mode → Bool
+abbrev pub calls_move : Bool → Bool → Game → Mode → Bool
 calls_move closed gone g m = not (closed || gone || is_full g) && plays_now g m
 
 hint_not : (b : Bool) (g : Move) → is_move (cond b calls.Nothing (calls.Ponder g)) ≡ false
 hint_not true g = refl
 hint_not false g = refl
 
-for_hint_not : (g : Course) (o : Option Move) → is_move (call_for_hint g o) ≡ false
+for_hint_not : (g : Game) (o : Option Move) → is_move (call_for_hint g o) ≡ false
 for_hint_not g None = refl
 for_hint_not g (Some h) = hint_not (has_ended (played g h)) h
 
@@ -79,7 +79,7 @@ pub data Stays (d e : Desk) : Type 0 where
   Same : e.game ≡ d.game → e.mode ≡ d.mode → Stays d e
   Ends : e.mode ≡ modes.Over → Stays d e
 
-line_stays : (h : Here) (m : Message) → is_epoch_line (owes_move h) (asks (is_gone h.engine) h.desk m) m ≡ false → Stays h.desk (change (is_boot h.engine) h.desk m)
+line_stays : (h : Situation) (m : IfaceMsg) → is_epoch_line (owes_move h) (asks (is_gone h.engine) h.desk m) m ≡ false → Stays h.desk (change (is_boot h.engine) h.desk m)
 unfolding change is_epoch_line
 line_stays h says.New r = cc
 line_stays h says.Force r = cc
@@ -94,13 +94,13 @@ line_stays h says.Exit r = cc
 line_stays h says.Result r = cc
 line_stays h m r = Same refl refl
 
-over_stays : (h : Here) (b : Bool) → Stays h.desk (record h.desk { mode = over_where b h.desk.mode; due = h.desk.due && h.closed })
+over_stays : (h : Situation) (b : Bool) → Stays h.desk (record h.desk { mode = over_where b h.desk.mode; due = h.desk.due && h.closed })
 over_stays h true = Ends refl
 over_stays h false = Same refl refl
 
 -- without a new epoch the game and the mode stay, unless the game is given up
-pub stays : (h : Here) (d : Deed) → rises h d ≡ false → Stays h.desk (desk_after_deed h d)
-unfolding desk_after_deed
+pub stays : (h : Situation) (d : Effect) → begins_epoch h d ≡ false → Stays h.desk (desk_after_effect h d)
+unfolding desk_after_effect
 stays h (Accepts m) r = line_stays h m r
 stays h (Shows best hint) r = cc
 stays h Forfeits r = Ends refl
@@ -113,14 +113,14 @@ or_gone false true x f p e = refl
 or_gone false false true f p e = refl
 or_gone false false false f p e = e
 
-stays_quiet : (h : Here) (d : Deed) (e : Desk) → Stays h.desk e → is_move (call_before h) ≡ false → is_move (call_of h.closed (is_gone h.engine || is_death d) e) ≡ false
+stays_quiet : (h : Situation) (d : Effect) (e : Desk) → Stays h.desk e → is_move (call_before h) ≡ false → is_move (call_of h.closed (is_gone h.engine || is_death d) e) ≡ false
 stays_quiet h d e (Same g m) p =
     call_is h.closed (is_gone h.engine || is_death d) e
-    ∙ ap (λ (x : Course). calls_move h.closed (is_gone h.engine || is_death d) x e.mode) g
+    ∙ ap (λ (x : Game). calls_move h.closed (is_gone h.engine || is_death d) x e.mode) g
     ∙ ap (λ (x : Mode). calls_move h.closed (is_gone h.engine || is_death d) h.desk.game x) m
     ∙ or_gone h.closed (is_gone h.engine) (is_death d) (is_full h.desk.game) (plays_now h.desk.game h.desk.mode) (sym (call_is h.closed (is_gone h.engine) h.desk) ∙ p)
 stays_quiet h d e (Ends m) p = over_calls h.closed (is_gone h.engine || is_death d) e m
 
 -- where no Move is called for and no epoch begins, none is called for afterwards
-pub still_quiet : (h : Here) (d : Deed) → rises h d ≡ false → is_move (call_before h) ≡ false → is_move (call_after h.closed h d) ≡ false
-still_quiet h d r p = stays_quiet h d (desk_after_deed h d) (stays h d r) p
+pub still_quiet : (h : Situation) (d : Effect) → begins_epoch h d ≡ false → is_move (call_before h) ≡ false → is_move (call_after h.closed h d) ≡ false
+still_quiet h d r p = stays_quiet h d (desk_after_effect h d) (stays h d r) p

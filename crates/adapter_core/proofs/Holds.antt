@@ -2,28 +2,28 @@
 use Rattle.std.proofs.Common.{◌≡◌, ℕ, List, [], ◌∷◌, map, Bool, true, false, cond, ◌||◌, refl, sym, ap, subst, ◌∙◌}
 use Rattle.line_io.specs.Event.{Event}
 use Rattle.line_io.specs.Out.{Text}
-use Rattle.uci_lines.specs.Orders.{Command}
+use Rattle.uci_lines.specs.Orders.{Order}
 use Rattle.policy_rules.specs.declared.settings.Settings.{Settings}
 use Rattle.policy_rules.specs.Policy.{IsProper}
 use Rattle.search_epochs.specs.declared.words.Orders.{Orders}
-use Rattle.search_epochs.specs.Talk.{Engine, Boot, Getting, Idle, Search, Gone, is_move}
-use Rattle.search_epochs.specs.View as dialogue
-use Rattle.search_epochs.specs.View.{mid_view, owed_view}
+use Rattle.search_epochs.specs.Tickets.{Engine, Boot, Getting, Idle, Search, Gone, is_move}
+use Rattle.search_epochs.specs.Dialogue as dialogues
+use Rattle.search_epochs.specs.Dialogue.{mid_dialogue, owed_by_dialogue}
 use Rattle.search_epochs.proofs.Turns.{TicketWithin}
 use Rattle.search_epochs.proofs.Within.{all_within, turned_within, turned_last}
 use Rattle.desk_rules.specs.declared.desk.Desk.{Desk}
-use Rattle.desk_rules.specs.Desk.{Here, is_gone}
-use Rattle.desk_rules.specs.Steps.{Deed, comes, what_of, rises, call_after, is_death}
+use Rattle.desk_rules.specs.Desk.{Situation, is_gone}
+use Rattle.desk_rules.specs.Steps.{Effect, classify, what_of, begins_epoch, call_after, is_death}
 use Rattle.desk_rules.specs.Orders.{waiting, word_of, AreHeld}
-use Rattle.desk_rules.specs.Texts.{command_lines}
+use Rattle.desk_rules.specs.Texts.{order_lines}
 use Rattle.desk_rules.specs.Fits.{IsSound}
 use Rattle.adapter_core.specs.Ends.{may, ends_after, is_open}
-use Rattle.adapter_core.specs.Trace.{State, Step, Lawful, state, state_after, here, deed, turn, mid, has_ready, iface_text, engine_text}
-use Rattle.adapter_core.specs.View as view
-use Rattle.adapter_core.specs.View.{View, advance}
-use Rattle.adapter_core.specs.Stands.{view_of, Holds, Keeps, TicketIsWithin, Stands, Extends, step_by}
+use Rattle.adapter_core.specs.Trace.{State, Step, Lawful, state, state_after, situation, effect, turn, mid, has_ready, iface_text, engine_text}
+use Rattle.adapter_core.specs.Parts as parts
+use Rattle.adapter_core.specs.Parts.{Parts, advance}
+use Rattle.adapter_core.specs.Stands.{parts_of, Holds, Keeps, TicketIsWithin, Stands, Extends, step_by}
 use Rattle.adapter_core.proofs.Closing.{opened_later, line_event}
-use Rattle.adapter_core.proofs.Square.{within, held, lawful, stands, step_here, step_is}
+use Rattle.adapter_core.proofs.Square.{within, held, lawful, stands, step_situation, step_is}
 
 back : (epoch : ℕ) (e : Engine) → TicketWithin epoch e → TicketIsWithin epoch e
 back epoch Boot w = tt
@@ -32,7 +32,7 @@ back epoch Idle w = tt
 back epoch Gone w = tt
 back epoch (Search k t s) w = w
 
-still : (b : Bool) (os : List Command) → AreHeld os → AreHeld (cond b [] os)
+still : (b : Bool) (os : List Order) → AreHeld os → AreHeld (cond b [] os)
 still true os a = tt
 still false os a = a
 
@@ -45,71 +45,71 @@ pub begins : (o : Settings) → IsProper o → Holds (state o [])
 begins o p = record { proper = p; begins = λ c. refl; ticket = tt; last = tt; held = tt }
 
 -- a new core stands for it
-pub stands_first : (o : Settings) → IsProper o → Stands o (view.opening o) []
+pub stands_first : (o : Settings) → IsProper o → Stands o (parts.opening o) []
 stands_first o p = (refl, begins o p)
 
 -- what holds goes on, whatever the orders are, if only the event may come
-pub holds_on : (s : State) (step : Step) → Holds s → AreHeld (waiting (here s) s.held (deed s step.event)) → may s.ends step.event ≡ true → Holds (state_after s step)
+pub holds_on : (s : State) (step : Step) → Holds s → AreHeld (waiting (situation s) s.held (effect s step.event)) → may s.ends step.event ≡ true → Holds (state_after s step)
 holds_on s step holds a m =
-    let t = within s.talk.epoch s.talk.engine holds.ticket in
+    let t = within s.dialogue.epoch s.dialogue.engine holds.ticket in
     let u = turn s step.event in
     record {
       proper = holds.proper;
       begins = λ no. absurd (differ _ no (opened_later s.ends step.event m));
-      ticket = back _ _ (all_within (mid s step.event).epoch (mid s step.event).engine (map word_of step.orders) (turned_within s.talk u t));
-      last = turned_last s.talk u t holds.last;
-      held = still (has_ready (map word_of step.orders)) (waiting (here s) s.held (deed s step.event)) a;
+      ticket = back _ _ (all_within (mid s step.event).epoch (mid s step.event).engine (map word_of step.orders) (turned_within s.dialogue u t));
+      last = turned_last s.dialogue u t holds.last;
+      held = still (has_ready (map word_of step.orders)) (waiting (situation s) s.held (effect s step.event)) a;
     }
 
 -- each step of a core extends each lawful trace that it stands for
-same_step : (o : Settings) (t : List Step) (told ordered : Text) (e : Event) → may (state o t).ends e ≡ true → IsSound (state o t).desk → Lawful o t → Holds (state o t)
-    → (let old = view_of (state o t) told ordered in Lawful o (step_by old e ∷ t) × Stands o (advance old e) (step_by old e ∷ t))
-same_step o t told ordered e m d l h =
+same_step : (o : Settings) (t : List Step) (to_iface to_engine : Text) (e : Event) → may (state o t).ends e ≡ true → IsSound (state o t).desk → Lawful o t → Holds (state o t)
+    → (let old = parts_of (state o t) to_iface to_engine in Lawful o (step_by old e ∷ t) × Stands o (advance old e) (step_by old e ∷ t))
+same_step o t to_iface to_engine e m d l h =
     let s = state o t in
-    let old = view_of s told ordered in
+    let old = parts_of s to_iface to_engine in
     let i = line_event s.ends e m in
-    subst (λ (x : Step). Lawful o (x ∷ t) × Stands o (advance old e) (x ∷ t)) (sym (step_is s told ordered e h d i))
-    ((l, lawful s told ordered e h d i m), (stands s told ordered e h d i m, holds_on s (step_here s told ordered e h d i) h (held s told ordered e h d i) m))
+    subst (λ (x : Step). Lawful o (x ∷ t) × Stands o (advance old e) (x ∷ t)) (sym (step_is s to_iface to_engine e h d i))
+    ((l, lawful s to_iface to_engine e h d i m), (stands s to_iface to_engine e h d i m, holds_on s (step_situation s to_iface to_engine e h d i) h (held s to_iface to_engine e h d i) m))
 
-pub extended : (o : Settings) (core : View) (t : List Step) (e : Event) → may core.ends e ≡ true → IsSound core.desk → Lawful o t → Stands o core t
+pub extended : (o : Settings) (core : Parts) (t : List Step) (e : Event) → may core.ends e ≡ true → IsSound core.desk → Lawful o t → Stands o core t
     → Lawful o (step_by core e ∷ t) × Stands o (advance core e) (step_by core e ∷ t)
 extended o core t e m d l st =
-    let m' : may (state o t).ends e ≡ true = subst (λ (w : View). may w.ends e ≡ true) st.0 m in
-    let d' : IsSound (state o t).desk = subst (λ (w : View). IsSound w.desk) st.0 d in
-    subst (λ (w : View). Lawful o (step_by w e ∷ t) × Stands o (advance w e) (step_by w e ∷ t)) (sym st.0)
-    (same_step o t core.told core.ordered e m' d' l st.1)
+    let m' : may (state o t).ends e ≡ true = subst (λ (w : Parts). may w.ends e ≡ true) st.0 m in
+    let d' : IsSound (state o t).desk = subst (λ (w : Parts). IsSound w.desk) st.0 d in
+    subst (λ (w : Parts). Lawful o (step_by w e ∷ t) × Stands o (advance w e) (step_by w e ∷ t)) (sym st.0)
+    (same_step o t core.to_iface core.to_engine e m' d' l st.1)
 
 -- TEXTS
 
-pub told_text_is : (core : View) (e : Event) → (advance core e).told.text ≡ iface_text (step_by core e)
+pub told_text_is : (core : Parts) (e : Event) → (advance core e).to_iface.text ≡ iface_text (step_by core e)
 unfolding advance step_by
 told_text_is core e = refl
 
-pub ordered_text_is : (core : View) (e : Event) → (advance core e).ordered.text ≡ engine_text (step_by core e)
+pub ordered_text_is : (core : Parts) (e : Event) → (advance core e).to_engine.text ≡ engine_text (step_by core e)
 unfolding advance step_by
 ordered_text_is core e = refl
 
 -- THE STEP
 
-event_is : (core : View) (e : Event) → (step_by core e).event ≡ e
+event_is : (core : Parts) (e : Event) → (step_by core e).event ≡ e
 unfolding step_by
 event_is core e = refl
 
 -- a step of a core that gives these texts
-pub extends_to : (core new : View) (e : Event) (iface engine : List ℕ) → Keeps core → may core.ends e ≡ true → new ≡ advance core e → iface ≡ new.told.text → engine ≡ new.ordered.text
+pub extends_to : (core new : Parts) (e : Event) (iface engine : List ℕ) → Keeps core → may core.ends e ≡ true → new ≡ advance core e → iface ≡ new.to_iface.text → engine ≡ new.to_engine.text
     → Extends core new e iface engine
 extends_to core new e iface engine k m n i g = record {
   step = step_by core e;
   event = event_is core e;
-  iface_is = i ∙ ap (λ (v : View). v.told.text) n ∙ told_text_is core e;
-  engine_is = g ∙ ap (λ (v : View). v.ordered.text) n ∙ ordered_text_is core e;
-  extends = λ o t l st. subst (λ (v : View). Lawful o (step_by core e ∷ t) × Stands o v (step_by core e ∷ t)) (sym n) (extended o core t e m k.sound l st);
+  iface_is = i ∙ ap (λ (v : Parts). v.to_iface.text) n ∙ told_text_is core e;
+  engine_is = g ∙ ap (λ (v : Parts). v.to_engine.text) n ∙ ordered_text_is core e;
+  extends = λ o t l st. subst (λ (v : Parts). Lawful o (step_by core e ∷ t) × Stands o v (step_by core e ∷ t)) (sym n) (extended o core t e m k.sound l st);
 }
 
 -- the texts are those of its buffers
-pub extends : (core : View) (e : Event) → Keeps core → may core.ends e ≡ true → Extends core (advance core e) e (advance core e).told.text (advance core e).ordered.text
-extends core e k m = extends_to core (advance core e) e (advance core e).told.text (advance core e).ordered.text k m refl refl refl
+pub extends : (core : Parts) (e : Event) → Keeps core → may core.ends e ≡ true → Extends core (advance core e) e (advance core e).to_iface.text (advance core e).to_engine.text
+extends core e k m = extends_to core (advance core e) e (advance core e).to_iface.text (advance core e).to_engine.text k m refl refl refl
 
 -- or equal ones
-pub with_texts : (core new : View) (e : Event) (iface engine : List ℕ) → Extends core new e new.told.text new.ordered.text → iface ≡ new.told.text → engine ≡ new.ordered.text → Extends core new e iface engine
+pub with_texts : (core new : Parts) (e : Event) (iface engine : List ℕ) → Extends core new e new.to_iface.text new.to_engine.text → iface ≡ new.to_iface.text → engine ≡ new.to_engine.text → Extends core new e iface engine
 with_texts core new e iface engine x i g = record { step = x.step; event = x.event; iface_is = i ∙ x.iface_is; engine_is = g ∙ x.engine_is; extends = x.extends }

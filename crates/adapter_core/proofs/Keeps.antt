@@ -3,7 +3,7 @@ use Rattle.std.proofs.Common.{◌≡◌, ℕ, ◌≤◌, List, [], length, Bool,
 use Rattle.line_io.specs.Event.{Event}
 use Rattle.peer_words.specs.declared.kinds.GoKind.{GoKind}
 use Rattle.cecp_lines.specs.Messages as says
-use Rattle.uci_lines.specs.Orders.{Command}
+use Rattle.uci_lines.specs.Orders.{Order}
 use Rattle.clock_map.specs.Clocks.{AreShort, first_clocks}
 use Rattle.policy_rules.specs.declared.settings.Settings.{Settings}
 use Rattle.policy_rules.specs.Policy.{IsProper}
@@ -12,20 +12,20 @@ use Rattle.search_epochs.specs.declared.words.Orders.{Orders}
 use Rattle.search_epochs.specs.declared.words.Orders.TheVariants as chosen
 use Rattle.search_epochs.specs.declared.words.EngineState.{EngineState}
 use Rattle.search_epochs.specs.declared.words.EngineState.TheVariants as states
-use Rattle.search_epochs.specs.Talk.{Serves, is_move, is_hurry}
-use Rattle.search_epochs.specs.View as dialogue
-use Rattle.search_epochs.specs.View.{mid_view, owed_view, played_of, is_pondered, settled_state, is_batch_order, is_hit_order}
-use Rattle.desk_rules.specs.Desk.{Here, current, call_of, is_gone, is_boot, owes_move, owed_at}
+use Rattle.search_epochs.specs.Tickets.{Serves, is_move, is_hurry}
+use Rattle.search_epochs.specs.Dialogue as dialogues
+use Rattle.search_epochs.specs.Dialogue.{mid_dialogue, owed_by_dialogue, played_of, is_pondered, settled_state, is_batch_order, is_hit_order}
+use Rattle.desk_rules.specs.Desk.{Situation, current, call_of, is_gone, is_boot, owes_move, owed_at}
 use Rattle.desk_rules.specs.Lines.{is_epoch_line}
-use Rattle.desk_rules.specs.Steps.{Deed, Accepts, Boots, comes, what_of, rises, call_after, desk_after_deed, is_death, answers_pings}
+use Rattle.desk_rules.specs.Steps.{Effect, Accepts, Boots, classify, what_of, begins_epoch, call_after, desk_after_effect, is_death, answers_pings}
 use Rattle.desk_rules.specs.Orders.{waiting}
 use Rattle.desk_rules.specs.Fits.{Fits, IsFirst, CanHold}
 use Rattle.desk_rules.proofs.Serves.{not_gone}
 use Rattle.desk_rules.proofs.Sound.{stays_sound, step_sound}
-use Rattle.desk_rules.proofs.Deeds.{comes_fits}
-use Rattle.desk_rules.proofs.Quiet.{quiet_pings, deed_pings, owed_ping, ping_call}
+use Rattle.desk_rules.proofs.Effects.{comes_fits}
+use Rattle.desk_rules.proofs.Quiet.{quiet_pings, effect_pings, owed_ping, ping_call}
 use Rattle.adapter_core.specs.Ends.{may, ends_after, is_open}
-use Rattle.adapter_core.specs.View.{View, here, advance, opening, choice, is_unsent, IsReadyFor}
+use Rattle.adapter_core.specs.Parts.{Parts, situation, advance, opening, choice, is_unsent, IsReadyFor}
 use Rattle.adapter_core.specs.Stands.{Keeps}
 use Rattle.adapter_core.proofs.Closing.{line_event, open_before, Closes, closing}
 use Rattle.adapter_core.proofs.Serving.{still, chosen_serves, not_gone_served, call_settled}
@@ -37,27 +37,27 @@ none_left : (b : Bool) (n : ℕ) (ps : List ℕ) → length ps ≤ n → length 
 none_left true n ps l = omega arith
 none_left false n ps l = l
 
-ping_left : (h : Here) (held : List Command) (n : ℕ) (owes : Bool) → Fits h held (Accepts (says.Ping n)) → owes_move h ≡ owes
-    → length (cond (answers_pings false owes) [] (desk_after_deed h (Accepts (says.Ping n))).pings) ≤ 64
+ping_left : (h : Situation) (held : List Order) (n : ℕ) (owes : Bool) → Fits h held (Accepts (says.Ping n)) → owes_move h ≡ owes
+    → length (cond (answers_pings false owes) [] (desk_after_effect h (Accepts (says.Ping n))).pings) ≤ 64
 ping_left h held n true f o = owed_ping h held n f o
 ping_left h held n false f o = omega arith
 
 -- a Move is owed after the event
-abbrev owes_after : Bool → Here → dialogue.View → Deed → Bool
-owes_after closed h t d = is_move (owed_view (mid_view t (what_of d) (rises h d)) (call_after closed h d))
+abbrev owes_after : Bool → Situation → dialogues.Dialogue → Effect → Bool
+owes_after closed h t d = is_move (owed_by_dialogue (mid_dialogue t (what_of d) (begins_epoch h d)) (call_after closed h d))
 
-other_left : (h : Here) (d : Deed) (b : Bool) → (desk_after_deed h d).pings ≡ h.desk.pings → length h.desk.pings ≤ 64 → length (cond b [] (desk_after_deed h d).pings) ≤ 64
-other_left h d b e l = none_left b 64 (desk_after_deed h d).pings (omega (arith, ap length e))
+other_left : (h : Situation) (d : Effect) (b : Bool) → (desk_after_effect h d).pings ≡ h.desk.pings → length h.desk.pings ≤ 64 → length (cond b [] (desk_after_effect h d).pings) ≤ 64
+other_left h d b e l = none_left b 64 (desk_after_effect h d).pings (omega (arith, ap length e))
 
-few_pings : (h : Here) (held : List Command) (t : dialogue.View) (d : Deed) (closed : Bool) → h.spent ≡ t.spent → (closed ≡ true → Closes d) → Fits h held d → length h.desk.pings ≤ 64
+few_pings : (h : Situation) (held : List Order) (t : dialogues.Dialogue) (d : Effect) (closed : Bool) → h.spent ≡ t.spent → (closed ≡ true → Closes d) → Fits h held d → length h.desk.pings ≤ 64
     → (closed ≡ false → h.closed ≡ false)
-    → length (cond (answers_pings closed (owes_after closed h t d)) [] (desk_after_deed h d).pings) ≤ 64
+    → length (cond (answers_pings closed (owes_after closed h t d)) [] (desk_after_effect h d).pings) ≤ 64
 unfolding is_epoch_line
 few_pings h held t (Accepts (says.Ping n)) true same q f l o = absurd (q refl)
 few_pings h held t (Accepts (says.Ping n)) false same q f l o =
     ping_left h held n (owes_after false h t (Accepts (says.Ping n))) f
-    (ap (λ (c : Call). is_move (owed_at h.spent c)) (sym (ping_call h n)) ∙ ap (λ (x : Bool). is_move (owed_at h.spent (call_of x (is_gone h.engine || false) (desk_after_deed h (Accepts (says.Ping n)))))) (o refl)
-    ∙ ap (λ (x : Bool). is_move (owed_at x (call_of false (is_gone h.engine || false) (desk_after_deed h (Accepts (says.Ping n)))))) same)
+    (ap (λ (c : Call). is_move (owed_at h.spent c)) (sym (ping_call h n)) ∙ ap (λ (x : Bool). is_move (owed_at h.spent (call_of x (is_gone h.engine || false) (desk_after_effect h (Accepts (says.Ping n)))))) (o refl)
+    ∙ ap (λ (x : Bool). is_move (owed_at x (call_of false (is_gone h.engine || false) (desk_after_effect h (Accepts (says.Ping n)))))) same)
 few_pings h held t (Accepts m) closed same q f l o = other_left h (Accepts m) (answers_pings closed (owes_after closed h t (Accepts m))) (quiet_pings h (Accepts m) (λ x. x)) l
 few_pings h held t d closed same q f l o = other_left h d (answers_pings closed (owes_after closed h t d)) (quiet_pings h d (λ x. x)) l
 
@@ -70,19 +70,19 @@ in_boot states.Idle b = cc
 in_boot (states.Search k stale stopped) b = cc
 in_boot states.Gone b = cc
 
-holds : (h : Here) (held : List Command) (d : Deed) → (h.engine ≡ states.Boot → IsFirst held) → Fits h held d → CanHold held d
+holds : (h : Situation) (held : List Order) (d : Effect) → (h.engine ≡ states.Boot → IsFirst held) → Fits h held d → CanHold held d
 holds h held Boots b f = b (in_boot h.engine f.1)
 holds h held d b f = tt
 
-module _ (v : View) (e : Event) (k : Keeps v) (m : may v.ends e ≡ true) where
-  abbrev h : Here
-  h = here v
+module _ (v : Parts) (e : Event) (k : Keeps v) (m : may v.ends e ≡ true) where
+  abbrev h : Situation
+  h = situation v
 
-  abbrev d : Deed
-  d = comes h v.held e
+  abbrev d : Effect
+  d = classify h v.held e
 
-  abbrev mid : dialogue.View
-  mid = mid_view v.talk (what_of d) (rises h d)
+  abbrev mid : dialogues.Dialogue
+  mid = mid_dialogue v.dialogue (what_of d) (begins_epoch h d)
 
   abbrev closed_now : Bool
   closed_now = (ends_after v.ends e).closed
@@ -93,24 +93,24 @@ module _ (v : View) (e : Event) (k : Keeps v) (m : may v.ends e ≡ true) where
   fits : Fits h v.held d
   fits = comes_fits h v.held e (line_event v.ends e m)
 
-  still_here : closed_now ≡ false → (g : GoKind) → current mid.state ≡ Some g → Serves g (call_after closed_now h d)
-  still_here c g x =
+  still_situation : closed_now ≡ false → (g : GoKind) → current mid.state ≡ Some g → Serves g (call_after closed_now h d)
+  still_situation c g x =
       let b : v.ends.closed ≡ false = open_before v.ends e c in
-      subst (λ (z : Bool). Serves g (call_after z h d)) (b ∙ sym c) (still h v.held d v.talk refl fits (k.serves b) g x)
+      subst (λ (z : Bool). Serves g (call_after z h d)) (b ∙ sym c) (still h v.held d v.dialogue refl fits (k.serves b) g x)
 
   served : (rests : Bool) → closed_now ≡ false → (g : GoKind)
-      → current (settled_state mid.state (cond rests chosen.None (dialogue.settle mid (call_after closed_now h d) (is_unsent (waiting h v.held d) d) (played_of (what_of d)) (is_hurry (what_of d))))) ≡ Some g → Serves g (call_after closed_now h d)
-  served true c g x = still_here c g x
+      → current (settled_state mid.state (cond rests chosen.None (dialogues.settle mid (call_after closed_now h d) (is_unsent (waiting h v.held d) d) (played_of (what_of d)) (is_hurry (what_of d))))) ≡ Some g → Serves g (call_after closed_now h d)
+  served true c g x = still_situation c g x
   served false c g x =
-      chosen_serves mid.state mid.spent (call_after closed_now h d) (is_unsent (waiting h v.held d) d) (is_pondered mid.pondered (played_of (what_of d))) (is_hurry (what_of d)) (still_here c) g x
+      chosen_serves mid.state mid.spent (call_after closed_now h d) (is_unsent (waiting h v.held d) d) (is_pondered mid.pondered (played_of (what_of d))) (is_hurry (what_of d)) (still_situation c) g x
 
   serves_after : closed_now ≡ false → (g : GoKind) → current (settled_state mid.state o) ≡ Some g → Serves g (call_of closed_now (is_gone (settled_state mid.state o)) (advance v e).desk)
   unfolding advance
   serves_after c g x =
       let y = served (is_open e || closed_now) c g x in
-      let n = not_gone_served closed_now (is_gone h.engine || is_death d) (desk_after_deed h d) g y in
+      let n = not_gone_served closed_now (is_gone h.engine || is_death d) (desk_after_effect h d) g y in
       let n' = not_gone (settled_state mid.state o) g x in
-      subst (Serves g) (ap (λ z. call_of closed_now z (desk_after_deed h d)) (n ∙ sym n') ∙ call_settled closed_now _ _ _ closed_now h d) y
+      subst (Serves g) (ap (λ z. call_of closed_now z (desk_after_effect h d)) (n ∙ sym n') ∙ call_settled closed_now _ _ _ closed_now h d) y
 
   -- what the core needs to take the event
   pub is_ready : IsReadyFor h v d
@@ -121,24 +121,24 @@ module _ (v : View) (e : Event) (k : Keeps v) (m : may v.ends e ≡ true) where
       served = k.serves;
       pings = k.pings;
       sound_then = stays_sound h v.held d k.sound fits;
-      pings_then = omega (arith, deed_pings h d, k.pings);
+      pings_then = omega (arith, effect_pings h d, k.pings);
     };
     fits = fits;
     holds = holds h v.held d (λ b. (k.first b).0) fits;
-    told = k.told;
-    ordered = k.ordered;
+    to_iface = k.to_iface;
+    to_engine = k.to_engine;
   }
 
   pub keeps : Keeps (advance v e)
   unfolding advance
   keeps = record {
     settings = k.settings;
-    sound = step_sound closed_now (owes_after closed_now h v.talk d) (is_hit_order o) h v.held d k.sound fits;
+    sound = step_sound closed_now (owes_after closed_now h v.dialogue d) (is_hit_order o) h v.held d k.sound fits;
     serves = serves_after;
-    pings = few_pings h v.held v.talk d closed_now refl (closing v.ends h v.held e refl) fits k.pings (λ c. open_before v.ends e c);
-    first = first_after h v.held d v.talk (rises h d) (is_batch_order o) o k.first;
-    told = k.told;
-    ordered = k.ordered;
+    pings = few_pings h v.held v.dialogue d closed_now refl (closing v.ends h v.held e refl) fits k.pings (λ c. open_before v.ends e c);
+    first = first_after h v.held d v.dialogue (begins_epoch h d) (is_batch_order o) o k.first;
+    to_iface = k.to_iface;
+    to_engine = k.to_engine;
   }
 
 -- BEFORE THE FIRST STEP
@@ -153,6 +153,6 @@ opening_keeps settings p = record {
   serves = λ c g x. absurd (cc);
   pings = omega arith;
   first = λ b. (inl refl, refl);
-  told = refl;
-  ordered = refl;
+  to_iface = refl;
+  to_engine = refl;
 }

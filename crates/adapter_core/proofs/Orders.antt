@@ -4,9 +4,9 @@ use Rattle.chess_board.specs.declared.board.Side.{Side}
 use Rattle.chess_board.specs.declared.board.Side.TheVariants.{White, Black}
 use Rattle.peer_words.specs.declared.kinds.GoKind.{GoKind}
 use Rattle.peer_words.specs.declared.kinds.GoKind.TheVariants as kinds
-use Rattle.cecp_lines.specs.Messages.{Message}
+use Rattle.cecp_lines.specs.Messages.{IfaceMsg}
 use Rattle.cecp_lines.specs.Messages as says
-use Rattle.uci_lines.specs.Orders.{Command}
+use Rattle.uci_lines.specs.Orders.{Order}
 use Rattle.uci_lines.specs.Orders as orders
 use Rattle.clock_map.specs.declared.clocks.Clocks.{Clocks}
 use Rattle.clock_map.specs.declared.clocks.Control.{Control}
@@ -15,15 +15,15 @@ use Rattle.clock_map.specs.Search.{search_order, time_of}
 use Rattle.search_epochs.specs.declared.words.Orders.{Orders}
 use Rattle.search_epochs.specs.declared.words.Orders.TheVariants as chosen
 use Rattle.search_epochs.specs.declared.words.Said.TheVariants as said
-use Rattle.search_epochs.specs.Talk.{Engine, Boot, Getting, Idle, Search, Gone, Word, Uci, Setup, IsReady, Position, Go, Stop, PonderHit, Quit, AllSetup, What, Says, Plays, Hurries, Quiet, kind_of, leaves_boot, is_empty}
-use Rattle.search_epochs.specs.View.{words, is_batch_order, forget}
+use Rattle.search_epochs.specs.Tickets.{Engine, Boot, Getting, Idle, Search, Gone, Word, Uci, Setup, IsReady, Position, Go, Stop, PonderHit, Quit, AllSetup, What, Says, Plays, Hurries, Quiet, kind_of, leaves_boot, is_empty}
+use Rattle.search_epochs.specs.Dialogue.{words, is_batch_order, forget}
 use Rattle.desk_rules.specs.declared.desk.Desk.{Desk}
-use Rattle.desk_rules.specs.Desk.{Here, is_boot, on_move, plies}
-use Rattle.desk_rules.specs.Steps.{Deed, Nothing, Opens, LongLine, Refuses, Accepts, Names, Declares, Boots, Readies, Thinks, Shows, Forfeits, Answers, Dies, what_of, what_accepted, is_boots}
+use Rattle.desk_rules.specs.Desk.{Situation, is_boot, on_move, plies}
+use Rattle.desk_rules.specs.Steps.{Effect, Nothing, Opens, LongLine, Refuses, Accepts, Names, Declares, Boots, Readies, Thinks, Shows, Forfeits, Answers, Dies, what_of, what_accepted, is_boots}
 use Rattle.desk_rules.specs.Orders.{order_list, searched, word_of, kind_named}
 use Rattle.desk_rules.specs.Fits.{Fits}
 use Rattle.adapter_core.specs.Trace.{has_ready}
-use Rattle.adapter_core.specs.View.{none_held}
+use Rattle.adapter_core.specs.Parts.{none_held}
 
 -- WORDS
 
@@ -37,12 +37,12 @@ search_word c side q kinds.Move = ap Go (times_named c c.control side q)
 search_word c side q kinds.Ponder = refl
 search_word c side q kinds.Analyse = refl
 
-batch_words : (ws : List Command) → map word_of (ws ++ orders.IsReady ∷ []) ≡ map word_of ws ++ IsReady ∷ []
+batch_words : (ws : List Order) → map word_of (ws ++ orders.IsReady ∷ []) ≡ map word_of ws ++ IsReady ∷ []
 batch_words [] = refl
 batch_words (w ∷ ws) = ap (λ xs. word_of w ∷ xs) (batch_words ws)
 
 -- the words of the chosen orders
-pub words_are : (ws : List Command) (d : Desk) (o : Orders) → map word_of (order_list ws d o) ≡ words (map word_of ws) o
+pub words_are : (ws : List Order) (d : Desk) (o : Orders) → map word_of (order_list ws d o) ≡ words (map word_of ws) o
 words_are ws d chosen.None = refl
 words_are ws d chosen.Batch = batch_words ws
 words_are ws d (chosen.Begin c) = ap (λ w. Position ∷ w ∷ []) (search_word d.clocks (on_move (searched d.game c)) (plies (searched d.game c)) (kind_of c))
@@ -68,7 +68,7 @@ ready_words ws (chosen.Begin c) a = refl
 ready_words ws chosen.Hit a = refl
 ready_words ws chosen.Stop a = refl
 
-pub no_words : (ws : List Command) → none_held ws ≡ is_empty (map word_of ws)
+pub no_words : (ws : List Order) → none_held ws ≡ is_empty (map word_of ws)
 no_words [] = refl
 no_words (w ∷ ws) = refl
 
@@ -91,7 +91,7 @@ not_boots Idle w n = refl
 not_boots (Search k t s) w n = refl
 not_boots Gone w n = refl
 
-line_boots : (m : Message) → is_uciok (what_accepted m) ≡ false
+line_boots : (m : IfaceMsg) → is_uciok (what_accepted m) ≡ false
 line_boots (says.UserMove m) = refl
 line_boots says.MoveNow = refl
 line_boots m = refl
@@ -103,8 +103,8 @@ in_boot epoch Idle b = cc
 in_boot epoch Gone b = cc
 in_boot epoch (Search k t s) b = cc
 
--- Boot is left exactly by its deed
-pub boots_are : (epoch : ℕ) (e : Engine) (h : Here) (held : List Command) (d : Deed) → h.engine ≡ forget epoch e → Fits h held d → is_boots d ≡ leaves_boot e (what_of d)
+-- Boot is left exactly by its effect
+pub boots_are : (epoch : ℕ) (e : Engine) (h : Situation) (held : List Order) (d : Effect) → h.engine ≡ forget epoch e → Fits h held d → is_boots d ≡ leaves_boot e (what_of d)
 boots_are epoch e h held Boots same f = in_boot epoch e (rw (← same) (f.1))
 boots_are epoch e h held (Accepts m) same f = not_boots e (what_accepted m) (line_boots m)
 boots_are epoch e h held Nothing same f = not_boots e Quiet refl

@@ -6,35 +6,36 @@ use Rattle.line_io.specs.Event.{Event}
 use Rattle.line_io.specs.Event as events
 use Rattle.peer_words.specs.declared.kinds.GoKind.{GoKind}
 use Rattle.peer_words.specs.declared.kinds.GoKind.TheVariants as kinds
-use Rattle.cecp_lines.specs.Messages.{Message}
+use Rattle.cecp_lines.specs.Messages.{IfaceMsg}
 use Rattle.cecp_lines.specs.Messages as says
 use Rattle.cecp_lines.specs.Reading.{reading}
 use Rattle.cecp_lines.specs.declared.reply.Reason.TheVariants as reasons
 use Rattle.cecp_lines.specs.declared.iface.IfaceFault.{IfaceFault}
 use Rattle.cecp_lines.specs.declared.iface.IfaceFault.TheVariants as faults
-use Rattle.uci_lines.specs.Says.{Says, Facts}
-use Rattle.uci_lines.specs.Says as hears
+use Rattle.uci_lines.specs.Info.{Info}
+use Rattle.uci_lines.specs.Messages.{EngineMsg}
+use Rattle.uci_lines.specs.Messages as hears
 use Rattle.uci_lines.specs.Engine.{engine_message}
-use Rattle.uci_lines.specs.Orders.{Command}
-use Rattle.game_record.specs.Course.{Course, now_of}
+use Rattle.uci_lines.specs.Orders.{Order}
+use Rattle.game_record.specs.Game.{Game, now_of}
 use Rattle.chess_board.specs.Place.{legal}
 use Rattle.policy_rules.specs.declared.settings.Settings.{Settings}
 use Rattle.policy_rules.specs.Scores.{Score}
 use Rattle.search_epochs.specs.declared.words.Call.{Call}
 use Rattle.search_epochs.specs.declared.words.EngineState.{EngineState}
 use Rattle.search_epochs.specs.declared.words.EngineState.TheVariants as states
-use Rattle.search_epochs.specs.Talk.{Turn, Engine, Boot, Getting, Idle, Search, Gone, Word, Talk, Quiet, IsLiveOnlyAt, owed, turned, after, is_move, is_nothing, is_idle, is_empty, is_hint, is_hurry, is_due, is_hit, stops, ponders, leaves_boot, only}
+use Rattle.search_epochs.specs.Tickets.{Turn, Engine, Boot, Getting, Idle, Search, Gone, Word, Ticketed, Quiet, IsLiveOnlyAt, owed, turned, after, is_move, is_nothing, is_idle, is_empty, is_hint, is_hurry, is_due, is_hit, stops, ponders, leaves_boot, only}
 use Rattle.search_epochs.proofs.Same.{only_orders}
-use Rattle.desk_rules.specs.declared.deed.Refusal.{Refusal}
+use Rattle.desk_rules.specs.declared.effect.Refusal.{Refusal}
 use Rattle.desk_rules.specs.declared.desk.Desk.{Desk}
-use Rattle.desk_rules.specs.Desk.{Here, current, call_of, call_before, is_gone, is_boot, is_getting}
+use Rattle.desk_rules.specs.Desk.{Situation, current, call_of, call_before, is_gone, is_boot, is_getting}
 use Rattle.desk_rules.specs.Lines.{verdict, judged, refusal, or_else, where_true, does_not_fit, asks}
-use Rattle.desk_rules.specs.Steps.{Deed, Nothing, LongLine, Refuses, Names, Declares, Boots, Readies, Shows, Forfeits, Dies, comes, line_deed, engine_says, answers, shows, thinks, rises, call_after, desk_after, desk_after_deed, answers_pings, scores_after, what_of}
-use Rattle.desk_rules.specs.Orders.{word_of, waiting, asked_by_deed}
+use Rattle.desk_rules.specs.Steps.{Effect, Nothing, LongLine, Refuses, Names, Declares, Boots, Readies, Shows, Forfeits, Dies, classify, line_effect, engine_says, answers, shows, thinks, begins_epoch, call_after, desk_after, desk_after_effect, answers_pings, scores_after, what_of}
+use Rattle.desk_rules.specs.Orders.{word_of, waiting, asked_by_effect}
 use Rattle.adapter_core.specs.declared.ends.Ends.{Ends}
 use Rattle.adapter_core.specs.Ends.{ends_after, is_open}
 use Rattle.cecp_lines.specs.Quit.{is_quit, is_quit_message}
-use Rattle.adapter_core.specs.Trace.{State, Step, IsLawful, state, state_after, here, deed, turn, mid, owing, closed_after, desk_of, still_held}
+use Rattle.adapter_core.specs.Trace.{State, Step, IsLawful, state, state_after, situation, effect, turn, mid, owing, closed_after, desk_of, still_held}
 use Rattle.adapter_core.specs.Shown.{RefusedLinesChangeNothing}
 use Rattle.adapter_core.proofs.Traces.{Lasts, lasts, other_ticket, owed_is}
 
@@ -48,44 +49,44 @@ record IsLine (s : State) (e : Event) : Type 0 where
   stays : is_quit line ≡ false
 
 -- `quit` is never refused
-quit_passes : (h : Here) (held : List Command) → refusal h held says.Quit ≡ None
+quit_passes : (h : Situation) (held : List Order) → refusal h held says.Quit ≡ None
 unfolding refusal asks
 quit_passes h held = by_gone (is_gone h.engine) where
   by_gone : (b : Bool) → or_else (where_true (does_not_fit held (cond b None None)) reasons.TooManySettings) None ≡ None
   by_gone true = refl
   by_gone false = refl
 
-judged_back : (m : Message) (o : Option Refusal) (line : List ℕ) (r : Refusal) (text : List ℕ) → line_deed (judged m o) line ≡ Refuses r text → o ≡ Some r
+judged_back : (m : IfaceMsg) (o : Option Refusal) (line : List ℕ) (r : Refusal) (text : List ℕ) → line_effect (judged m o) line ≡ Refuses r text → o ≡ Some r
 judged_back m None line r text e = absurd (cc)
 judged_back m (Some x) line r text e = cc
 
-refused_stays : (h : Here) (held : List Command) (line : List ℕ) (a : Result Message IfaceFault) (r : Refusal) (text : List ℕ) → line_deed (verdict h held a) line ≡ Refuses r text → is_quit_message a ≡ false
+refused_stays : (h : Situation) (held : List Order) (line : List ℕ) (a : Result IfaceMsg IfaceFault) (r : Refusal) (text : List ℕ) → line_effect (verdict h held a) line ≡ Refuses r text → is_quit_message a ≡ false
 unfolding verdict
 refused_stays h held line (Err faults.UnknownCommand) r text e = refl
 refused_stays h held line (Err faults.BadArgument) r text e = refl
 refused_stays h held line (Ok says.Quit) r text e = let p = judged_back says.Quit (refusal h held says.Quit) line r text e in let q = quit_passes h held in cc
 refused_stays h held line (Ok m) r text e = refl
 
-open_back : (b : Bool) (d : Deed) (r : Refusal) (text : List ℕ) → cond b Nothing d ≡ Refuses r text → (b ≡ false) × (d ≡ Refuses r text)
+open_back : (b : Bool) (d : Effect) (r : Refusal) (text : List ℕ) → cond b Nothing d ≡ Refuses r text → (b ≡ false) × (d ≡ Refuses r text)
 open_back true d r text e = absurd (cc)
 open_back false d r text e = (refl, e)
 
-only_where : (b : Bool) (d : Deed) (r : Refusal) (text : List ℕ) → (d ≡ Refuses r text → ⊥) → cond b d Nothing ≡ Refuses r text → ⊥
+only_where : (b : Bool) (d : Effect) (r : Refusal) (text : List ℕ) → (d ≡ Refuses r text → ⊥) → cond b d Nothing ≡ Refuses r text → ⊥
 only_where true d r text n e = n e
 only_where false d r text n e = cc
 
-not_where : (b : Bool) (d : Deed) (r : Refusal) (text : List ℕ) → (d ≡ Refuses r text → ⊥) → cond b Nothing d ≡ Refuses r text → ⊥
+not_where : (b : Bool) (d : Effect) (r : Refusal) (text : List ℕ) → (d ≡ Refuses r text → ⊥) → cond b Nothing d ≡ Refuses r text → ⊥
 not_where true d r text n e = cc
 not_where false d r text n e = n e
 
-shows_not : (g : Course) (best hint : Option Move) (r : Refusal) (text : List ℕ) → shows g best hint ≡ Refuses r text → ⊥
+shows_not : (g : Game) (best hint : Option Move) (r : Refusal) (text : List ℕ) → shows g best hint ≡ Refuses r text → ⊥
 shows_not g None hint r text e = cc
 shows_not g (Some m) hint r text e = by_legal (legal (now_of g) m) e where
   by_legal : (b : Bool) → cond b (Shows m hint) Forfeits ≡ Refuses r text → ⊥
   by_legal true e = cc
   by_legal false e = cc
 
-answers_not : (x : EngineState) (g : Course) (best hint : Option Move) (r : Refusal) (text : List ℕ) → answers x g best hint ≡ Refuses r text → ⊥
+answers_not : (x : EngineState) (g : Game) (best hint : Option Move) (r : Refusal) (text : List ℕ) → answers x g best hint ≡ Refuses r text → ⊥
 answers_not (states.Search kinds.Move false stopped) g best hint r text e = shows_not g best hint r text e
 answers_not (states.Search kinds.Move true stopped) g best hint r text e = cc
 answers_not (states.Search kinds.Ponder stale stopped) g best hint r text e = cc
@@ -95,11 +96,11 @@ answers_not states.Getting g best hint r text e = cc
 answers_not states.Idle g best hint r text e = cc
 answers_not states.Gone g best hint r text e = cc
 
-thinks_not : (k : Option GoKind) (facts : Facts) (r : Refusal) (text : List ℕ) → thinks k facts ≡ Refuses r text → ⊥
+thinks_not : (k : Option GoKind) (facts : Info) (r : Refusal) (text : List ℕ) → thinks k facts ≡ Refuses r text → ⊥
 thinks_not None facts r text e = cc
 thinks_not (Some k) facts r text e = cc
 
-says_not : (h : Here) (message : Says) (r : Refusal) (text : List ℕ) → engine_says h message ≡ Refuses r text → ⊥
+says_not : (h : Situation) (message : EngineMsg) (r : Refusal) (text : List ℕ) → engine_says h message ≡ Refuses r text → ⊥
 says_not h (hears.Best best hint) r text e = answers_not h.engine h.desk.game best hint r text e
 says_not h (hears.Name name) r text e = only_where (is_boot h.engine) (Names name) r text (λ x. cc) e
 says_not h (hears.OptionLine name shape) r text e = only_where (is_boot h.engine) (Declares name shape) r text (λ x. cc) e
@@ -108,19 +109,19 @@ says_not h hears.ReadyOk r text e = only_where (is_getting h.engine) Readies r t
 says_not h (hears.Info facts) r text e = thinks_not (current h.engine) facts r text e
 says_not h hears.Nothing r text e = cc
 
-refused_line : (s : State) (e : Event) (r : Refusal) (text : List ℕ) → deed s e ≡ Refuses r text → IsLine s e
-unfolding comes
+refused_line : (s : State) (e : Event) (r : Refusal) (text : List ℕ) → effect s e ≡ Refuses r text → IsLine s e
+unfolding classify
 refused_line s (events.Iface line) r text e =
     let o = open_back s.ends.closed _ r text e in
-    record { line = line; event = refl; is_open = o.0; stays = refused_stays (here s) s.held line (reading line) r text o.1 }
+    record { line = line; event = refl; is_open = o.0; stays = refused_stays (situation s) s.held line (reading line) r text o.1 }
 refused_line s events.Open r text e = absurd (cc)
 refused_line s events.IfaceLong r text e = absurd (not_where s.ends.closed LongLine r text (λ x. cc) e)
 refused_line s events.IfaceEnd r text e = absurd (cc)
 refused_line s events.IfaceLost r text e = absurd (cc)
-refused_line s (events.Engine line) r text e = absurd (not_where s.ends.closed (engine_says (here s) (engine_message line)) r text (says_not (here s) (engine_message line) r text) e)
+refused_line s (events.Engine line) r text e = absurd (not_where s.ends.closed (engine_says (situation s) (engine_message line)) r text (says_not (situation s) (engine_message line) r text) e)
 refused_line s events.EngineLong r text e = absurd (cc)
-refused_line s events.EngineEnd r text e = absurd (not_where (is_gone (here s).engine) Dies r text (λ x. cc) e)
-refused_line s events.EngineLost r text e = absurd (not_where (is_gone (here s).engine) Dies r text (λ x. cc) e)
+refused_line s events.EngineEnd r text e = absurd (not_where (is_gone (situation s).engine) Dies r text (λ x. cc) e)
+refused_line s events.EngineLost r text e = absurd (not_where (is_gone (situation s).engine) Dies r text (λ x. cc) e)
 
 or_no : (a b : Bool) → b ≡ false → (a || b) ≡ a
 or_no true b e = refl
@@ -148,10 +149,10 @@ no_hit : (a b c : Bool) → b ≡ false → (a && b && c) ≡ false
 no_hit true b c e = ap (λ (x : Bool). x && c) e
 no_hit false b c e = refl
 
-not_due : (idle boot : Bool) (held : List Command) → boot ≡ false → (idle ≡ true → held ≡ []) → (idle && (boot || not (is_empty (map word_of held)))) ≡ false
+not_due : (idle boot : Bool) (held : List Order) → boot ≡ false → (idle ≡ true → held ≡ []) → (idle && (boot || not (is_empty (map word_of held)))) ≡ false
 not_due false boot held b f = refl
 not_due true true held b f = cc
-not_due true false held b f = ap (λ (os : List Command). not (is_empty (map word_of os))) (f refl)
+not_due true false held b f = ap (λ (os : List Order). not (is_empty (map word_of os))) (f refl)
 
 not_begun : (idle nothing : Bool) → (idle ≡ true → nothing ≡ true) → (idle && not nothing) ≡ false
 not_begun false nothing f = refl
@@ -182,7 +183,7 @@ none_only : (e : Engine) (epoch : ℕ) (o : Call) (waits : List Word) (due hits 
     → only e epoch o waits due hits false ≡ []
 none_only e epoch o waits due hits d h s i = chosen_none due hits (stops hits epoch false e) (is_idle e && not (is_nothing o)) _ _ _ _ d h (ap (λ (b : Bool). stops b epoch false e) h ∙ s) i
 
-no_orders : (os : List Command) → map word_of os ≡ [] → os ≡ []
+no_orders : (os : List Order) → map word_of os ≡ [] → os ≡ []
 no_orders [] e = refl
 no_orders (o ∷ os) e = cc
 
@@ -191,12 +192,12 @@ kept_pings true owes ps f = refl
 kept_pings false true ps f = refl
 kept_pings false false ps f = sym (f refl)
 
-module _ (s : State) (step : Step) (holds : Lasts s) (l : IsLawful s step) (r : Refusal) (line : List ℕ) (q : deed s step.event ≡ Refuses r line) where
+module _ (s : State) (step : Step) (holds : Lasts s) (l : IsLawful s step) (r : Refusal) (line : List ℕ) (q : effect s step.event ≡ Refuses r line) where
   abbrev e : Event
   e = step.event
 
-  abbrev h : Here
-  h = here s
+  abbrev h : Situation
+  h = situation s
 
   abbrev ws : List Word
   ws = map word_of step.orders
@@ -213,44 +214,44 @@ module _ (s : State) (step : Step) (holds : Lasts s) (l : IsLawful s step) (r : 
   not_open : is_open e ≡ false
   not_open = ap is_open spelled.event
 
-  abbrev turn_by : Deed → Turn
-  turn_by d = record { what = what_of d; hint = s.desk.hint; rises = rises h d; call = call_after (closed_after s e) h d; waiting = map word_of (waiting h s.held d) }
+  abbrev turn_by : Effect → Turn
+  turn_by d = record { what = what_of d; hint = s.desk.hint; begins_epoch = begins_epoch h d; call = call_after (closed_after s e) h d; waiting = map word_of (waiting h s.held d) }
 
   -- what it is to the dialogue
   abbrev quiet : Turn
-  quiet = record { what = Quiet; hint = s.desk.hint; rises = false; call = call_before h; waiting = map word_of s.held }
+  quiet = record { what = Quiet; hint = s.desk.hint; begins_epoch = false; call = call_before h; waiting = map word_of s.held }
 
   same_call : call_after (closed_after s e) h (Refuses r line) ≡ call_before h
-  unfolding desk_after_deed
+  unfolding desk_after_effect
   same_call =
       ap (λ (x : Ends). call_of x.closed (is_gone h.engine || false) s.desk) ends_stay
       ∙ ap (λ (b : Bool). call_of s.ends.closed b s.desk) (or_no (is_gone h.engine) false refl)
 
   turn_is : turn s e ≡ quiet
-  unfolding asked_by_deed
-  turn_is = ap turn_by q ∙ ap (λ (c : Call). let t : Turn = record { what = Quiet; hint = s.desk.hint; rises = false; call = c; waiting = map word_of s.held } in t) same_call
+  unfolding asked_by_effect
+  turn_is = ap turn_by q ∙ ap (λ (c : Call). let t : Turn = record { what = Quiet; hint = s.desk.hint; begins_epoch = false; call = c; waiting = map word_of s.held } in t) same_call
 
-  mid_is : mid s e ≡ s.talk
+  mid_is : mid s e ≡ s.dialogue
   mid_is =
-      ap (turned s.talk) turn_is
-      ∙ ap (λ (o : Option ℕ). let t : Talk = record { engine = s.talk.engine; epoch = s.talk.epoch; last = o } in t) (other_ticket s.talk.engine None s.talk.last refl)
+      ap (turned s.dialogue) turn_is
+      ∙ ap (λ (o : Option ℕ). let t : Ticketed = record { engine = s.dialogue.engine; epoch = s.dialogue.epoch; last = o } in t) (other_ticket s.dialogue.engine None s.dialogue.last refl)
 
-  abbrev only_by : Talk → Turn → List Word
-  only_by m u = only m.engine m.epoch (owed m u.call) u.waiting (is_due s.talk u) (is_hit s.talk u) (is_hurry u.what)
+  abbrev only_by : Ticketed → Turn → List Word
+  only_by m u = only m.engine m.epoch (owed m u.call) u.waiting (is_due s.dialogue u) (is_hit s.dialogue u) (is_hurry u.what)
 
-  none_is_only : only_by s.talk quiet ≡ []
+  none_is_only : only_by s.dialogue quiet ≡ []
   none_is_only =
-      none_only s.talk.engine s.talk.epoch (owed s.talk (call_before h)) (map word_of s.held) (is_due s.talk quiet) (is_hit s.talk quiet)
-      (not_due (is_idle s.talk.engine) (leaves_boot s.talk.engine Quiet) s.held (quiet_boot s.talk.engine) (λ i. (holds.rests spelled.is_open i).0))
-      (no_hit (ponders s.talk) (is_hint s.desk.hint Quiet) _ (no_hint s.desk.hint))
-      (not_stopped s.talk.epoch s.talk.engine (holds.live spelled.is_open))
-      (not_begun (is_idle s.talk.engine) (is_nothing (owed s.talk (call_before h))) (λ i. (holds.rests spelled.is_open i).1))
+      none_only s.dialogue.engine s.dialogue.epoch (owed s.dialogue (call_before h)) (map word_of s.held) (is_due s.dialogue quiet) (is_hit s.dialogue quiet)
+      (not_due (is_idle s.dialogue.engine) (leaves_boot s.dialogue.engine Quiet) s.held (quiet_boot s.dialogue.engine) (λ i. (holds.rests spelled.is_open i).0))
+      (no_hit (ponders s.dialogue) (is_hint s.desk.hint Quiet) _ (no_hint s.desk.hint))
+      (not_stopped s.dialogue.epoch s.dialogue.engine (holds.live spelled.is_open))
+      (not_begun (is_idle s.dialogue.engine) (is_nothing (owed s.dialogue (call_before h))) (λ i. (holds.rests spelled.is_open i).1))
 
   no_words : ws ≡ []
   no_words =
-      only_orders (mid s e).engine (mid s e).epoch (owing s e) (turn s e).waiting (is_due s.talk (turn s e)) (is_hit s.talk (turn s e)) (is_hurry (turn s e).what) ws (l.settled not_open closed_now).words
-      ∙ ap (λ (m : Talk). only_by m (turn s e)) mid_is
-      ∙ ap (only_by s.talk) turn_is
+      only_orders (mid s e).engine (mid s e).epoch (owing s e) (turn s e).waiting (is_due s.dialogue (turn s e)) (is_hit s.dialogue (turn s e)) (is_hurry (turn s e).what) ws (l.settled not_open closed_now).words
+      ∙ ap (λ (m : Ticketed). only_by m (turn s e)) mid_is
+      ∙ ap (only_by s.dialogue) turn_is
       ∙ none_is_only
 
   -- THE STATE
@@ -261,31 +262,31 @@ module _ (s : State) (step : Step) (holds : Lasts s) (l : IsLawful s step) (r : 
       (λ n. holds.pings spelled.is_open (ap (λ (u : Turn). is_move u.call) (sym turn_is) ∙ sym (owed_is s step holds l) ∙ n))
 
   desk_stays : desk_of s e ≡ s.desk
-  unfolding desk_after_deed
+  unfolding desk_after_effect
   desk_stays =
-      ap (λ (d : Deed). desk_after (closed_after s e) (is_move (owing s e)) (is_hit s.talk (turn s e)) h d) q
+      ap (λ (d : Effect). desk_after (closed_after s e) (is_move (owing s e)) (is_hit s.dialogue (turn s e)) h d) q
       ∙ ap (λ (ps : List ℕ). let d : Desk = record s.desk { pings = ps } in d) pings_stay
 
-  held_stays : still_held (waiting h s.held (deed s e)) ws ≡ s.held
-  unfolding asked_by_deed
-  held_stays = ap (λ (d : Deed). still_held (waiting h s.held d) ws) q ∙ ap (λ (xs : List Word). still_held s.held xs) no_words
+  held_stays : still_held (waiting h s.held (effect s e)) ws ≡ s.held
+  unfolding asked_by_effect
+  held_stays = ap (λ (d : Effect). still_held (waiting h s.held d) ws) q ∙ ap (λ (xs : List Word). still_held s.held xs) no_words
 
-  talk_stays : after (mid s e) ws ≡ s.talk
-  talk_stays = ap (λ (m : Talk). after m ws) mid_is ∙ ap (after s.talk) no_words
+  dialogue_stays : after (mid s e) ws ≡ s.dialogue
+  dialogue_stays = ap (λ (m : Ticketed). after m ws) mid_is ∙ ap (after s.dialogue) no_words
 
-  scores_stay : scores_after h (deed s e) s.scores ≡ s.scores
-  scores_stay = ap (λ (d : Deed). scores_after h d s.scores) q
+  scores_stay : scores_after h (effect s e) s.scores ≡ s.scores
+  scores_stay = ap (λ (d : Effect). scores_after h d s.scores) q
 
-  abbrev parts : Ends → Desk → List Score → List Command → Talk → State
-  parts ends desk scores held talk = record { settings = s.settings; ends = ends; desk = desk; scores = scores; held = held; talk = talk }
+  abbrev parts : Ends → Desk → List Score → List Order → Ticketed → State
+  parts ends desk scores held dialogue = record { settings = s.settings; ends = ends; desk = desk; scores = scores; held = held; dialogue = dialogue }
 
   pub all_stays : (state_after s step ≡ s) × (step.orders ≡ [])
   all_stays = (
-    ap (λ (x : Ends). parts x (desk_of s e) (scores_after h (deed s e) s.scores) (still_held (waiting h s.held (deed s e)) ws) (after (mid s e) ws)) ends_stay
-        ∙ ap (λ (x : Desk). parts s.ends x (scores_after h (deed s e) s.scores) (still_held (waiting h s.held (deed s e)) ws) (after (mid s e) ws)) desk_stays
-        ∙ ap (λ (x : List Score). parts s.ends s.desk x (still_held (waiting h s.held (deed s e)) ws) (after (mid s e) ws)) scores_stay
-        ∙ ap (λ (x : List Command). parts s.ends s.desk s.scores x (after (mid s e) ws)) held_stays
-        ∙ ap (λ (x : Talk). parts s.ends s.desk s.scores s.held x) talk_stays,
+    ap (λ (x : Ends). parts x (desk_of s e) (scores_after h (effect s e) s.scores) (still_held (waiting h s.held (effect s e)) ws) (after (mid s e) ws)) ends_stay
+        ∙ ap (λ (x : Desk). parts s.ends x (scores_after h (effect s e) s.scores) (still_held (waiting h s.held (effect s e)) ws) (after (mid s e) ws)) desk_stays
+        ∙ ap (λ (x : List Score). parts s.ends s.desk x (still_held (waiting h s.held (effect s e)) ws) (after (mid s e) ws)) scores_stay
+        ∙ ap (λ (x : List Order). parts s.ends s.desk s.scores x (after (mid s e) ws)) held_stays
+        ∙ ap (λ (x : Ticketed). parts s.ends s.desk s.scores s.held x) dialogue_stays,
     no_orders step.orders no_words,
   )
 

@@ -2,19 +2,19 @@
 use Rattle.std.proofs.Common.{◌≡◌, ℕ, List, Bool, true, false, cond, ◌||◌, Some, refl, ap, subst, ◌∙◌}
 use Rattle.peer_words.specs.declared.kinds.GoKind.{GoKind}
 use Rattle.peer_words.specs.declared.kinds.GoKind.TheVariants as kinds
-use Rattle.uci_lines.specs.Orders.{Command}
+use Rattle.uci_lines.specs.Orders.{Order}
 use Rattle.search_epochs.specs.declared.words.Call.{Call}
 use Rattle.search_epochs.specs.declared.words.Call.TheVariants as calls
 use Rattle.search_epochs.specs.declared.words.Said.TheVariants as said
 use Rattle.search_epochs.specs.declared.words.EngineState.{EngineState}
 use Rattle.search_epochs.specs.declared.words.EngineState.TheVariants as states
-use Rattle.search_epochs.specs.Talk.{What, Says, Serves, is_move, kind_of}
-use Rattle.search_epochs.specs.View as dialogue
-use Rattle.search_epochs.specs.View.{after_what, mid_view, stale_state, heard_state, settled_state, choose}
+use Rattle.search_epochs.specs.Tickets.{What, Says, Serves, is_move, kind_of}
+use Rattle.search_epochs.specs.Dialogue as dialogues
+use Rattle.search_epochs.specs.Dialogue.{after_what, mid_dialogue, stale_state, heard_state, settled_state, choose}
 use Rattle.search_epochs.proofs.Current.{IfCurrent, settled_current}
 use Rattle.desk_rules.specs.declared.desk.Desk.{Desk}
-use Rattle.desk_rules.specs.Desk.{Here, current, call_of, call_before}
-use Rattle.desk_rules.specs.Steps.{Deed, Shows, Forfeits, Answers, Dies, what_of, rises, call_after, desk_after, desk_after_deed}
+use Rattle.desk_rules.specs.Desk.{Situation, current, call_of, call_before}
+use Rattle.desk_rules.specs.Steps.{Effect, Shows, Forfeits, Answers, Dies, what_of, begins_epoch, call_after, desk_after, desk_after_effect}
 use Rattle.desk_rules.specs.Fits.{Fits}
 use Rattle.desk_rules.proofs.Serves.{IsNoAnswer, still_serves}
 
@@ -73,31 +73,31 @@ was_readyok states.Idle k c = cc
 was_readyok states.Gone k c = cc
 was_readyok (states.Search g stale stopped) k c = c
 
-was_what : (v : dialogue.View) (w : What) (k : GoKind) → current (after_what v w).state ≡ Some k → current v.state ≡ Some k
+was_what : (v : dialogues.Dialogue) (w : What) (k : GoKind) → current (after_what v w).state ≡ Some k → current v.state ≡ Some k
 was_what v (Says said.UciOk) k c = was_uciok v.state k c
 was_what v (Says said.ReadyOk) k c = was_readyok v.state k c
 was_what v (Says said.Best) k c = absurd (no_best v.state k c)
 was_what v (Says said.Ended) k c = absurd (no_end v.state k c)
 was_what v w k c = c
 
-no_answer : (v : dialogue.View) (d : Deed) (k : GoKind) → current (after_what v (what_of d)).state ≡ Some k → IsNoAnswer d
+no_answer : (v : dialogues.Dialogue) (d : Effect) (k : GoKind) → current (after_what v (what_of d)).state ≡ Some k → IsNoAnswer d
 no_answer v (Shows m hint) k c = no_best v.state k c
 no_answer v Forfeits k c = no_best v.state k c
 no_answer v Answers k c = no_best v.state k c
 no_answer v Dies k c = no_end v.state k c
 no_answer v d k c = tt
 
-still_by : (h : Here) (held : List Command) (d : Deed) (v : dialogue.View) (r : Bool) (k : GoKind) → h.engine ≡ v.state → rises h d ≡ r → Fits h held d → (current h.engine ≡ Some k → Serves k (call_before h))
-    → current (mid_view v (what_of d) r).state ≡ Some k → Serves k (call_after h.closed h d)
+still_by : (h : Situation) (held : List Order) (d : Effect) (v : dialogues.Dialogue) (r : Bool) (k : GoKind) → h.engine ≡ v.state → begins_epoch h d ≡ r → Fits h held d → (current h.engine ≡ Some k → Serves k (call_before h))
+    → current (mid_dialogue v (what_of d) r).state ≡ Some k → Serves k (call_after h.closed h d)
 still_by h held d v true k same r f s c = absurd (never_stale (after_what v (what_of d)).state k c)
 still_by h held d v false k same r f s c =
     let b : current h.engine ≡ Some k = ap current same ∙ was_what v (what_of d) k c in
     still_serves h held d k f (no_answer v d k c) r b (s b)
 
 -- a search that is current after the event was so before, and serves the call still
-pub still : (h : Here) (held : List Command) (d : Deed) (v : dialogue.View) → h.engine ≡ v.state → Fits h held d → ((k : GoKind) → current h.engine ≡ Some k → Serves k (call_before h))
-    → (k : GoKind) → current (mid_view v (what_of d) (rises h d)).state ≡ Some k → Serves k (call_after h.closed h d)
-still h held d v same f s k c = still_by h held d v (rises h d) k same refl f (s k) c
+pub still : (h : Situation) (held : List Order) (d : Effect) (v : dialogues.Dialogue) → h.engine ≡ v.state → Fits h held d → ((k : GoKind) → current h.engine ≡ Some k → Serves k (call_before h))
+    → (k : GoKind) → current (mid_dialogue v (what_of d) (begins_epoch h d)).state ≡ Some k → Serves k (call_after h.closed h d)
+still h held d v same f s k c = still_by h held d v (begins_epoch h d) k same refl f (s k) c
 
 -- THROUGH THE ORDERS
 
@@ -139,6 +139,6 @@ unfolding call_of
 not_gone_served closed gone d k s = middle closed gone _ (out_serves _ _ k s)
 
 -- answered pings and cleared values change no call
-pub call_settled : (closed gone owes hits c : Bool) (h : Here) (d : Deed) → call_of closed gone (desk_after_deed h d) ≡ call_of closed gone (desk_after c owes hits h d)
+pub call_settled : (closed gone owes hits c : Bool) (h : Situation) (d : Effect) → call_of closed gone (desk_after_effect h d) ≡ call_of closed gone (desk_after c owes hits h d)
 unfolding call_of
 call_settled closed gone owes hits c h d = refl

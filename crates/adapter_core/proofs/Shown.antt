@@ -11,23 +11,24 @@ use Rattle.peer_words.specs.declared.kinds.GoKind.{GoKind}
 use Rattle.peer_words.specs.declared.kinds.GoKind.TheVariants as kinds
 use Rattle.line_io.specs.Event.{Event}
 use Rattle.line_io.specs.Event as events
-use Rattle.cecp_lines.specs.Messages.{Message}
+use Rattle.cecp_lines.specs.Messages.{IfaceMsg}
 use Rattle.cecp_lines.specs.Messages as says
 use Rattle.cecp_lines.specs.Reading.{reading}
-use Rattle.cecp_lines.specs.Replies.{Told}
-use Rattle.cecp_lines.specs.Replies as told
+use Rattle.cecp_lines.specs.Replies.{Reply}
+use Rattle.cecp_lines.specs.Replies as reply
 use Rattle.cecp_lines.specs.declared.iface.IfaceFault.{IfaceFault}
 use Rattle.cecp_lines.specs.declared.iface.IfaceFault.TheVariants as faults
-use Rattle.uci_lines.specs.Orders.{Command}
-use Rattle.uci_lines.specs.Says.{Says, Facts}
-use Rattle.uci_lines.specs.Says as hears
+use Rattle.uci_lines.specs.Orders.{Order}
+use Rattle.uci_lines.specs.Info.{Info}
+use Rattle.uci_lines.specs.Messages.{EngineMsg}
+use Rattle.uci_lines.specs.Messages as hears
 use Rattle.uci_lines.specs.Engine.{engine_message}
 use Rattle.game_record.specs.declared.ending.End.{End}
-use Rattle.game_record.specs.Course.{Course, now_of}
+use Rattle.game_record.specs.Game.{Game, now_of}
 use Rattle.game_record.specs.Ending.{ended_of}
 use Rattle.option_map.specs.Settings.{Setting}
 use Rattle.option_map.specs.Shown.{takes_tables}
-use Rattle.uci_lines.specs.declared.says.Score.{Score}
+use Rattle.uci_lines.specs.declared.messages.Score.{Score}
 use Rattle.think_text.specs.Line.{thinking_line, line_with, legal_run}
 use Rattle.feature_talk.specs.declared.talk.Say.{Say}
 use Rattle.feature_talk.specs.declared.talk.Say.TheVariants as say
@@ -36,16 +37,16 @@ use Rattle.feature_talk.specs.Features.{feature_list, tables, option_feature, sh
 use Rattle.policy_rules.specs.declared.settings.Settings.{Settings}
 use Rattle.search_epochs.specs.declared.words.EngineState.{EngineState}
 use Rattle.search_epochs.specs.declared.words.EngineState.TheVariants as states
-use Rattle.search_epochs.specs.Talk.{Engine, Boot, Getting, Idle, Search, Gone, is_move}
-use Rattle.search_epochs.specs.View.{forget}
-use Rattle.desk_rules.specs.declared.deed.Refusal.{Refusal}
-use Rattle.desk_rules.specs.declared.deed.Refusal.TheVariants as refusals
+use Rattle.search_epochs.specs.Tickets.{Engine, Boot, Getting, Idle, Search, Gone, is_move}
+use Rattle.search_epochs.specs.Dialogue.{forget}
+use Rattle.desk_rules.specs.declared.effect.Refusal.{Refusal}
+use Rattle.desk_rules.specs.declared.effect.Refusal.TheVariants as refusals
 use Rattle.desk_rules.specs.declared.desk.Desk.{Desk}
-use Rattle.desk_rules.specs.Desk.{Here, is_boot, is_getting, is_gone, current, table, on_move, played, plays}
+use Rattle.desk_rules.specs.Desk.{Situation, is_boot, is_getting, is_gone, current, table, on_move, played, plays}
 use Rattle.desk_rules.specs.Lines.{verdict, judged, refusal, change}
-use Rattle.desk_rules.specs.Steps.{Deed, Nothing, Opens, LongLine, Refuses, Accepts, Names, Declares, Boots, Readies, Thinks, Shows, Forfeits, Answers as Closes, Dies, comes, line_deed, engine_says, answers, shows, thinks, searched_by, resigns_after, resigns_at_end, desk_after_deed}
+use Rattle.desk_rules.specs.Steps.{Effect, Nothing, Opens, LongLine, Refuses, Accepts, Names, Declares, Boots, Readies, Thinks, Shows, Forfeits, Answers as Closes, Dies, classify, line_effect, engine_says, answers, shows, thinks, searched_by, resigns_after, resigns_at_end, desk_after_effect}
 use Rattle.desk_rules.specs.Replies.{refused, result_by, result_of, protover_row, offer_where, hint_row, row_accepted, list_where, resign_where, row, is_told, named_hint, replies_of}
-use Rattle.adapter_core.specs.Trace.{State, state, here, deed, replies, owing, closed_after}
+use Rattle.adapter_core.specs.Trace.{State, state, situation, effect, replies, owing, closed_after}
 use Rattle.adapter_core.specs.Shown.{Answers, MovesAreShownInTime, MovesAreShownOnce, moves_told}
 
 -- LINES THAT TELL A MOVE
@@ -66,10 +67,10 @@ first_or_later y xs x c = by_part (Contains-append_cases (y ∷ []) xs x c) wher
 is_first : {X : Type 0} (x : X) (xs : List X) → Contains (x ∷ xs) x
 is_first x xs = Contains-append_left (x ∷ []) xs x (Contains-push [] x)
 
-named : (a b : AnyMove) → told.Move a ≡ told.Move b → a ≡ b
+named : (a b : AnyMove) → reply.Move a ≡ reply.Move b → a ≡ b
 named a b e = cc
 
-told_first : (b m : AnyMove) (lines : List Told) → (told.Move b ≡ told.Move m) ⊎ Contains lines (told.Move m) → (Contains lines (told.Move m) → Contains (moves_told lines) m) → Contains (b ∷ moves_told lines) m
+told_first : (b m : AnyMove) (lines : List Reply) → (reply.Move b ≡ reply.Move m) ⊎ Contains lines (reply.Move m) → (Contains lines (reply.Move m) → Contains (moves_told lines) m) → Contains (b ∷ moves_told lines) m
 told_first b m lines (inl e) f = subst (λ (x : AnyMove). Contains (b ∷ moves_told lines) x) (named b m e) (is_first b (moves_told lines))
 told_first b m lines (inr c) f = Contains-append_right (b ∷ []) (moves_told lines) m (f c)
 
@@ -78,23 +79,23 @@ later A B C (inl a) n f = absurd (n a)
 later A B C (inr b) n f = f b
 
 -- a line that tells a move tells one of the moves told
-is_told_in : (lines : List Told) (m : AnyMove) → Contains lines (told.Move m) → Contains (moves_told lines) m
-is_told_in [] m c = absurd (none_in (told.Move m) c)
-is_told_in (told.Move b ∷ lines) m c = told_first b m lines (first_or_later (told.Move b) lines (told.Move m) c) (is_told_in lines m)
-is_told_in (line ∷ lines) m c = later (line ≡ told.Move m) (Contains lines (told.Move m)) (Contains (moves_told lines) m) (first_or_later line lines (told.Move m) c) (λ e. cc) (is_told_in lines m)
+is_told_in : (lines : List Reply) (m : AnyMove) → Contains lines (reply.Move m) → Contains (moves_told lines) m
+is_told_in [] m c = absurd (none_in (reply.Move m) c)
+is_told_in (reply.Move b ∷ lines) m c = told_first b m lines (first_or_later (reply.Move b) lines (reply.Move m) c) (is_told_in lines m)
+is_told_in (line ∷ lines) m c = later (line ≡ reply.Move m) (Contains lines (reply.Move m)) (Contains (moves_told lines) m) (first_or_later line lines (reply.Move m) c) (λ e. cc) (is_told_in lines m)
 
 -- the moves of lines that stand one after the other
-joined : (xs ys : List Told) → moves_told (xs ++ ys) ≡ moves_told xs ++ moves_told ys
+joined : (xs ys : List Reply) → moves_told (xs ++ ys) ≡ moves_told xs ++ moves_told ys
 joined [] ys = refl
-joined (told.Move m ∷ xs) ys = ap (λ (l : List AnyMove). m ∷ l) (joined xs ys)
+joined (reply.Move m ∷ xs) ys = ap (λ (l : List AnyMove). m ∷ l) (joined xs ys)
 joined (x ∷ xs) ys = joined xs ys
 
-none_joined : (xs ys : List Told) → moves_told xs ≡ [] → moves_told ys ≡ [] → moves_told (xs ++ ys) ≡ []
+none_joined : (xs ys : List Reply) → moves_told xs ≡ [] → moves_told ys ≡ [] → moves_told (xs ++ ys) ≡ []
 none_joined xs ys a b = joined xs ys ∙ ap (λ (l : List AnyMove). l ++ moves_told ys) a ∙ b
 
 -- ROWS WITHOUT A MOVE
 
-no_pongs : (b : Bool) (ns : List ℕ) → moves_told (cond b [] (map told.Pong ns)) ≡ []
+no_pongs : (b : Bool) (ns : List ℕ) → moves_told (cond b [] (map reply.Pong ns)) ≡ []
 no_pongs true ns = refl
 no_pongs false [] = refl
 no_pongs false (n ∷ ns) = no_pongs false ns
@@ -109,7 +110,7 @@ no_tables false = refl
 
 no_features : (os : List Setting) (said : List ℕ) → moves_told (feature_list os said) ≡ []
 no_features os said =
-    let last = told.Feature (codes "done") (codes "1") ∷ [] in
+    let last = reply.Feature (codes "done") (codes "1") ∷ [] in
     none_joined (tables (takes_tables os) ++ map option_feature (shown_options os)) last
     (none_joined (tables (takes_tables os)) (map option_feature (shown_options os)) (no_tables (takes_tables os)) (no_options (shown_options os))) refl
 
@@ -129,7 +130,7 @@ no_result : (side : Side) (end : Option End) → moves_told (result_by side end)
 no_result side None = refl
 no_result side (Some end) = refl
 
-no_result_at : (b : Bool) (g : Course) → moves_told (cond b (result_of g) []) ≡ []
+no_result_at : (b : Bool) (g : Game) → moves_told (cond b (result_of g) []) ≡ []
 no_result_at true g = no_result (on_move g) (ended_of g)
 no_result_at false g = refl
 
@@ -147,17 +148,17 @@ no_refusal (refusals.IllegalMove m) line = refl
 no_refusal (refusals.GameTooLong m) line = refl
 no_refusal refusals.IllegalPosition line = refl
 
-no_line : (depth : Option ℕ) (score : Option Score) (moves : List AnyMove) (facts : Facts) (hint : Option AnyMove) → moves_told (option_to_list (line_with depth score moves facts hint)) ≡ []
+no_line : (depth : Option ℕ) (score : Option Score) (moves : List AnyMove) (facts : Info) (hint : Option AnyMove) → moves_told (option_to_list (line_with depth score moves facts hint)) ≡ []
 no_line (Some depth) (Some score) (m ∷ moves) facts hint = refl
 no_line (Some depth) (Some score) [] facts hint = refl
 no_line (Some depth) None moves facts hint = refl
 no_line None score moves facts hint = refl
 
-no_thinking : (b : Bool) (x : Option Told) → moves_told (option_to_list x) ≡ [] → moves_told (cond b (option_to_list x) []) ≡ []
+no_thinking : (b : Bool) (x : Option Reply) → moves_told (option_to_list x) ≡ [] → moves_told (cond b (option_to_list x) []) ≡ []
 no_thinking true x e = e
 no_thinking false x e = refl
 
-no_answer : (h : Here) (m : Message) → moves_told (row_accepted h m) ≡ []
+no_answer : (h : Situation) (m : IfaceMsg) → moves_told (row_accepted h m) ≡ []
 unfolding row_accepted
 no_answer h (says.Protover n) = no_wait (answer (is_boot h.engine)) h.desk
 no_answer h (says.UserMove m) = no_result_at (plays (change false h.desk (says.UserMove m)).mode) (change false h.desk (says.UserMove m)).game
@@ -170,12 +171,12 @@ no_answer h m = refl
 
 -- THE MOVES OF A STEP
 
--- the move that a deed shows
-abbrev pub shown_by : Deed → List AnyMove
+-- the move that an effect shows
+abbrev pub shown_by : Effect → List AnyMove
 shown_by (Shows best hint) = best ∷ []
 shown_by d = []
 
-row_shows : (h : Here) (d : Deed) → moves_told (row h d) ≡ shown_by d
+row_shows : (h : Situation) (d : Effect) → moves_told (row h d) ≡ shown_by d
 unfolding row
 row_shows h (Refuses r line) = no_refusal r line
 row_shows h LongLine = refl
@@ -187,7 +188,7 @@ row_shows h (Thinks k facts) =
 row_shows h (Shows best hint) =
     ap (λ (l : List AnyMove). best ∷ l) (none_joined (result_of (played h.desk.game best)) (resign_where (resigns_after h best)) (no_result (on_move (played h.desk.game best)) (ended_of (played h.desk.game best))) (no_resign (resigns_after h best)))
 row_shows h Forfeits = refl
-row_shows h Dies = none_joined (list_where h.desk.due h.desk) (told.TellError _ ∷ resign_where (resigns_at_end h)) (no_list h.desk.due h.desk) (no_resign (resigns_at_end h))
+row_shows h Dies = none_joined (list_where h.desk.due h.desk) (reply.TellError _ ∷ resign_where (resigns_at_end h)) (no_list h.desk.due h.desk) (no_resign (resigns_at_end h))
 row_shows h Nothing = refl
 row_shows h Opens = refl
 row_shows h (Names text) = refl
@@ -196,54 +197,54 @@ row_shows h Readies = refl
 row_shows h Closes = refl
 
 -- the moves that are told in an open session
-pub open_shows : (owes : Bool) (h : Here) (d : Deed) → moves_told (replies_of false owes h d) ≡ shown_by d
+pub open_shows : (owes : Bool) (h : Situation) (d : Effect) → moves_told (replies_of false owes h d) ≡ shown_by d
 open_shows owes h d =
-    let pongs = cond owes [] (map told.Pong (desk_after_deed h d).pings) in
-    joined (row h d) pongs ∙ ap (λ (l : List AnyMove). moves_told (row h d) ++ l) (no_pongs owes (desk_after_deed h d).pings) ∙ append_none (moves_told (row h d)) ∙ row_shows h d where
+    let pongs = cond owes [] (map reply.Pong (desk_after_effect h d).pings) in
+    joined (row h d) pongs ∙ ap (λ (l : List AnyMove). moves_told (row h d) ++ l) (no_pongs owes (desk_after_effect h d).pings) ∙ append_none (moves_told (row h d)) ∙ row_shows h d where
       append_none : (l : List AnyMove) → l ++ [] ≡ l
       append_none [] = refl
       append_none (m ∷ l) = ap (λ (xs : List AnyMove). m ∷ xs) (append_none l)
 
-shown_few : (d : Deed) → length (shown_by d) ≤ 1
+shown_few : (d : Effect) → length (shown_by d) ≤ 1
 shown_few (Shows best hint) = omega arith
 shown_few d = omega arith
 
-few_by : (closed owes : Bool) (h : Here) (d : Deed) → length (moves_told (replies_of closed owes h d)) ≤ 1
+few_by : (closed owes : Bool) (h : Situation) (d : Effect) → length (moves_told (replies_of closed owes h d)) ≤ 1
 few_by true owes h d = omega arith
 few_by false owes h d = subst (λ (l : List AnyMove). length l ≤ 1) (sym (open_shows owes h d)) (shown_few d)
 
 pub once : (o : Settings) → MovesAreShownOnce o
 once o step t l =
     let s = state o t in
-    subst (λ (rs : List Told). length (moves_told rs) ≤ 1) (sym l.1.replies) (few_by (closed_after s step.event) (is_move (owing s step.event)) (here s) (deed s step.event))
+    subst (λ (rs : List Reply). length (moves_told rs) ≤ 1) (sym l.1.replies) (few_by (closed_after s step.event) (is_move (owing s step.event)) (situation s) (effect s step.event))
 
 -- FROM THE MOVE TO THE ANSWER
 
-not_shown : (b : Bool) (d : Deed) (m : AnyMove) (hint : Option AnyMove) → (d ≡ Shows m hint → ⊥) → cond b d Nothing ≡ Shows m hint → ⊥
+not_shown : (b : Bool) (d : Effect) (m : AnyMove) (hint : Option AnyMove) → (d ≡ Shows m hint → ⊥) → cond b d Nothing ≡ Shows m hint → ⊥
 not_shown true d m hint n e = n e
 not_shown false d m hint n e = cc
 
--- a deed that shows m, by what the engine says
-record SaysIt (h : Here) (message : Says) (m : AnyMove) : Type 0 where
+-- an effect that shows m, by what the engine says
+record SaysIt (h : Situation) (message : EngineMsg) (m : AnyMove) : Type 0 where
   hint : Option AnyMove
   stopped : Bool
   best : message ≡ hears.Best (Some m) hint
   engine : h.engine ≡ states.Search kinds.Move false stopped
   is_legal : legal (now_of h.desk.game) m ≡ true
 
-legal_back : (g : Course) (b : AnyMove) (hint : Option AnyMove) (m : AnyMove) (hint' : Option AnyMove) (x : Bool) → legal (now_of g) b ≡ x → cond x (Shows b hint) Forfeits ≡ Shows m hint'
+legal_back : (g : Game) (b : AnyMove) (hint : Option AnyMove) (m : AnyMove) (hint' : Option AnyMove) (x : Bool) → legal (now_of g) b ≡ x → cond x (Shows b hint) Forfeits ≡ Shows m hint'
     → (b ≡ m) × (legal (now_of g) m ≡ true)
 legal_back g b hint m hint' true l e = let same : b ≡ m = cc in (same, subst (λ (y : AnyMove). legal (now_of g) y ≡ true) same l)
 legal_back g b hint m hint' false l e = absurd (cc)
 
-shows_back : (h : Here) (message : Says) (stopped : Bool) (best hint : Option AnyMove) (m : AnyMove) (hint' : Option AnyMove) → message ≡ hears.Best best hint
+shows_back : (h : Situation) (message : EngineMsg) (stopped : Bool) (best hint : Option AnyMove) (m : AnyMove) (hint' : Option AnyMove) → message ≡ hears.Best best hint
     → h.engine ≡ states.Search kinds.Move false stopped → shows h.desk.game best hint ≡ Shows m hint' → SaysIt h message m
 shows_back h message stopped None hint m hint' i n e = absurd (cc)
 shows_back h message stopped (Some b) hint m hint' i n e =
     let back = legal_back h.desk.game b hint m hint' (legal (now_of h.desk.game) b) refl e in
     record { hint = hint; stopped = stopped; best = i ∙ ap (λ (x : AnyMove). hears.Best (Some x) hint) back.0; engine = n; is_legal = back.1 }
 
-answers_back : (h : Here) (message : Says) (x : EngineState) (best hint : Option AnyMove) (m : AnyMove) (hint' : Option AnyMove) → message ≡ hears.Best best hint
+answers_back : (h : Situation) (message : EngineMsg) (x : EngineState) (best hint : Option AnyMove) (m : AnyMove) (hint' : Option AnyMove) → message ≡ hears.Best best hint
     → h.engine ≡ x → answers x h.desk.game best hint ≡ Shows m hint' → SaysIt h message m
 answers_back h message (states.Search kinds.Move false stopped) best hint m hint' i n e = shows_back h message stopped best hint m hint' i n e
 answers_back h message (states.Search kinds.Move true stopped) best hint m hint' i n e = absurd (cc)
@@ -254,11 +255,11 @@ answers_back h message states.Getting best hint m hint' i n e = absurd (cc)
 answers_back h message states.Idle best hint m hint' i n e = absurd (cc)
 answers_back h message states.Gone best hint m hint' i n e = absurd (cc)
 
-thinks_not : (k : Option GoKind) (facts : Facts) (m : AnyMove) (hint : Option AnyMove) → thinks k facts ≡ Shows m hint → ⊥
+thinks_not : (k : Option GoKind) (facts : Info) (m : AnyMove) (hint : Option AnyMove) → thinks k facts ≡ Shows m hint → ⊥
 thinks_not None facts m hint e = cc
 thinks_not (Some k) facts m hint e = cc
 
-says_back : (h : Here) (message : Says) (m : AnyMove) (hint : Option AnyMove) → engine_says h message ≡ Shows m hint → SaysIt h message m
+says_back : (h : Situation) (message : EngineMsg) (m : AnyMove) (hint : Option AnyMove) → engine_says h message ≡ Shows m hint → SaysIt h message m
 says_back h (hears.Best best hint) m hint' e = answers_back h (hears.Best best hint) h.engine best hint m hint' refl refl e
 says_back h (hears.Name text) m hint e = absurd (not_shown (is_boot h.engine) (Names text) m hint (λ x. cc) e)
 says_back h (hears.OptionLine name shape) m hint e = absurd (not_shown (is_boot h.engine) (Declares name shape) m hint (λ x. cc) e)
@@ -267,16 +268,16 @@ says_back h hears.ReadyOk m hint e = absurd (not_shown (is_getting h.engine) Rea
 says_back h (hears.Info facts) m hint e = absurd (thinks_not (current h.engine) facts m hint e)
 says_back h hears.Nothing m hint e = absurd (cc)
 
-open_back : (b : Bool) (d : Deed) (m : AnyMove) (hint : Option AnyMove) → cond b Nothing d ≡ Shows m hint → (b ≡ false) × (d ≡ Shows m hint)
+open_back : (b : Bool) (d : Effect) (m : AnyMove) (hint : Option AnyMove) → cond b Nothing d ≡ Shows m hint → (b ≡ false) × (d ≡ Shows m hint)
 open_back true d m hint e = absurd (cc)
 open_back false d m hint e = (refl, e)
 
-line_not : (h : Here) (held : List Command) (line : List ℕ) (r : Result Message IfaceFault) (m : AnyMove) (hint : Option AnyMove) → line_deed (verdict h held r) line ≡ Shows m hint → ⊥
+line_not : (h : Situation) (held : List Order) (line : List ℕ) (r : Result IfaceMsg IfaceFault) (m : AnyMove) (hint : Option AnyMove) → line_effect (verdict h held r) line ≡ Shows m hint → ⊥
 unfolding verdict
 line_not h held line (Err faults.UnknownCommand) m hint e = cc
 line_not h held line (Err faults.BadArgument) m hint e = cc
 line_not h held line (Ok message) m hint e = judged_not (refusal h held message) e where
-  judged_not : (r : Option Refusal) → line_deed (judged message r) line ≡ Shows m hint → ⊥
+  judged_not : (r : Option Refusal) → line_effect (judged message r) line ≡ Shows m hint → ⊥
   judged_not None e = cc
   judged_not (Some r) e = cc
 
@@ -294,12 +295,12 @@ engine_back epoch (Search k t s') s e =
     let stop : s' ≡ s = cc in
     ap (λ (x : GoKind). Search x t s') kind ∙ ap (λ (x : ℕ). Search kinds.Move x s') same ∙ ap (λ (x : Bool). Search kinds.Move epoch x) stop
 
--- an event whose deed shows m answers with m
-answer_back : (s : State) (e : Event) (m : AnyMove) (hint : Option AnyMove) → deed s e ≡ Shows m hint → Answers s e m
-unfolding comes
+-- an event whose effect shows m answers with m
+answer_back : (s : State) (e : Event) (m : AnyMove) (hint : Option AnyMove) → effect s e ≡ Shows m hint → Answers s e m
+unfolding classify
 answer_back s (events.Engine line) m hint e =
-    let o = open_back s.ends.closed (engine_says (here s) (engine_message line)) m hint e in
-    let said = says_back (here s) (engine_message line) m hint o.1 in
+    let o = open_back s.ends.closed (engine_says (situation s) (engine_message line)) m hint e in
+    let said = says_back (situation s) (engine_message line) m hint o.1 in
     record {
       line = line;
       hint = said.hint;
@@ -307,33 +308,33 @@ answer_back s (events.Engine line) m hint e =
       event = refl;
       best = said.best;
       is_open = o.0;
-      current = engine_back s.talk.epoch s.talk.engine said.stopped said.engine;
+      current = engine_back s.dialogue.epoch s.dialogue.engine said.stopped said.engine;
       is_legal = said.is_legal;
     }
 answer_back s events.Open m hint e = absurd (cc)
-answer_back s (events.Iface line) m hint e = absurd (line_not (here s) _ line (reading line) m hint (open_back s.ends.closed _ m hint e).1)
+answer_back s (events.Iface line) m hint e = absurd (line_not (situation s) _ line (reading line) m hint (open_back s.ends.closed _ m hint e).1)
 answer_back s events.IfaceLong m hint e = let o = open_back s.ends.closed LongLine m hint e in absurd (cc (o.1))
 answer_back s events.IfaceEnd m hint e = absurd (cc)
 answer_back s events.IfaceLost m hint e = absurd (cc)
 answer_back s events.EngineLong m hint e = absurd (cc)
-answer_back s events.EngineEnd m hint e = absurd (dies_not (is_gone (here s).engine) e) where
+answer_back s events.EngineEnd m hint e = absurd (dies_not (is_gone (situation s).engine) e) where
   dies_not : (b : Bool) → cond b Nothing Dies ≡ Shows m hint → ⊥
   dies_not true e = cc
   dies_not false e = cc
-answer_back s events.EngineLost m hint e = absurd (dies_not (is_gone (here s).engine) e) where
+answer_back s events.EngineLost m hint e = absurd (dies_not (is_gone (situation s).engine) e) where
   dies_not : (b : Bool) → cond b Nothing Dies ≡ Shows m hint → ⊥
   dies_not true e = cc
   dies_not false e = cc
 
-shown_is : (d : Deed) (m : AnyMove) → Contains (shown_by d) m → (hint : Option AnyMove) × (d ≡ Shows m hint)
+shown_is : (d : Effect) (m : AnyMove) → Contains (shown_by d) m → (hint : Option AnyMove) × (d ≡ Shows m hint)
 shown_is (Shows best hint) m c = (hint, ap (λ (x : AnyMove). Shows x hint) (alone (first_or_later best [] m c))) where
   alone : (best ≡ m) ⊎ Contains [] m → best ≡ m
   alone (inl e) = e
   alone (inr n) = absurd (none_in m n)
 shown_is d m c = absurd (none_in m c)
 
-told_by : (closed owes : Bool) (h : Here) (d : Deed) (m : AnyMove) → Contains (replies_of closed owes h d) (told.Move m) → (hint : Option AnyMove) × (d ≡ Shows m hint)
-told_by true owes h d m c = absurd (none_in (told.Move m) c)
+told_by : (closed owes : Bool) (h : Situation) (d : Effect) (m : AnyMove) → Contains (replies_of closed owes h d) (reply.Move m) → (hint : Option AnyMove) × (d ≡ Shows m hint)
+told_by true owes h d m c = absurd (none_in (reply.Move m) c)
 told_by false owes h d m c = shown_is d m (subst (λ (l : List AnyMove). Contains l m) (open_shows owes h d) (is_told_in (replies_of false owes h d) m c))
 
 -- FROM THE ANSWER TO THE MOVE
@@ -341,34 +342,34 @@ told_by false owes h d m c = shown_is d m (subst (λ (l : List AnyMove). Contain
 ticket_now : (epoch : ℕ) → not (epoch == epoch) ≡ false
 ticket_now epoch = grind (arith, nat_tests)
 
-answer_shows : (g : Course) (m : AnyMove) (hint : Option AnyMove) (b : Bool) → b ≡ true → cond b (Shows m hint) Forfeits ≡ Shows m hint
+answer_shows : (g : Game) (m : AnyMove) (hint : Option AnyMove) (b : Bool) → b ≡ true → cond b (Shows m hint) Forfeits ≡ Shows m hint
 answer_shows g m hint true e = refl
 answer_shows g m hint false e = cc
 
-open_deed : (b : Bool) (d : Deed) → b ≡ false → cond b Nothing d ≡ d
-open_deed true d e = cc
-open_deed false d e = refl
+open_effect : (b : Bool) (d : Effect) → b ≡ false → cond b Nothing d ≡ d
+open_effect true d e = cc
+open_effect false d e = refl
 
 event_shows : (s : State) (line : List ℕ) (m : AnyMove) (hint : Option AnyMove) (stopped : Bool) → engine_message line ≡ hears.Best (Some m) hint → s.ends.closed ≡ false
-    → s.talk.engine ≡ Search kinds.Move s.talk.epoch stopped → legal (now_of s.desk.game) m ≡ true → deed s (events.Engine line) ≡ Shows m hint
-unfolding comes
+    → s.dialogue.engine ≡ Search kinds.Move s.dialogue.epoch stopped → legal (now_of s.desk.game) m ≡ true → effect s (events.Engine line) ≡ Shows m hint
+unfolding classify
 event_shows s line m hint stopped b c n l =
-    open_deed s.ends.closed (engine_says (here s) (engine_message line)) c
-    ∙ ap (λ (x : Says). engine_says (here s) x) b
-    ∙ ap (λ (x : Engine). answers (forget s.talk.epoch x) s.desk.game (Some m) hint) n
-    ∙ ap (λ (x : Bool). answers (states.Search kinds.Move x stopped) s.desk.game (Some m) hint) (ticket_now s.talk.epoch)
+    open_effect s.ends.closed (engine_says (situation s) (engine_message line)) c
+    ∙ ap (λ (x : EngineMsg). engine_says (situation s) x) b
+    ∙ ap (λ (x : Engine). answers (forget s.dialogue.epoch x) s.desk.game (Some m) hint) n
+    ∙ ap (λ (x : Bool). answers (states.Search kinds.Move x stopped) s.desk.game (Some m) hint) (ticket_now s.dialogue.epoch)
     ∙ answer_shows s.desk.game m hint (legal (now_of s.desk.game) m) l
 
-deed_shows : (s : State) (e : Event) (m : AnyMove) (a : Answers s e m) → deed s e ≡ Shows m a.hint
-deed_shows s e m a = ap (deed s) a.event ∙ event_shows s a.line m a.hint a.stopped a.best a.is_open a.current a.is_legal
+effect_shows : (s : State) (e : Event) (m : AnyMove) (a : Answers s e m) → effect s e ≡ Shows m a.hint
+effect_shows s e m a = ap (effect s) a.event ∙ event_shows s a.line m a.hint a.stopped a.best a.is_open a.current a.is_legal
 
-row_first : (owes : Bool) (h : Here) (m : AnyMove) (hint : Option AnyMove) → Contains (replies_of false owes h (Shows m hint)) (told.Move m)
+row_first : (owes : Bool) (h : Situation) (m : AnyMove) (hint : Option AnyMove) → Contains (replies_of false owes h (Shows m hint)) (reply.Move m)
 unfolding row
-row_first owes h m hint = Contains-append_left (row h (Shows m hint)) _ (told.Move m) (is_first (told.Move m) _)
+row_first owes h m hint = Contains-append_left (row h (Shows m hint)) _ (reply.Move m) (is_first (reply.Move m) _)
 
-tells_it : (closed owes : Bool) (h : Here) (d : Deed) (m : AnyMove) (hint : Option AnyMove) → closed ≡ false → d ≡ Shows m hint → Contains (replies_of closed owes h d) (told.Move m)
+tells_it : (closed owes : Bool) (h : Situation) (d : Effect) (m : AnyMove) (hint : Option AnyMove) → closed ≡ false → d ≡ Shows m hint → Contains (replies_of closed owes h d) (reply.Move m)
 tells_it true owes h d m hint c e = absurd (cc)
-tells_it false owes h d m hint c e = subst (λ (x : Deed). Contains (replies_of false owes h x) (told.Move m)) (sym e) (row_first owes h m hint)
+tells_it false owes h d m hint c e = subst (λ (x : Effect). Contains (replies_of false owes h x) (reply.Move m)) (sym e) (row_first owes h m hint)
 
 closed_still : (s : State) (e : Event) (m : AnyMove) (a : Answers s e m) → closed_after s e ≡ false
 closed_still s e m a = ap (closed_after s) a.event ∙ a.is_open
@@ -381,13 +382,13 @@ shown o step t l m = (there, back) where
   owes : Bool
   owes = is_move (owing s step.event)
 
-  there : Contains step.replies (told.Move m) → Answers s step.event m
+  there : Contains step.replies (reply.Move m) → Answers s step.event m
   there c =
-      let c' : Contains (replies s step.event) (told.Move m) = subst (λ (rs : List Told). Contains rs (told.Move m)) l.1.replies c in
-      let d = told_by (closed_after s step.event) owes (here s) (deed s step.event) m c' in
+      let c' : Contains (replies s step.event) (reply.Move m) = subst (λ (rs : List Reply). Contains rs (reply.Move m)) l.1.replies c in
+      let d = told_by (closed_after s step.event) owes (situation s) (effect s step.event) m c' in
       answer_back s step.event m d.0 d.1
 
-  back : Answers s step.event m → Contains step.replies (told.Move m)
+  back : Answers s step.event m → Contains step.replies (reply.Move m)
   back a =
-      subst (λ (rs : List Told). Contains rs (told.Move m)) (sym l.1.replies)
-      (tells_it (closed_after s step.event) owes (here s) (deed s step.event) m a.hint (closed_still s step.event m a) (deed_shows s step.event m a))
+      subst (λ (rs : List Reply). Contains rs (reply.Move m)) (sym l.1.replies)
+      (tells_it (closed_after s step.event) owes (situation s) (effect s step.event) m a.hint (closed_still s step.event m a) (effect_shows s step.event m a))

@@ -1,29 +1,30 @@
--- What the deeds of either side do to the parts that the interface commands.
+-- What the effects of either side do to the parts that the interface commands.
 use Rattle.std.proofs.Common.{◌≡◌, ℕ, List, [], Bool, true, false, cond, ◌||◌, Option, Some, None, Result, Ok, Err, refl, sym, ap, ◌∙◌}
 use Rattle.chess_board.specs.declared.board.Move.{Move}
 use Rattle.chess_board.specs.Place.{legal}
 use Rattle.line_io.specs.Event.{Event}
 use Rattle.line_io.specs.Event as events
-use Rattle.cecp_lines.specs.Messages.{Message}
+use Rattle.cecp_lines.specs.Messages.{IfaceMsg}
 use Rattle.cecp_lines.specs.Messages as says
 use Rattle.cecp_lines.specs.Reading.{reading}
 use Rattle.cecp_lines.specs.declared.iface.IfaceFault.{IfaceFault}
 use Rattle.cecp_lines.specs.declared.iface.IfaceFault.TheVariants as faults
 use Rattle.peer_words.specs.declared.kinds.GoKind.{GoKind}
 use Rattle.peer_words.specs.declared.kinds.GoKind.TheVariants as kinds
-use Rattle.uci_lines.specs.Orders.{Command}
-use Rattle.uci_lines.specs.Says.{Says, Facts}
-use Rattle.uci_lines.specs.Says as hears
+use Rattle.uci_lines.specs.Orders.{Order}
+use Rattle.uci_lines.specs.Info.{Info}
+use Rattle.uci_lines.specs.Messages.{EngineMsg}
+use Rattle.uci_lines.specs.Messages as hears
 use Rattle.uci_lines.specs.Engine.{engine_message}
-use Rattle.game_record.specs.Course.{Course, now_of}
+use Rattle.game_record.specs.Game.{Game, now_of}
 use Rattle.policy_rules.specs.Scores.{Score}
 use Rattle.search_epochs.specs.declared.words.EngineState.{EngineState}
 use Rattle.search_epochs.specs.declared.words.EngineState.TheVariants as states
-use Rattle.desk_rules.specs.declared.deed.Refusal.{Refusal}
+use Rattle.desk_rules.specs.declared.effect.Refusal.{Refusal}
 use Rattle.desk_rules.specs.declared.desk.Desk.{Desk}
-use Rattle.desk_rules.specs.Desk.{Here, is_gone, is_boot, is_getting, current}
+use Rattle.desk_rules.specs.Desk.{Situation, is_gone, is_boot, is_getting, current}
 use Rattle.desk_rules.specs.Lines.{verdict, judged, refusal, at_position, change}
-use Rattle.desk_rules.specs.Steps.{Deed, Nothing, Opens, LongLine, Refuses, Accepts, Names, Declares, Boots, Readies, Thinks, Shows, Forfeits, Answers, Dies, comes, line_deed, engine_says, answers, shows, thinks, desk_after_deed, answers_pings, scores_after, is_death}
+use Rattle.desk_rules.specs.Steps.{Effect, Nothing, Opens, LongLine, Refuses, Accepts, Names, Declares, Boots, Readies, Thinks, Shows, Forfeits, Answers, Dies, classify, line_effect, engine_says, answers, shows, thinks, desk_after_effect, answers_pings, scores_after, is_death}
 use Rattle.adapter_core.specs.declared.ends.Ends.{Ends}
 use Rattle.adapter_core.specs.Ends.{ends_after}
 use Rattle.cecp_lines.specs.Quit.{is_quit}
@@ -31,40 +32,40 @@ use Rattle.adapter_core.specs.Alone.{Commanded, commanded, is_of_iface, is_answe
 
 -- DEEDS OF THE INTERFACE
 
-abbrev pub IsIfaceDeed : Deed → Type 0
+abbrev pub IsIfaceDeed : Effect → Type 0
 IsIfaceDeed Nothing = Unit {0}
 IsIfaceDeed LongLine = Unit {0}
 IsIfaceDeed (Refuses r line) = Unit {0}
 IsIfaceDeed (Accepts m) = Unit {0}
 IsIfaceDeed d = ⊥
 
-judged_iface : (m : Message) (o : Option Refusal) (line : List ℕ) → IsIfaceDeed (line_deed (judged m o) line)
+judged_iface : (m : IfaceMsg) (o : Option Refusal) (line : List ℕ) → IsIfaceDeed (line_effect (judged m o) line)
 judged_iface m None line = tt
 judged_iface m (Some r) line = tt
 
-line_iface : (h : Here) (held : List Command) (line : List ℕ) (r : Result Message IfaceFault) → IsIfaceDeed (line_deed (verdict h held r) line)
+line_iface : (h : Situation) (held : List Order) (line : List ℕ) (r : Result IfaceMsg IfaceFault) → IsIfaceDeed (line_effect (verdict h held r) line)
 unfolding verdict
 line_iface h held line (Err faults.UnknownCommand) = tt
 line_iface h held line (Err faults.BadArgument) = tt
 line_iface h held line (Ok m) = judged_iface m (refusal h held m) line
 
-unless_closed : (b : Bool) (d : Deed) → IsIfaceDeed d → IsIfaceDeed (cond b Nothing d)
+unless_closed : (b : Bool) (d : Effect) → IsIfaceDeed d → IsIfaceDeed (cond b Nothing d)
 unless_closed true d i = tt
 unless_closed false d i = i
 
-pub iface_deed : (h : Here) (held : List Command) (e : Event) → is_of_iface e ≡ true → IsIfaceDeed (comes h held e)
-unfolding comes
-iface_deed h held (events.Iface line) i = unless_closed h.closed _ (line_iface h held line (reading line))
-iface_deed h held events.IfaceLong i = unless_closed h.closed LongLine tt
-iface_deed h held events.IfaceEnd i = tt
-iface_deed h held events.IfaceLost i = tt
-iface_deed h held events.Open i = cc
-iface_deed h held (events.Engine line) i = cc
-iface_deed h held events.EngineLong i = cc
-iface_deed h held events.EngineEnd i = cc
-iface_deed h held events.EngineLost i = cc
+pub iface_effect : (h : Situation) (held : List Order) (e : Event) → is_of_iface e ≡ true → IsIfaceDeed (classify h held e)
+unfolding classify
+iface_effect h held (events.Iface line) i = unless_closed h.closed _ (line_iface h held line (reading line))
+iface_effect h held events.IfaceLong i = unless_closed h.closed LongLine tt
+iface_effect h held events.IfaceEnd i = tt
+iface_effect h held events.IfaceLost i = tt
+iface_effect h held events.Open i = cc
+iface_effect h held (events.Engine line) i = cc
+iface_effect h held events.EngineLong i = cc
+iface_effect h held events.EngineEnd i = cc
+iface_effect h held events.EngineLost i = cc
 
-pub no_death : (d : Deed) → IsIfaceDeed d → is_death d ≡ false
+pub no_death : (d : Effect) → IsIfaceDeed d → is_death d ≡ false
 no_death Nothing i = refl
 no_death LongLine i = refl
 no_death (Refuses r line) i = refl
@@ -80,7 +81,7 @@ no_death Forfeits i = refl
 no_death Answers i = refl
 no_death Dies i = absurd i
 
-pub no_answer : (d : Deed) → IsIfaceDeed d → is_answer d ≡ false
+pub no_answer : (d : Effect) → IsIfaceDeed d → is_answer d ≡ false
 no_answer (Shows best hint) i = absurd i
 no_answer Forfeits i = absurd i
 no_answer d i = refl
@@ -91,7 +92,7 @@ position_hint : (d : Desk) (r : _) → d.hint ≡ None → (at_position d r).hin
 position_hint d (Ok p) e = refl
 position_hint d (Err fault) e = e
 
-change_hint : (boot : Bool) (d : Desk) (m : Message) → d.hint ≡ None → (change boot d m).hint ≡ None
+change_hint : (boot : Bool) (d : Desk) (m : IfaceMsg) → d.hint ≡ None → (change boot d m).hint ≡ None
 unfolding change
 change_hint boot d says.New e = refl
 change_hint boot d (says.UserMove m) e = refl
@@ -100,8 +101,8 @@ change_hint boot d says.Remove e = refl
 change_hint boot d (says.SetBoard text) e = position_hint d _ e
 change_hint boot d m e = e
 
-pub no_hint : (h : Here) (d : Deed) → is_answer d ≡ false → h.desk.hint ≡ None → (desk_after_deed h d).hint ≡ None
-unfolding desk_after_deed
+pub no_hint : (h : Situation) (d : Effect) → is_answer d ≡ false → h.desk.hint ≡ None → (desk_after_effect h d).hint ≡ None
+unfolding desk_after_effect
 no_hint h (Accepts m) n e = change_hint (is_boot h.engine) h.desk m e
 no_hint h (Shows best hint) n e = cc
 no_hint h d n e = e
@@ -110,7 +111,7 @@ no_score : (b : Bool) (xs : List Score) → xs ≡ [] → cond b [] xs ≡ []
 no_score true xs e = refl
 no_score false xs e = e
 
-pub no_scores : (h : Here) (d : Deed) (xs : List Score) → is_answer d ≡ false → xs ≡ [] → scores_after h d xs ≡ []
+pub no_scores : (h : Situation) (d : Effect) (xs : List Score) → is_answer d ≡ false → xs ≡ [] → scores_after h d xs ≡ []
 no_scores h (Accepts m) xs n e = no_score _ xs e
 no_scores h (Shows best hint) xs n e = cc
 no_scores h d xs n e = e
@@ -119,13 +120,13 @@ position_booted : (d : Desk) (r : _) → (at_position d r).booted ≡ d.booted
 position_booted d (Ok p) = refl
 position_booted d (Err fault) = refl
 
-change_booted : (boot : Bool) (d : Desk) (m : Message) → (change boot d m).booted ≡ d.booted
+change_booted : (boot : Bool) (d : Desk) (m : IfaceMsg) → (change boot d m).booted ≡ d.booted
 unfolding change
 change_booted boot d (says.SetBoard text) = position_booted d _
 change_booted boot d m = refl
 
-pub still_unbooted : (h : Here) (d : Deed) → IsIfaceDeed d → h.desk.booted ≡ false → (desk_after_deed h d).booted ≡ false
-unfolding desk_after_deed
+pub still_unbooted : (h : Situation) (d : Effect) → IsIfaceDeed d → h.desk.booted ≡ false → (desk_after_effect h d).booted ≡ false
+unfolding desk_after_effect
 still_unbooted h (Accepts m) i e = change_booted (is_boot h.engine) h.desk m ∙ e
 still_unbooted h Nothing i e = e
 still_unbooted h LongLine i e = e
@@ -143,38 +144,38 @@ still_unbooted h Dies i e = absurd i
 
 -- DEEDS OF THE ENGINE
 
--- the deed commands nothing
-abbrev pub IsQuietDeed : Deed → Type 0
+-- the effect commands nothing
+abbrev pub IsQuietDeed : Effect → Type 0
 IsQuietDeed (Accepts m) = ⊥
 IsQuietDeed (Shows best hint) = ⊥
 IsQuietDeed Forfeits = ⊥
 IsQuietDeed Dies = ⊥
 IsQuietDeed d = Unit {0}
 
-pub quiet_desk : (h : Here) (d : Deed) → IsQuietDeed d → commanded (desk_after_deed h d) ≡ commanded h.desk
-unfolding desk_after_deed
+pub quiet_desk : (h : Situation) (d : Effect) → IsQuietDeed d → commanded (desk_after_effect h d) ≡ commanded h.desk
+unfolding desk_after_effect
 quiet_desk h (Accepts m) q = absurd q
 quiet_desk h (Shows best hint) q = absurd q
 quiet_desk h Forfeits q = absurd q
 quiet_desk h Dies q = absurd q
 quiet_desk h d q = refl
 
-quiet_where : (b : Bool) (d : Deed) → IsQuietDeed d → IsQuietDeed (cond b d Nothing)
+quiet_where : (b : Bool) (d : Effect) → IsQuietDeed d → IsQuietDeed (cond b d Nothing)
 quiet_where true d q = q
 quiet_where false d q = tt
 
-quiet_thinks : (k : Option GoKind) (facts : Facts) → IsQuietDeed (thinks k facts)
+quiet_thinks : (k : Option GoKind) (facts : Info) → IsQuietDeed (thinks k facts)
 quiet_thinks None facts = tt
 quiet_thinks (Some k) facts = tt
 
-quiet_shows : (g : Course) (best hint : Option Move) → is_answer (shows g best hint) ≡ false → IsQuietDeed (shows g best hint)
+quiet_shows : (g : Game) (best hint : Option Move) → is_answer (shows g best hint) ≡ false → IsQuietDeed (shows g best hint)
 quiet_shows g None hint n = cc
 quiet_shows g (Some m) hint n = by_legal (legal (now_of g) m) n where
   by_legal : (b : Bool) → is_answer (cond b (Shows m hint) Forfeits) ≡ false → IsQuietDeed (cond b (Shows m hint) Forfeits)
   by_legal true n = cc
   by_legal false n = cc
 
-quiet_answers : (x : EngineState) (g : Course) (best hint : Option Move) → is_answer (answers x g best hint) ≡ false → IsQuietDeed (answers x g best hint)
+quiet_answers : (x : EngineState) (g : Game) (best hint : Option Move) → is_answer (answers x g best hint) ≡ false → IsQuietDeed (answers x g best hint)
 quiet_answers (states.Search kinds.Move false stopped) g best hint n = quiet_shows g best hint n
 quiet_answers (states.Search kinds.Move true stopped) g best hint n = tt
 quiet_answers (states.Search kinds.Ponder stale stopped) g best hint n = tt
@@ -184,7 +185,7 @@ quiet_answers states.Getting g best hint n = tt
 quiet_answers states.Idle g best hint n = tt
 quiet_answers states.Gone g best hint n = tt
 
-quiet_says : (h : Here) (m : Says) → is_answer (engine_says h m) ≡ false → IsQuietDeed (engine_says h m)
+quiet_says : (h : Situation) (m : EngineMsg) → is_answer (engine_says h m) ≡ false → IsQuietDeed (engine_says h m)
 quiet_says h (hears.Best best hint) n = quiet_answers h.engine h.desk.game best hint n
 quiet_says h (hears.Name text) n = quiet_where (is_boot h.engine) (Names text) tt
 quiet_says h (hears.OptionLine name shape) n = quiet_where (is_boot h.engine) (Declares name shape) tt
@@ -193,7 +194,7 @@ quiet_says h hears.ReadyOk n = quiet_where (is_getting h.engine) Readies tt
 quiet_says h (hears.Info facts) n = quiet_thinks (current h.engine) facts
 quiet_says h hears.Nothing n = tt
 
-quiet_open : (b : Bool) (d : Deed) → (is_answer d ≡ false → IsQuietDeed d) → is_answer (cond b Nothing d) ≡ false → IsQuietDeed (cond b Nothing d)
+quiet_open : (b : Bool) (d : Effect) → (is_answer d ≡ false → IsQuietDeed d) → is_answer (cond b Nothing d) ≡ false → IsQuietDeed (cond b Nothing d)
 quiet_open true d f n = tt
 quiet_open false d f n = f n
 
@@ -202,17 +203,17 @@ quiet_dies true n = tt
 quiet_dies false n = cc
 
 -- an event of the engine that answers no search and is not its end
-pub engine_deed : (h : Here) (held : List Command) (e : Event) → is_of_iface e ≡ false → is_answer (comes h held e) ≡ false → is_death (comes h held e) ≡ false → IsQuietDeed (comes h held e)
-unfolding comes
-engine_deed h held events.Open i n m = tt
-engine_deed h held (events.Engine line) i n m = quiet_open h.closed _ (quiet_says h (engine_message line)) n
-engine_deed h held events.EngineLong i n m = tt
-engine_deed h held events.EngineEnd i n m = quiet_dies (is_gone h.engine) m
-engine_deed h held events.EngineLost i n m = quiet_dies (is_gone h.engine) m
-engine_deed h held (events.Iface line) i n m = cc
-engine_deed h held events.IfaceLong i n m = cc
-engine_deed h held events.IfaceEnd i n m = cc
-engine_deed h held events.IfaceLost i n m = cc
+pub engine_effect : (h : Situation) (held : List Order) (e : Event) → is_of_iface e ≡ false → is_answer (classify h held e) ≡ false → is_death (classify h held e) ≡ false → IsQuietDeed (classify h held e)
+unfolding classify
+engine_effect h held events.Open i n m = tt
+engine_effect h held (events.Engine line) i n m = quiet_open h.closed _ (quiet_says h (engine_message line)) n
+engine_effect h held events.EngineLong i n m = tt
+engine_effect h held events.EngineEnd i n m = quiet_dies (is_gone h.engine) m
+engine_effect h held events.EngineLost i n m = quiet_dies (is_gone h.engine) m
+engine_effect h held (events.Iface line) i n m = cc
+engine_effect h held events.IfaceLong i n m = cc
+engine_effect h held events.IfaceEnd i n m = cc
+engine_effect h held events.IfaceLost i n m = cc
 
 -- THE ENDS
 

@@ -4,7 +4,7 @@ use Rattle.line_io.specs.Event.{Event}
 use Rattle.line_io.specs.Event as events
 use Rattle.line_io.specs.Out.{Text, empty, with}
 use Rattle.chess_board.specs.declared.board.Move.{Move}
-use Rattle.uci_lines.specs.Orders.{Command}
+use Rattle.uci_lines.specs.Orders.{Order}
 use Rattle.uci_lines.specs.Orders as orders
 use Rattle.policy_rules.specs.declared.scores.Scores.{Scores}
 use Rattle.policy_rules.specs.Scores.{counted}
@@ -12,30 +12,30 @@ use Rattle.search_epochs.specs.declared.words.Call.{Call}
 use Rattle.search_epochs.specs.declared.words.Call.TheVariants as calls
 use Rattle.search_epochs.specs.declared.words.Orders.{Orders}
 use Rattle.search_epochs.specs.declared.words.Orders.TheVariants as chosen
-use Rattle.search_epochs.specs.Talk.{Talk, Turn, Engine, Boot, Getting, Idle, Search, Gone, Word, Uci, Quit, AllSetup, Settled, turned, after, ponders, ponders_at, sent, sent_all, is_due, is_hit, is_move, is_hurry, has_go, leaves_boot, spent}
-use Rattle.search_epochs.specs.View as dialogue
-use Rattle.search_epochs.specs.View.{forget, kept, words, settle, after_settled, is_pondered, played_of, is_hit_order, is_batch_order}
+use Rattle.search_epochs.specs.Tickets.{Ticketed, Turn, Engine, Boot, Getting, Idle, Search, Gone, Word, Uci, Quit, AllSetup, Settled, turned, after, ponders, ponders_at, sent, sent_all, is_due, is_hit, is_move, is_hurry, has_go, leaves_boot, spent}
+use Rattle.search_epochs.specs.Dialogue as dialogues
+use Rattle.search_epochs.specs.Dialogue.{forget, kept, words, settle, after_settled, is_pondered, played_of, is_hit_order, is_batch_order}
 use Rattle.search_epochs.proofs.Whole.{mid_kept, kept_mid, is_unsent, settled_by, whole_mid, ponders_before, triple, hit_kept}
 use Rattle.search_epochs.proofs.Turns.{TicketWithin}
 use Rattle.search_epochs.proofs.Rests.{rested, hit_chosen, batch_chosen, begun}
-use Rattle.feature_talk.specs.Features.{told_lines}
+use Rattle.feature_talk.specs.Features.{reply_lines}
 use Rattle.think_text.specs.Kept.{nothing_seen}
 use Rattle.desk_rules.specs.declared.desk.Desk.{Desk}
-use Rattle.desk_rules.specs.Desk.{Here}
-use Rattle.desk_rules.specs.Steps.{comes, what_of, rises, desk_after_deed, answers_pings, scores_after}
+use Rattle.desk_rules.specs.Desk.{Situation}
+use Rattle.desk_rules.specs.Steps.{classify, what_of, begins_epoch, desk_after_effect, answers_pings, scores_after}
 use Rattle.desk_rules.specs.Orders.{waiting, order_list, word_of}
-use Rattle.desk_rules.specs.Texts.{command_lines}
+use Rattle.desk_rules.specs.Texts.{order_lines}
 use Rattle.desk_rules.specs.Fits.{Fits, IsSound, IsLineEvent}
-use Rattle.desk_rules.proofs.Deeds.{comes_fits}
+use Rattle.desk_rules.proofs.Effects.{comes_fits}
 use Rattle.desk_rules.proofs.Hints.{hint_kept, call_hint}
 use Rattle.desk_rules.proofs.Waits.{all_setup, all_held}
 use Rattle.desk_rules.specs.Orders.{AreHeld}
 use Rattle.adapter_core.specs.Ends.{may, ends_after, is_open}
-use Rattle.adapter_core.specs.Trace.{State, Step, IsLawful, AreSettled, state_after, here, deed, turn, mid, owing, closed_after, desk_of, gone_after, replies, still_held, has_ready, last_orders}
-use Rattle.adapter_core.specs.View as view
-use Rattle.adapter_core.specs.View.{View, advance, advance_at, advance_from, finish, choice, desk_with, none_held, orders_of}
-use Rattle.adapter_core.specs.Stands.{view_of, Holds, TicketIsWithin, step_from, step_at, step_by}
-use Rattle.adapter_core.proofs.Policy.{here_kept, counts_kept}
+use Rattle.adapter_core.specs.Trace.{State, Step, IsLawful, AreSettled, state_after, situation, effect, turn, mid, owing, closed_after, desk_of, gone_after, replies, still_held, has_ready, last_orders}
+use Rattle.adapter_core.specs.Parts as parts
+use Rattle.adapter_core.specs.Parts.{Parts, advance, advance_at, advance_from, finish, choice, desk_with, none_held, orders_of}
+use Rattle.adapter_core.specs.Stands.{parts_of, Holds, TicketIsWithin, step_from, step_at, step_by}
+use Rattle.adapter_core.proofs.Policy.{situation_kept, counts_kept}
 use Rattle.adapter_core.proofs.Closing.{closed_stays, closes_later, closed_rises, open_rises}
 use Rattle.adapter_core.proofs.Orders.{words_are, ready_words, no_words, boots_are}
 
@@ -79,7 +79,7 @@ for_owed true c g x = cc
 for_owed false c g x = x
 
 -- the dialogue where no orders are chosen
-rest : (t : Talk) (u : Turn) (h' : Option Move) (ws : List Word) → TicketWithin t.epoch t.engine → (u.rises ≡ false → h' ≡ u.hint)
+rest : (t : Ticketed) (u : Turn) (h' : Option Move) (ws : List Word) → TicketWithin t.epoch t.engine → (u.begins_epoch ≡ false → h' ≡ u.hint)
     → sent_all (turned t u).epoch (turned t u).engine ws ≡ (turned t u).engine
     → after_settled (kept_mid t u) chosen.None ≡ kept (after (turned t u) ws) h'
 rest t u h' ws w same e =
@@ -87,8 +87,8 @@ rest t u h' ws w same e =
     let hints : ponders m ≡ true → cond (ponders t) u.hint None ≡ h' = λ p. (let b = ponders_before t u w p in ap (λ c. cond c u.hint None) b.1 ∙ sym (same b.0)) in
     triple (ap (forget m.epoch) (sym e)) refl (rested m.epoch m.engine (cond (ponders t) u.hint None) h' hints ∙ ap (λ (x : Engine). cond (ponders_at m.epoch x) h' None) (sym e))
 
-open_engine : (s : State) (e : Event) → is_open e ≡ true → may s.ends e ≡ true → (s.ends.opened ≡ false → s.talk.engine ≡ Boot) → (mid s e).engine ≡ Boot
-unfolding comes
+open_engine : (s : State) (e : Event) → is_open e ≡ true → may s.ends e ≡ true → (s.ends.opened ≡ false → s.dialogue.engine ≡ Boot) → (mid s e).engine ≡ Boot
+unfolding classify
 open_engine s events.Open o m b = b (not_true s.ends.opened m)
 open_engine s (events.Iface line) o m b = cc
 open_engine s events.IfaceLong o m b = cc
@@ -99,140 +99,140 @@ open_engine s events.EngineLong o m b = cc
 open_engine s events.EngineEnd o m b = cc
 open_engine s events.EngineLost o m b = cc
 
-module _ (s : State) (told ordered : Text) (e : Event) (holds : Holds s) (sound : IsSound s.desk) (line : IsLineEvent e) where
-  abbrev old : View
-  old = view_of s told ordered
+module _ (s : State) (to_iface to_engine : Text) (e : Event) (holds : Holds s) (sound : IsSound s.desk) (line : IsLineEvent e) where
+  abbrev old : Parts
+  old = parts_of s to_iface to_engine
 
-  abbrev dialogue_mid : dialogue.View
-  dialogue_mid = kept_mid s.talk (turn s e)
+  abbrev dialogue_mid : dialogues.Dialogue
+  dialogue_mid = kept_mid s.dialogue (turn s e)
 
   abbrev owes : Bool
   owes = is_move (owing s e)
 
-  abbrev waits : List Command
-  waits = waiting (here s) s.held (deed s e)
+  abbrev waits : List Order
+  waits = waiting (situation s) s.held (effect s e)
 
-  abbrev choice_here : Orders
-  choice_here = choice (is_open e) (closed_after s e) (here s) waits (deed s e) dialogue_mid
+  abbrev choice_situation : Orders
+  choice_situation = choice (is_open e) (closed_after s e) (situation s) waits (effect s e) dialogue_mid
 
-  ticket : TicketWithin s.talk.epoch s.talk.engine
-  ticket = within s.talk.epoch s.talk.engine holds.ticket
+  ticket : TicketWithin s.dialogue.epoch s.dialogue.engine
+  ticket = within s.dialogue.epoch s.dialogue.engine holds.ticket
 
-  fits : Fits (here s) s.held (deed s e)
-  fits = comes_fits (here s) s.held e line
+  fits : Fits (situation s) s.held (effect s e)
+  fits = comes_fits (situation s) s.held e line
 
   pub held : AreHeld waits
-  held = all_held (here s) s.held (deed s e) sound fits holds.held
+  held = all_held (situation s) s.held (effect s e) sound fits holds.held
 
   setup : AllSetup (map word_of waits)
   setup = all_setup waits held
 
-  unsent_kept : view.is_unsent waits (deed s e) ≡ is_unsent s.talk (turn s e)
+  unsent_kept : parts.is_unsent waits (effect s e) ≡ is_unsent s.dialogue (turn s e)
   unsent_kept =
-      ap (λ b. b || not (none_held waits)) (boots_are s.talk.epoch s.talk.engine (here s) s.held (deed s e) refl fits)
-      ∙ ap (λ b. leaves_boot s.talk.engine (what_of (deed s e)) || not b) (no_words waits)
+      ap (λ b. b || not (none_held waits)) (boots_are s.dialogue.epoch s.dialogue.engine (situation s) s.held (effect s e) refl fits)
+      ∙ ap (λ b. leaves_boot s.dialogue.engine (what_of (effect s e)) || not b) (no_words waits)
 
   -- in an open session the choice is the dialogue's
-  chosen_by : is_open e ≡ false → closed_after s e ≡ false → choice_here ≡ settled_by s.talk (turn s e)
+  chosen_by : is_open e ≡ false → closed_after s e ≡ false → choice_situation ≡ settled_by s.dialogue (turn s e)
   chosen_by o c =
-      not_skipped (is_open e) (closed_after s e) (settle dialogue_mid (turn s e).call (view.is_unsent waits (deed s e)) (played_of (what_of (deed s e))) (is_hurry (what_of (deed s e)))) o c
-      ∙ ap (λ b. settle dialogue_mid (turn s e).call b (played_of (what_of (deed s e))) (is_hurry (what_of (deed s e)))) unsent_kept
+      not_skipped (is_open e) (closed_after s e) (settle dialogue_mid (turn s e).call (parts.is_unsent waits (effect s e)) (played_of (what_of (effect s e))) (is_hurry (what_of (effect s e)))) o c
+      ∙ ap (λ b. settle dialogue_mid (turn s e).call b (played_of (what_of (effect s e))) (is_hurry (what_of (effect s e)))) unsent_kept
 
-  hit_here : rises (here s) (deed s e) ≡ true → is_hit_order choice_here ≡ is_hit s.talk (turn s e)
-  hit_here r =
-      let o : is_open e ≡ false = false_if (is_open e) (λ x. differ (rises (here s) (deed s e)) (open_rises (here s) s.held e x) r) in
-      let c : closed_after s e ≡ false = false_if (closed_after s e) (λ x. differ (rises (here s) (deed s e)) (closed_rises s.ends (here s) s.held e refl x) r) in
+  hit_situation : begins_epoch (situation s) (effect s e) ≡ true → is_hit_order choice_situation ≡ is_hit s.dialogue (turn s e)
+  hit_situation r =
+      let o : is_open e ≡ false = false_if (is_open e) (λ x. differ (begins_epoch (situation s) (effect s e)) (open_rises (situation s) s.held e x) r) in
+      let c : closed_after s e ≡ false = false_if (closed_after s e) (λ x. differ (begins_epoch (situation s) (effect s e)) (closed_rises s.ends (situation s) s.held e refl x) r) in
       let m = mid s e in
       ap is_hit_order (chosen_by o c)
-      ∙ hit_chosen m.epoch m.engine (owing s e) (is_unsent s.talk (turn s e)) (is_pondered (cond (ponders s.talk) s.desk.hint None) (played_of (turn s e).what)) (is_hurry (turn s e).what)
-      ∙ hit_kept s.talk.epoch s.talk.engine s.desk.hint (turn s e).what (is_move (owing s e))
+      ∙ hit_chosen m.epoch m.engine (owing s e) (is_unsent s.dialogue (turn s e)) (is_pondered (cond (ponders s.dialogue) s.desk.hint None) (played_of (turn s e).what)) (is_hurry (turn s e).what)
+      ∙ hit_kept s.dialogue.epoch s.dialogue.engine s.desk.hint (turn s e).what (is_move (owing s e))
 
-  desk_kept : desk_with (here s) (deed s e) e old owes choice_here ≡ desk_of s e
+  desk_kept : desk_with (situation s) (effect s e) e old owes choice_situation ≡ desk_of s e
   desk_kept =
-      ap (λ (c : Bool). let d : Desk = record (desk_after_deed (here s) (deed s e)) {
-        pings = cond (answers_pings (closed_after s e) owes) [] (desk_after_deed (here s) (deed s e)).pings;
-        seen = cond c nothing_seen (desk_after_deed (here s) (deed s e)).seen;
-      } in d) (clears (rises (here s) (deed s e)) (is_hit_order choice_here) (is_hit s.talk (turn s e)) hit_here)
+      ap (λ (c : Bool). let d : Desk = record (desk_after_effect (situation s) (effect s e)) {
+        pings = cond (answers_pings (closed_after s e) owes) [] (desk_after_effect (situation s) (effect s e)).pings;
+        seen = cond c nothing_seen (desk_after_effect (situation s) (effect s e)).seen;
+      } in d) (clears (begins_epoch (situation s) (effect s e)) (is_hit_order choice_situation) (is_hit s.dialogue (turn s e)) hit_situation)
 
   -- THE CORE AFTER THE EVENT
 
   -- but for the desk
-  advanced : advance old e ≡ finish (here s) (deed s e) e old waits dialogue_mid owes choice_here (desk_with (here s) (deed s e) e old owes choice_here)
+  advanced : advance old e ≡ finish (situation s) (effect s e) e old waits dialogue_mid owes choice_situation (desk_with (situation s) (effect s e) e old owes choice_situation)
   unfolding advance
   advanced =
-      ap (λ (h : Here). advance_at h (comes h old.held e) old e) (here_kept s told ordered holds.proper)
-      ∙ ap (λ (m : dialogue.View). advance_from (here s) (deed s e) e old waits m) (mid_kept s.talk s.desk.hint (turn s e) ticket holds.last)
+      ap (λ (h : Situation). advance_at h (classify h old.held e) old e) (situation_kept s to_iface to_engine holds.proper)
+      ∙ ap (λ (m : dialogues.Dialogue). advance_from (situation s) (effect s e) e old waits m) (mid_kept s.dialogue s.desk.hint (turn s e) ticket holds.last)
 
-  pub advanced_to : advance old e ≡ finish (here s) (deed s e) e old waits dialogue_mid owes choice_here (desk_of s e)
-  advanced_to = advanced ∙ ap (λ (d : Desk). finish (here s) (deed s e) e old waits dialogue_mid owes choice_here d) desk_kept
+  pub advanced_to : advance old e ≡ finish (situation s) (effect s e) e old waits dialogue_mid owes choice_situation (desk_of s e)
+  advanced_to = advanced ∙ ap (λ (d : Desk). finish (situation s) (effect s e) e old waits dialogue_mid owes choice_situation d) desk_kept
 
   -- THE STEP
 
-  abbrev orders_here : List Command
-  orders_here = orders_of (is_open e) s.ends.closed (closed_after s e) (gone_after s e) waits (desk_of s e) choice_here
+  abbrev orders_situation : List Order
+  orders_situation = orders_of (is_open e) s.ends.closed (closed_after s e) (gone_after s e) waits (desk_of s e) choice_situation
 
   -- the step that the event gives
-  abbrev pub step_here : Step
-  step_here = record { event = e; replies = replies s e; orders = orders_here }
+  abbrev pub step_situation : Step
+  step_situation = record { event = e; replies = replies s e; orders = orders_situation }
 
   -- is the one that the core gives
-  pub step_is : step_by old e ≡ step_here
+  pub step_is : step_by old e ≡ step_situation
   unfolding step_by
   step_is =
-      ap (λ (h : Here). step_at h (comes h old.held e) old e) (here_kept s told ordered holds.proper)
-      ∙ ap (λ (m : dialogue.View). step_from (here s) (deed s e) old e waits m) (mid_kept s.talk s.desk.hint (turn s e) ticket holds.last)
+      ap (λ (h : Situation). step_at h (classify h old.held e) old e) (situation_kept s to_iface to_engine holds.proper)
+      ∙ ap (λ (m : dialogues.Dialogue). step_from (situation s) (effect s e) old e waits m) (mid_kept s.dialogue s.desk.hint (turn s e) ticket holds.last)
       ∙ ap (λ (d : Desk). let x : Step = record {
         event = e;
         replies = replies s e;
-        orders = orders_of (is_open e) s.ends.closed (closed_after s e) (gone_after s e) waits d choice_here;
+        orders = orders_of (is_open e) s.ends.closed (closed_after s e) (gone_after s e) waits d choice_situation;
       } in x) desk_kept
 
-  same_hint : rises (here s) (deed s e) ≡ false → (desk_of s e).hint ≡ s.desk.hint
-  same_hint r = hint_kept (here s) (deed s e) r
+  same_hint : begins_epoch (situation s) (effect s e) ≡ false → (desk_of s e).hint ≡ s.desk.hint
+  same_hint r = hint_kept (situation s) (effect s e) r
 
   owed_hint : (g : Move) → owing s e ≡ calls.Ponder g → (desk_of s e).hint ≡ Some g
-  owed_hint g x = call_hint (closed_after s e) (gone_after s e) (desk_after_deed (here s) (deed s e)) g (for_owed (spent (mid s e)) (turn s e).call g x)
+  owed_hint g x = call_hint (closed_after s e) (gone_after s e) (desk_after_effect (situation s) (effect s e)) g (for_owed (spent (mid s e)) (turn s e).call g x)
 
   abbrev IsWhole : Orders → Type 0
   IsWhole o =
       let m = mid s e in
       let u = turn s e in
-      Settled m.engine m.epoch (owing s e) u.waiting (is_due s.talk u) (is_hit s.talk u) (is_hurry u.what) (words u.waiting o)
+      Settled m.engine m.epoch (owing s e) u.waiting (is_due s.dialogue u) (is_hit s.dialogue u) (is_hurry u.what) (words u.waiting o)
       × (after_settled dialogue_mid o ≡ kept (after m (words u.waiting o)) (desk_of s e).hint)
 
-  whole : is_open e ≡ false → closed_after s e ≡ false → IsWhole choice_here
-  whole o c = subst IsWhole (sym (chosen_by o c)) (whole_mid s.talk (turn s e) (desk_of s e).hint ticket setup same_hint owed_hint)
+  whole : is_open e ≡ false → closed_after s e ≡ false → IsWhole choice_situation
+  whole o c = subst IsWhole (sym (chosen_by o c)) (whole_mid s.dialogue (turn s e) (desk_of s e).hint ticket setup same_hint owed_hint)
 
   -- the orders of a step that neither opens nor closes
-  orders_settled : is_open e ≡ false → closed_after s e ≡ false → orders_here ≡ order_list waits (desk_of s e) choice_here
-  orders_settled o c = skipped (is_open e) (closed_after s e) choice_here o c where
+  orders_settled : is_open e ≡ false → closed_after s e ≡ false → orders_situation ≡ order_list waits (desk_of s e) choice_situation
+  orders_settled o c = skipped (is_open e) (closed_after s e) choice_situation o c where
     skipped : (o c : Bool) (x : Orders) → o ≡ false → c ≡ false → orders_of o s.ends.closed c (gone_after s e) waits (desk_of s e) x ≡ order_list waits (desk_of s e) x
     skipped true c x a b = cc
     skipped false true x a b = cc
     skipped false false x a b = refl
 
-  words_settled : is_open e ≡ false → closed_after s e ≡ false → map word_of orders_here ≡ words (map word_of waits) choice_here
-  words_settled o c = ap (map word_of) (orders_settled o c) ∙ words_are waits (desk_of s e) choice_here
+  words_settled : is_open e ≡ false → closed_after s e ≡ false → map word_of orders_situation ≡ words (map word_of waits) choice_situation
+  words_settled o c = ap (map word_of) (orders_settled o c) ∙ words_are waits (desk_of s e) choice_situation
 
-  batched : is_open e ≡ false → closed_after s e ≡ false → is_due s.talk (turn s e) ≡ true → choice_here ≡ chosen.Batch
+  batched : is_open e ≡ false → closed_after s e ≡ false → is_due s.dialogue (turn s e) ≡ true → choice_situation ≡ chosen.Batch
   batched o c d =
       let m = mid s e in
-      chosen_by o c ∙ batch_chosen m.epoch m.engine (owing s e) (is_unsent s.talk (turn s e)) (is_pondered (cond (ponders s.talk) s.desk.hint None) (played_of (turn s e).what)) (is_hurry (turn s e).what) d
+      chosen_by o c ∙ batch_chosen m.epoch m.engine (owing s e) (is_unsent s.dialogue (turn s e)) (is_pondered (cond (ponders s.dialogue) s.desk.hint None) (played_of (turn s e).what)) (is_hurry (turn s e).what) d
 
-  begins : is_open e ≡ false → closed_after s e ≡ false → has_go (map word_of orders_here) ≡ true → choice_here ≡ chosen.Begin (owing s e)
+  begins : is_open e ≡ false → closed_after s e ≡ false → has_go (map word_of orders_situation) ≡ true → choice_situation ≡ chosen.Begin (owing s e)
   begins o c g =
       let m = mid s e in
-      let g' : has_go (words (map word_of waits) (settled_by s.talk (turn s e))) ≡ true = ap has_go (sym (words_settled o c ∙ ap (words (map word_of waits)) (chosen_by o c))) ∙ g in
-      chosen_by o c ∙ begun m.epoch m.engine (owing s e) (is_unsent s.talk (turn s e)) (is_pondered (cond (ponders s.talk) s.desk.hint None) (played_of (turn s e).what)) (is_hurry (turn s e).what) (map word_of waits) setup g'
+      let g' : has_go (words (map word_of waits) (settled_by s.dialogue (turn s e))) ≡ true = ap has_go (sym (words_settled o c ∙ ap (words (map word_of waits)) (chosen_by o c))) ∙ g in
+      chosen_by o c ∙ begun m.epoch m.engine (owing s e) (is_unsent s.dialogue (turn s e)) (is_pondered (cond (ponders s.dialogue) s.desk.hint None) (played_of (turn s e).what)) (is_hurry (turn s e).what) (map word_of waits) setup g'
 
-  settled : is_open e ≡ false → closed_after s e ≡ false → AreSettled s e orders_here
+  settled : is_open e ≡ false → closed_after s e ≡ false → AreSettled s e orders_situation
   settled o c = record {
-    words = subst (λ (ws : List Word). Settled (mid s e).engine (mid s e).epoch (owing s e) (turn s e).waiting (is_due s.talk (turn s e)) (is_hit s.talk (turn s e)) (is_hurry (turn s e).what) ws) (sym (words_settled o c)) ((whole o c).0);
+    words = subst (λ (ws : List Word). Settled (mid s e).engine (mid s e).epoch (owing s e) (turn s e).waiting (is_due s.dialogue (turn s e)) (is_hit s.dialogue (turn s e)) (is_hurry (turn s e).what) ws) (sym (words_settled o c)) ((whole o c).0);
     batch = λ d. orders_settled o c ∙ ap (order_list waits (desk_of s e)) (batched o c d);
     search = λ g. orders_settled o c ∙ ap (order_list waits (desk_of s e)) (begins o c g);
   }
 
-  abbrev orders_by : Bool → Bool → Bool → Orders → List Command
+  abbrev orders_by : Bool → Bool → Bool → Orders → List Order
   orders_by o before after x = orders_of o before after (gone_after s e) waits (desk_of s e) x
 
   opens_with : (o before after : Bool) (x : Orders) → o ≡ true → orders_by o before after x ≡ orders.Uci ∷ []
@@ -251,13 +251,13 @@ module _ (s : State) (told ordered : Text) (e : Event) (holds : Holds s) (sound 
   closed_with false true false x p q r = cc
   closed_with false true true x p q r = refl
 
-  pub lawful : may s.ends e ≡ true → IsLawful s step_here
+  pub lawful : may s.ends e ≡ true → IsLawful s step_situation
   lawful m = record {
     may_come = m;
     replies = refl;
-    opens = opens_with (is_open e) s.ends.closed (closed_after s e) choice_here;
-    closes = λ a b. closes_with (is_open e) s.ends.closed (closed_after s e) choice_here (closes_later s.ends e a b) a b;
-    closed = λ o c. closed_with (is_open e) s.ends.closed (closed_after s e) choice_here o c (closed_stays s.ends e c);
+    opens = opens_with (is_open e) s.ends.closed (closed_after s e) choice_situation;
+    closes = λ a b. closes_with (is_open e) s.ends.closed (closed_after s e) choice_situation (closes_later s.ends e a b) a b;
+    closed = λ o c. closed_with (is_open e) s.ends.closed (closed_after s e) choice_situation o c (closed_stays s.ends e c);
     settled = settled;
   }
 
@@ -268,54 +268,54 @@ module _ (s : State) (told ordered : Text) (e : Event) (holds : Holds s) (sound 
   GoesOn ws o = after_settled dialogue_mid o ≡ kept (after (mid s e) ws) (desk_of s e).hint
 
   abbrev choice_by : Bool → Bool → Orders
-  choice_by o after = choice o after (here s) waits (deed s e) dialogue_mid
+  choice_by o after = choice o after (situation s) waits (effect s e) dialogue_mid
 
   opens_on : (opens closed : Bool) → opens ≡ true → may s.ends e ≡ true → is_open e ≡ true → GoesOn (map word_of (orders_by opens s.ends.closed closed (choice_by opens closed))) (choice_by opens closed)
   opens_on true closed x m o =
       let b = open_engine s e o m holds.begins in
-      rest s.talk (turn s e) (desk_of s e).hint (Uci ∷ []) ticket same_hint (ap (λ (g : Engine). sent (mid s e).epoch g Uci) b ∙ sym b)
+      rest s.dialogue (turn s e) (desk_of s e).hint (Uci ∷ []) ticket same_hint (ap (λ (g : Engine). sent (mid s e).epoch g Uci) b ∙ sym b)
   opens_on false closed x m o = cc
 
   ends_on : (before gone : Bool) → GoesOn (map word_of (cond (before || gone) [] (orders.Quit ∷ []))) chosen.None
   ends_on before gone =
       elim (before || gone) as (λ b. GoesOn (map word_of (cond b [] (orders.Quit ∷ []))) chosen.None) [
-        | true ↦ rest s.talk (turn s e) (desk_of s e).hint [] ticket same_hint refl
-        | false ↦ rest s.talk (turn s e) (desk_of s e).hint (Quit ∷ []) ticket same_hint (quit_keeps (mid s e).epoch (mid s e).engine)
+        | true ↦ rest s.dialogue (turn s e) (desk_of s e).hint [] ticket same_hint refl
+        | false ↦ rest s.dialogue (turn s e) (desk_of s e).hint (Quit ∷ []) ticket same_hint (quit_keeps (mid s e).epoch (mid s e).engine)
       ]
 
-  goes_on : (opens closed : Bool) → is_open e ≡ opens → closed_after s e ≡ closed → may s.ends e ≡ true → GoesOn (map word_of orders_here) choice_here
+  goes_on : (opens closed : Bool) → is_open e ≡ opens → closed_after s e ≡ closed → may s.ends e ≡ true → GoesOn (map word_of orders_situation) choice_situation
   goes_on true closed o c m = rw o (opens_on true (closed_after s e) refl m o)
   goes_on false true o c m = rw (o, c) (ends_on s.ends.closed (gone_after s e))
-  goes_on false false o c m = subst (λ (ws : List Word). GoesOn ws choice_here) (sym (words_settled o c)) ((whole o c).1)
+  goes_on false false o c m = subst (λ (ws : List Word). GoesOn ws choice_situation) (sym (words_settled o c)) ((whole o c).1)
 
-  ready_case : (opens closed : Bool) → is_open e ≡ opens → closed_after s e ≡ closed → is_batch_order choice_here ≡ has_ready (map word_of orders_here)
+  ready_case : (opens closed : Bool) → is_open e ≡ opens → closed_after s e ≡ closed → is_batch_order choice_situation ≡ has_ready (map word_of orders_situation)
   ready_case true closed o c = rw o refl
   ready_case false true o c = rw (o, c) (elim (s.ends.closed || gone_after s e) as (λ b. false ≡ has_ready (map word_of (cond b [] (orders.Quit ∷ [])))) [ true ↦ refl | false ↦ refl ])
-  ready_case false false o c = sym (ready_words (map word_of waits) choice_here setup) ∙ ap has_ready (sym (words_settled o c))
+  ready_case false false o c = sym (ready_words (map word_of waits) choice_situation setup) ∙ ap has_ready (sym (words_settled o c))
 
-  abbrev part : Scores → List Command → dialogue.View → View
-  part scores held talk = record {
+  abbrev part : Scores → List Order → dialogues.Dialogue → Parts
+  part scores held dialogue = record {
     settings = s.settings;
     ends = ends_after s.ends e;
     desk = desk_of s e;
     scores = scores;
     held = held;
-    talk = talk;
-    told = with (empty told.room) (told_lines (replies s e));
-    ordered = with (empty ordered.room) (command_lines orders_here);
+    dialogue = dialogue;
+    to_iface = with (empty to_iface.room) (reply_lines (replies s e));
+    to_engine = with (empty to_engine.room) (order_lines orders_situation);
   }
 
-  abbrev StandsAfter : View → Type 0
-  StandsAfter v = v ≡ view_of (state_after s step_here) v.told v.ordered
+  abbrev StandsAfter : Parts → Type 0
+  StandsAfter v = v ≡ parts_of (state_after s step_situation) v.to_iface v.to_engine
 
-  held_kept : cond (is_batch_order choice_here) [] waits ≡ still_held waits (map word_of orders_here)
+  held_kept : cond (is_batch_order choice_situation) [] waits ≡ still_held waits (map word_of orders_situation)
   held_kept = ap (λ b. cond b [] waits) (ready_case (is_open e) (closed_after s e) refl refl)
 
-  parts_stand : may s.ends e ≡ true → StandsAfter (finish (here s) (deed s e) e old waits dialogue_mid owes choice_here (desk_of s e))
+  parts_stand : may s.ends e ≡ true → StandsAfter (finish (situation s) (effect s e) e old waits dialogue_mid owes choice_situation (desk_of s e))
   parts_stand m =
-      ap (λ (c : Scores). part c (cond (is_batch_order choice_here) [] waits) (after_settled dialogue_mid choice_here)) (counts_kept s.settings (here s) (deed s e) s.scores)
-      ∙ ap (λ (os : List Command). part (counted s.settings (scores_after (here s) (deed s e) s.scores)) os (after_settled dialogue_mid choice_here)) held_kept
-      ∙ ap (λ (t : dialogue.View). part (counted s.settings (scores_after (here s) (deed s e) s.scores)) (still_held waits (map word_of orders_here)) t)
+      ap (λ (c : Scores). part c (cond (is_batch_order choice_situation) [] waits) (after_settled dialogue_mid choice_situation)) (counts_kept s.settings (situation s) (effect s e) s.scores)
+      ∙ ap (λ (os : List Order). part (counted s.settings (scores_after (situation s) (effect s e) s.scores)) os (after_settled dialogue_mid choice_situation)) held_kept
+      ∙ ap (λ (t : dialogues.Dialogue). part (counted s.settings (scores_after (situation s) (effect s e) s.scores)) (still_held waits (map word_of orders_situation)) t)
       (goes_on (is_open e) (closed_after s e) refl refl m)
 
   -- the core stands for the longer trace

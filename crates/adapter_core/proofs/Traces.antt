@@ -4,32 +4,32 @@ use Rattle.line_io.specs.Event.{Event}
 use Rattle.chess_board.specs.declared.board.Move.{Move}
 use Rattle.peer_words.specs.declared.kinds.GoKind.{GoKind}
 use Rattle.peer_words.specs.declared.kinds.GoKind.TheVariants as kinds
-use Rattle.cecp_lines.specs.Messages.{Message}
+use Rattle.cecp_lines.specs.Messages.{IfaceMsg}
 use Rattle.cecp_lines.specs.Messages as says
-use Rattle.uci_lines.specs.Orders.{Command}
+use Rattle.uci_lines.specs.Orders.{Order}
 use Rattle.policy_rules.specs.declared.settings.Settings.{Settings}
 use Rattle.search_epochs.specs.declared.words.Call.{Call}
 use Rattle.search_epochs.specs.declared.words.Call.TheVariants as calls
 use Rattle.search_epochs.specs.declared.words.Said.{Said}
 use Rattle.search_epochs.specs.declared.words.Said.TheVariants as said
 use Rattle.search_epochs.specs.declared.words.EngineState.TheVariants as states
-use Rattle.search_epochs.specs.Talk.{Engine, Boot, Getting, Idle, Search, Gone, Word, Uci, Talk, Turn, TicketWithin, LastWithin, AllSetup, IsLiveOnlyAt, Serves, heard, said_of, sent, sent_all, closed_ticket, is_some_equal, spent, owed, after, is_move, is_nothing, is_idle, is_empty, is_hurry, is_due, is_hit, ponders}
-use Rattle.search_epochs.specs.View as dialogue
-use Rattle.search_epochs.specs.View.{forget, kept, mid_view, words, choose, settled_state, settled_by, is_unsent, is_pondered, played_of}
+use Rattle.search_epochs.specs.Tickets.{Engine, Boot, Getting, Idle, Search, Gone, Word, Uci, Ticketed, Turn, TicketWithin, LastWithin, AllSetup, IsLiveOnlyAt, Serves, heard, said_of, sent, sent_all, closed_ticket, is_some_equal, spent, owed, after, is_move, is_nothing, is_idle, is_empty, is_hurry, is_due, is_hit, ponders}
+use Rattle.search_epochs.specs.Dialogue as dialogues
+use Rattle.search_epochs.specs.Dialogue.{forget, kept, mid_dialogue, words, choose, settled_state, settled_by, is_unsent, is_pondered, played_of}
 use Rattle.search_epochs.proofs.Turns.{risen_spent, ordered}
 use Rattle.search_epochs.proofs.Whole.{last_within, mid_kept, settled_mid}
 use Rattle.search_epochs.proofs.Within.{all_within, turned_within, turned_last}
 use Rattle.search_epochs.proofs.Same.{same}
 use Rattle.desk_rules.specs.declared.mode.Mode.TheVariants as modes
-use Rattle.desk_rules.specs.Desk.{Here, current, call_of, call_before, is_gone}
-use Rattle.desk_rules.specs.Steps.{Deed, Accepts, Boots, Readies, Shows, Forfeits, Answers, Dies, what_of, what_accepted, rises, call_after, is_death, desk_after_deed, answers_pings}
+use Rattle.desk_rules.specs.Desk.{Situation, current, call_of, call_before, is_gone}
+use Rattle.desk_rules.specs.Steps.{Effect, Accepts, Boots, Readies, Shows, Forfeits, Answers, Dies, what_of, what_accepted, begins_epoch, call_after, is_death, desk_after_effect, answers_pings}
 use Rattle.desk_rules.specs.Orders.{waiting, word_of, AreHeld}
 use Rattle.desk_rules.specs.Fits.{Fits, IsSound, IsServed, IsOther}
-use Rattle.desk_rules.proofs.Deeds.{comes_fits}
+use Rattle.desk_rules.proofs.Effects.{comes_fits}
 use Rattle.desk_rules.proofs.Sound.{step_sound}
 use Rattle.desk_rules.proofs.Waits.{all_setup, all_held}
 use Rattle.adapter_core.specs.Ends.{is_open}
-use Rattle.adapter_core.specs.Trace.{State, Step, IsLawful, Lawful, opening, state, state_after, here, deed, turn, mid, owing, closed_after, desk_of, has_ready}
+use Rattle.adapter_core.specs.Trace.{State, Step, IsLawful, Lawful, opening, state, state_after, situation, effect, turn, mid, owing, closed_after, desk_of, has_ready}
 use Rattle.adapter_core.proofs.Keeps.{first_short}
 use Rattle.adapter_core.proofs.Closing.{line_event, opened_later, open_before}
 use Rattle.adapter_core.proofs.Serving.{still, chosen_serves, call_settled}
@@ -39,18 +39,18 @@ pub record Lasts (s : State) : Type 0 where
   pub sound : IsSound s.desk
   pub held : AreHeld s.held
   -- before Open nothing was written
-  pub begins : s.ends.opened ≡ false → s.talk.engine ≡ Boot
-  pub ticket : TicketWithin s.talk.epoch s.talk.engine
-  pub last : LastWithin s.talk.epoch s.talk.last
+  pub begins : s.ends.opened ≡ false → s.dialogue.engine ≡ Boot
+  pub ticket : TicketWithin s.dialogue.epoch s.dialogue.engine
+  pub last : LastWithin s.dialogue.epoch s.dialogue.last
   -- a current search serves the call, and a call for a Move is not spent
-  pub served : IsServed (here s)
-  pub unspent : spent s.talk ≡ true → is_move (call_before (here s)) ≡ false
+  pub served : IsServed (situation s)
+  pub unspent : spent s.dialogue ≡ true → is_move (call_before (situation s)) ≡ false
   -- pings are held only where a Move is called for
-  pub pings : s.ends.closed ≡ false → is_move (call_before (here s)) ≡ false → s.desk.pings ≡ []
+  pub pings : s.ends.closed ≡ false → is_move (call_before (situation s)) ≡ false → s.desk.pings ≡ []
   -- the engine is idle only where nothing waits and nothing is owed
-  pub rests : s.ends.closed ≡ false → is_idle s.talk.engine ≡ true → (s.held ≡ []) × (is_nothing (owed s.talk (call_before (here s))) ≡ true)
+  pub rests : s.ends.closed ≡ false → is_idle s.dialogue.engine ≡ true → (s.held ≡ []) × (is_nothing (owed s.dialogue (call_before (situation s))) ≡ true)
   -- an open search that is not stopped is current
-  pub live : s.ends.closed ≡ false → IsLiveOnlyAt s.talk.epoch s.talk.engine
+  pub live : s.ends.closed ≡ false → IsLiveOnlyAt s.dialogue.epoch s.dialogue.engine
 
 -- BEFORE THE FIRST STEP
 
@@ -120,20 +120,20 @@ gone_sent_all : (n epoch : ℕ) (e : Engine) (ws : List Word) → is_gone (forge
 gone_sent_all n epoch e [] = refl
 gone_sent_all n epoch e (w ∷ ws) = gone_sent_all n epoch (sent epoch e w) ws ∙ gone_sent n epoch e w
 
-line_ends : (m : Message) → ends_it (said_of (what_accepted m)) ≡ false
+line_ends : (m : IfaceMsg) → ends_it (said_of (what_accepted m)) ≡ false
 line_ends (says.UserMove m) = refl
 line_ends says.MoveNow = refl
 line_ends m = refl
 
-deed_ends : (d : Deed) → ends_it (said_of (what_of d)) ≡ is_death d
-deed_ends (Accepts m) = line_ends m
-deed_ends Boots = refl
-deed_ends Readies = refl
-deed_ends (Shows best hint) = refl
-deed_ends Forfeits = refl
-deed_ends Answers = refl
-deed_ends Dies = refl
-deed_ends d = refl
+effect_ends : (d : Effect) → ends_it (said_of (what_of d)) ≡ is_death d
+effect_ends (Accepts m) = line_ends m
+effect_ends Boots = refl
+effect_ends Readies = refl
+effect_ends (Shows best hint) = refl
+effect_ends Forfeits = refl
+effect_ends Answers = refl
+effect_ends Dies = refl
+effect_ends d = refl
 
 -- WHAT IS SPENT
 
@@ -152,7 +152,7 @@ other_ticket (Search k t s) (Some said.ReadyOk) last n = refl
 other_ticket (Search k t s) (Some said.Ended) last n = refl
 other_ticket (Search k t s) (Some said.Best) last n = cc
 
-line_no_best : (m : Message) → is_best (said_of (what_accepted m)) ≡ false
+line_no_best : (m : IfaceMsg) → is_best (said_of (what_accepted m)) ≡ false
 line_no_best (says.UserMove m) = refl
 line_no_best says.MoveNow = refl
 line_no_best m = refl
@@ -187,15 +187,15 @@ uci_sent epoch Idle = inl refl
 uci_sent epoch (Search k t s) = inl refl
 uci_sent epoch Gone = inr refl
 
-nothing_waits : (os : List Command) → is_empty (map word_of os) ≡ true → os ≡ []
+nothing_waits : (os : List Order) → is_empty (map word_of os) ≡ true → os ≡ []
 nothing_waits [] e = refl
 nothing_waits (o ∷ os) e = cc
 
-left_none : (b : Bool) (os : List Command) → os ≡ [] → cond b [] os ≡ []
+left_none : (b : Bool) (os : List Order) → os ≡ [] → cond b [] os ≡ []
 left_none true os e = refl
 left_none false os e = e
 
-left_held : (b : Bool) (os : List Command) → AreHeld os → AreHeld (cond b [] os)
+left_held : (b : Bool) (os : List Order) → AreHeld os → AreHeld (cond b [] os)
 left_held true os a = tt
 left_held false os a = a
 
@@ -208,8 +208,8 @@ no_pings true owes ps c o = cc
 no_pings false true ps c o = cc
 no_pings false false ps c o = refl
 
-forfeited : (h : Here) → (desk_after_deed h Forfeits).mode ≡ modes.Over
-unfolding desk_after_deed
+forfeited : (h : Situation) → (desk_after_effect h Forfeits).mode ≡ modes.Over
+unfolding desk_after_effect
 forfeited h = refl
 
 differ : (b : Bool) → b ≡ false → b ≡ true → ⊥
@@ -220,16 +220,16 @@ module _ (s : State) (step : Step) (lasts : Lasts s) (l : IsLawful s step) where
   abbrev e : Event
   e = step.event
 
-  abbrev h : Here
-  h = here s
+  abbrev h : Situation
+  h = situation s
 
-  abbrev d : Deed
-  d = deed s e
+  abbrev d : Effect
+  d = effect s e
 
   abbrev u : Turn
   u = turn s e
 
-  abbrev m : Talk
+  abbrev m : Ticketed
   m = mid s e
 
   abbrev ws : List Word
@@ -245,42 +245,42 @@ module _ (s : State) (step : Step) (lasts : Lasts s) (l : IsLawful s step) where
   setup = all_setup (waiting h s.held d) waits_held
 
   -- the engine is Gone after the step where it was Gone before, or died
-  pub gone_is : is_gone (here (state_after s step)).engine ≡ (is_gone h.engine || is_death d)
+  pub gone_is : is_gone (situation (state_after s step)).engine ≡ (is_gone h.engine || is_death d)
   gone_is =
       gone_sent_all m.epoch m.epoch m.engine ws
-      ∙ gone_heard m.epoch s.talk.epoch s.talk.engine (said_of u.what)
-      ∙ ap (λ (b : Bool). is_gone h.engine || b) (deed_ends d)
+      ∙ gone_heard m.epoch s.dialogue.epoch s.dialogue.engine (said_of u.what)
+      ∙ ap (λ (b : Bool). is_gone h.engine || b) (effect_ends d)
 
   -- the call after the step is the one after the event
-  pub call_is_after : call_before (here (state_after s step)) ≡ u.call
+  pub call_is_after : call_before (situation (state_after s step)) ≡ u.call
   call_is_after =
       ap (λ (b : Bool). call_of (closed_after s e) b (desk_of s e)) gone_is
-      ∙ sym (call_settled (closed_after s e) (is_gone h.engine || is_death d) (is_move (owing s e)) (is_hit s.talk u) (closed_after s e) h d)
+      ∙ sym (call_settled (closed_after s e) (is_gone h.engine || is_death d) (is_move (owing s e)) (is_hit s.dialogue u) (closed_after s e) h d)
 
   -- a call for a Move is not spent after the event
-  quiet_here : (x : Deed) → closed_after s e ≡ false → rises h x ≡ false → is_move (call_before h) ≡ false → is_move (call_after (closed_after s e) h x) ≡ false
-  quiet_here x c r q = subst (λ (b : Bool). is_move (call_after b h x) ≡ false) (open_before s.ends e c ∙ sym c) (still_quiet h x r q)
+  quiet_situation : (x : Effect) → closed_after s e ≡ false → begins_epoch h x ≡ false → is_move (call_before h) ≡ false → is_move (call_after (closed_after s e) h x) ≡ false
+  quiet_situation x c r q = subst (λ (b : Bool). is_move (call_after b h x) ≡ false) (open_before s.ends e c ∙ sym c) (still_quiet h x r q)
 
-  spent_before : (x : Deed) → is_best (said_of (what_of x)) ≡ false → is_some_equal (closed_ticket s.talk.engine (said_of (what_of x)) s.talk.last) s.talk.epoch ≡ true → is_move (call_before h) ≡ false
-  spent_before x n y = lasts.unspent (ap (λ (o : Option ℕ). is_some_equal o s.talk.epoch) (sym (other_ticket s.talk.engine (said_of (what_of x)) s.talk.last n)) ∙ y)
+  spent_before : (x : Effect) → is_best (said_of (what_of x)) ≡ false → is_some_equal (closed_ticket s.dialogue.engine (said_of (what_of x)) s.dialogue.last) s.dialogue.epoch ≡ true → is_move (call_before h) ≡ false
+  spent_before x n y = lasts.unspent (ap (λ (o : Option ℕ). is_some_equal o s.dialogue.epoch) (sym (other_ticket s.dialogue.engine (said_of (what_of x)) s.dialogue.last n)) ∙ y)
 
-  by_deed : (x : Deed) → Fits h s.held x → closed_after s e ≡ false → rises h x ≡ false
-      → is_some_equal (closed_ticket s.talk.engine (said_of (what_of x)) s.talk.last) s.talk.epoch ≡ true → is_move (call_after (closed_after s e) h x) ≡ false
-  by_deed (Shows best hint) f c r n = cc
-  by_deed Forfeits f c r n = over_calls (closed_after s e) (is_gone h.engine || false) (desk_after_deed h Forfeits) (forfeited h)
-  by_deed Answers f c r n = quiet_here Answers c r (other_quiet s.talk.epoch s.talk.engine s.talk.last (call_before h) f.1 (lasts.served f.0) n)
-  by_deed (Accepts message) f c r n = quiet_here (Accepts message) c r (spent_before (Accepts message) (line_no_best message) n)
-  by_deed x f c r n = quiet_here x c r (spent_before x refl n)
+  by_effect : (x : Effect) → Fits h s.held x → closed_after s e ≡ false → begins_epoch h x ≡ false
+      → is_some_equal (closed_ticket s.dialogue.engine (said_of (what_of x)) s.dialogue.last) s.dialogue.epoch ≡ true → is_move (call_after (closed_after s e) h x) ≡ false
+  by_effect (Shows best hint) f c r n = cc
+  by_effect Forfeits f c r n = over_calls (closed_after s e) (is_gone h.engine || false) (desk_after_effect h Forfeits) (forfeited h)
+  by_effect Answers f c r n = quiet_situation Answers c r (other_quiet s.dialogue.epoch s.dialogue.engine s.dialogue.last (call_before h) f.1 (lasts.served f.0) n)
+  by_effect (Accepts message) f c r n = quiet_situation (Accepts message) c r (spent_before (Accepts message) (line_no_best message) n)
+  by_effect x f c r n = quiet_situation x c r (spent_before x refl n)
 
-  by_rise : (r : Bool) → rises h d ≡ r → closed_after s e ≡ false → is_some_equal (closed_ticket s.talk.engine (said_of u.what) s.talk.last) (cond r (s.talk.epoch + 1) s.talk.epoch) ≡ true → is_move u.call ≡ false
-  by_rise true x c n = absurd (differ _ (risen_spent s.talk.epoch (closed_ticket s.talk.engine (said_of u.what) s.talk.last) (last_within s.talk.epoch s.talk.engine (said_of u.what) s.talk.last lasts.ticket lasts.last)) n)
-  by_rise false x c n = by_deed d fits c x n
+  by_rise : (r : Bool) → begins_epoch h d ≡ r → closed_after s e ≡ false → is_some_equal (closed_ticket s.dialogue.engine (said_of u.what) s.dialogue.last) (cond r (s.dialogue.epoch + 1) s.dialogue.epoch) ≡ true → is_move u.call ≡ false
+  by_rise true x c n = absurd (differ _ (risen_spent s.dialogue.epoch (closed_ticket s.dialogue.engine (said_of u.what) s.dialogue.last) (last_within s.dialogue.epoch s.dialogue.engine (said_of u.what) s.dialogue.last lasts.ticket lasts.last)) n)
+  by_rise false x c n = by_effect d fits c x n
 
   pub spent_quiet : spent m ≡ true → is_move u.call ≡ false
   spent_quiet n = by_close (closed_after s e) refl where
     by_close : (c : Bool) → closed_after s e ≡ c → is_move u.call ≡ false
-    by_close true x = closed_calls (closed_after s e) (is_gone h.engine || is_death d) (desk_after_deed h d) x
-    by_close false x = by_rise (rises h d) refl x n
+    by_close true x = closed_calls (closed_after s e) (is_gone h.engine || is_death d) (desk_after_effect h d) x
+    by_close false x = by_rise (begins_epoch h d) refl x n
 
   -- so what is owed after the event is a Move exactly where one is called for
   pub owed_is : is_move (owing s e) ≡ is_move u.call
@@ -294,21 +294,21 @@ module _ (s : State) (step : Step) (lasts : Lasts s) (l : IsLawful s step) where
   still_mid : closed_after s e ≡ false → (k : GoKind) → current (forget m.epoch m.engine) ≡ Some k → Serves k u.call
   still_mid c k x =
       let b : s.ends.closed ≡ false = open_before s.ends e c in
-      let v = kept s.talk s.desk.hint in
-      let x' : current (mid_view v u.what u.rises).state ≡ Some k = ap (λ (w : dialogue.View). current w.state) (mid_kept s.talk s.desk.hint u lasts.ticket lasts.last) ∙ x in
+      let v = kept s.dialogue s.desk.hint in
+      let x' : current (mid_dialogue v u.what u.begins_epoch).state ≡ Some k = ap (λ (w : dialogues.Dialogue). current w.state) (mid_kept s.dialogue s.desk.hint u lasts.ticket lasts.last) ∙ x in
       subst (λ (z : Bool). Serves k (call_after z h d)) (b ∙ sym c) (still h s.held d v refl fits (lasts.served b) k x')
 
-  words_are : is_open e ≡ false → closed_after s e ≡ false → ws ≡ words u.waiting (settled_by s.talk u)
-  words_are o c = same m.engine m.epoch (owing s e) u.waiting (is_due s.talk u) (is_hit s.talk u) (is_hurry u.what) ws (words u.waiting (settled_by s.talk u)) (l.settled o c).words (settled_mid s.talk u setup)
+  words_are : is_open e ≡ false → closed_after s e ≡ false → ws ≡ words u.waiting (settled_by s.dialogue u)
+  words_are o c = same m.engine m.epoch (owing s e) u.waiting (is_due s.dialogue u) (is_hit s.dialogue u) (is_hurry u.what) ws (words u.waiting (settled_by s.dialogue u)) (l.settled o c).words (settled_mid s.dialogue u setup)
 
   abbrev pondered : Option Move
-  pondered = cond (ponders s.talk) s.desk.hint None
+  pondered = cond (ponders s.dialogue) s.desk.hint None
 
   served_by : is_open e ≡ false → closed_after s e ≡ false → (k : GoKind) → current (forget m.epoch (sent_all m.epoch m.engine ws)) ≡ Some k → Serves k u.call
   served_by o c k x =
-      let goes = ordered m.epoch m.engine (owing s e) u.waiting (is_unsent s.talk u) (is_pondered pondered (played_of u.what)) (is_hurry u.what) setup in
+      let goes = ordered m.epoch m.engine (owing s e) u.waiting (is_unsent s.dialogue u) (is_pondered pondered (played_of u.what)) (is_hurry u.what) setup in
       let x' = ap current goes ∙ ap (λ (w : List Word). current (forget m.epoch (sent_all m.epoch m.engine w))) (sym (words_are o c)) ∙ x in
-      chosen_serves (forget m.epoch m.engine) (spent m) u.call (is_unsent s.talk u) (is_pondered pondered (played_of u.what)) (is_hurry u.what) (still_mid c) k x'
+      chosen_serves (forget m.epoch m.engine) (spent m) u.call (is_unsent s.dialogue u) (is_pondered pondered (played_of u.what)) (is_hurry u.what) (still_mid c) k x'
 
   opened_with : is_open e ≡ true → ws ≡ Uci ∷ []
   opened_with o = ap (map word_of) (l.opens o)
@@ -326,17 +326,17 @@ module _ (s : State) (step : Step) (lasts : Lasts s) (l : IsLawful s step) where
     by_open true x = f x
     by_open false x = g x
 
-  served_after : IsServed (here (state_after s step))
+  served_after : IsServed (situation (state_after s step))
   served_after c k x =
       subst (Serves k) (sym call_is_after)
       (by_stage (Serves k u.call) (λ o. absurd (after_uci (λ y. current (forget m.epoch y) ≡ Some k → ⊥) o (λ y. cc) (λ y. cc) x)) (λ o. served_by o c k x))
 
-  pings_after : closed_after s e ≡ false → is_move (call_before (here (state_after s step))) ≡ false → (desk_of s e).pings ≡ []
-  pings_after c n = no_pings (closed_after s e) (is_move (owing s e)) (desk_after_deed h d).pings c (owed_is ∙ ap is_move (sym call_is_after) ∙ n)
+  pings_after : closed_after s e ≡ false → is_move (call_before (situation (state_after s step))) ≡ false → (desk_of s e).pings ≡ []
+  pings_after c n = no_pings (closed_after s e) (is_move (owing s e)) (desk_after_effect h d).pings c (owed_is ∙ ap is_move (sym call_is_after) ∙ n)
 
-  rests_after : closed_after s e ≡ false → is_idle (sent_all m.epoch m.engine ws) ≡ true → ((state_after s step).held ≡ []) × (is_nothing (owed (after m ws) (call_before (here (state_after s step)))) ≡ true)
+  rests_after : closed_after s e ≡ false → is_idle (sent_all m.epoch m.engine ws) ≡ true → ((state_after s step).held ≡ []) × (is_nothing (owed (after m ws) (call_before (situation (state_after s step)))) ≡ true)
   rests_after c i =
-      by_stage (((state_after s step).held ≡ []) × (is_nothing (owed (after m ws) (call_before (here (state_after s step)))) ≡ true))
+      by_stage (((state_after s step).held ≡ []) × (is_nothing (owed (after m ws) (call_before (situation (state_after s step)))) ≡ true))
       (λ o. absurd (after_uci (λ y. is_idle y ≡ true → ⊥) o (λ y. cc) (λ y. cc) i))
       (λ o. let r = (l.settled o c).words.idle i in (left_none (has_ready ws) (waiting h s.held d) (nothing_waits (waiting h s.held d) r.0), ap (λ (x : Call). is_nothing (owed m x)) call_is_after ∙ r.1))
 
@@ -345,11 +345,11 @@ module _ (s : State) (step : Step) (lasts : Lasts s) (l : IsLawful s step) where
 
   pub lasts_on : Lasts (state_after s step)
   lasts_on = record {
-    sound = step_sound (closed_after s e) (is_move (owing s e)) (is_hit s.talk u) h s.held d lasts.sound fits;
+    sound = step_sound (closed_after s e) (is_move (owing s e)) (is_hit s.dialogue u) h s.held d lasts.sound fits;
     held = left_held (has_ready ws) (waiting h s.held d) waits_held;
     begins = λ no. absurd (differ _ no (opened_later s.ends e l.may_come));
-    ticket = all_within m.epoch m.engine ws (turned_within s.talk u lasts.ticket);
-    last = turned_last s.talk u lasts.ticket lasts.last;
+    ticket = all_within m.epoch m.engine ws (turned_within s.dialogue u lasts.ticket);
+    last = turned_last s.dialogue u lasts.ticket lasts.last;
     served = served_after;
     unspent = λ n. ap is_move call_is_after ∙ spent_quiet n;
     pings = pings_after;

@@ -1,11 +1,11 @@
 -- Two lawful traces with the same events are equal.
 use Rattle.std.proofs.Common.{◌≡◌, List, [], ◌∷◌, map, Bool, true, false, refl, sym, ap, subst, ◌∙◌}
 use Rattle.line_io.specs.Event.{Event}
-use Rattle.cecp_lines.specs.Replies.{Told}
-use Rattle.uci_lines.specs.Orders.{Command}
+use Rattle.cecp_lines.specs.Replies.{Reply}
+use Rattle.uci_lines.specs.Orders.{Order}
 use Rattle.uci_lines.specs.Orders as orders
 use Rattle.policy_rules.specs.declared.settings.Settings.{Settings}
-use Rattle.search_epochs.specs.Talk.{Word, Stop, PonderHit, Quit, Paired, has_batch, has_go, is_due, is_hit, is_hurry}
+use Rattle.search_epochs.specs.Tickets.{Word, Stop, PonderHit, Quit, Paired, has_batch, has_go, is_due, is_hit, is_hurry}
 use Rattle.search_epochs.proofs.Same.{same}
 use Rattle.desk_rules.specs.Orders.{word_of}
 use Rattle.adapter_core.specs.Ends.{is_open}
@@ -13,14 +13,14 @@ use Rattle.adapter_core.specs.Trace.{State, Step, IsLawful, AreSettled, state, t
 use Rattle.adapter_core.specs.Stands.{IsOneDialogue}
 
 -- the order of a word, where the word tells it
-abbrev order_of : Word → Command
+abbrev order_of : Word → Order
 order_of Stop = orders.Stop
 order_of PonderHit = orders.PonderHit
 order_of Quit = orders.Quit
 order_of w = orders.Uci
 
 -- orders without a batch and without a search are told by their words
-plain : (os : List Command) → has_batch (map word_of os) ≡ false → has_go (map word_of os) ≡ false → Paired (map word_of os) → map order_of (map word_of os) ≡ os
+plain : (os : List Order) → has_batch (map word_of os) ≡ false → has_go (map word_of os) ≡ false → Paired (map word_of os) → map order_of (map word_of os) ≡ os
 plain [] b g p = refl
 plain (orders.Uci ∷ os) b g p = ap (λ xs. orders.Uci ∷ xs) (plain os b g p)
 plain (orders.Stop ∷ os) b g p = ap (λ xs. orders.Stop ∷ xs) (plain os b g p)
@@ -41,11 +41,11 @@ plain (orders.Position fen moves ∷ orders.Stop ∷ os) b g p = absurd p
 plain (orders.Position fen moves ∷ orders.PonderHit ∷ os) b g p = absurd p
 plain (orders.Position fen moves ∷ orders.Quit ∷ os) b g p = absurd p
 
-module _ (s : State) (e : Event) (os os' : List Command) (a : AreSettled s e os) (b : AreSettled s e os') where
+module _ (s : State) (e : Event) (os os' : List Order) (a : AreSettled s e os) (b : AreSettled s e os') where
   same_words : map word_of os ≡ map word_of os'
-  same_words = same (mid s e).engine (mid s e).epoch (owing s e) (turn s e).waiting (is_due s.talk (turn s e)) (is_hit s.talk (turn s e)) (is_hurry (turn s e).what) (map word_of os) (map word_of os') a.words b.words
+  same_words = same (mid s e).engine (mid s e).epoch (owing s e) (turn s e).waiting (is_due s.dialogue (turn s e)) (is_hit s.dialogue (turn s e)) (is_hurry (turn s e).what) (map word_of os) (map word_of os') a.words b.words
 
-  by_go : (due go : Bool) → is_due s.talk (turn s e) ≡ due → has_go (map word_of os) ≡ go → os ≡ os'
+  by_go : (due go : Bool) → is_due s.dialogue (turn s e) ≡ due → has_go (map word_of os) ≡ go → os ≡ os'
   by_go true go d g = a.batch d ∙ sym (b.batch d)
   by_go false true d g = a.search g ∙ sym (b.search (ap has_go (sym same_words) ∙ g))
   by_go false false d g =
@@ -54,17 +54,17 @@ module _ (s : State) (e : Event) (os os' : List Command) (a : AreSettled s e os)
       ∙ plain os' (b.words.no_batch d) (ap has_go (sym same_words) ∙ g) b.words.paired
 
   pub same_orders : os ≡ os'
-  same_orders = by_go (is_due s.talk (turn s e)) (has_go (map word_of os)) refl refl
+  same_orders = by_go (is_due s.dialogue (turn s e)) (has_go (map word_of os)) refl refl
 
-same_step : (s : State) (e : Event) (rs rs' : List Told) (os os' : List Command) (opens before after : Bool) → is_open e ≡ opens → s.ends.closed ≡ before → closed_after s e ≡ after
+same_step : (s : State) (e : Event) (rs rs' : List Reply) (os os' : List Order) (opens before after : Bool) → is_open e ≡ opens → s.ends.closed ≡ before → closed_after s e ≡ after
     → IsLawful s (record { event = e; replies = rs; orders = os }) → IsLawful s (record { event = e; replies = rs'; orders = os' }) → os ≡ os'
 same_step s e rs rs' os os' true before after o c n a b = a.opens o ∙ sym (b.opens o)
 same_step s e rs rs' os os' false true after o c n a b = a.closed o c ∙ sym (b.closed o c)
 same_step s e rs rs' os os' false false true o c n a b = a.closes c n ∙ sym (b.closes c n)
 same_step s e rs rs' os os' false false false o c n a b = same_orders s e os os' (a.settled o n) (b.settled o n)
 
-step_is : (e : Event) (rs rs' : List Told) (os os' : List Command) → rs ≡ rs' → os ≡ os' → (let x : Step = record { event = e; replies = rs; orders = os } in x) ≡ record { event = e; replies = rs'; orders = os' }
-step_is e rs rs' os os' p q = ap (λ (x : List Told). let y : Step = record { event = e; replies = x; orders = os } in y) p ∙ ap (λ (x : List Command). let y : Step = record { event = e; replies = rs'; orders = x } in y) q
+step_is : (e : Event) (rs rs' : List Reply) (os os' : List Order) → rs ≡ rs' → os ≡ os' → (let x : Step = record { event = e; replies = rs; orders = os } in x) ≡ record { event = e; replies = rs'; orders = os' }
+step_is e rs rs' os os' p q = ap (λ (x : List Reply). let y : Step = record { event = e; replies = x; orders = os } in y) p ∙ ap (λ (x : List Order). let y : Step = record { event = e; replies = rs'; orders = x } in y) q
 
 one_step : (s : State) (x y : Step) → x.event ≡ y.event → IsLawful s x → IsLawful s y → x ≡ y
 one_step s x y p a b =

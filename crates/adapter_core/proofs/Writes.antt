@@ -6,7 +6,7 @@ use Rattle.chess_board.specs.declared.board.Move.{Move}
 use Rattle.chess_board.specs.Board.{same_side}
 use Rattle.peer_words.specs.declared.kinds.GoKind.{GoKind}
 use Rattle.peer_words.specs.declared.kinds.GoKind.TheVariants as kinds
-use Rattle.game_record.specs.Course.{Course, ply_of, now_of, IsPlayable}
+use Rattle.game_record.specs.Game.{Game, ply_of, now_of, IsPlayable}
 use Rattle.game_record.specs.Ending.{has_legal}
 use Rattle.option_map.specs.Shown.{check_named}
 use Rattle.search_epochs.specs.declared.words.Call.{Call}
@@ -14,8 +14,8 @@ use Rattle.search_epochs.specs.declared.words.Call.TheVariants as calls
 use Rattle.search_epochs.specs.declared.words.EngineState.{EngineState}
 use Rattle.search_epochs.specs.declared.words.EngineState.TheVariants as states
 use Rattle.search_epochs.specs.declared.words.Orders.TheVariants as chosen
-use Rattle.search_epochs.specs.View as dialogue
-use Rattle.search_epochs.specs.View.{begins, choose, choose_search, settle, is_pondered}
+use Rattle.search_epochs.specs.Dialogue as dialogues
+use Rattle.search_epochs.specs.Dialogue.{begins, choose, choose_search, settle, is_pondered}
 use Rattle.desk_rules.specs.declared.mode.Mode.{Mode}
 use Rattle.desk_rules.specs.declared.mode.Mode.TheVariants as modes
 use Rattle.desk_rules.specs.declared.desk.Desk.{Desk}
@@ -24,19 +24,19 @@ use Rattle.desk_rules.specs.Fits.{IsHintPlayable, CanSearch, CanWrite}
 
 -- THE CALL
 
-unless : (g : Course) (b : Bool) (c : Call) → CanSearch g c → CanSearch g (cond b calls.Nothing c)
+unless : (g : Game) (b : Bool) (c : Call) → CanSearch g c → CanSearch g (cond b calls.Nothing c)
 unless g true c s = tt
 unless g false c s = s
 
-where_true : (g : Course) (b : Bool) (c : Call) → CanSearch g c → CanSearch g (cond b c calls.Nothing)
+where_true : (g : Game) (b : Bool) (c : Call) → CanSearch g c → CanSearch g (cond b c calls.Nothing)
 where_true g true c s = s
 where_true g false c s = tt
 
-or_else : (g : Course) (b : Bool) (c : Call) → CanSearch g c → CanSearch g (cond b calls.Move c)
+or_else : (g : Game) (b : Bool) (c : Call) → CanSearch g c → CanSearch g (cond b calls.Move c)
 or_else g true c s = tt
 or_else g false c s = s
 
-hint_search : (g : Course) (hint : Option Move) → IfSome hint (λ m. IsPlayable (now_of g) (ply_of m)) → CanSearch g (call_for_hint g hint)
+hint_search : (g : Game) (hint : Option Move) → IfSome hint (λ m. IsPlayable (now_of g) (ply_of m)) → CanSearch g (call_for_hint g hint)
 hint_search g None p = tt
 hint_search g (Some h) p = unless g (has_ended (played g h)) (calls.Ponder h) p
 
@@ -57,7 +57,7 @@ call_search closed gone d p = unless d.game (closed || gone || is_full d.game) (
 
 -- THE ORDERS
 
-search_writes : (g : Course) (k : GoKind) (stale wants matches hurry : Bool) → CanWrite g (choose_search k stale wants matches hurry)
+search_writes : (g : Game) (k : GoKind) (stale wants matches hurry : Bool) → CanWrite g (choose_search k stale wants matches hurry)
 search_writes g kinds.Move true wants matches hurry = tt
 search_writes g kinds.Move false wants matches true = tt
 search_writes g kinds.Move false wants matches false = tt
@@ -72,13 +72,13 @@ search_writes g kinds.Ponder false false true false = tt
 search_writes g kinds.Ponder false wants false true = tt
 search_writes g kinds.Ponder false wants false false = tt
 
-begun_writes : (g : Course) (c : Call) → CanSearch g c → CanWrite g (begins c)
+begun_writes : (g : Game) (c : Call) → CanSearch g c → CanWrite g (begins c)
 begun_writes g calls.Nothing s = tt
 begun_writes g calls.Move s = s
 begun_writes g (calls.Ponder h) s = s
 begun_writes g calls.Analyse s = s
 
-chosen_writes : (g : Course) (e : EngineState) (c : Call) (unsent matches hurry : Bool) → CanSearch g c → CanWrite g (choose e c unsent matches hurry)
+chosen_writes : (g : Game) (e : EngineState) (c : Call) (unsent matches hurry : Bool) → CanSearch g c → CanWrite g (choose e c unsent matches hurry)
 chosen_writes g states.Boot c unsent matches hurry s = tt
 chosen_writes g states.Getting c unsent matches hurry s = tt
 chosen_writes g states.Gone c unsent matches hurry s = tt
@@ -88,7 +88,7 @@ chosen_writes g (states.Search k stale true) c unsent matches hurry s = tt
 chosen_writes g (states.Search k stale false) c unsent matches hurry s = search_writes g k stale _ matches hurry
 
 -- what is chosen for a call can be written
-pub settled_writes : (g : Course) (v : dialogue.View) (c : Call) (rests unsent : Bool) (played : Option Move) (hurry : Bool) → CanSearch g c → CanWrite g (cond rests chosen.None (settle v c unsent played hurry))
+pub settled_writes : (g : Game) (v : dialogues.Dialogue) (c : Call) (rests unsent : Bool) (played : Option Move) (hurry : Bool) → CanSearch g c → CanWrite g (cond rests chosen.None (settle v c unsent played hurry))
 settled_writes g v c true unsent played hurry s = tt
 settled_writes g v c false unsent played hurry s =
     chosen_writes g v.state (cond v.spent calls.Nothing c) unsent (is_pondered v.pondered played) hurry (unless g v.spent c s)

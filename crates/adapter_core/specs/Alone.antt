@@ -2,29 +2,29 @@
 use Rattle.std.specs.Prelude.{ℕ, ◌≡◌, List, [], ◌∷◌, filter, map, Bool, true, false}
 use Rattle.line_io.specs.Event.{Event}
 use Rattle.line_io.specs.Event as events
-use Rattle.cecp_lines.specs.Messages.{Message}
+use Rattle.cecp_lines.specs.Messages.{IfaceMsg}
 use Rattle.cecp_lines.specs.Messages as says
-use Rattle.cecp_lines.specs.Replies.{Told}
+use Rattle.cecp_lines.specs.Replies.{Reply}
 use Rattle.cecp_lines.specs.declared.reply.Reason.TheVariants as reasons
-use Rattle.game_record.specs.Course.{Course}
+use Rattle.game_record.specs.Game.{Game}
 use Rattle.clock_map.specs.declared.clocks.Clocks.{Clocks}
 use Rattle.policy_rules.specs.declared.settings.Settings.{Settings}
 use Rattle.policy_rules.specs.Scores.{does_accept}
 use Rattle.search_epochs.specs.declared.words.EngineState.TheVariants as states
-use Rattle.search_epochs.specs.Talk.{is_move}
+use Rattle.search_epochs.specs.Tickets.{is_move}
 use Rattle.desk_rules.specs.declared.mode.Mode.{Mode}
-use Rattle.desk_rules.specs.declared.deed.Refusal.TheVariants as refusals
+use Rattle.desk_rules.specs.declared.effect.Refusal.TheVariants as refusals
 use Rattle.desk_rules.specs.declared.desk.Desk.{Desk}
-use Rattle.desk_rules.specs.Desk.{Here, opening_desk, is_gone}
-use Rattle.desk_rules.specs.Steps.{Deed, Refuses, Accepts, Shows, Forfeits, comes, call_after, desk_after}
+use Rattle.desk_rules.specs.Desk.{Situation, opening_desk, is_gone}
+use Rattle.desk_rules.specs.Steps.{Effect, Refuses, Accepts, Shows, Forfeits, classify, call_after, desk_after}
 use Rattle.desk_rules.specs.Replies.{replies_of}
 use Rattle.adapter_core.specs.declared.ends.Ends.{Ends}
 use Rattle.adapter_core.specs.Ends.{ends_after, at_start}
-use Rattle.adapter_core.specs.Trace.{Step, Lawful, state, here, deed, event_in}
+use Rattle.adapter_core.specs.Trace.{Step, Lawful, state, situation, effect, event_in}
 
 -- the parts of the desk that the interface commands
 pub record Commanded : Type 0 where
-  pub game : Course
+  pub game : Game
   pub mode : Mode
   pub post : Bool
   pub pondering : Bool
@@ -37,7 +37,7 @@ commanded d = record { game = d.game; mode = d.mode; post = d.post; pondering = 
 -- THE INTERFACE ALONE
 
 -- what stands where the engine never says anything: no move is shown, so the policy has no scores
-abbrev pub lone : Settings → Bool → Desk → Here
+abbrev pub lone : Settings → Bool → Desk → Situation
 lone o closed d = record { closed = closed; engine = states.Idle; spent = false; desk = d; resigns = false; accepts = does_accept o []; show_ponder = false }
 
 -- which sides have ended, and the desk
@@ -45,20 +45,20 @@ pub record Alone : Type 0 where
   pub ends : Ends
   pub desk : Desk
 
-abbrev pub lone_here : Settings → Alone → Here
-lone_here o a = lone o a.ends.closed a.desk
+abbrev pub lone_situation : Settings → Alone → Situation
+lone_situation o a = lone o a.ends.closed a.desk
 
-abbrev pub lone_deed : Settings → Alone → Event → Deed
-lone_deed o a e = comes (lone_here o a) [] e
+abbrev pub lone_effect : Settings → Alone → Event → Effect
+lone_effect o a e = classify (lone_situation o a) [] e
 
 -- a Move is owed wherever one is called for, since no call is spent
 abbrev pub lone_owes : Settings → Alone → Event → Bool
-lone_owes o a e = is_move (call_after (ends_after a.ends e).closed (lone_here o a) (lone_deed o a e))
+lone_owes o a e = is_move (call_after (ends_after a.ends e).closed (lone_situation o a) (lone_effect o a e))
 
 abbrev pub lone_after : Settings → Alone → Event → Alone
 lone_after o a e = record {
   ends = ends_after a.ends e;
-  desk = desk_after (ends_after a.ends e).closed (lone_owes o a e) false (lone_here o a) (lone_deed o a e);
+  desk = desk_after (ends_after a.ends e).closed (lone_owes o a e) false (lone_situation o a) (lone_effect o a e);
 }
 
 -- after these events, the newest first
@@ -66,8 +66,8 @@ abbrev pub alone : Settings → List Event → Alone
 alone o [] = record { ends = at_start; desk = opening_desk }
 alone o (e ∷ es) = lone_after o (alone o es) e
 
-abbrev pub lone_replies : Settings → Alone → Event → List Told
-lone_replies o a e = replies_of (ends_after a.ends e).closed (lone_owes o a e) (lone_here o a) (lone_deed o a e)
+abbrev pub lone_replies : Settings → Alone → Event → List Reply
+lone_replies o a e = replies_of (ends_after a.ends e).closed (lone_owes o a e) (lone_situation o a) (lone_effect o a e)
 
 -- TRACES IN WHICH THE ENGINE HAS NO SAY
 
@@ -82,13 +82,13 @@ abbrev pub iface_events : List Step → List Event
 iface_events trace = filter is_of_iface (map event_in trace)
 
 -- an answer to a current search for a Move
-abbrev pub is_answer : Deed → Bool
+abbrev pub is_answer : Effect → Bool
 is_answer (Shows best hint) = true
 is_answer Forfeits = true
 is_answer d = false
 
 -- a line that asks for more than may be held
-abbrev pub is_overfull : Deed → Bool
+abbrev pub is_overfull : Effect → Bool
 is_overfull (Refuses (refusals.Because reasons.TooManySettings) line) = true
 is_overfull d = false
 
@@ -96,15 +96,15 @@ is_overfull d = false
 abbrev pub IsUnanswered : Settings → List Step → Type 0
 IsUnanswered o [] = Unit {0}
 IsUnanswered o (step ∷ trace) =
-    IsUnanswered o trace × (is_answer (deed (state o trace) step.event) ≡ false) × (is_overfull (deed (state o trace) step.event) ≡ false)
+    IsUnanswered o trace × (is_answer (effect (state o trace) step.event) ≡ false) × (is_overfull (effect (state o trace) step.event) ≡ false)
 
 -- and the engine is there
 pub record IsWithoutSay (o : Settings) (trace : List Step) : Type 0 where
   pub unanswered : IsUnanswered o trace
-  pub there : is_gone (here (state o trace)).engine ≡ false
+  pub there : is_gone (situation (state o trace)).engine ≡ false
 
 -- the replies to these may tell of the engine's options and of its search
-abbrev pub tells_of_engine : Deed → Bool
+abbrev pub tells_of_engine : Effect → Bool
 tells_of_engine (Accepts (says.Protover n)) = true
 tells_of_engine (Accepts (says.SetOption name value)) = true
 tells_of_engine (Accepts (says.Memory n)) = true
@@ -123,7 +123,7 @@ DeskIsAlone o = (trace : List Step) → Lawful o trace → IsWithoutSay o trace 
 abbrev pub RepliesAreAlone : Settings → Type 0
 RepliesAreAlone o =
     (step : Step) (trace : List Step) → Lawful o (step ∷ trace) → IsWithoutSay o (step ∷ trace) → is_of_iface step.event ≡ true
-    → tells_of_engine (deed (state o trace) step.event) ≡ false → step.replies ≡ lone_replies o (alone o (iface_events trace)) step.event
+    → tells_of_engine (effect (state o trace) step.event) ≡ false → step.replies ≡ lone_replies o (alone o (iface_events trace)) step.event
 
 -- So two traces with the same events of the interface have the same parts, whenever the engine spoke in them.
 abbrev pub IsApartFromEngine : Settings → Type 0

@@ -4,4 +4,4 @@ pub mod Lending
 pub mod Shown
 pub mod Stands
 pub mod Trace
-pub mod View
+pub mod Parts

@@ -5,15 +5,15 @@ use Rattle.chess_board.specs.Place.{legal}
 use Rattle.peer_words.specs.declared.kinds.GoKind.TheVariants as kinds
 use Rattle.line_io.specs.Event.{Event}
 use Rattle.line_io.specs.Event as events
-use Rattle.cecp_lines.specs.Replies.{Told, Move}
-use Rattle.uci_lines.specs.Says.{Best}
+use Rattle.cecp_lines.specs.Replies.{Reply, Move}
+use Rattle.uci_lines.specs.Messages.{Best}
 use Rattle.uci_lines.specs.Engine.{engine_message}
-use Rattle.game_record.specs.Course.{now_of}
+use Rattle.game_record.specs.Game.{now_of}
 use Rattle.policy_rules.specs.declared.settings.Settings.{Settings}
-use Rattle.search_epochs.specs.Talk.{Search}
-use Rattle.desk_rules.specs.declared.deed.Refusal.{Refusal}
+use Rattle.search_epochs.specs.Tickets.{Search}
+use Rattle.desk_rules.specs.declared.effect.Refusal.{Refusal}
 use Rattle.desk_rules.specs.Steps.{Refuses}
-use Rattle.adapter_core.specs.Trace.{State, Step, Lawful, state, deed}
+use Rattle.adapter_core.specs.Trace.{State, Step, Lawful, state, effect}
 
 -- An event answers with a legal move: in a session that is not closed the engine's line is a `bestmove`, the open search is for a move
 -- and was begun or renewed for the present epoch, and the move is legal in the game.
@@ -24,7 +24,7 @@ pub record Answers (s : State) (e : Event) (m : AnyMove) : Type 0 where
   pub event : e ≡ events.Engine line
   pub best : engine_message line ≡ Best (Some m) hint
   pub is_open : s.ends.closed ≡ false
-  pub current : s.talk.engine ≡ Search kinds.Move s.talk.epoch stopped
+  pub current : s.dialogue.engine ≡ Search kinds.Move s.dialogue.epoch stopped
   pub is_legal : legal (now_of s.desk.game) m ≡ true
 
 -- `move m` is told exactly in the step whose event answers with m.
@@ -32,7 +32,7 @@ abbrev pub MovesAreShownInTime : Settings → Type 0
 MovesAreShownInTime o = (step : Step) (t : List Step) → Lawful o (step ∷ t) → (m : AnyMove) → Contains step.replies (Move m) ↔ Answers (state o t) step.event m
 
 -- the moves that are told in these lines
-abbrev pub moves_told : List Told → List AnyMove
+abbrev pub moves_told : List Reply → List AnyMove
 moves_told [] = []
 moves_told (Move m ∷ rest) = m ∷ moves_told rest
 moves_told (line ∷ rest) = moves_told rest
@@ -44,5 +44,5 @@ MovesAreShownOnce o = (step : Step) (t : List Step) → Lawful o (step ∷ t) �
 -- A refused line changes nothing, and the engine gets nothing.
 abbrev pub RefusedLinesChangeNothing : Settings → Type 0
 RefusedLinesChangeNothing o =
-    (step : Step) (t : List Step) → Lawful o (step ∷ t) → (r : Refusal) (line : List ℕ) → deed (state o t) step.event ≡ Refuses r line
+    (step : Step) (t : List Step) → Lawful o (step ∷ t) → (r : Refusal) (line : List ℕ) → effect (state o t) step.event ≡ Refuses r line
     → (state o (step ∷ t) ≡ state o t) × (step.orders ≡ [])

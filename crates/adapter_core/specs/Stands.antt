@@ -3,36 +3,36 @@ use Rattle.std.specs.Prelude.{◌≡◌, ℕ, ◌≤◌, List, [], ◌∷◌, �
 use Rattle.std.specs.List.{flat_map}
 use Rattle.line_io.specs.Event.{Event}
 use Rattle.line_io.specs.Out.{Text}
-use Rattle.uci_lines.specs.Orders.{Command}
+use Rattle.uci_lines.specs.Orders.{Order}
 use Rattle.policy_rules.specs.declared.settings.Settings.{Settings}
 use Rattle.policy_rules.specs.Policy.{IsProper}
 use Rattle.policy_rules.specs.Scores.{counted}
 use Rattle.search_epochs.specs.declared.words.EngineState.TheVariants as states
-use Rattle.search_epochs.specs.Talk.{Engine, Boot, Search, is_move}
-use Rattle.search_epochs.specs.View as dialogue
-use Rattle.search_epochs.specs.View.{kept, mid_view, owed_view}
-use Rattle.desk_rules.specs.Desk.{Here, is_gone}
-use Rattle.desk_rules.specs.Steps.{Deed, comes, what_of, rises, call_after, is_death}
+use Rattle.search_epochs.specs.Tickets.{Engine, Boot, Search, is_move}
+use Rattle.search_epochs.specs.Dialogue as dialogues
+use Rattle.search_epochs.specs.Dialogue.{kept, mid_dialogue, owed_by_dialogue}
+use Rattle.desk_rules.specs.Desk.{Situation, is_gone}
+use Rattle.desk_rules.specs.Steps.{Effect, classify, what_of, begins_epoch, call_after, is_death}
 use Rattle.desk_rules.specs.Orders.{waiting, AreHeld}
 use Rattle.desk_rules.specs.Replies.{replies_of}
 use Rattle.desk_rules.specs.Fits.{IsSound, IsFirst, IsServed}
 use Rattle.adapter_core.specs.declared.session.TheConstants.{ROOM}
 use Rattle.adapter_core.specs.Ends.{ends_after, is_open}
-use Rattle.adapter_core.specs.View as view
-use Rattle.adapter_core.specs.View.{View, choice, desk_with, orders_of}
+use Rattle.adapter_core.specs.Parts as parts
+use Rattle.adapter_core.specs.Parts.{Parts, choice, desk_with, orders_of}
 use Rattle.adapter_core.specs.Trace.{State, Step, Lawful, state, event_in, iface_text, engine_text}
 
 -- what the core keeps of a state, where these are its buffers
-abbrev pub view_of : State → Text → Text → View
-view_of s told ordered = record {
+abbrev pub parts_of : State → Text → Text → Parts
+parts_of s to_iface to_engine = record {
   settings = s.settings;
   ends = s.ends;
   desk = s.desk;
   scores = counted s.settings s.scores;
   held = s.held;
-  talk = kept s.talk s.desk.hint;
-  told = told;
-  ordered = ordered;
+  dialogue = kept s.dialogue s.desk.hint;
+  to_iface = to_iface;
+  to_engine = to_engine;
 }
 
 abbrev pub TicketIsWithin : ℕ → Engine → Type 0
@@ -43,30 +43,30 @@ TicketIsWithin epoch e = Unit {0}
 pub record Holds (s : State) : Type 0 where
   pub proper : IsProper s.settings
   -- before Open nothing was written
-  pub begins : s.ends.opened ≡ false → s.talk.engine ≡ Boot
-  pub ticket : TicketIsWithin s.talk.epoch s.talk.engine
-  pub last : IfSome s.talk.last (λ t. t ≤ s.talk.epoch)
+  pub begins : s.ends.opened ≡ false → s.dialogue.engine ≡ Boot
+  pub ticket : TicketIsWithin s.dialogue.epoch s.dialogue.engine
+  pub last : IfSome s.dialogue.last (λ t. t ≤ s.dialogue.epoch)
   pub held : AreHeld s.held
 
 -- The core stands for the trace.
-abbrev pub Stands : Settings → View → List Step → Type 0
-Stands o core trace = (core ≡ view_of (state o trace) core.told core.ordered) × Holds (state o trace)
+abbrev pub Stands : Settings → Parts → List Step → Type 0
+Stands o core trace = (core ≡ parts_of (state o trace) core.to_iface core.to_engine) × Holds (state o trace)
 
 -- What holds of the core itself, whatever it stands for.
-pub record Keeps (v : View) : Type 0 where
+pub record Keeps (v : Parts) : Type 0 where
   pub settings : IsProper v.settings
   pub sound : IsSound v.desk
   -- a current search serves the call
-  pub serves : IsServed (view.here v)
+  pub serves : IsServed (parts.situation v)
   pub pings : length v.desk.pings ≤ 64
-  pub first : v.talk.state ≡ states.Boot → IsFirst v.held × (v.desk.booted ≡ false)
-  pub told : v.told.room ≡ ROOM
-  pub ordered : v.ordered.room ≡ ROOM
+  pub first : v.dialogue.state ≡ states.Boot → IsFirst v.held × (v.desk.booted ≡ false)
+  pub to_iface : v.to_iface.room ≡ ROOM
+  pub to_engine : v.to_engine.room ≡ ROOM
 
 -- the step that an event gives, by what stood, what came of the event, what is held then and what the dialogue is then
-abbrev pub step_from : Here → Deed → View → Event → List Command → dialogue.View → Step
+abbrev pub step_from : Situation → Effect → Parts → Event → List Order → dialogues.Dialogue → Step
 step_from h d v e held m =
-    let owes = is_move (owed_view m (call_after (ends_after v.ends e).closed h d)) in
+    let owes = is_move (owed_by_dialogue m (call_after (ends_after v.ends e).closed h d)) in
     let o = choice (is_open e) (ends_after v.ends e).closed h held d m in
     record {
       event = e;
@@ -74,11 +74,11 @@ step_from h d v e held m =
       orders = orders_of (is_open e) v.ends.closed (ends_after v.ends e).closed (is_gone h.engine || is_death d) held (desk_with h d e v owes o) o;
     }
 
-abbrev pub step_at : Here → Deed → View → Event → Step
-step_at h d v e = step_from h d v e (waiting h v.held d) (mid_view v.talk (what_of d) (rises h d))
+abbrev pub step_at : Situation → Effect → Parts → Event → Step
+step_at h d v e = step_from h d v e (waiting h v.held d) (mid_dialogue v.dialogue (what_of d) (begins_epoch h d))
 
-unfoldable pub step_by : View → Event → Step
-step_by v e = step_at (view.here v) (comes (view.here v) v.held e) v e
+unfoldable pub step_by : Parts → Event → Step
+step_by v e = step_at (parts.situation v) (classify (parts.situation v) v.held e) v e
 
 -- two lawful traces with the same settings and the same events are equal
 abbrev pub IsOneDialogue : Settings → Type 0
@@ -93,7 +93,7 @@ abbrev pub IsSilentToEngine : Settings → Type 0
 IsSilentToEngine o = (t : List Step) (step : Step) → Lawful o (step ∷ t) → ((state o (step ∷ t)).ends.engine || (state o (step ∷ t)).ends.engine_lost) ≡ true → step.orders ≡ []
 
 -- There is a step of this event with these lines. It extends each lawful trace that the core stood for, and then the core stands for that.
-pub record Extends (old new : View) (e : Event) (iface engine : List ℕ) : Type 0 where
+pub record Extends (old new : Parts) (e : Event) (iface engine : List ℕ) : Type 0 where
   pub step : Step
   pub event : step.event ≡ e
   pub iface_is : iface ≡ iface_text step

@@ -1,40 +1,40 @@
 -- Traces: what was heard and written, step by step, the newest step first.
 use Rattle.std.specs.Prelude.{◌≡◌, ℕ, List, [], ◌∷◌, ◌++◌, map, Bool, true, false, ◌||◌, if◌then◌else◌, None}
 use Rattle.line_io.specs.Event.{Event}
-use Rattle.cecp_lines.specs.Replies.{Told}
-use Rattle.uci_lines.specs.Orders.{Command}
+use Rattle.cecp_lines.specs.Replies.{Reply}
+use Rattle.uci_lines.specs.Orders.{Order}
 use Rattle.uci_lines.specs.Orders as orders
 use Rattle.policy_rules.specs.declared.settings.Settings.{Settings}
 use Rattle.policy_rules.specs.Scores.{Score, does_resign, does_accept}
 use Rattle.search_epochs.specs.declared.words.Call.{Call}
-use Rattle.search_epochs.specs.Talk as dialogue
-use Rattle.search_epochs.specs.Talk.{Talk, Turn, Word, IsReady, Settled, turned, after, spent, owed, is_due, is_hit, is_move, is_hurry, has_go}
-use Rattle.search_epochs.specs.View.{forget}
+use Rattle.search_epochs.specs.Tickets as dialogues
+use Rattle.search_epochs.specs.Tickets.{Ticketed, Turn, Word, IsReady, Settled, turned, after, spent, owed, is_due, is_hit, is_move, is_hurry, has_go}
+use Rattle.search_epochs.specs.Dialogue.{forget}
 use Rattle.desk_rules.specs.declared.desk.Desk.{Desk}
-use Rattle.desk_rules.specs.Desk.{Here, opening_desk, is_gone}
-use Rattle.desk_rules.specs.Steps.{Deed, comes, what_of, rises, call_after, desk_after, scores_after, is_death}
+use Rattle.desk_rules.specs.Desk.{Situation, opening_desk, is_gone}
+use Rattle.desk_rules.specs.Steps.{Effect, classify, what_of, begins_epoch, call_after, desk_after, scores_after, is_death}
 use Rattle.desk_rules.specs.Orders.{waiting, search_orders, word_of}
 use Rattle.desk_rules.specs.Replies.{replies_of}
-use Rattle.feature_talk.specs.Features.{told_lines}
-use Rattle.desk_rules.specs.Texts.{command_lines}
+use Rattle.feature_talk.specs.Features.{reply_lines}
+use Rattle.desk_rules.specs.Texts.{order_lines}
 use Rattle.adapter_core.specs.declared.ends.Ends.{Ends}
 use Rattle.adapter_core.specs.Ends.{may, ends_after, is_open, at_start}
 
 -- an event, the lines to the interface and the orders to the engine
 pub record Step : Type 0 where
   pub event : Event
-  pub replies : List Told
-  pub orders : List Command
+  pub replies : List Reply
+  pub orders : List Order
 
 abbrev pub event_in : Step → Event
 event_in step = step.event
 
 -- what a step wrote to the interface and to the engine, each line with its line feed
 abbrev pub iface_text : Step → List ℕ
-iface_text step = told_lines step.replies
+iface_text step = reply_lines step.replies
 
 abbrev pub engine_text : Step → List ℕ
-engine_text step = command_lines step.orders
+engine_text step = order_lines step.orders
 
 -- what a trace leaves: each part is a fold of it
 pub record State : Type 0 where
@@ -44,8 +44,8 @@ pub record State : Type 0 where
   -- the scores of shown moves since they were cleared, the newest first
   pub scores : List Score
   -- the settings orders that were asked for and not written yet, the oldest first
-  pub held : List Command
-  pub talk : Talk
+  pub held : List Order
+  pub dialogue : Ticketed
 
 abbrev pub opening : Settings → State
 opening o = record {
@@ -54,23 +54,23 @@ opening o = record {
   desk = opening_desk;
   scores = [];
   held = [];
-  talk = record { engine = dialogue.Boot; epoch = 0; last = None };
+  dialogue = record { engine = dialogues.Boot; epoch = 0; last = None };
 }
 
 -- what stands when an event comes
-abbrev pub here : State → Here
-here s = record {
+abbrev pub situation : State → Situation
+situation s = record {
   closed = s.ends.closed;
-  engine = forget s.talk.epoch s.talk.engine;
-  spent = spent s.talk;
+  engine = forget s.dialogue.epoch s.dialogue.engine;
+  spent = spent s.dialogue;
   desk = s.desk;
   resigns = does_resign s.settings (s.desk.seen.score ∷ s.scores);
   accepts = does_accept s.settings s.scores;
   show_ponder = s.settings.show_ponder;
 }
 
-abbrev pub deed : State → Event → Deed
-deed s e = comes (here s) s.held e
+abbrev pub effect : State → Event → Effect
+effect s e = classify (situation s) s.held e
 
 abbrev pub closed_after : State → Event → Bool
 closed_after s e = (ends_after s.ends e).closed
@@ -78,28 +78,28 @@ closed_after s e = (ends_after s.ends e).closed
 -- what an event is to the dialogue
 abbrev pub turn : State → Event → Turn
 turn s e = record {
-  what = what_of (deed s e);
+  what = what_of (effect s e);
   hint = s.desk.hint;
-  rises = rises (here s) (deed s e);
-  call = call_after (closed_after s e) (here s) (deed s e);
-  waiting = map word_of (waiting (here s) s.held (deed s e));
+  begins_epoch = begins_epoch (situation s) (effect s e);
+  call = call_after (closed_after s e) (situation s) (effect s e);
+  waiting = map word_of (waiting (situation s) s.held (effect s e));
 }
 
 -- the dialogue after the event, before the orders
-abbrev pub mid : State → Event → Talk
-mid s e = turned s.talk (turn s e)
+abbrev pub mid : State → Event → Ticketed
+mid s e = turned s.dialogue (turn s e)
 
 -- what is owed after an event
 abbrev pub owing : State → Event → Call
 owing s e = owed (mid s e) (turn s e).call
 
 -- the lines to the interface
-abbrev pub replies : State → Event → List Told
-replies s e = replies_of (closed_after s e) (is_move (owing s e)) (here s) (deed s e)
+abbrev pub replies : State → Event → List Reply
+replies s e = replies_of (closed_after s e) (is_move (owing s e)) (situation s) (effect s e)
 
 -- the desk after an event
 abbrev pub desk_of : State → Event → Desk
-desk_of s e = desk_after (closed_after s e) (is_move (owing s e)) (is_hit s.talk (turn s e)) (here s) (deed s e)
+desk_of s e = desk_after (closed_after s e) (is_move (owing s e)) (is_hit s.dialogue (turn s e)) (situation s) (effect s e)
 
 abbrev pub has_ready : List Word → Bool
 has_ready [] = false
@@ -107,7 +107,7 @@ has_ready (IsReady ∷ ws) = true
 has_ready (w ∷ ws) = has_ready ws
 
 -- what is still held after these orders: `isready` takes all out
-abbrev pub still_held : List Command → List Word → List Command
+abbrev pub still_held : List Order → List Word → List Order
 still_held waits ws = if has_ready ws then [] else waits
 
 abbrev pub state_after : State → Step → State
@@ -115,9 +115,9 @@ state_after s step = record {
   settings = s.settings;
   ends = ends_after s.ends step.event;
   desk = desk_of s step.event;
-  scores = scores_after (here s) (deed s step.event) s.scores;
-  held = still_held (waiting (here s) s.held (deed s step.event)) (map word_of step.orders);
-  talk = after (mid s step.event) (map word_of step.orders);
+  scores = scores_after (situation s) (effect s step.event) s.scores;
+  held = still_held (waiting (situation s) s.held (effect s step.event)) (map word_of step.orders);
+  dialogue = after (mid s step.event) (map word_of step.orders);
 }
 
 abbrev pub state : Settings → List Step → State
@@ -126,17 +126,17 @@ state o (step ∷ trace) = state_after (state o trace) step
 
 -- the engine after the event is Gone
 abbrev pub gone_after : State → Event → Bool
-gone_after s e = is_gone (here s).engine || is_death (deed s e)
+gone_after s e = is_gone (situation s).engine || is_death (effect s e)
 
 -- the orders of a step that closes the session
-abbrev pub last_orders : Bool → List Command
+abbrev pub last_orders : Bool → List Order
 last_orders gone = if gone then [] else orders.Quit ∷ []
 
 -- The orders of a step after which the session is not closed.
-pub record AreSettled (s : State) (e : Event) (os : List Command) : Type 0 where
-  pub words : Settled (mid s e).engine (mid s e).epoch (owing s e) (turn s e).waiting (is_due s.talk (turn s e)) (is_hit s.talk (turn s e)) (is_hurry (turn s e).what) (map word_of os)
+pub record AreSettled (s : State) (e : Event) (os : List Order) : Type 0 where
+  pub words : Settled (mid s e).engine (mid s e).epoch (owing s e) (turn s e).waiting (is_due s.dialogue (turn s e)) (is_hit s.dialogue (turn s e)) (is_hurry (turn s e).what) (map word_of os)
   -- a batch is all that is held, in order, and then `isready`
-  pub batch : is_due s.talk (turn s e) ≡ true → os ≡ waiting (here s) s.held (deed s e) ++ orders.IsReady ∷ []
+  pub batch : is_due s.dialogue (turn s e) ≡ true → os ≡ waiting (situation s) s.held (effect s e) ++ orders.IsReady ∷ []
   -- a search is for what is owed, in the position and by the clocks after the event
   pub search : has_go (map word_of os) ≡ true → os ≡ search_orders (desk_of s e) (owing s e)
 

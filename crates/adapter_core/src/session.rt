@@ -5,15 +5,15 @@ ghost use Rattle.line_io.specs.Event.{event_of};
 ghost use Rattle.line_io.specs.Out.{empty};
 ghost use Rattle.policy_rules.specs.Policy.{IsProper};
 ghost use Rattle.desk_rules.specs.Desk.{at};
-ghost use Rattle.desk_rules.specs.Steps.{deed_of, rises, comes, quits as quits_by};
+ghost use Rattle.desk_rules.specs.Steps.{effect_of, begins_epoch as epoch_begun, classify, quits as quits_by};
 ghost use Rattle.adapter_core.specs.Ends.{may, is_over};
-ghost use Rattle.adapter_core.specs.View.{opening, here, CanFollow, IsReadyFor};
+ghost use Rattle.adapter_core.specs.Parts.{opening, situation, CanFollow, IsReadyFor};
 ghost use Rattle.adapter_core.specs.declared.session.TheConstants.{ALL_REPLIES, ROOM};
 ghost use Rattle.desk_rules.specs.declared.sizes.TheConstants.{STEP_ORDERS};
 
 use crate::Ends;
 use crate::steps::{Stage, choose, is_hit, is_move, is_open, is_unsent, put_orders, release};
-use desk_rules::{Desk, Ruling, Sight, is_gone};
+use desk_rules::{Context, Desk, Ruling, is_gone};
 use game_record::Game;
 use line_io::{Event, NoMemory, Out};
 use option_map::Held;
@@ -36,24 +36,24 @@ pub(crate) struct Parts {
     desk: Desk,
     scores: Scores,
     held: Held,
-    talk: Dialogue,
-    told: Out,
-    ordered: Out,
+    dialogue: Dialogue,
+    to_iface: Out,
+    to_engine: Out,
 }
 
 impl Parts {
-    ghost use Rattle.adapter_core.specs.View.{advance, advance_from};
+    ghost use Rattle.adapter_core.specs.Parts.{advance, advance_from};
 
     // What is seen beside the desk.
-    fn sight(&self) -> Sight
-        ensures { at result self.now.desk ≡ here self.now }
+    fn context(&self) -> Context
+        ensures { at result self.now.desk ≡ situation self.now }
     {
         let mut next = self.scores;
         next.shown(self.desk.seen.score);
-        Sight {
+        Context {
             closed: self.ends.closed,
-            engine: self.talk.state(),
-            spent: self.talk.is_spent(),
+            engine: self.dialogue.state(),
+            spent: self.dialogue.is_spent(),
             resigns: next.resigns(),
             accepts: self.scores.accepts_draw(),
             show_ponder: self.settings.show_ponder,
@@ -61,56 +61,58 @@ impl Parts {
     }
 
     // Takes an event: what comes of it is decided, and what it asks for joins what is held.
-    #[tactic(auto, unfolding(crate::specs::View::advance))]
+    #[tactic(auto, unfolding(crate::specs::Parts::advance))]
     fn take(&mut self, event: &Event)
-        requires ready { IsReadyFor (here self.old) self.old
-            (comes (here self.old) self.old.held (event_of event.now)) }
+        requires ready { IsReadyFor (situation self.old) self.old
+            (classify (situation self.old) self.old.held (event_of event.now)) }
         ensures after { self.new ≡ advance self.old (event_of event.now) }
-        ensures iface { length self.new.told.text ≤ ALL_REPLIES }
-        ensures engine { length self.new.ordered.text ≤ STEP_ORDERS }
+        ensures iface { length self.new.to_iface.text ≤ ALL_REPLIES }
+        ensures engine { length self.new.to_engine.text ≤ STEP_ORDERS }
     {
-        self.told.clear();
-        self.ordered.clear();
-        let sight = self.sight();
-        let decision = self.desk.decide(sight, &self.held, event);
+        self.to_iface.clear();
+        self.to_engine.clear();
+        let context = self.context();
+        let decision = self.desk.decide(context, &self.held, event);
         decision.asks.hold(&mut self.held);
         let ruling = decision.ruling;
-        ruling.hear(&mut self.talk);
-        self.go_on(sight, &ruling, event);
+        ruling.hear(&mut self.dialogue);
+        self.go_on(context, &ruling, event);
     }
 
     // Goes on from what was decided, what is held and what the dialogue is then.
-    fn go_on(&mut self, sight: Sight, ruling: &Ruling, event: &Event)
-        requires follow { CanFollow (at sight self.old.desk) (deed_of ruling.now.deed) }
-        requires told { self.old.told ≡ empty ROOM }
-        requires ordered { self.old.ordered ≡ empty ROOM }
+    fn go_on(&mut self, context: Context, ruling: &Ruling, event: &Event)
+        requires follow { CanFollow (at context self.old.desk) (effect_of ruling.now.effect) }
+        requires to_iface { self.old.to_iface ≡ empty ROOM }
+        requires to_engine { self.old.to_engine ≡ empty ROOM }
         requires epoch { ruling.now.begins_epoch
-            ≡ rises (at sight self.old.desk) (deed_of ruling.now.deed) }
+            ≡ epoch_begun (at context self.old.desk) (effect_of ruling.now.effect) }
         requires quits { ruling.now.quits ≡ quits_by (event_of event.now) }
         ensures after { self.new
-            ≡ advance_from (at sight self.old.desk) (deed_of ruling.now.deed)
-            (event_of event.now) self.old self.old.held self.old.talk }
-        ensures iface { length self.new.told.text ≤ ALL_REPLIES }
-        ensures engine { length self.new.ordered.text ≤ STEP_ORDERS }
+            ≡ advance_from (at context self.old.desk) (effect_of ruling.now.effect)
+            (event_of event.now) self.old self.old.held self.old.dialogue }
+        ensures iface { length self.new.to_iface.text ≤ ALL_REPLIES }
+        ensures engine { length self.new.to_engine.text ≤ STEP_ORDERS }
     {
-        let deed = &ruling.deed;
+        let effect = &ruling.effect;
         let closed_before = self.ends.closed;
         self.ends = self.ends.after(event, ruling.quits);
         let stage = Stage {
             opens: is_open(event),
             closed_before,
             closed: self.ends.closed,
-            gone: is_gone(sight.engine) || deed.is_death(),
+            gone: is_gone(context.engine) || effect.is_death(),
         };
-        deed.count(&mut self.scores, self.desk.seen.score);
-        self.desk.commit(sight, deed, stage.closed, &mut self.told);
+        effect.count(&mut self.scores, self.desk.seen.score);
+        self.desk
+            .commit(context, effect, stage.closed, &mut self.to_iface);
         let call = self.desk.call(stage.closed, stage.gone);
-        let owes = is_move(self.talk.owed(call));
-        let unsent = is_unsent(&self.held, deed);
-        let orders = choose(&mut self.talk, stage, call, unsent, deed);
+        let owes = is_move(self.dialogue.owed(call));
+        let unsent = is_unsent(&self.held, effect);
+        let orders = choose(&mut self.dialogue, stage, call, unsent, effect);
         let clears = ruling.begins_epoch && !is_hit(orders);
-        self.desk.finish(stage.closed, owes, clears, &mut self.told);
-        put_orders(stage, &self.held, &self.desk, orders, &mut self.ordered);
+        self.desk
+            .finish(stage.closed, owes, clears, &mut self.to_iface);
+        put_orders(stage, &self.held, &self.desk, orders, &mut self.to_engine);
         release(&mut self.held, orders);
     }
 }
@@ -122,10 +124,10 @@ pub struct Core {
 }
 
 impl Model for Core {
-    ghost use Rattle.adapter_core.specs.View.{View};
+    ghost use Rattle.adapter_core.specs.Parts.{Parts as AnyParts};
     ghost use Rattle.adapter_core.specs.Stands.{Keeps};
 
-    ghost Value = { View };
+    ghost Value = { AnyParts };
 
     ghost view = { λ c. c.parts };
 
@@ -200,9 +202,9 @@ impl Core {
 
     /// The state of the engine: an open search is stale where its ticket is not the epoch.
     pub fn engine(&self) -> EngineState
-        ensures { result ≡ self.now.talk.state }
+        ensures { result ≡ self.now.dialogue.state }
     {
-        self.parts.talk.state()
+        self.parts.dialogue.state()
     }
 
     /// Whether both sides have ended.
@@ -215,20 +217,20 @@ impl Core {
     fn take(&mut self, event: &Event)
         requires { may self.old.ends (event_of event.now) ≡ true }
         ensures extends { Extends self.old self.new
-            (event_of event.now) self.new.told.text self.new.ordered.text }
-        ensures iface { length self.new.told.text ≤ ALL_REPLIES }
-        ensures engine { length self.new.ordered.text ≤ STEP_ORDERS }
+            (event_of event.now) self.new.to_iface.text self.new.to_engine.text }
+        ensures iface { length self.new.to_iface.text ≤ ALL_REPLIES }
+        ensures engine { length self.new.to_engine.text ≤ STEP_ORDERS }
     {
         self.parts.take(event);
     }
 
     fn lines(&self) -> Step<'_>
-        ensures iface { result.iface.now ≡ self.now.told.text }
-        ensures engine { result.engine.now ≡ self.now.ordered.text }
+        ensures iface { result.iface.now ≡ self.now.to_iface.text }
+        ensures engine { result.engine.now ≡ self.now.to_engine.text }
     {
         Step {
-            iface: self.parts.told.bytes(),
-            engine: self.parts.ordered.bytes(),
+            iface: self.parts.to_iface.bytes(),
+            engine: self.parts.to_engine.bytes(),
         }
     }
 }
@@ -249,9 +251,9 @@ fn make_parts(alloc: Global, settings: Settings) -> Result<Parts, NoMemory>
         desk: Desk::make(alloc)?,
         scores: Scores::new(&settings),
         held: Held::make(alloc)?,
-        talk: Dialogue::new(),
-        told: Out::make(alloc, ROOM)?,
-        ordered: Out::make(alloc, ROOM)?,
+        dialogue: Dialogue::new(),
+        to_iface: Out::make(alloc, ROOM)?,
+        to_engine: Out::make(alloc, ROOM)?,
     })
 }
 

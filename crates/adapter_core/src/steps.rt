@@ -2,20 +2,20 @@
 ghost use Rattle.std.specs.Prelude.{◌≡◌, ◌+◌, ◌≤◌, ◌||◌, length, cond, []};
 ghost use Rattle.line_io.specs.Event.{event_of};
 ghost use Rattle.line_io.specs.Out.{empty, with};
-ghost use Rattle.uci_lines.specs.Orders.{command_of};
+ghost use Rattle.uci_lines.specs.Orders.{order_of};
 ghost use Rattle.option_map.specs.Held.{order_line};
-ghost use Rattle.search_epochs.specs.Talk.{is_move, is_hurry};
-ghost use Rattle.search_epochs.specs.View.{settle, after_settled, played_of, is_hit_order, is_batch_order};
+ghost use Rattle.search_epochs.specs.Tickets.{is_move, is_hurry};
+ghost use Rattle.search_epochs.specs.Dialogue.{settle, after_settled, played_of, is_hit_order, is_batch_order};
 ghost use Rattle.search_epochs.specs.declared.words.Orders.TheVariants as chosen;
-ghost use Rattle.desk_rules.specs.Steps.{deed_of, what_of};
+ghost use Rattle.desk_rules.specs.Steps.{effect_of, what_of};
 ghost use Rattle.desk_rules.specs.Fits.{IsSound, CanWrite};
-ghost use Rattle.desk_rules.specs.Texts.{command_lines};
+ghost use Rattle.desk_rules.specs.Texts.{order_lines};
 ghost use Rattle.adapter_core.specs.Ends.{is_open};
-ghost use Rattle.adapter_core.specs.View.{is_unsent, orders_of};
+ghost use Rattle.adapter_core.specs.Parts.{is_unsent, orders_of};
 ghost use Rattle.adapter_core.specs.declared.session.TheConstants.{ROOM};
 ghost use Rattle.desk_rules.specs.declared.sizes.TheConstants.{STEP_ORDERS};
 
-use desk_rules::{Deed, Desk, put_chosen};
+use desk_rules::{Desk, Effect, put_chosen};
 use line_io::{Event, Out};
 use option_map::Held;
 use search_epochs::{Call, Dialogue, Orders};
@@ -28,10 +28,10 @@ pub fn is_open(event: &Event) -> bool
 }
 
 /// Whether orders wait, or Boot was left.
-pub fn is_unsent(held: &Held, deed: &Deed) -> bool
-    ensures { result ≡ is_unsent held.now (deed_of deed.now) }
+pub fn is_unsent(held: &Held, effect: &Effect) -> bool
+    ensures { result ≡ is_unsent held.now (effect_of effect.now) }
 {
-    deed.is_boots() || held.count() != 0
+    effect.is_boots() || held.count() != 0
 }
 
 pub fn is_move(call: Call) -> bool
@@ -56,41 +56,47 @@ pub struct Stage {
 }
 
 // The orders that are chosen: none at Open and in a closed session.
-pub fn choose(talk: &mut Dialogue, stage: Stage, call: Call, unsent: bool, deed: &Deed) -> Orders
+pub fn choose(
+    dialogue: &mut Dialogue,
+    stage: Stage,
+    call: Call,
+    unsent: bool,
+    effect: &Effect,
+) -> Orders
     ensures orders { result
         ≡ cond (stage.opens || stage.closed) chosen.None
-        (settle talk.old call unsent (played_of (what_of (deed_of deed.now)))
-        (is_hurry (what_of (deed_of deed.now)))) }
-    ensures after { talk.new
-        ≡ after_settled talk.old
+        (settle dialogue.old call unsent (played_of (what_of (effect_of effect.now)))
+        (is_hurry (what_of (effect_of effect.now)))) }
+    ensures after { dialogue.new
+        ≡ after_settled dialogue.old
         (cond (stage.opens || stage.closed) chosen.None
-        (settle talk.old call unsent (played_of (what_of (deed_of deed.now)))
-        (is_hurry (what_of (deed_of deed.now))))) }
+        (settle dialogue.old call unsent (played_of (what_of (effect_of effect.now)))
+        (is_hurry (what_of (effect_of effect.now))))) }
 {
     if stage.opens || stage.closed {
-        talk.rest();
+        dialogue.rest();
         return Orders::None;
     }
-    talk.settle(call, unsent, deed.played(), deed.is_hurry())
+    dialogue.settle(call, unsent, effect.played(), effect.is_hurry())
 }
 
 fn put_order(order: &Order, out: &mut Out)
-    requires { length out.old.text + length (order_line (command_of order.now)) ≤ out.old.room }
-    ensures { out.new ≡ with out.old (order_line (command_of order.now)) }
+    requires { length out.old.text + length (order_line (order_of order.now)) ≤ out.old.room }
+    ensures { out.new ≡ with out.old (order_line (order_of order.now)) }
 {
     write_order(order, out);
     out.put(b"\n");
 }
 
 // Puts the orders of a step.
-#[tactic(auto, unfolding(uci_lines::specs::Orders::command_text))]
+#[tactic(auto, unfolding(uci_lines::specs::Orders::order_text))]
 pub fn put_orders(stage: Stage, held: &Held, desk: &Desk, orders: Orders, out: &mut Out)
     requires empty { out.old ≡ empty ROOM }
     requires sound { IsSound desk.now }
     requires search { CanWrite desk.now.game orders }
     ensures orders { out.new
         ≡ with out.old
-        (command_lines (orders_of stage.opens stage.closed_before stage.closed stage.gone
+        (order_lines (orders_of stage.opens stage.closed_before stage.closed stage.gone
         held.now desk.now orders)) }
     ensures short { length out.new.text ≤ STEP_ORDERS }
 {

@@ -24,7 +24,7 @@ use Rattle.peer_words.proofs.TokenLists.{tokens_more, tokens_alone, tokens_trimm
 use Rattle.peer_words.proofs.Written.{decimal_token, decimal_digits, digits_decimal, seconds_read}
 use Rattle.cecp_lines.specs.Words.{is_ignored}
 use Rattle.cecp_lines.specs.Messages as says
-use Rattle.cecp_lines.specs.Messages.{Message}
+use Rattle.cecp_lines.specs.Messages.{IfaceMsg}
 use Rattle.cecp_iface_side.specs.Texts.{message_text, after_blank, two_digits, base_text, value_text}
 use Rattle.cecp_lines.specs.Reading.{is_colon, minutes_seconds, base_at, base_time, is_equals, name_at, value_at, HasLevel, HasMove, HasSetting, Spells}
 use Rattle.cecp_lines.proofs.Officers.{move_writable}
@@ -360,7 +360,7 @@ option_again line name value h = option_by line name value (position is_equals (
 
 -- ALL
 
-pub again : (line : List ℕ) (m : Message) → Spells line m → Spells (message_text m) m
+pub again : (line : List ℕ) (m : IfaceMsg) → Spells line m → Spells (message_text m) m
 again line says.Blank h = refl
 again line (says.Ignored text) h = ignored_again line text h.0 h.1
 again line says.New h = refl

@@ -18,14 +18,14 @@ use Rattle.peer_words.proofs.Runs.{all_of, prefix_stops}
 use Rattle.peer_words.proofs.Written.{decimal_digits}
 use Rattle.cecp_lines.specs.declared.reply.Reason.{Reason}
 use Rattle.cecp_lines.specs.declared.reply.Reason.TheVariants as reasons
-use Rattle.cecp_lines.specs.declared.reply.Tell.{Tell}
-use Rattle.cecp_lines.specs.declared.reply.Tell.TheVariants as tells
+use Rattle.cecp_lines.specs.declared.reply.UserError.{UserError}
+use Rattle.cecp_lines.specs.declared.reply.UserError.TheVariants as tells
 use Rattle.cecp_lines.specs.declared.reply.Outcome.{Outcome}
 use Rattle.cecp_lines.specs.declared.reply.Outcome.TheVariants as outcomes
-use Rattle.cecp_lines.specs.declared.reply.Reply.{Reply}
+use Rattle.cecp_lines.specs.declared.reply.Reply.{Reply as CodeReply}
 use Rattle.cecp_lines.specs.Replies as told
-use Rattle.cecp_lines.specs.Replies.{Told, told_of, told_text, reason_text, tell_text, outcome_text, hint_text, current_text, is_name_byte, is_feature_name, IsWritable, AreMoves, IsRepeated, IsReply, Fits, Tells}
-use Rattle.cecp_iface_side.specs.Hearing.{stripped, is_space, number_field, score_field, fixed_lines, fixed_of, reason_of, named_feature, feature_at, feature_in, is_repeated, error_of, error_at, error_in, short_pong, pong_in, last_in, stat01_in, hint_in, thinking_of, thinking_in, with_front, or_front, told_in}
+use Rattle.cecp_lines.specs.Replies.{Reply, reply_of, reply_text, reason_text, user_error_text, outcome_text, hint_text, current_text, is_name_byte, is_feature_name, IsWritable, AreMoves, IsRepeated, IsReply, Fits, SpellsReply}
+use Rattle.cecp_iface_side.specs.ReplyReading.{stripped, is_space, number_field, score_field, fixed_lines, fixed_of, reason_of, named_feature, feature_at, feature_in, is_repeated, error_of, error_at, error_in, short_pong, pong_in, last_in, stat01_in, hint_in, thinking_of, thinking_in, with_front, or_front, reply_in}
 use Rattle.cecp_iface_side.proofs.Plain.{decimal_written, move_written}
 use Rattle.cecp_iface_side.proofs.Rereads.{cut_position, after_cut, number_reads, score_reads}
 use Rattle.cecp_iface_side.proofs.Lists.{moves_read, hint_read, last_read}
@@ -132,7 +132,7 @@ digits_there ds more h =
     let stop : position_or_len is_space (ds ++ (32 ∷ more)) ≡ length ds = prefix_stops (λ b. not (eqb b 32)) ds 32 more (all_of is_ascii_digit (λ b. not (eqb b 32)) digit_no_space ds h) refl in
     ap (λ n. list_all is_ascii_digit (take n (ds ++ (32 ∷ more)))) stop ∙ ap (list_all is_ascii_digit) (take-append_seam ds (32 ∷ more)) ∙ h
 
-not_fixed : (line : List ℕ) (o : Option Reply) → fixed_of line ≡ o → digits_before line ≡ true → fixed_of line ≡ None
+not_fixed : (line : List ℕ) (o : Option CodeReply) → fixed_of line ≡ o → digits_before line ≡ true → fixed_of line ≡ None
 not_fixed line None e h = e
 not_fixed line (Some r) e h =
     let no_digits = look (λ u k. digits_before u ≡ false) fixed_lines (refl, (refl, (refl, (refl, (refl, (refl, (refl, (refl, (refl, (refl, (refl, tt))))))))))) line r e in
@@ -153,17 +153,17 @@ front_digits : (ds more : List ℕ) → 0 < length ds → list_all is_ascii_digi
 front_digits [] more some h = absurd (omega arith)
 front_digits (c ∷ cs) more some h = front_digit c (cs ++ more) (and_true (is_ascii_digit c) (list_all is_ascii_digit cs) h).0
 
-told_digits : (n : ℕ) (more : List ℕ) → n < 2 ^ 64 → told_in (decimal n ++ (32 ∷ more)) ≡ thinking_in (decimal n ++ (32 ∷ more))
+told_digits : (n : ℕ) (more : List ℕ) → n < 2 ^ 64 → reply_in (decimal n ++ (32 ∷ more)) ≡ thinking_in (decimal n ++ (32 ∷ more))
 told_digits n more h =
     ap (λ o. or_front o (decimal n ++ (32 ∷ more))) (not_fixed (decimal n ++ (32 ∷ more)) (fixed_of (decimal n ++ (32 ∷ more))) refl (digits_there (decimal n) more (decimal_digits n h)))
     ∙ front_digits (decimal n) (32 ∷ more) (decimal_is_IsNumeral n h).0.0 (decimal_digits n h)
 
-tell_read : (tell : Tell) → told_in (tell_text tell) ≡ Some (told.TellError tell)
+tell_read : (tell : UserError) → reply_in (user_error_text tell) ≡ Some (told.TellError tell)
 tell_read tells.Position = refl
 tell_read tells.Move = refl
 tell_read tells.Ended = refl
 
-outcome_read : (outcome : Outcome) → told_in (outcome_text outcome) ≡ Some (told.Result outcome)
+outcome_read : (outcome : Outcome) → reply_in (outcome_text outcome) ≡ Some (told.Result outcome)
 outcome_read outcomes.WhiteMates = refl
 outcome_read outcomes.BlackMates = refl
 outcome_read outcomes.Stalemate = refl
@@ -171,12 +171,12 @@ outcome_read outcomes.Dead = refl
 outcome_read outcomes.Repetition = refl
 outcome_read outcomes.Fifty = refl
 
-pub told_again : (t : Told) → IsReply t → Fits t → told_in (told_text t) ≡ Some t
-told_again (told.Feature name value) h f = ap told_in (feature_text name value) ∙ feature_read name value h
+pub told_again : (t : Reply) → IsReply t → Fits t → reply_in (reply_text t) ≡ Some t
+told_again (told.Feature name value) h f = ap reply_in (feature_text name value) ∙ feature_read name value h
 told_again (told.Move m) h f = ap (option_map (λ x. told.Move x)) (move_written m h)
 told_again (told.Illegal m) h f = ap (option_map (λ x. told.Illegal x)) (move_written m h)
 told_again (told.IllegalLong m) h f = ap (option_map (λ x. told.IllegalLong x)) (move_written m h)
-told_again (told.Error r line) h f = ap told_in (error_text (reason_text r) line) ∙ error_read r line h
+told_again (told.Error r line) h f = ap reply_in (error_text (reason_text r) line) ∙ error_read r line h
 told_again (told.TellError tell) h f = tell_read tell
 told_again (told.Pong n) h f = pong_read n f
 told_again told.OfferDraw h f = refl
@@ -184,13 +184,13 @@ told_again told.Resign h f = refl
 told_again (told.Hint m) h f = ap (option_map (λ x. told.Hint x)) (move_written m h)
 told_again (told.Result outcome) h f = outcome_read outcome
 told_again (told.Thinking depth score time nodes hint pv) h f =
-    ap told_in (sym (thinking_text (decimal depth) (signed_decimal score) (decimal time) (decimal nodes) (hint_text hint) pv))
+    ap reply_in (sym (thinking_text (decimal depth) (signed_decimal score) (decimal time) (decimal nodes) (hint_text hint) pv))
     ∙ told_digits depth (signed_decimal score ++ (32 ∷ (decimal time ++ (32 ∷ (decimal nodes ++ (32 ∷ (hint_text hint ++ pv))))))) f.0
     ∙ thinking_read depth score time nodes hint pv f.0 f.1 f.2 f.3 h.0 h.1
 told_again (told.Stat01 time nodes depth left all current) h f =
-    ap told_in (sym (stat_text (codes "stat01: ") (decimal time) (decimal nodes) (decimal depth) (decimal left) (decimal all) (current_text current)))
+    ap reply_in (sym (stat_text (codes "stat01: ") (decimal time) (decimal nodes) (decimal depth) (decimal left) (decimal all) (current_text current)))
     ∙ stat01_read time nodes depth left all current f.0 f.1 f.2 f.3 f.4 h
 
 -- the clause on what was read
-pub told_exact : (line : List ℕ) (r : Option Reply) → option_map told_of r ≡ told_in line → (t : Told) → (option_map told_of r ≡ Some t) ↔ Tells line t
-told_exact line r e t = (λ h. told_tells line t (sym e ∙ h), λ h. e ∙ ap told_in h.text ∙ told_again t h.form h.fits)
+pub told_exact : (line : List ℕ) (r : Option CodeReply) → option_map reply_of r ≡ reply_in line → (t : Reply) → (option_map reply_of r ≡ Some t) ↔ SpellsReply line t
+told_exact line r e t = (λ h. told_tells line t (sym e ∙ h), λ h. e ∙ ap reply_in h.text ∙ told_again t h.form h.fits)

@@ -8,7 +8,7 @@ use Rattle.std.proofs.lemmas.Option.{cond_some}
 use Rattle.std.proofs.lemmas.List.Sums.{prefix_len-le-length}
 use denote.Ref.{Bor}
 use Rattle.std.proofs.lemmas.List.Splits.{slice_split_first}
-use Rattle.cecp_iface_side.specs.Hearing.{stripped, is_space, written_move, are_moves}
+use Rattle.cecp_iface_side.specs.ReplyReading.{stripped, is_space, written_move, are_moves}
 
 strip_step : (f b : ℕ) (fs bs rest : List ℕ) (t : Bool) → eqb f b ≡ t → (stripped fs bs ≡ Some rest → bs ≡ fs ++ rest) → cond t (stripped fs bs) None ≡ Some rest → b ∷ bs ≡ (f ∷ fs) ++ rest
 strip_step f b fs bs rest true e k h = let same : f ≡ b = (Decides-eqb f b).0 e in let more = k h in cc

@@ -13,7 +13,7 @@ use mir.Val.{SFits}
 use mir.Syntax.{w64}
 use Rattle.cecp_lines.specs.declared.reply.Reason.TheVariants as reasons
 use Rattle.cecp_lines.specs.Replies as told
-use Rattle.cecp_iface_side.specs.Hearing.{written, positive_score, negative_score, written_signed, is_space, cut_at, with_rest, field_of, number_field, score_field}
+use Rattle.cecp_iface_side.specs.ReplyReading.{written, positive_score, negative_score, written_signed, is_space, cut_at, with_rest, field_of, number_field, score_field}
 use Rattle.cecp_iface_side.proofs.Plain.{written_is}
 
 -- a text cut at the first byte of a kind

@@ -13,7 +13,7 @@ use Rattle.chess_board.specs.Text.{text_of}
 use Rattle.peer_words.proofs.Trims.{and_true}
 use Rattle.peer_words.proofs.Runs.{not_false}
 use Rattle.cecp_lines.specs.Replies.{hint_text, current_text, IsWritable, AreMoves}
-use Rattle.cecp_iface_side.specs.Hearing.{stripped, written, written_move, is_space, is_paren, are_moves, last_at, last_in, hint_at, hint_of, hint_in}
+use Rattle.cecp_iface_side.specs.ReplyReading.{stripped, written, written_move, is_space, is_paren, are_moves, last_at, last_in, hint_at, hint_of, hint_in}
 use Rattle.cecp_iface_side.proofs.Plain.{decimal_written, move_written}
 use Rattle.cecp_iface_side.proofs.Rereads.{cut_position, no_position, after_cut, decimal_solid, move_solid}
 

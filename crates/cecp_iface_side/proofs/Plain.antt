@@ -19,7 +19,7 @@ use Rattle.peer_words.proofs.Trims.{and_true}
 use Rattle.peer_words.proofs.Written.{decimal_digits}
 use Rattle.chess_board.specs.Spelling.{move_of}
 use Rattle.cecp_lines.specs.Replies.{IsWritable}
-use Rattle.cecp_iface_side.specs.Hearing.{is_plain, plain, of_64_bits, written, same_text, written_move}
+use Rattle.cecp_iface_side.specs.ReplyReading.{is_plain, plain, of_64_bits, written, same_text, written_move}
 use Rattle.chess_board.proofs.Spelled.{spells_move, read_officer}
 use Rattle.cecp_lines.proofs.Spellings.{bind_some}
 

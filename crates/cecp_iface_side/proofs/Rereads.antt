@@ -20,7 +20,7 @@ use Rattle.chess_board.specs.Text.{text_of, promotion_text}
 use Rattle.peer_words.proofs.Trims.{and_true}
 use Rattle.peer_words.proofs.Runs.{all_of, prefix_whole, prefix_stops}
 use Rattle.peer_words.proofs.Written.{decimal_digits}
-use Rattle.cecp_iface_side.specs.Hearing.{written, positive_score, negative_score, written_signed, cut, cut_at, with_rest, field_of, number_field, score_field}
+use Rattle.cecp_iface_side.specs.ReplyReading.{written, positive_score, negative_score, written_signed, cut, cut_at, with_rest, field_of, number_field, score_field}
 use Rattle.cecp_iface_side.proofs.Plain.{decimal_written}
 
 -- a text cut at the first byte of a kind

@@ -17,10 +17,10 @@ use Rattle.peer_words.specs.Tokens.{trimmed}
 use Rattle.peer_words.proofs.Trims.{and_true}
 use Rattle.cecp_lines.specs.declared.reply.Reason.{Reason}
 use Rattle.cecp_lines.specs.declared.reply.Reason.TheVariants as reasons
-use Rattle.cecp_lines.specs.declared.reply.Reply.{Reply}
+use Rattle.cecp_lines.specs.declared.reply.Reply.{Reply as CodeReply}
 use Rattle.cecp_lines.specs.Replies as told
-use Rattle.cecp_lines.specs.Replies.{Told, told_of, reason_text, field, hint_text, current_text, is_feature_name, IsWritable, AreMoves, IsRepeated, Tells}
-use Rattle.cecp_iface_side.specs.Hearing.{stripped, written, written_move, is_space, is_paren, are_moves, number_field, score_field, fixed_lines, fixed_of, reason_words, reason_of, feature_at, feature_in, is_repeated, error_of, error_at, error_in, short_pong, pong_in, last_at, last_in, stat01_in, hint_at, hint_of, hint_in, thinking_of, thinking_in, behind, of_move, with_front, or_front, told_in}
+use Rattle.cecp_lines.specs.Replies.{Reply, reply_of, reason_text, field, hint_text, current_text, is_feature_name, IsWritable, AreMoves, IsRepeated, SpellsReply}
+use Rattle.cecp_iface_side.specs.ReplyReading.{stripped, written, written_move, is_space, is_paren, are_moves, number_field, score_field, fixed_lines, fixed_of, reason_words, reason_of, feature_at, feature_in, is_repeated, error_of, error_at, error_in, short_pong, pong_in, last_at, last_in, stat01_in, hint_at, hint_of, hint_in, thinking_of, thinking_in, behind, of_move, with_front, or_front, reply_in}
 use Rattle.cecp_lines.specs.Reading.{is_equals}
 use Rattle.cecp_lines.proofs.Spellings.{bind_some}
 use Rattle.cecp_iface_side.proofs.Fronts.{stripped_is}
@@ -38,8 +38,8 @@ pub look : {C : Type 0} (P : List ℕ → C → Type 0) (rows : List (List ℕ �
 look P [] all w c h = absurd (cc)
 look P (row ∷ rows) all w c h = look_step P w row.0 row.1 c (bytes_eq w row.0) (lookup (bytes_eq w) rows) refl all.0 (look P rows all.1 w c) h
 
-fixed_tells : (line : List ℕ) (r : Reply) → fixed_of line ≡ Some r → Tells line (told_of r)
-fixed_tells line r h = look (λ u k. Tells u (told_of k)) fixed_lines
+fixed_tells : (line : List ℕ) (r : CodeReply) → fixed_of line ≡ Some r → SpellsReply line (reply_of r)
+fixed_tells line r h = look (λ u k. SpellsReply u (reply_of k)) fixed_lines
     (record { form = tt; fits = tt; text = refl }, (record { form = tt; fits = tt; text = refl }, (record { form = tt; fits = tt; text = refl }, (record { form = tt; fits = tt; text = refl }, (record { form = tt; fits = tt; text = refl }, (record { form = tt; fits = tt; text = refl }, (record { form = tt; fits = tt; text = refl }, (record { form = tt; fits = tt; text = refl }, (record { form = tt; fits = tt; text = refl }, (record { form = tt; fits = tt; text = refl }, (record { form = tt; fits = tt; text = refl }, tt))))))))))) line r h
 
 reason_is : (words : List ℕ) (r : Reason) → reason_of words ≡ Some r → words ≡ reason_text r
@@ -57,46 +57,46 @@ repeated reasons.TooManySettings line h = (bytes_eq-Decides (trimmed line) line)
 repeated reasons.TooManyPings line h = (bytes_eq-Decides (trimmed line) line).0 h
 repeated reasons.LineTooLong line h = (bytes_eq-Decides line (codes "...")).0 h
 
-feature_by : (text : List ℕ) (o : Option ℕ) (t : Told) → position is_equals text ≡ o → feature_at o text ≡ Some t → Tells (codes "feature " ++ text) t
+feature_by : (text : List ℕ) (o : Option ℕ) (t : Reply) → position is_equals text ≡ o → feature_at o text ≡ Some t → SpellsReply (codes "feature " ++ text) t
 feature_by text None t e h = absurd (cc)
 feature_by text (Some at) t e h =
     let c = cond_some (is_feature_name (take at text)) (told.Feature (take at text) (drop (at + 1) text)) t h in
-    subst (λ (u : Told). Tells (codes "feature " ++ text) u) c.1 (record { form = c.0; fits = tt; text = ap (λ x. codes "feature " ++ x) (at_byte 61 text at e) ∙ simp append_assoc })
+    subst (λ (u : Reply). SpellsReply (codes "feature " ++ text) u) c.1 (record { form = c.0; fits = tt; text = ap (λ x. codes "feature " ++ x) (at_byte 61 text at e) ∙ simp append_assoc })
 
-error_parts : (text : List ℕ) (o : Option Reason) (l : Option (List ℕ)) (t : Told) → ((r : Reason) (line : List ℕ) → o ≡ Some r → l ≡ Some line → is_repeated r line ≡ true → Tells text (told.Error r line)) → error_of o l ≡ Some t → Tells text t
+error_parts : (text : List ℕ) (o : Option Reason) (l : Option (List ℕ)) (t : Reply) → ((r : Reason) (line : List ℕ) → o ≡ Some r → l ≡ Some line → is_repeated r line ≡ true → SpellsReply text (told.Error r line)) → error_of o l ≡ Some t → SpellsReply text t
 error_parts text None l t k h = absurd (cc)
 error_parts text (Some r) None t k h = absurd (cc)
 error_parts text (Some r) (Some line) t k h =
     let c = cond_some (is_repeated r line) (told.Error r line) t h in
-    subst (λ (u : Told). Tells text u) c.1 (k r line refl refl c.0)
+    subst (λ (u : Reply). SpellsReply text u) c.1 (k r line refl refl c.0)
 
-error_tells : (text : List ℕ) (at : ℕ) (r : Reason) (line : List ℕ) → reason_of (take at text) ≡ Some r → stripped (codes "): ") (drop at text) ≡ Some line → is_repeated r line ≡ true → Tells (codes "Error (" ++ text) (told.Error r line)
+error_tells : (text : List ℕ) (at : ℕ) (r : Reason) (line : List ℕ) → reason_of (take at text) ≡ Some r → stripped (codes "): ") (drop at text) ≡ Some line → is_repeated r line ≡ true → SpellsReply (codes "Error (" ++ text) (told.Error r line)
 error_tells text at r line e f g = record {
   form = repeated r line g;
   fits = tt;
   text = ap (λ x. codes "Error (" ++ x) (sym (take-append-drop at text) ∙ ap (λ w. w ++ drop at text) (reason_is (take at text) r e) ∙ ap (λ w. reason_text r ++ w) (stripped_is (codes "): ") (drop at text) line f)) ∙ simp append_assoc;
 }
 
-error_by : (text : List ℕ) (o : Option ℕ) (t : Told) → error_at o text ≡ Some t → Tells (codes "Error (" ++ text) t
+error_by : (text : List ℕ) (o : Option ℕ) (t : Reply) → error_at o text ≡ Some t → SpellsReply (codes "Error (" ++ text) t
 error_by text None t h = absurd (cc)
 error_by text (Some at) t h = error_parts (codes "Error (" ++ text) (reason_of (take at text)) (stripped (codes "): ") (drop at text)) t (λ r line e f g. error_tells text at r line e f g) h
 
-pong_tells : (text : List ℕ) (t : Told) → pong_in text ≡ Some t → Tells (codes "pong " ++ text) t
+pong_tells : (text : List ℕ) (t : Reply) → pong_in text ≡ Some t → SpellsReply (codes "pong " ++ text) t
 pong_tells text t h =
     let b = bind_some short_pong (written text) t h in
     let c = cond_some (ltb b.0 (2 ^ 32)) (told.Pong b.0) t b.2 in
     let low : b.0 < 2 ^ 32 = grind (arith, nat_tests, c.0) in
-    subst (λ (u : Told). Tells (codes "pong " ++ text) u) c.1 (record { form = tt; fits = low; text = ap (λ x. codes "pong " ++ x) (written_is text b.0 b.1).0 })
+    subst (λ (u : Reply). SpellsReply (codes "pong " ++ text) u) c.1 (record { form = tt; fits = low; text = ap (λ x. codes "pong " ++ x) (written_is text b.0 b.1).0 })
 
-move_tells : (front text : List ℕ) (says : AnyMove → Told) (t : Told) → ((m : AnyMove) → IsWritable m → Tells (front ++ text_of m) (says m)) → of_move says text ≡ Some t → Tells (front ++ text) t
+move_tells : (front text : List ℕ) (says : AnyMove → Reply) (t : Reply) → ((m : AnyMove) → IsWritable m → SpellsReply (front ++ text_of m) (says m)) → of_move says text ≡ Some t → SpellsReply (front ++ text) t
 move_tells front text says t k h =
     let b = map_some says (written_move text) t h in
     let w = written_move_is text b.0 b.1 in
-    subst (λ (u : Told). Tells (front ++ text) u) b.2 (subst (λ (x : List ℕ). Tells (front ++ x) (says b.0)) (sym w.0) (k b.0 w.1))
+    subst (λ (u : Reply). SpellsReply (front ++ text) u) b.2 (subst (λ (x : List ℕ). SpellsReply (front ++ x) (says b.0)) (sym w.0) (k b.0 w.1))
 
-behind_by : (line front : List ℕ) (o : Option (List ℕ)) (read : List ℕ → Option Told) (other : Option Told) (t : Told) → stripped front line ≡ o → ((text : List ℕ) → read text ≡ Some t → Tells (front ++ text) t) → (other ≡ Some t → Tells line t) → behind o read other ≡ Some t → Tells line t
+behind_by : (line front : List ℕ) (o : Option (List ℕ)) (read : List ℕ → Option Reply) (other : Option Reply) (t : Reply) → stripped front line ≡ o → ((text : List ℕ) → read text ≡ Some t → SpellsReply (front ++ text) t) → (other ≡ Some t → SpellsReply line t) → behind o read other ≡ Some t → SpellsReply line t
 behind_by line front None read other t e k l h = l h
-behind_by line front (Some text) read other t e k l h = subst (λ (x : List ℕ). Tells x t) (sym (stripped_is front line text e)) (k text h)
+behind_by line front (Some text) read other t e k l h = subst (λ (x : List ℕ). SpellsReply x t) (sym (stripped_is front line text e)) (k text h)
 
 -- STAT01
 
@@ -117,7 +117,7 @@ last_by text (Some at) p e h =
 pub stat_text : (front a b c d e f : List ℕ) → front ++ (a ++ (32 ∷ (b ++ (32 ∷ (c ++ (32 ∷ (d ++ (32 ∷ (e ++ f))))))))) ≡ front ++ field a ++ field b ++ field c ++ field d ++ e ++ f
 stat_text front a b c d e f = simp append_assoc
 
-stat01_tells : (text : List ℕ) (t : Told) → stat01_in text ≡ Some t → Tells (codes "stat01: " ++ text) t
+stat01_tells : (text : List ℕ) (t : Reply) → stat01_in text ≡ Some t → SpellsReply (codes "stat01: " ++ text) t
 stat01_tells text t h =
     let time = bind_some (λ time. option_and_then (λ nodes. option_and_then (λ depth. option_and_then (λ left. option_map (λ last. told.Stat01 time.0 nodes.0 depth.0 left.0 last.0 last.1) (last_in left.1)) (number_field depth.1)) (number_field nodes.1)) (number_field time.1)) (number_field text) t h in
     let nodes = bind_some (λ nodes. option_and_then (λ depth. option_and_then (λ left. option_map (λ last. told.Stat01 time.0.0 nodes.0 depth.0 left.0 last.0 last.1) (last_in left.1)) (number_field depth.1)) (number_field nodes.1)) (number_field time.0.1) t time.2 in
@@ -131,7 +131,7 @@ stat01_tells text t h =
     let e = last_by left.0.1 (position is_space left.0.1) last.0 refl last.1 in
     let whole : text ≡ decimal time.0.0 ++ (32 ∷ (decimal nodes.0.0 ++ (32 ∷ (decimal depth.0.0 ++ (32 ∷ (decimal left.0.0 ++ (32 ∷ (decimal last.0.0 ++ current_text last.0.1)))))))) =
     a.0 ∙ ap (λ x. decimal time.0.0 ++ (32 ∷ x)) (b.0 ∙ ap (λ x. decimal nodes.0.0 ++ (32 ∷ x)) (c.0 ∙ ap (λ x. decimal depth.0.0 ++ (32 ∷ x)) (d.0 ∙ ap (λ x. decimal left.0.0 ++ (32 ∷ x)) e.2))) in
-    subst (λ (u : Told). Tells (codes "stat01: " ++ text) u) last.2 (record {
+    subst (λ (u : Reply). SpellsReply (codes "stat01: " ++ text) u) last.2 (record {
       form = e.1;
       fits = (a.1, b.1, c.1, d.1, e.0);
       text = ap (λ x. codes "stat01: " ++ x) whole ∙ stat_text (codes "stat01: ") (decimal time.0.0) (decimal nodes.0.0) (decimal depth.0.0) (decimal left.0.0) (decimal last.0.0) (current_text last.0.1);
@@ -181,7 +181,7 @@ hint_by text (Some inner) p e h = hint_inner text inner (position is_paren inner
 pub thinking_text : (a b c d e f : List ℕ) → a ++ (32 ∷ (b ++ (32 ∷ (c ++ (32 ∷ (d ++ (32 ∷ (e ++ f)))))))) ≡ field a ++ field b ++ field c ++ field d ++ e ++ f
 thinking_text a b c d e f = simp append_assoc
 
-thinking_tells : (text : List ℕ) (t : Told) → thinking_in text ≡ Some t → Tells text t
+thinking_tells : (text : List ℕ) (t : Reply) → thinking_in text ≡ Some t → SpellsReply text t
 thinking_tells text t h =
     let depth = bind_some (λ depth. option_and_then (λ score. option_and_then (λ time. option_and_then (λ nodes. option_and_then (thinking_of depth.0 score.0 time.0 nodes.0) (hint_in nodes.1)) (number_field time.1)) (number_field score.1)) (score_field depth.1)) (number_field text) t h in
     let score = bind_some (λ score. option_and_then (λ time. option_and_then (λ nodes. option_and_then (thinking_of depth.0.0 score.0 time.0 nodes.0) (hint_in nodes.1)) (number_field time.1)) (number_field score.1)) (score_field depth.0.1) t depth.2 in
@@ -197,11 +197,11 @@ thinking_tells text t h =
     let whole : text ≡ field (decimal depth.0.0) ++ field (signed_decimal score.0.0) ++ field (decimal time.0.0) ++ field (decimal nodes.0.0) ++ hint_text hint.0.0 ++ hint.0.1 =
     a.0 ∙ ap (λ x. decimal depth.0.0 ++ (32 ∷ x)) (b.0 ∙ ap (λ x. signed_decimal score.0.0 ++ (32 ∷ x)) (c.0 ∙ ap (λ x. decimal time.0.0 ++ (32 ∷ x)) (d.0 ∙ ap (λ x. decimal nodes.0.0 ++ (32 ∷ x)) e.1)))
     ∙ thinking_text (decimal depth.0.0) (signed_decimal score.0.0) (decimal time.0.0) (decimal nodes.0.0) (hint_text hint.0.0) hint.0.1 in
-    subst (λ (u : Told). Tells text u) pv.1 (record { form = (e.0, list_of_moves hint.0.1 pv.0); fits = (a.1, b.1, c.1, d.1); text = whole })
+    subst (λ (u : Reply). SpellsReply text u) pv.1 (record { form = (e.0, list_of_moves hint.0.1 pv.0); fits = (a.1, b.1, c.1, d.1); text = whole })
 
 -- ALL
 
-front_tells : (line : List ℕ) (t : Told) → with_front line ≡ Some t → Tells line t
+front_tells : (line : List ℕ) (t : Reply) → with_front line ≡ Some t → SpellsReply line t
 front_tells line t h =
     behind_by line (codes "feature ") (stripped (codes "feature ") line) feature_in _ t refl (λ text k. feature_by text (position is_equals text) t refl k)
     (behind_by line (codes "move ") (stripped (codes "move ") line) (of_move (λ m. told.Move m)) _ t refl (λ text k. move_tells (codes "move ") text (λ m. told.Move m) t (λ m w. record { form = w; fits = tt; text = refl }) k)
@@ -213,9 +213,9 @@ front_tells line t h =
     (behind_by line (codes "stat01: ") (stripped (codes "stat01: ") line) stat01_in (thinking_in line) t refl (λ text k. stat01_tells text t k)
     (λ k. thinking_tells line t k)))))))) h
 
-told_by : (line : List ℕ) (o : Option Reply) (t : Told) → fixed_of line ≡ o → or_front o line ≡ Some t → Tells line t
+told_by : (line : List ℕ) (o : Option CodeReply) (t : Reply) → fixed_of line ≡ o → or_front o line ≡ Some t → SpellsReply line t
 told_by line None t e h = front_tells line t h
-told_by line (Some r) t e h = let same : told_of r ≡ t = cc in subst (λ (u : Told). Tells line u) same (fixed_tells line r e)
+told_by line (Some r) t e h = let same : reply_of r ≡ t = cc in subst (λ (u : Reply). SpellsReply line u) same (fixed_tells line r e)
 
-pub told_tells : (line : List ℕ) (t : Told) → told_in line ≡ Some t → Tells line t
+pub told_tells : (line : List ℕ) (t : Reply) → reply_in line ≡ Some t → SpellsReply line t
 told_tells line t h = told_by line (fixed_of line) t refl h

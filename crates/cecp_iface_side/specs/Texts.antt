@@ -4,7 +4,7 @@ use Rattle.std.specs.Fmt.{signed_decimal}
 use Rattle.chess_board.specs.Text.{text_of}
 use Rattle.peer_words.specs.Numbers.{seconds_text}
 use Rattle.cecp_lines.specs.Messages as says
-use Rattle.cecp_lines.specs.Messages.{Message}
+use Rattle.cecp_lines.specs.Messages.{IfaceMsg}
 use Rattle.cecp_lines.specs.Reading.{Spells, CanBeRead}
 
 -- a blank and the rest, if there is one
@@ -25,7 +25,7 @@ value_text None = []
 value_text (Some value) = 61 ∷ value
 
 -- the word of a message without arguments, and nothing for the others
-abbrev pub bare_text : Message → List ℕ
+abbrev pub bare_text : IfaceMsg → List ℕ
 bare_text says.Blank = []
 bare_text says.New = codes "new"
 bare_text says.Quit = codes "quit"
@@ -47,7 +47,7 @@ bare_text says.Dot = codes "."
 bare_text says.Result = codes "result"
 bare_text _ = []
 
-abbrev pub message_text : Message → List ℕ
+abbrev pub message_text : IfaceMsg → List ℕ
 message_text (says.Ignored text) = text
 message_text (says.Protover n) = codes "protover " ++ decimal n
 message_text (says.Ping n) = codes "ping " ++ decimal n
@@ -66,4 +66,4 @@ message_text msg = bare_text msg
 
 -- The canonical spelling of a message that some line spells, spells it.
 abbrev pub MessagesReadBack : Type 0
-MessagesReadBack = (m : Message) → CanBeRead m → Spells (message_text m) m
+MessagesReadBack = (m : IfaceMsg) → CanBeRead m → Spells (message_text m) m

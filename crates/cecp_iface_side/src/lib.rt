@@ -3,12 +3,12 @@
 //! `cecp_lines`.
 #![tactic(auto)]
 
-mod hear;
 mod laws;
+mod reply_read;
 mod write;
 
-pub use hear::read_reply;
 pub use laws::written_messages_are_read_again;
+pub use reply_read::read_reply;
 pub use write::write_iface;
 
 #[cfg(test)]

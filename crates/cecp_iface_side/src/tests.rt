@@ -1,6 +1,6 @@
 // What no clause says: that the definitions mean the lines that real engines write.
 use crate::{read_reply, write_iface, written_messages_are_read_again};
-use cecp_lines::{IfaceMsg, Outcome, Reason, Reply, Tell};
+use cecp_lines::{IfaceMsg, Outcome, Reason, Reply, UserError};
 use chess_board::{Kind, Move, Square};
 use line_io::Out;
 use std::test::Fail;
@@ -69,7 +69,7 @@ fn lines_of_engines(rt: HostRuntime) {
         (b"Error (bad value): x ", None),
         (
             b"tellusererror Illegal position",
-            Some(Reply::TellError(Tell::Position)),
+            Some(Reply::TellError(UserError::Position)),
         ),
         (
             b"1/2-1/2 {Draw by repetition}",

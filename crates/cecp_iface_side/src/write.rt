@@ -127,7 +127,8 @@ fn bare_word(msg: &IfaceMsg) -> &'static [u8]
 /// Writes the canonical spelling of a message, without a line feed: one blank between the parts.
 pub fn write_iface(msg: &IfaceMsg, out: &mut Out)
     requires form { CanBeRead (message_of msg.now) }
-    requires room { length out.old.text + length (message_text (message_of msg.now)) ≤ out.old.room }
+    requires room { length out.old.text + length (message_text (message_of msg.now))
+        ≤ out.old.room }
     ensures { out.new ≡ with out.old (message_text (message_of msg.now)) }
 {
     match msg {

@@ -12,7 +12,7 @@ use Rattle.cecp_lines.specs.declared.iface.IfaceFault.TheVariants.{UnknownComman
 use Rattle.cecp_lines.specs.declared.words.Command.{Command}
 use Rattle.cecp_lines.specs.declared.words.Command.TheVariants.{Ignored, Bare, With}
 use Rattle.cecp_lines.specs.Messages as says
-use Rattle.cecp_lines.specs.Messages.{Message}
+use Rattle.cecp_lines.specs.Messages.{IfaceMsg}
 use Rattle.chess_board.specs.Spelling.{move_of}
 use Rattle.cecp_lines.specs.Words.{command_of, is_ignored}
 use Rattle.cecp_lines.specs.Reading.{is_empty, only_token, version, base_time, level_of, is_equals, value_at, setting_of, argument, move_or_unknown, other_line, command_line, reading, HasArgument, HasLevel, HasMove, HasSetting, IsMoveAlone, Spells, IsUnknown, IsBad, SpellsOneMessage}
@@ -21,13 +21,13 @@ use Rattle.cecp_lines.proofs.LineTokens.{heads, no_tokens, alone, two, tokens_wo
 use Rattle.cecp_lines.proofs.Tables.{move_no_command, ignored_command}
 use Rattle.cecp_lines.proofs.Spellings.{reading_spells}
 
-not_both : (m : Message) → ◌≡◌ {A = Result Message IfaceFault} (Ok m) (Err UnknownCommand) → ⊥
+not_both : (m : IfaceMsg) → ◌≡◌ {A = Result IfaceMsg IfaceFault} (Ok m) (Err UnknownCommand) → ⊥
 not_both m h = absurd (cc)
 
-not_read : (m : Message) → ◌≡◌ {A = Result Message IfaceFault} (Ok m) (Err BadArgument) → ⊥
+not_read : (m : IfaceMsg) → ◌≡◌ {A = Result IfaceMsg IfaceFault} (Ok m) (Err BadArgument) → ⊥
 not_read m h = absurd (cc)
 
-two_faults : ◌≡◌ {A = Result Message IfaceFault} (Err UnknownCommand) (Err BadArgument) → ⊥
+two_faults : ◌≡◌ {A = Result IfaceMsg IfaceFault} (Err UnknownCommand) (Err BadArgument) → ⊥
 two_faults h = absurd (cc)
 
 some_first : (line : List ℕ) (c : ℕ) (cs : List ℕ) → first_token line ≡ c ∷ cs → first_token line ≡ [] → ⊥
@@ -36,11 +36,11 @@ some_first line c cs e h = absurd (cc)
 begun : (line word : List ℕ) → first_token line ≡ word → reading line ≡ command_line (command_of word) line
 begun line word e = ap (λ w. command_line (command_of w) line) e
 
-read_argument : {A : Type 0} (f : A → Message) (read : List ℕ → Option A) (line word : List ℕ) (x : A) → HasArgument line word read x → option_map f (option_and_then read (only_token (rest line))) ≡ Some (f x)
+read_argument : {A : Type 0} (f : A → IfaceMsg) (read : List ℕ → Option A) (line word : List ℕ) (x : A) → HasArgument line word read x → option_map f (option_and_then read (only_token (rest line))) ≡ Some (f x)
 read_argument f read line word x h = let t = two line word h.0 h.1 in ap (λ o. option_map f (option_and_then read o)) t.1 ∙ ap (λ o. option_map f o) h.2
 
 -- a command whose one argument is read
-read_with : {A : Type 0} (f : A → Message) (read : List ℕ → Option A) (line word : List ℕ) (x : A) → HasArgument line word read x → command_line (command_of word) line ≡ ok_or (option_map f (option_and_then read (only_token (rest line)))) BadArgument → reading line ≡ Ok (f x)
+read_with : {A : Type 0} (f : A → IfaceMsg) (read : List ℕ → Option A) (line word : List ℕ) (x : A) → HasArgument line word read x → command_line (command_of word) line ≡ ok_or (option_map f (option_and_then read (only_token (rest line)))) BadArgument → reading line ≡ Ok (f x)
 read_with f read line word x h e = let t = two line word h.0 h.1 in begun line word t.0 ∙ e ∙ ap (λ o. ok_or o BadArgument) (read_argument f read line word x h)
 
 moved_alone : (line t : List ℕ) (m : Move) → tokens line ≡ t ∷ [] → MoveSpells t m → reading line ≡ Ok (says.UserMove m)
@@ -110,7 +110,7 @@ read_ignored line text h e = ap (λ o. command_line o line) (ignored_command (fi
 read_board : (line text : List ℕ) → first_token line ≡ codes "setboard" → text ≡ rest line → reading line ≡ Ok (says.SetBoard text)
 read_board line text e f = begun line (codes "setboard") e ∙ ap (λ t. Ok (says.SetBoard t)) (sym f)
 
-pub spells_reading : (line : List ℕ) (m : Message) → Spells line m → reading line ≡ Ok m
+pub spells_reading : (line : List ℕ) (m : IfaceMsg) → Spells line m → reading line ≡ Ok m
 spells_reading line says.Blank h = read_blank line h
 spells_reading line (says.Ignored text) h = read_ignored line text h.0 h.1
 spells_reading line says.New h = begun line (codes "new") h
@@ -150,7 +150,7 @@ one_message line a b h k = let both : Ok a ≡ Ok b = sym (spells_reading line a
 
 -- FAULTS
 
-bad_or : (o : Option Message) → ok_or o BadArgument ≡ Err UnknownCommand → ⊥
+bad_or : (o : Option IfaceMsg) → ok_or o BadArgument ≡ Err UnknownCommand → ⊥
 bad_or None h = absurd (cc)
 bad_or (Some m) h = absurd (cc)
 
@@ -186,7 +186,7 @@ unknown_reading line h = ap (λ o. command_line o line) h.1 ∙ unknown_word lin
 pub reading_bad : (line : List ℕ) → reading line ≡ Err BadArgument → IsBad line
 reading_bad line h = (λ m s. not_read m (sym (spells_reading line m s) ∙ h), λ u. two_faults (sym (unknown_reading line u) ∙ h))
 
-bad_by : (line : List ℕ) (r : Result Message IfaceFault) → reading line ≡ r → IsBad line → r ≡ Err BadArgument
+bad_by : (line : List ℕ) (r : Result IfaceMsg IfaceFault) → reading line ≡ r → IsBad line → r ≡ Err BadArgument
 bad_by line (Ok m) e h = absurd (h.0 m (reading_spells line m e))
 bad_by line (Err UnknownCommand) e h = absurd (h.1 (reading_unknown line e))
 bad_by line (Err BadArgument) e h = refl

@@ -13,12 +13,12 @@ use Rattle.chess_board.specs.declared.board.Kind.TheVariants.{Pawn, Knight, Bish
 use Rattle.chess_board.specs.Text.{text_of, promotion_text}
 use Rattle.cecp_lines.specs.declared.reply.Reason.{Reason}
 use Rattle.cecp_lines.specs.declared.reply.Reason.TheVariants as reasons
-use Rattle.cecp_lines.specs.declared.reply.Tell.{Tell}
-use Rattle.cecp_lines.specs.declared.reply.Tell.TheVariants as tells
+use Rattle.cecp_lines.specs.declared.reply.UserError.{UserError}
+use Rattle.cecp_lines.specs.declared.reply.UserError.TheVariants as tells
 use Rattle.cecp_lines.specs.declared.reply.Outcome.{Outcome}
 use Rattle.cecp_lines.specs.declared.reply.Outcome.TheVariants as outcomes
 use Rattle.cecp_lines.specs.Replies as told
-use Rattle.cecp_lines.specs.Replies.{Told, told_text, reason_text, tell_text, outcome_text, field, hint_text, current_text, Fits, borrowed}
+use Rattle.cecp_lines.specs.Replies.{Reply, reply_text, reason_text, user_error_text, outcome_text, field, hint_text, current_text, Fits, borrowed}
 
 promotion_short : (p : Option Kind) → length (promotion_text p) ≤ 1
 promotion_short None = omega arith
@@ -51,7 +51,7 @@ reason_short reasons.TooManySettings = omega arith
 reason_short reasons.TooManyPings = omega arith
 reason_short reasons.LineTooLong = omega arith
 
-tell_short : (t : Tell) → length (tell_text t) ≤ 128
+tell_short : (t : UserError) → length (user_error_text t) ≤ 128
 tell_short tells.Position = omega arith
 tell_short tells.Move = omega arith
 tell_short tells.Ended = omega arith
@@ -84,7 +84,7 @@ thinking_parts a b c d e f = simp length-append (omega arith)
 stat_parts : (front a b c d e f : List ℕ) → length (front ++ field a ++ field b ++ field c ++ field d ++ e ++ f) ≡ length front + length a + length b + length c + length d + 4 + length e + length f
 stat_parts front a b c d e f = simp length-append (omega arith)
 
-pub told_short : (t : Told) → Fits t → length (told_text t) ≤ 128 + borrowed t
+pub told_short : (t : Reply) → Fits t → length (reply_text t) ≤ 128 + borrowed t
 told_short (told.Feature name value) f = omega (arith, four_parts (codes "feature ") name (codes "=") value)
 told_short (told.Move m) f = omega (arith, two_parts (codes "move ") (text_of m), move_short m)
 told_short (told.Illegal m) f = omega (arith, two_parts (codes "Illegal move: ") (text_of m), move_short m)

@@ -2,46 +2,46 @@
 use Rattle.std.specs.Prelude.{ℕ, ℤ, List, Option, Result as Answer, Ok, Err}
 use Rattle.std.specs.Option.{option_map}
 use Rattle.chess_board.specs.declared.board.Move.{Move}
-use Rattle.cecp_lines.specs.declared.iface.IfaceMsg.{IfaceMsg}
+use Rattle.cecp_lines.specs.declared.iface.IfaceMsg.{IfaceMsg as CodeIfaceMsg}
 use Rattle.cecp_lines.specs.declared.iface.IfaceMsg.TheVariants as says
 use Rattle.cecp_lines.specs.declared.iface.IfaceFault.{IfaceFault}
 
-pub data Message : Type 0 where
-  Blank : Message
-  Ignored : (text : List ℕ) → Message
-  New : Message
-  Quit : Message
-  Force : Message
-  Go : Message
-  PlayOther : Message
-  MoveNow : Message
-  Draw : Message
-  Hint : Message
-  Undo : Message
-  Remove : Message
-  Hard : Message
-  Easy : Message
-  Post : Message
-  NoPost : Message
-  Analyze : Message
-  Exit : Message
-  Dot : Message
-  Result : Message
-  Protover : (n : ℕ) → Message
-  Ping : (n : ℕ) → Message
-  UserMove : (played : Move) → Message
-  SetBoard : (text : List ℕ) → Message
-  Level : (mps base_ms inc_ms : ℕ) → Message
-  St : (ms : ℕ) → Message
-  Sd : (n : ℕ) → Message
-  Time : (n : ℤ) → Message
-  Otim : (n : ℤ) → Message
-  SetOption : (name : List ℕ) (value : Option (List ℕ)) → Message
-  Memory : (n : ℕ) → Message
-  Cores : (n : ℕ) → Message
-  EgtPath : (kind path : List ℕ) → Message
+pub data IfaceMsg : Type 0 where
+  Blank : IfaceMsg
+  Ignored : (text : List ℕ) → IfaceMsg
+  New : IfaceMsg
+  Quit : IfaceMsg
+  Force : IfaceMsg
+  Go : IfaceMsg
+  PlayOther : IfaceMsg
+  MoveNow : IfaceMsg
+  Draw : IfaceMsg
+  Hint : IfaceMsg
+  Undo : IfaceMsg
+  Remove : IfaceMsg
+  Hard : IfaceMsg
+  Easy : IfaceMsg
+  Post : IfaceMsg
+  NoPost : IfaceMsg
+  Analyze : IfaceMsg
+  Exit : IfaceMsg
+  Dot : IfaceMsg
+  Result : IfaceMsg
+  Protover : (n : ℕ) → IfaceMsg
+  Ping : (n : ℕ) → IfaceMsg
+  UserMove : (played : Move) → IfaceMsg
+  SetBoard : (text : List ℕ) → IfaceMsg
+  Level : (mps base_ms inc_ms : ℕ) → IfaceMsg
+  St : (ms : ℕ) → IfaceMsg
+  Sd : (n : ℕ) → IfaceMsg
+  Time : (n : ℤ) → IfaceMsg
+  Otim : (n : ℤ) → IfaceMsg
+  SetOption : (name : List ℕ) (value : Option (List ℕ)) → IfaceMsg
+  Memory : (n : ℕ) → IfaceMsg
+  Cores : (n : ℕ) → IfaceMsg
+  EgtPath : (kind path : List ℕ) → IfaceMsg
 
-abbrev pub message_of : IfaceMsg → Message
+abbrev pub message_of : CodeIfaceMsg → IfaceMsg
 message_of says.Blank = Blank
 message_of (says.Ignored text) = Ignored text.now
 message_of says.New = New
@@ -77,6 +77,6 @@ message_of (says.Cores n) = Cores n
 message_of (says.EgtPath kind path) = EgtPath kind.now path.now
 
 -- what was read, or why nothing was
-abbrev pub read_as : Answer IfaceMsg IfaceFault → Answer Message IfaceFault
+abbrev pub read_as : Answer CodeIfaceMsg IfaceFault → Answer IfaceMsg IfaceFault
 read_as (Ok msg) = Ok (message_of msg)
 read_as (Err fault) = Err fault

@@ -13,7 +13,7 @@ use Rattle.cecp_lines.specs.declared.words.Command.TheVariants.{Ignored, Bare, W
 use Rattle.cecp_lines.specs.declared.words.Verb.{Verb}
 use Rattle.cecp_lines.specs.declared.words.Verb.TheVariants as verbs
 use Rattle.cecp_lines.specs.Messages as says
-use Rattle.cecp_lines.specs.Messages.{Message, message_of}
+use Rattle.cecp_lines.specs.Messages.{IfaceMsg, message_of}
 use Rattle.chess_board.specs.Spelling.{move_of}
 use Rattle.cecp_lines.specs.Words.{is_ignored, command_of}
 
@@ -25,10 +25,10 @@ abbrev pub only_token : List ℕ → Option (List ℕ)
 only_token text = if is_empty (rest text) then Some (first_token text) else None
 
 -- a version of at least 2
-abbrev pub version : ℕ → Option Message
+abbrev pub version : ℕ → Option IfaceMsg
 version n = if nat_le 2 n then Some (says.Protover n) else None
 
-abbrev pub protover : List ℕ → Option Message
+abbrev pub protover : List ℕ → Option IfaceMsg
 protover text = option_and_then version (option_and_then number (only_token text))
 
 abbrev pub is_colon : ℕ → Bool
@@ -48,13 +48,13 @@ base_at (Some at) text = minutes_seconds (digits 4 (take at text)) (digits 2 (dr
 abbrev pub base_time : List ℕ → Option ℕ
 base_time text = base_at (position is_colon text) text
 
-abbrev pub level_of : Option ℕ → Option ℕ → Option ℕ → Option Message
+abbrev pub level_of : Option ℕ → Option ℕ → Option ℕ → Option IfaceMsg
 level_of (Some mps) (Some base_ms) (Some inc_ms) = Some (says.Level mps base_ms inc_ms)
 level_of (Some mps) (Some base_ms) None = None
 level_of (Some mps) None inc_ms = None
 level_of None base_ms inc_ms = None
 
-abbrev pub level : List ℕ → Option Message
+abbrev pub level : List ℕ → Option IfaceMsg
 level text = level_of (digits 4 (first_token text)) (base_time (first_token (rest text))) (option_and_then seconds (only_token (rest (rest text))))
 
 abbrev pub is_equals : ℕ → Bool
@@ -69,17 +69,17 @@ abbrev pub value_at : Option ℕ → List ℕ → Option (List ℕ)
 value_at None text = None
 value_at (Some at) text = Some (drop (at + 1) text)
 
-abbrev pub setting_of : List ℕ → Option (List ℕ) → Option Message
+abbrev pub setting_of : List ℕ → Option (List ℕ) → Option IfaceMsg
 setting_of name value = if is_empty name then None else Some (says.SetOption name value)
 
-abbrev pub setting : List ℕ → Option Message
+abbrev pub setting : List ℕ → Option IfaceMsg
 setting text = setting_of (name_at (position is_equals text) text) (value_at (position is_equals text) text)
 
-abbrev pub egt_path : List ℕ → Option Message
+abbrev pub egt_path : List ℕ → Option IfaceMsg
 egt_path text = if is_empty (rest text) then None else Some (says.EgtPath (first_token text) (rest text))
 
 -- the message of a command with arguments and the trimmed rest of its line
-abbrev pub argument : Verb → List ℕ → Option Message
+abbrev pub argument : Verb → List ℕ → Option IfaceMsg
 argument verbs.Protover text = protover text
 argument verbs.Ping text = option_map (λ n. says.Ping n) (option_and_then number (only_token text))
 argument verbs.UserMove text = option_map (λ m. says.UserMove m) (option_and_then move_of (only_token text))
@@ -94,25 +94,25 @@ argument verbs.Memory text = option_map (λ n. says.Memory n) (option_and_then n
 argument verbs.Cores text = option_map (λ n. says.Cores n) (option_and_then number (only_token text))
 argument verbs.EgtPath text = egt_path text
 
-abbrev pub move_or_unknown : Option Move → Result Message IfaceFault
+abbrev pub move_or_unknown : Option Move → Result IfaceMsg IfaceFault
 move_or_unknown (Some m) = Ok (says.UserMove m)
 move_or_unknown None = Err UnknownCommand
 
 -- a line whose first token is no command: white space, or a move alone
-abbrev pub other_line : List ℕ → List ℕ → Result Message IfaceFault
+abbrev pub other_line : List ℕ → List ℕ → Result IfaceMsg IfaceFault
 other_line word more =
     if is_empty word then Ok says.Blank
     else (if is_empty more then move_or_unknown (move_of word) else Err UnknownCommand)
 
 -- what is read of a line by what its first token stands for
-abbrev pub command_line : Option Command → List ℕ → Result Message IfaceFault
+abbrev pub command_line : Option Command → List ℕ → Result IfaceMsg IfaceFault
 command_line (Some Ignored) line = Ok (says.Ignored (trimmed line))
 command_line (Some (Bare msg)) line = Ok (message_of msg)
 command_line (Some (With verb)) line = ok_or (argument verb (rest line)) BadArgument
 command_line None line = other_line (first_token line) (rest line)
 
 -- the message that a line spells, or why it spells none
-abbrev pub reading : List ℕ → Result Message IfaceFault
+abbrev pub reading : List ℕ → Result IfaceMsg IfaceFault
 reading line = command_line (command_of (first_token line)) line
 
 -- THE RELATION, ROW BY ROW
@@ -143,7 +143,7 @@ abbrev pub HasSetting : List ℕ → List ℕ → Option (List ℕ) → Type 0
 HasSetting text name value = (0 < length name) × (name ≡ name_at (position is_equals text) text) × (value ≡ value_at (position is_equals text) text)
 
 -- A line spells a message.
-abbrev pub Spells : List ℕ → Message → Type 0
+abbrev pub Spells : List ℕ → IfaceMsg → Type 0
 Spells line says.Blank = tokens line ≡ []
 Spells line (says.Ignored text) = (is_ignored (first_token line) ≡ true) × (text ≡ trimmed line)
 Spells line says.New = Begins line (codes "new")
@@ -179,7 +179,7 @@ Spells line (says.Cores n) = HasArgument line (codes "cores") number n
 Spells line (says.EgtPath kind path) = Begins line (codes "egtpath") × (kind ≡ first_token (rest line)) × (path ≡ rest (rest line)) × (0 < length path)
 
 -- the message is one that some line spells
-abbrev pub CanBeRead : Message → Type 0
+abbrev pub CanBeRead : IfaceMsg → Type 0
 CanBeRead msg = (line : List ℕ) × Spells line msg
 
 -- The first token is no command word, and the line is not one move text.
@@ -188,8 +188,8 @@ IsUnknown line = (first_token line ≢ []) × (command_of (first_token line) ≡
 
 -- every other line that spells nothing
 abbrev pub IsBad : List ℕ → Type 0
-IsBad line = ((m : Message) → Spells line m → ⊥) × (IsUnknown line → ⊥)
+IsBad line = ((m : IfaceMsg) → Spells line m → ⊥) × (IsUnknown line → ⊥)
 
 -- A line spells at most one message.
 abbrev pub SpellsOneMessage : Type 0
-SpellsOneMessage = (line : List ℕ) (a b : Message) → Spells line a → Spells line b → a ≡ b
+SpellsOneMessage = (line : List ℕ) (a b : IfaceMsg) → Spells line a → Spells line b → a ≡ b

@@ -9,42 +9,42 @@ use Rattle.chess_board.specs.Text.{text_of, IsOfficer}
 use Rattle.peer_words.specs.Tokens.{is_white, trimmed}
 use Rattle.cecp_lines.specs.declared.reply.Reason.{Reason}
 use Rattle.cecp_lines.specs.declared.reply.Reason.TheVariants as reasons
-use Rattle.cecp_lines.specs.declared.reply.Tell.{Tell}
-use Rattle.cecp_lines.specs.declared.reply.Tell.TheVariants as tells
+use Rattle.cecp_lines.specs.declared.reply.UserError.{UserError}
+use Rattle.cecp_lines.specs.declared.reply.UserError.TheVariants as tells
 use Rattle.cecp_lines.specs.declared.reply.Outcome.{Outcome}
 use Rattle.cecp_lines.specs.declared.reply.Outcome.TheVariants as outcomes
-use Rattle.cecp_lines.specs.declared.reply.Reply.{Reply}
+use Rattle.cecp_lines.specs.declared.reply.Reply.{Reply as CodeReply}
 use Rattle.cecp_lines.specs.declared.reply.Reply.TheVariants as replies
 
-pub data Told : Type 0 where
-  Feature : (name value : List ℕ) → Told
-  Move : (shown : AnyMove) → Told
-  Illegal : (played : AnyMove) → Told
-  IllegalLong : (played : AnyMove) → Told
-  Error : (reason : Reason) (line : List ℕ) → Told
-  TellError : (tell : Tell) → Told
-  Pong : (n : ℕ) → Told
-  OfferDraw : Told
-  Resign : Told
-  Hint : (hint : AnyMove) → Told
-  Result : (outcome : Outcome) → Told
-  Thinking : (depth : ℕ) (score : ℤ) (time nodes : ℕ) (hint : Option AnyMove) (pv : List ℕ) → Told
-  Stat01 : (time nodes depth left all : ℕ) (current : Option AnyMove) → Told
+pub data Reply : Type 0 where
+  Feature : (name value : List ℕ) → Reply
+  Move : (shown : AnyMove) → Reply
+  Illegal : (played : AnyMove) → Reply
+  IllegalLong : (played : AnyMove) → Reply
+  Error : (reason : Reason) (line : List ℕ) → Reply
+  TellError : (tell : UserError) → Reply
+  Pong : (n : ℕ) → Reply
+  OfferDraw : Reply
+  Resign : Reply
+  Hint : (hint : AnyMove) → Reply
+  Result : (outcome : Outcome) → Reply
+  Thinking : (depth : ℕ) (score : ℤ) (time nodes : ℕ) (hint : Option AnyMove) (pv : List ℕ) → Reply
+  Stat01 : (time nodes depth left all : ℕ) (current : Option AnyMove) → Reply
 
-abbrev pub told_of : Reply → Told
-told_of (replies.Feature name value) = Feature name.now value.now
-told_of (replies.Move m) = Move m
-told_of (replies.Illegal m) = Illegal m
-told_of (replies.IllegalLong m) = IllegalLong m
-told_of (replies.Error reason line) = Error reason line.now
-told_of (replies.TellError tell) = TellError tell
-told_of (replies.Pong n) = Pong n
-told_of replies.OfferDraw = OfferDraw
-told_of replies.Resign = Resign
-told_of (replies.Hint m) = Hint m
-told_of (replies.Result outcome) = Result outcome
-told_of (replies.Thinking depth score time nodes hint pv) = Thinking depth score time nodes hint pv.now
-told_of (replies.Stat01 time nodes depth left all current) = Stat01 time nodes depth left all current
+abbrev pub reply_of : CodeReply → Reply
+reply_of (replies.Feature name value) = Feature name.now value.now
+reply_of (replies.Move m) = Move m
+reply_of (replies.Illegal m) = Illegal m
+reply_of (replies.IllegalLong m) = IllegalLong m
+reply_of (replies.Error reason line) = Error reason line.now
+reply_of (replies.TellError tell) = TellError tell
+reply_of (replies.Pong n) = Pong n
+reply_of replies.OfferDraw = OfferDraw
+reply_of replies.Resign = Resign
+reply_of (replies.Hint m) = Hint m
+reply_of (replies.Result outcome) = Result outcome
+reply_of (replies.Thinking depth score time nodes hint pv) = Thinking depth score time nodes hint pv.now
+reply_of (replies.Stat01 time nodes depth left all current) = Stat01 time nodes depth left all current
 
 abbrev pub reason_text : Reason → List ℕ
 reason_text reasons.UnknownCommand = codes "unknown command"
@@ -58,10 +58,10 @@ reason_text reasons.TooManySettings = codes "too many settings"
 reason_text reasons.TooManyPings = codes "too many pings"
 reason_text reasons.LineTooLong = codes "line too long"
 
-abbrev pub tell_text : Tell → List ℕ
-tell_text tells.Position = codes "tellusererror Illegal position"
-tell_text tells.Move = codes "tellusererror Illegal move by engine"
-tell_text tells.Ended = codes "tellusererror Engine ended"
+abbrev pub user_error_text : UserError → List ℕ
+user_error_text tells.Position = codes "tellusererror Illegal position"
+user_error_text tells.Move = codes "tellusererror Illegal move by engine"
+user_error_text tells.Ended = codes "tellusererror Engine ended"
 
 abbrev pub outcome_text : Outcome → List ℕ
 outcome_text outcomes.WhiteMates = codes "1-0 {White mates}"
@@ -85,21 +85,21 @@ current_text None = []
 current_text (Some m) = 32 ∷ text_of m
 
 -- the text of a reply, without its line feed
-abbrev pub told_text : Told → List ℕ
-told_text (Feature name value) = codes "feature " ++ name ++ codes "=" ++ value
-told_text (Move m) = codes "move " ++ text_of m
-told_text (Illegal m) = codes "Illegal move: " ++ text_of m
-told_text (IllegalLong m) = codes "Illegal move (game too long): " ++ text_of m
-told_text (Error reason line) = codes "Error (" ++ reason_text reason ++ codes "): " ++ line
-told_text (TellError tell) = tell_text tell
-told_text (Pong n) = codes "pong " ++ decimal n
-told_text OfferDraw = codes "offer draw"
-told_text Resign = codes "resign"
-told_text (Hint m) = codes "Hint: " ++ text_of m
-told_text (Result outcome) = outcome_text outcome
-told_text (Thinking depth score time nodes hint pv) =
+abbrev pub reply_text : Reply → List ℕ
+reply_text (Feature name value) = codes "feature " ++ name ++ codes "=" ++ value
+reply_text (Move m) = codes "move " ++ text_of m
+reply_text (Illegal m) = codes "Illegal move: " ++ text_of m
+reply_text (IllegalLong m) = codes "Illegal move (game too long): " ++ text_of m
+reply_text (Error reason line) = codes "Error (" ++ reason_text reason ++ codes "): " ++ line
+reply_text (TellError tell) = user_error_text tell
+reply_text (Pong n) = codes "pong " ++ decimal n
+reply_text OfferDraw = codes "offer draw"
+reply_text Resign = codes "resign"
+reply_text (Hint m) = codes "Hint: " ++ text_of m
+reply_text (Result outcome) = outcome_text outcome
+reply_text (Thinking depth score time nodes hint pv) =
     field (decimal depth) ++ field (signed_decimal score) ++ field (decimal time) ++ field (decimal nodes) ++ hint_text hint ++ pv
-told_text (Stat01 time nodes depth left all current) =
+reply_text (Stat01 time nodes depth left all current) =
     codes "stat01: " ++ field (decimal time) ++ field (decimal nodes) ++ field (decimal depth) ++ field (decimal left) ++ decimal all ++ current_text current
 
 -- neither empty, nor with white space or `=` in it
@@ -125,7 +125,7 @@ IsRepeated reasons.LineTooLong line = line ≡ codes "..."
 IsRepeated _ line = trimmed line ≡ line
 
 -- what the fields of a reply that some line spells meet, besides the range of their types
-abbrev pub IsReply : Told → Type 0
+abbrev pub IsReply : Reply → Type 0
 IsReply (Feature name value) = is_feature_name name ≡ true
 IsReply (Move m) = IsWritable m
 IsReply (Illegal m) = IsWritable m
@@ -137,7 +137,7 @@ IsReply (Stat01 time nodes depth left all current) = IfSome current IsWritable
 IsReply _ = Unit {0}
 
 -- the moves of a reply can be written
-abbrev pub HasWritableMoves : Told → Type 0
+abbrev pub HasWritableMoves : Reply → Type 0
 HasWritableMoves (Move m) = IsWritable m
 HasWritableMoves (Illegal m) = IsWritable m
 HasWritableMoves (IllegalLong m) = IsWritable m
@@ -147,20 +147,20 @@ HasWritableMoves (Stat01 time nodes depth left all current) = IfSome current IsW
 HasWritableMoves _ = Unit {0}
 
 -- the numbers are those of the fields' types
-abbrev pub Fits : Told → Type 0
+abbrev pub Fits : Reply → Type 0
 Fits (Pong n) = n < 2 ^ 32
 Fits (Thinking depth score time nodes hint pv) = (depth < 2 ^ 64) × FitsSigned w64 score × (time < 2 ^ 64) × (nodes < 2 ^ 64)
 Fits (Stat01 time nodes depth left all current) = (time < 2 ^ 64) × (nodes < 2 ^ 64) × (depth < 2 ^ 64) × (left < 2 ^ 64) × (all < 2 ^ 64)
 Fits _ = Unit {0}
 
 -- A line is the text of a reply.
-pub record Tells (line : List ℕ) (t : Told) : Type 0 where
+pub record SpellsReply (line : List ℕ) (t : Reply) : Type 0 where
   pub form : IsReply t
   pub fits : Fits t
-  pub text : line ≡ told_text t
+  pub text : line ≡ reply_text t
 
 -- how many bytes of a reply's text are borrowed
-abbrev pub borrowed : Told → ℕ
+abbrev pub borrowed : Reply → ℕ
 borrowed (Feature name value) = length name + length value
 borrowed (Error reason line) = length line
 borrowed (Thinking depth score time nodes hint pv) = length pv
@@ -168,4 +168,4 @@ borrowed _ = 0
 
 -- No text is longer than its borrowed bytes and 128 more.
 abbrev pub RepliesAreShort : Type 0
-RepliesAreShort = (t : Told) → Fits t → length (told_text t) ≤ 128 + borrowed t
+RepliesAreShort = (t : Reply) → Fits t → length (reply_text t) ≤ 128 + borrowed t

@@ -6,14 +6,14 @@ mod iface;
 mod laws;
 mod read;
 mod reply;
-mod tell;
+mod reply_write;
 mod words;
 
 pub use iface::{IfaceFault, IfaceMsg};
 pub use laws::{lines_are_unambiguous, replies_are_short};
 pub use read::{is_quit, read_iface};
-pub use reply::{Outcome, Reason, Reply, Tell};
-pub use tell::write_reply;
+pub use reply::{Outcome, Reason, Reply, UserError};
+pub use reply_write::write_reply;
 
 #[cfg(test)]
 mod tests;

@@ -1,7 +1,7 @@
 // The message that a line spells.
 ghost use Rattle.std.specs.Prelude.{◌≡◌, ◌↔◌, Ok, Err, ◌+◌, ◌*◌, ◌^◌, ◌<◌, ◌≤◌, length, position, IfSome};
 ghost use Rattle.std.specs.Option.{option_map, option_and_then};
-ghost use Rattle.cecp_lines.specs.Messages.{Message, message_of, read_as};
+ghost use Rattle.cecp_lines.specs.Messages.{IfaceMsg as AnyIfaceMsg, message_of, read_as};
 ghost use Rattle.cecp_lines.specs.declared.iface.IfaceFault.TheVariants.{UnknownCommand, BadArgument};
 ghost use Rattle.cecp_lines.specs.Reading.{reading, Spells, IsUnknown, IsBad, only_token, argument, protover, base_time, level, setting, egt_path, other_line, is_colon, is_equals};
 
@@ -172,7 +172,7 @@ fn read_message(line: &[u8]) -> Result<IfaceMsg<'_>, IfaceFault>
 pub fn read_iface(line: &[u8]) -> Result<IfaceMsg<'_>, IfaceFault>
     ensures value { read_as result ≡ reading line.now }
     // A message is read if and only if the line spells it.
-    ensures spelled { (m : Message) → (read_as result ≡ Ok m) ↔ Spells line.now m }
+    ensures spelled { (m : AnyIfaceMsg) → (read_as result ≡ Ok m) ↔ Spells line.now m }
     // Which fault it is.
     ensures unknown { (result ≡ Err UnknownCommand) ↔ IsUnknown line.now }
     ensures bad { (result ≡ Err BadArgument) ↔ IsBad line.now }

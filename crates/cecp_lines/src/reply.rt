@@ -19,7 +19,7 @@ pub enum Reason {
 
 /// An error that the user is to see.
 #[derive(Clone, Copy, Debug, PartialEq, Eq)]
-pub enum Tell {
+pub enum UserError {
     /// A position that is none.
     Position,
     /// An illegal move by the engine.
@@ -58,7 +58,7 @@ pub enum Reply<'a> {
         reason: Reason,
         line: &'a [u8],
     },
-    TellError(Tell),
+    TellError(UserError),
     Pong(u32),
     OfferDraw,
     Resign,

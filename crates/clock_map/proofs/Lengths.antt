@@ -10,7 +10,7 @@ use Rattle.chess_board.specs.declared.board.Side.TheVariants.{White, Black}
 use Rattle.peer_words.specs.declared.kinds.GoKind.TheVariants.{Move, Ponder, Analyse}
 use Rattle.uci_lines.specs.declared.orders.GoControl.{GoControl}
 use Rattle.uci_lines.specs.declared.orders.GoControl.TheVariants.{Clock}
-use Rattle.uci_lines.specs.Orders.{command_text, go_text, control_text, optional_number}
+use Rattle.uci_lines.specs.Orders.{order_text, go_text, control_text, optional_number}
 use Rattle.clock_map.specs.declared.clocks.Clocks.{Clocks}
 use Rattle.clock_map.specs.declared.clocks.Control.{Control}
 use Rattle.clock_map.specs.declared.clocks.Control.TheVariants.{Session, Fixed}
@@ -71,7 +71,7 @@ go_length false control depth h d =
     last_length (codes "go" ++ control_text control) (codes " depth ") depth 96 d front
 
 pub few_bytes : AreFewBytes
-unfolding command_text
+unfolding order_text
 few_bytes c side plies Move s = go_length false (time_of c.control c side plies) c.depth (control_length c.control c side plies s.control s) s.depth
 few_bytes c side plies Ponder s = go_length true (time_of c.control c side plies) c.depth (control_length c.control c side plies s.control s) s.depth
 few_bytes c side plies Analyse s = lit≤ tt

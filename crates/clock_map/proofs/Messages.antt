@@ -5,10 +5,10 @@ use Rattle.std.proofs.lemmas.Bool.Decides.{nat_tests}
 use Rattle.std.specs.Prelude.{ℤ, pos, negsuc, neg_ℤ, nat_abs, max, FitsSigned}
 use Rattle.std.proofs.Common.{w64, to_z, of_z}
 use Rattle.std.proofs.lemmas.Int.{to_z-of_z}
-use Rattle.cecp_lines.specs.declared.iface.IfaceMsg.{IfaceMsg}
+use Rattle.cecp_lines.specs.declared.iface.IfaceMsg.{IfaceMsg as CodeIfaceMsg}
 use Rattle.cecp_lines.specs.declared.iface.IfaceMsg.TheVariants as told
 use Rattle.cecp_lines.specs.Messages as says
-use Rattle.cecp_lines.specs.Messages.{Message, message_of}
+use Rattle.cecp_lines.specs.Messages.{IfaceMsg, message_of}
 use Rattle.cecp_lines.specs.Reading.{CanBeRead}
 use Rattle.clock_map.specs.declared.clocks.Clocks.{Clocks}
 use Rattle.clock_map.specs.Clocks.{AreShort, IsShort, IsShortLimit, after_message, at_least_one, of_centis, StayShort}
@@ -54,19 +54,19 @@ clock_fits (pos n) h = omega arith
 clock_fits (negsuc n) h = negative_fits (10 * suc n) (omega arith)
 
 -- the same, as the code has the message
-pub base_told : (msg : IfaceMsg) (mps base inc : ℕ) → msg ≡ told.Level mps base inc → CanBeRead (message_of msg) → base < 2 ^ 63
+pub base_told : (msg : CodeIfaceMsg) (mps base inc : ℕ) → msg ≡ told.Level mps base inc → CanBeRead (message_of msg) → base < 2 ^ 63
 base_told msg mps base inc e h =
-    let k : CanBeRead (says.Level mps base inc) = subst (λ (x : IfaceMsg). CanBeRead (message_of x)) e h in
+    let k : CanBeRead (says.Level mps base inc) = subst (λ (x : CodeIfaceMsg). CanBeRead (message_of x)) e h in
     omega (arith, base_read mps base inc k)
 
-pub time_told : (msg : IfaceMsg) (z : ℤ) → msg ≡ told.Time z → CanBeRead (message_of msg) → FitsSigned w64 (of_centis (to_z w64 (of_z w64 z)))
+pub time_told : (msg : CodeIfaceMsg) (z : ℤ) → msg ≡ told.Time z → CanBeRead (message_of msg) → FitsSigned w64 (of_centis (to_z w64 (of_z w64 z)))
 time_told msg z e h =
-    let k : CanBeRead (says.Time z) = subst (λ (x : IfaceMsg). CanBeRead (message_of x)) e h in
+    let k : CanBeRead (says.Time z) = subst (λ (x : CodeIfaceMsg). CanBeRead (message_of x)) e h in
     rw (to_z-of_z w64 z (number_fits z (time_read z k))) (clock_fits z (time_read z k))
 
-pub other_time_told : (msg : IfaceMsg) (z : ℤ) → msg ≡ told.Otim z → CanBeRead (message_of msg) → FitsSigned w64 (of_centis (to_z w64 (of_z w64 z)))
+pub other_time_told : (msg : CodeIfaceMsg) (z : ℤ) → msg ≡ told.Otim z → CanBeRead (message_of msg) → FitsSigned w64 (of_centis (to_z w64 (of_z w64 z)))
 other_time_told msg z e h =
-    let k : CanBeRead (says.Otim z) = subst (λ (x : IfaceMsg). CanBeRead (message_of x)) e h in
+    let k : CanBeRead (says.Otim z) = subst (λ (x : CodeIfaceMsg). CanBeRead (message_of x)) e h in
     rw (to_z-of_z w64 z (number_fits z (other_time_read z k))) (clock_fits z (other_time_read z k))
 
 -- the clocks after a message

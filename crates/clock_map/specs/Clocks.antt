@@ -1,6 +1,6 @@
 -- The clocks after the messages of the interface. All times are in milliseconds.
 use Rattle.std.specs.Prelude.{ℕ, ◌<◌, ◌^◌, ◌==◌, if◌then◌else◌, ℤ, pos, negsuc, ◌*ℤ◌, max, Option, Some, None}
-use Rattle.cecp_lines.specs.Messages.{Message, Level, St, Sd, Time, Otim}
+use Rattle.cecp_lines.specs.Messages.{IfaceMsg, Level, St, Sd, Time, Otim}
 use Rattle.cecp_lines.specs.Reading.{CanBeRead}
 use Rattle.clock_map.specs.declared.clocks.Clocks.{Clocks}
 use Rattle.clock_map.specs.declared.clocks.Control.{Control}
@@ -43,7 +43,7 @@ limit depth = if depth == 0 then None else Some depth
 abbrev pub of_centis : ℤ → ℤ
 of_centis n = pos 10 *ℤ n
 
-abbrev pub after_message : Clocks → Message → Clocks
+abbrev pub after_message : Clocks → IfaceMsg → Clocks
 after_message c (Level mps base_ms inc_ms) = after_level c mps base_ms inc_ms
 after_message c (St ms) = with_control c (Fixed ms)
 after_message c (Sd n) = with_depth c (limit n)
@@ -84,7 +84,7 @@ pub record AreShort (c : Clocks) : Type 0 where
 
 -- The messages of lines keep them so.
 abbrev pub StayShort : Type 0
-StayShort = (c : Clocks) (m : Message) → AreShort c → CanBeRead m → AreShort (after_message c m)
+StayShort = (c : Clocks) (m : IfaceMsg) → AreShort c → CanBeRead m → AreShort (after_message c m)
 
 abbrev pub StayShortAtNew : Type 0
 StayShortAtNew = (c : Clocks) → AreShort c → AreShort (after_new c)

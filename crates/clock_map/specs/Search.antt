@@ -6,8 +6,8 @@ use Rattle.peer_words.specs.declared.kinds.GoKind.{GoKind}
 use Rattle.peer_words.specs.declared.kinds.GoKind.TheVariants.{Move, Ponder, Analyse}
 use Rattle.uci_lines.specs.declared.orders.GoControl.{GoControl}
 use Rattle.uci_lines.specs.declared.orders.GoControl.TheVariants.{Infinite, MoveTime, Clock}
-use Rattle.uci_lines.specs.Orders.{Command, Go, command_text}
-use Rattle.uci_lines.specs.Asked.{SpellsOrder}
+use Rattle.uci_lines.specs.Orders.{Order, Go, order_text}
+use Rattle.uci_lines.specs.OrderReading.{SpellsOrder}
 use Rattle.clock_map.specs.declared.clocks.Clocks.{Clocks}
 use Rattle.clock_map.specs.declared.clocks.Control.{Control}
 use Rattle.clock_map.specs.declared.clocks.Control.TheVariants.{Session, Fixed}
@@ -27,18 +27,18 @@ time_of Session c side plies = times_of c side plies
 time_of (Fixed time) c side plies = MoveTime (max time 1)
 
 -- The order for a search of this side after so many plies. For pondering the hint is one of them.
-abbrev pub search_order : Clocks → Side → ℕ → GoKind → Command
+abbrev pub search_order : Clocks → Side → ℕ → GoKind → Order
 search_order c side plies Move = Go false (time_of c.control c side plies) c.depth
 search_order c side plies Ponder = Go true (time_of c.control c side plies) c.depth
 search_order c side plies Analyse = Go false Infinite None
 
 -- Such an order may be written, and its text is what the line of it is read back from.
 abbrev pub AreSpelled : Type 0
-AreSpelled = (c : Clocks) (side : Side) (plies : ℕ) (kind : GoKind) → AreShort c → SpellsOrder (command_text (search_order c side plies kind)) (search_order c side plies kind)
+AreSpelled = (c : Clocks) (side : Side) (plies : ℕ) (kind : GoKind) → AreShort c → SpellsOrder (order_text (search_order c side plies kind)) (search_order c side plies kind)
 
 -- how long its text is at most
 abbrev pub most : ℕ
 most = 113
 
 abbrev pub AreFewBytes : Type 0
-AreFewBytes = (c : Clocks) (side : Side) (plies : ℕ) (kind : GoKind) → AreShort c → length (command_text (search_order c side plies kind)) ≤ most
+AreFewBytes = (c : Clocks) (side : Side) (plies : ℕ) (kind : GoKind) → AreShort c → length (order_text (search_order c side plies kind)) ≤ most

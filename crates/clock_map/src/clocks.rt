@@ -4,9 +4,9 @@ ghost use Rattle.std.specs.Int.{w64};
 ghost use Rattle.line_io.specs.Out.{with};
 ghost use Rattle.cecp_lines.specs.Messages.{message_of};
 ghost use Rattle.cecp_lines.specs.Reading.{CanBeRead};
-ghost use Rattle.uci_lines.specs.Orders.{command_of, command_text};
+ghost use Rattle.uci_lines.specs.Orders.{order_of, order_text};
 ghost use Rattle.clock_map.specs.Clocks.{AreShort, first_clocks, after_message, after_new, at_least_one, limit, of_centis};
-ghost use Rattle.uci_lines.specs.Asked.{SpellsOrder};
+ghost use Rattle.uci_lines.specs.OrderReading.{SpellsOrder};
 ghost use Rattle.clock_map.specs.Search.{moves_to_go, times_of, time_of, search_order};
 
 use cecp_lines::IfaceMsg;
@@ -170,7 +170,7 @@ impl Clocks {
 
     /// The order for a search by this side.
     fn search(&self, side: Side, plies: u32, kind: GoKind) -> Order<'static>
-        ensures { command_of result ≡ search_order self.now side plies kind }
+        ensures { order_of result ≡ search_order self.now side plies kind }
     {
         match kind {
             GoKind::Move => Order::Go {
@@ -194,9 +194,12 @@ impl Clocks {
     /// Writes the `go` line for a search by the side on move, which the engine has, in a position after so many
     /// plies, with no line feed. For pondering the hint is one of the plies.
     pub fn write_go(&self, side: Side, plies: u32, kind: GoKind, out: &mut Out)
-        requires { length out.old.text + length (command_text (search_order self.now side plies kind)) ≤ out.old.room }
-        ensures text { out.new ≡ with out.old (command_text (search_order self.now side plies kind)) }
-        ensures spelled { AreShort self.now → SpellsOrder (command_text (search_order self.now side plies kind)) (search_order self.now side plies kind) }
+        requires { length out.old.text
+            + length (order_text (search_order self.now side plies kind)) ≤ out.old.room }
+        ensures text { out.new ≡ with out.old (order_text (search_order self.now side plies kind)) }
+        ensures spelled { AreShort self.now
+            → SpellsOrder (order_text (search_order self.now side plies kind))
+            (search_order self.now side plies kind) }
     {
         write_order(&self.search(side, plies, kind), out);
     }

@@ -3,21 +3,21 @@ use Rattle.std.proofs.Common.{◌≡◌, Bool, true, false, cond, ◌&&◌, ◌|
 use Rattle.std.specs.Option.{is_some}
 use Rattle.chess_board.specs.declared.board.Move.{Move}
 use Rattle.chess_board.specs.Board.{same_side}
-use Rattle.cecp_lines.specs.Messages.{Message}
+use Rattle.cecp_lines.specs.Messages.{IfaceMsg}
 use Rattle.cecp_lines.specs.Messages as says
-use Rattle.uci_lines.specs.Orders.{Command}
+use Rattle.uci_lines.specs.Orders.{Order}
 use Rattle.option_map.specs.Shown.{check_named}
-use Rattle.game_record.specs.Course.{now_of}
+use Rattle.game_record.specs.Game.{now_of}
 use Rattle.game_record.specs.Ending.{has_legal}
 use Rattle.search_epochs.specs.declared.words.Call.TheVariants as calls
 use Rattle.desk_rules.specs.declared.mode.Mode.{Mode}
 use Rattle.desk_rules.specs.declared.mode.Mode.TheVariants as modes
 use Rattle.desk_rules.specs.declared.desk.Desk.{Desk}
-use Rattle.desk_rules.specs.Desk.{Here, is_boot, is_gone, is_full, owes_move, on_move, played, has_ended, table, ponder_name, call_of, call_in, call_while_waiting, call_for_hint}
+use Rattle.desk_rules.specs.Desk.{Situation, is_boot, is_gone, is_full, owes_move, on_move, played, has_ended, table, ponder_name, call_of, call_in, call_while_waiting, call_for_hint}
 use Rattle.desk_rules.specs.Lines.{asks, change, is_epoch_line}
-use Rattle.desk_rules.specs.Steps.{Deed, Accepts, Shows, desk_after_deed, rises}
+use Rattle.desk_rules.specs.Steps.{Effect, Accepts, Shows, desk_after_effect, begins_epoch}
 
-changed : (boot : Bool) (d : Desk) (owes : Bool) (a : Option Command) (m : Message) → is_epoch_line owes a m ≡ false → (change boot d m).hint ≡ d.hint
+changed : (boot : Bool) (d : Desk) (owes : Bool) (a : Option Order) (m : IfaceMsg) → is_epoch_line owes a m ≡ false → (change boot d m).hint ≡ d.hint
 unfolding change is_epoch_line
 changed boot d owes a says.New r = cc
 changed boot d owes a (says.UserMove m) r = cc
@@ -26,8 +26,8 @@ changed boot d owes a says.Remove r = cc
 changed boot d owes a (says.SetBoard text) r = cc
 changed boot d owes a m r = refl
 
-pub hint_kept : (h : Here) (d : Deed) → rises h d ≡ false → (desk_after_deed h d).hint ≡ h.desk.hint
-unfolding desk_after_deed
+pub hint_kept : (h : Situation) (d : Effect) → begins_epoch h d ≡ false → (desk_after_effect h d).hint ≡ h.desk.hint
+unfolding desk_after_effect
 hint_kept h (Accepts m) r = changed (is_boot h.engine) h.desk (owes_move h) (asks (is_gone h.engine) h.desk m) m r
 hint_kept h (Shows best hint) r = cc
 hint_kept h d r = refl

@@ -1,4 +1,4 @@
-pub mod Deeds
+pub mod Effects
 pub mod Passes
 pub mod Joins
 pub mod Waits

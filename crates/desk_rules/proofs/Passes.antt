@@ -3,27 +3,27 @@ use Rattle.std.proofs.Common.{◌≡◌, ℕ, ◌<◌, ◌≤◌, List, length, 
 use Rattle.std.proofs.lemmas.Bool.Decides.{nat_tests}
 use Rattle.chess_board.specs.Place.{legal}
 use Rattle.peer_words.specs.declared.kinds.GoKind.{GoKind}
-use Rattle.cecp_lines.specs.Messages.{Message}
+use Rattle.cecp_lines.specs.Messages.{IfaceMsg}
 use Rattle.cecp_lines.specs.Messages as says
 use Rattle.cecp_lines.specs.Reading.{CanBeRead}
 use Rattle.cecp_lines.specs.declared.reply.Reason.{Reason}
 use Rattle.cecp_lines.specs.declared.reply.Reason.TheVariants as reasons
 use Rattle.cecp_lines.proofs.Spellings.{reading_spells}
-use Rattle.uci_lines.specs.Orders.{Command}
-use Rattle.game_record.specs.Course.{now_of}
+use Rattle.uci_lines.specs.Orders.{Order}
+use Rattle.game_record.specs.Game.{now_of}
 use Rattle.think_text.proofs.Legal.{is_legal}
 use Rattle.option_map.specs.Asked.{asked}
 use Rattle.search_epochs.specs.declared.words.Call.{Call}
 use Rattle.search_epochs.specs.declared.words.Call.TheVariants as calls
-use Rattle.search_epochs.specs.Talk.{Serves}
-use Rattle.desk_rules.specs.declared.deed.Refusal.{Refusal}
+use Rattle.search_epochs.specs.Tickets.{Serves}
+use Rattle.desk_rules.specs.declared.effect.Refusal.{Refusal}
 use Rattle.desk_rules.specs.declared.desk.Desk.{Desk}
-use Rattle.desk_rules.specs.Desk.{Here, table, analyses, is_gone, is_full, plies, call_of, call_in, current}
+use Rattle.desk_rules.specs.Desk.{Situation, table, analyses, is_gone, is_full, plies, call_of, call_in, current}
 use Rattle.desk_rules.specs.Lines.{asks, or_else, where_true, needs_engine, needs_analysis, lacks_moves, illegal_move, move_too_many, illegal_position, refused_option, does_not_fit, pings_too_often, refusal}
 use Rattle.desk_rules.specs.Fits.{IsAccepted, IsServed, CanChange, CanEnter}
 
 -- the tests that it passed
-pub record Passes (h : Here) (held : List Command) (m : Message) : Type 0 where
+pub record Passes (h : Situation) (held : List Order) (m : IfaceMsg) : Type 0 where
   pub moves : lacks_moves h.desk.game m ≡ false
   pub legal : illegal_move h.desk.game m ≡ None
   pub few : move_too_many h.desk.game m ≡ None
@@ -72,7 +72,7 @@ all_none a b c d e f g h i x =
       ninth = then_none h i x8;
     }
 
-pub passes : (h : Here) (held : List Command) (m : Message) → refusal h held m ≡ None → Passes h held m
+pub passes : (h : Situation) (held : List Order) (m : IfaceMsg) → refusal h held m ≡ None → Passes h held m
 unfolding refusal
 passes h held m e =
     let unfit = does_not_fit held (asks (is_gone h.engine) h.desk m) in
@@ -105,11 +105,11 @@ below n e = grind (arith, nat_tests)
 least : (n k : ℕ) → nat_lt n k ≡ false → k ≤ n
 least n k e = grind (arith, nat_tests)
 
-pub can_enter : (h : Here) (held : List Command) (m : Message) → Passes h held m → CanEnter h.desk.game m
+pub can_enter : (h : Situation) (held : List Order) (m : IfaceMsg) → Passes h held m → CanEnter h.desk.game m
 can_enter h held (says.UserMove m) p = is_legal (now_of h.desk.game) m (legal_of (legal (now_of h.desk.game) m) _ p.legal)
 can_enter h held m p = tt
 
-pub can_change : (h : Here) (held : List Command) (m : Message) → length h.desk.pings ≤ 64 → IsAccepted h held m → CanChange h.desk m
+pub can_change : (h : Situation) (held : List Order) (m : IfaceMsg) → length h.desk.pings ≤ 64 → IsAccepted h held m → CanChange h.desk m
 can_change h held (says.UserMove m) l a =
     let p = passes h held (says.UserMove m) a.passes in
     (can_enter h held (says.UserMove m) p, below (plies h.desk.game) (few_of (is_full h.desk.game) _ p.few))
@@ -118,7 +118,7 @@ can_change h held says.Remove l a = least (plies h.desk.game) 2 (passes h held s
 can_change h held (says.Ping n) l a = omega arith
 can_change h held m l a = tt
 
-pub can_read : (h : Here) (held : List Command) (m : Message) → IsAccepted h held m → CanBeRead m
+pub can_read : (h : Situation) (held : List Order) (m : IfaceMsg) → IsAccepted h held m → CanBeRead m
 can_read h held m a = (a.line, reading_spells a.line m a.reads)
 
 -- where a search is served, the game is not full
@@ -135,5 +135,5 @@ not_full : (closed gone : Bool) (d : Desk) (k : GoKind) → Serves k (call_of cl
 unfolding call_of
 not_full closed gone d k s = below (plies d.game) (last_false closed gone (is_full d.game) (served_short (closed || gone || is_full d.game) (call_in d d.mode) k s))
 
-pub served_few : (h : Here) (k : GoKind) → IsServed h → h.closed ≡ false → current h.engine ≡ Some k → plies h.desk.game < 12000
+pub served_few : (h : Situation) (k : GoKind) → IsServed h → h.closed ≡ false → current h.engine ≡ Some k → plies h.desk.game < 12000
 served_few h k s c e = not_full h.closed (is_gone h.engine) h.desk k (s c k e)

@@ -7,14 +7,15 @@ use Rattle.std.proofs.lemmas.Bool.Decides.{nat_tests}
 use Rattle.line_io.specs.Event.{is_line, has_feed}
 use Rattle.line_io.specs.Out.{Text, with}
 use Rattle.chess_board.specs.declared.board.Move.{Move}
-use Rattle.chess_board.specs.Placement.{Placement}
+use Rattle.chess_board.specs.Position.{Position}
 use Rattle.peer_words.specs.Tokens.{is_white, is_blank, trim_left, trim_right, trimmed}
-use Rattle.cecp_lines.specs.Replies.{Told, Pong, Fits, borrowed, told_text}
+use Rattle.cecp_lines.specs.Replies.{Reply, Pong, Fits, borrowed, reply_text}
 use Rattle.cecp_lines.proofs.Lengths.{told_short}
-use Rattle.uci_lines.specs.Says.{Facts, Info}
+use Rattle.uci_lines.specs.Info.{Info as AnyInfo}
+use Rattle.uci_lines.specs.Messages.{Info}
 use Rattle.think_text.specs.Line.{thinking_line, with_line, HasRoom}
 use Rattle.option_map.specs.Settings.{Setting, text_size}
-use Rattle.feature_talk.specs.Features.{feature_list, told_line, told_lines}
+use Rattle.feature_talk.specs.Features.{feature_list, reply_line, reply_lines}
 use Rattle.feature_talk.proofs.Lists.{short_list}
 use Rattle.desk_rules.specs.Fits.{IsSaid}
 use Rattle.think_text.proofs.Short.{lines_short}
@@ -30,40 +31,40 @@ right_le (x ∷ xs) = elim (is_blank (x ∷ xs)) as (λ b. length (cond b [] (x 
 pub trimmed_le : (xs : List ℕ) → length (trimmed xs) ≤ length xs
 trimmed_le xs = omega (arith, left_le xs, right_le (trim_left xs))
 
-pub pong_le : (n : ℕ) → n < 2 ^ 32 → length (told_line (Pong n)) ≤ 16
+pub pong_le : (n : ℕ) → n < 2 ^ 32 → length (reply_line (Pong n)) ≤ 16
 pong_le n h =
     let short = length-decimal-le 10 n (lit< tt) (omega arith) (omega arith) in
     omega (arith, length-append (decimal n) (10 ∷ []))
 
 -- LINES ONE BY ONE
 
-pub lines-one : (t : Told) → told_lines (t ∷ []) ≡ told_line t
-lines-one t = append-nil (told_line t)
+pub lines-one : (t : Reply) → reply_lines (t ∷ []) ≡ reply_line t
+lines-one t = append-nil (reply_line t)
 
-pub lines-append : (ts us : List Told) → told_lines (ts ++ us) ≡ told_lines ts ++ told_lines us
+pub lines-append : (ts us : List Reply) → reply_lines (ts ++ us) ≡ reply_lines ts ++ reply_lines us
 lines-append [] us = refl
-lines-append (t ∷ ts) us = ap (λ l. told_line t ++ l) (lines-append ts us) ∙ sym (append_assoc (told_line t) (told_lines ts) (told_lines us))
+lines-append (t ∷ ts) us = ap (λ l. reply_line t ++ l) (lines-append ts us) ∙ sym (append_assoc (reply_line t) (reply_lines ts) (reply_lines us))
 
 -- a reply that borrows nothing
-pub brief_le : (t : Told) → Fits t → borrowed t ≡ 0 → length (told_line t) ≤ 129
-brief_le t f b = omega (arith, told_short t f, b, length-append (told_text t) (10 ∷ []))
+pub brief_le : (t : Reply) → Fits t → borrowed t ≡ 0 → length (reply_line t) ≤ 129
+brief_le t f b = omega (arith, told_short t f, b, length-append (reply_text t) (10 ∷ []))
 
 -- as much as a line, and as its list
-pub one_line : (old new : Text) (t : Told) → new ≡ with old (told_line t) → new ≡ with old (told_lines (t ∷ []))
+pub one_line : (old new : Text) (t : Reply) → new ≡ with old (reply_line t) → new ≡ with old (reply_lines (t ∷ []))
 one_line old new t e = e ∙ ap (λ (l : List ℕ). with old l) (sym (lines-one t))
 
-pub one_le : (n : ℕ) (t : Told) → length (told_line t) ≤ n → length (told_lines (t ∷ [])) ≤ n
+pub one_le : (n : ℕ) (t : Reply) → length (reply_line t) ≤ n → length (reply_lines (t ∷ [])) ≤ n
 one_le n t h = omega (arith, h, ap length (lines-one t))
 
 -- a reply and its line feed
-pub line_put : (old mid new : Text) (t : Told) → mid ≡ with old (told_text t) → new ≡ with mid (10 ∷ []) → new ≡ with old (told_line t)
-line_put old mid new t e f = f ∙ ap (λ (x : Text). with x (10 ∷ [])) e ∙ ap (λ (l : List ℕ). let x : Text = record { text = l; room = old.room } in x) (append_assoc old.text (told_text t) (10 ∷ []))
+pub line_put : (old mid new : Text) (t : Reply) → mid ≡ with old (reply_text t) → new ≡ with mid (10 ∷ []) → new ≡ with old (reply_line t)
+line_put old mid new t e f = f ∙ ap (λ (x : Text). with x (10 ∷ [])) e ∙ ap (λ (l : List ℕ). let x : Text = record { text = l; room = old.room } in x) (append_assoc old.text (reply_text t) (10 ∷ []))
 
 -- two puts in a row
-pub two_lines : (old mid new : Text) (ts us : List Told) → mid ≡ with old (told_lines ts) → new ≡ with mid (told_lines us) → new ≡ with old (told_lines (ts ++ us))
+pub two_lines : (old mid new : Text) (ts us : List Reply) → mid ≡ with old (reply_lines ts) → new ≡ with mid (reply_lines us) → new ≡ with old (reply_lines (ts ++ us))
 two_lines old mid new ts us e f =
-    f ∙ ap (λ (t : Text). with t (told_lines us)) e
-    ∙ ap (λ (l : List ℕ). let t : Text = record { text = l; room = old.room } in t) (append_assoc old.text (told_lines ts) (told_lines us) ∙ ap (λ l. old.text ++ l) (sym (lines-append ts us)))
+    f ∙ ap (λ (t : Text). with t (reply_lines us)) e
+    ∙ ap (λ (l : List ℕ). let t : Text = record { text = l; room = old.room } in t) (append_assoc old.text (reply_lines ts) (reply_lines us) ∙ ap (λ l. old.text ++ l) (sym (lines-append ts us)))
 
 -- how much was put
 pub put_le : (old new : Text) (piece : List ℕ) (n : ℕ) → new ≡ with old piece → length piece ≤ n → (length new.text ≤ length old.text + n) × (new.room ≡ old.room)
@@ -71,7 +72,7 @@ put_le old new piece n e h = (omega (arith, h, ap (λ (t : Text). length t.text)
 
 -- LISTS AND THINKING
 
-pub list_le : (os : List Setting) (said : List ℕ) → text_size os ≤ 65536 → length os ≤ 256 → length (told_lines (feature_list os said)) ≤ 67000
+pub list_le : (os : List Setting) (said : List ℕ) → text_size os ≤ 65536 → length os ≤ 256 → length (reply_lines (feature_list os said)) ≤ 67000
 list_le os said h k = omega (arith, h, k, short_list os said)
 
 pub line_le : (line : List ℕ) → is_line line ≡ true → length line ≤ 65536
@@ -80,22 +81,22 @@ line_le line h = first (length line) (not (has_feed line)) h where
   first n true h = grind (arith, nat_tests)
   first n false h = grind (arith, nat_tests)
 
-thought_le : (o : Option Told) → ((t : Told) → o ≡ Some t → length (told_text t) ≤ 128 + 65536) → length (told_lines (option_to_list o)) ≤ 65700
+thought_le : (o : Option Reply) → ((t : Reply) → o ≡ Some t → length (reply_text t) ≤ 128 + 65536) → length (reply_lines (option_to_list o)) ≤ 65700
 thought_le None h = omega arith
-thought_le (Some t) h = omega (arith, h t refl, ap length (lines-one t), length-append (told_text t) (10 ∷ []))
+thought_le (Some t) h = omega (arith, h t refl, ap length (lines-one t), length-append (reply_text t) (10 ∷ []))
 
 -- the room for a thinking line
-pub thought_room : (out : Text) (o : Option Told) → length (told_lines (option_to_list o)) ≤ 65700 → length out.text + 65700 ≤ out.room → HasRoom out o
+pub thought_room : (out : Text) (o : Option Reply) → length (reply_lines (option_to_list o)) ≤ 65700 → length out.text + 65700 ≤ out.room → HasRoom out o
 thought_room out None h r = tt
-thought_room out (Some t) h r = omega (arith, h, r, ap length (lines-one t), length-append (told_text t) (10 ∷ []))
+thought_room out (Some t) h r = omega (arith, h, r, ap length (lines-one t), length-append (reply_text t) (10 ∷ []))
 
 -- and for its line feed
-pub feed_room : (old new : Text) (o : Option Told) → new ≡ with_line old o → is_some o ≡ true → length (told_lines (option_to_list o)) ≤ 65700 → length old.text + 65700 ≤ old.room → length new.text + 1 ≤ new.room
+pub feed_room : (old new : Text) (o : Option Reply) → new ≡ with_line old o → is_some o ≡ true → length (reply_lines (option_to_list o)) ≤ 65700 → length old.text + 65700 ≤ old.room → length new.text + 1 ≤ new.room
 feed_room old new None e s h r = absurd (cc)
 feed_room old new (Some t) e s h r =
-    omega (arith, h, r, ap (λ (x : Text). length x.text) e, ap (λ (x : Text). x.room) e, length-append old.text (told_text t), ap length (lines-one t), length-append (told_text t) (10 ∷ []))
+    omega (arith, h, r, ap (λ (x : Text). length x.text) e, ap (λ (x : Text). x.room) e, length-append old.text (reply_text t), ap length (lines-one t), length-append (reply_text t) (10 ∷ []))
 
-pub thinking_le : (facts : Facts) (p : Placement) (hint : Option Move) → IsSaid (Info facts) → length (told_lines (option_to_list (thinking_line facts p hint))) ≤ 65700
+pub thinking_le : (facts : AnyInfo) (p : Position) (hint : Option Move) → IsSaid (Info facts) → length (reply_lines (option_to_list (thinking_line facts p hint))) ≤ 65700
 thinking_le facts p hint s = thought_le (thinking_line facts p hint) (λ t e. let l = line_le s.line s.is_line in omega (arith, lines_short s.line facts p hint t s.says e))
 
 -- PONGS
@@ -105,12 +106,12 @@ map-append [] ms = refl
 map-append (n ∷ ns) ms = ap (λ l. Pong n ∷ l) (map-append ns ms)
 
 -- one pong more
-pub pong_more : (start ns : List ℕ) (i : ℕ) → i < length ns → (start ++ told_lines (map Pong (take i ns))) ++ told_line (Pong (get_or ns i 0)) ≡ start ++ told_lines (map Pong (take (i + 1) ns))
+pub pong_more : (start ns : List ℕ) (i : ℕ) → i < length ns → (start ++ reply_lines (map Pong (take i ns))) ++ reply_line (Pong (get_or ns i 0)) ≡ start ++ reply_lines (map Pong (take (i + 1) ns))
 pong_more start ns i h =
-    append_assoc start (told_lines (map Pong (take i ns))) (told_line (Pong (get_or ns i 0)))
+    append_assoc start (reply_lines (map Pong (take i ns))) (reply_line (Pong (get_or ns i 0)))
     ∙ ap (λ l. start ++ l) (
-    ap (λ l. told_lines (map Pong (take i ns)) ++ l) (sym (append-nil (told_line (Pong (get_or ns i 0)))))
+    ap (λ l. reply_lines (map Pong (take i ns)) ++ l) (sym (append-nil (reply_line (Pong (get_or ns i 0)))))
     ∙ sym (lines-append (map Pong (take i ns)) (Pong (get_or ns i 0) ∷ []))
-    ∙ ap told_lines (sym (map-append (take i ns) (get_or ns i 0 ∷ [])))
-    ∙ ap (λ l. told_lines (map Pong l)) (sym (take_more ns i 0 h))
+    ∙ ap reply_lines (sym (map-append (take i ns) (get_or ns i 0 ∷ [])))
+    ∙ ap (λ l. reply_lines (map Pong l)) (sym (take_more ns i 0 h))
     )

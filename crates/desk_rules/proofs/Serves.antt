@@ -3,28 +3,28 @@ use Rattle.std.proofs.Common.{◌≡◌, ℕ, Bool, true, false, not, cond, ◌&
 use Rattle.std.specs.Option.{is_some}
 use Rattle.chess_board.specs.declared.board.Move.{Move}
 use Rattle.chess_board.specs.Board.{same_side}
-use Rattle.uci_lines.specs.Orders.{Command}
-use Rattle.game_record.specs.Course.{now_of}
+use Rattle.uci_lines.specs.Orders.{Order}
+use Rattle.game_record.specs.Game.{now_of}
 use Rattle.game_record.specs.Ending.{has_legal}
 use Rattle.peer_words.specs.declared.kinds.GoKind.{GoKind}
-use Rattle.cecp_lines.specs.Messages.{Message}
+use Rattle.cecp_lines.specs.Messages.{IfaceMsg}
 use Rattle.cecp_lines.specs.Messages as says
 use Rattle.option_map.specs.Shown.{check_named}
 use Rattle.search_epochs.specs.declared.words.Call.{Call}
 use Rattle.search_epochs.specs.declared.words.Call.TheVariants as calls
 use Rattle.search_epochs.specs.declared.words.EngineState.{EngineState}
 use Rattle.search_epochs.specs.declared.words.EngineState.TheVariants as states
-use Rattle.search_epochs.specs.Talk.{is_move, Serves}
+use Rattle.search_epochs.specs.Tickets.{is_move, Serves}
 use Rattle.desk_rules.specs.declared.mode.Mode.{Mode}
 use Rattle.desk_rules.specs.declared.mode.Mode.TheVariants as modes
 use Rattle.desk_rules.specs.declared.desk.Desk.{Desk}
-use Rattle.desk_rules.specs.Desk.{Here, call_of, call_in, call_while_waiting, call_for_hint, call_before, current, is_gone, is_boot, is_getting, is_full, table, ponder_name, has_ended, on_move, played, owes_move, owed_at}
+use Rattle.desk_rules.specs.Desk.{Situation, call_of, call_in, call_while_waiting, call_for_hint, call_before, current, is_gone, is_boot, is_getting, is_full, table, ponder_name, has_ended, on_move, played, owes_move, owed_at}
 use Rattle.desk_rules.specs.Lines.{asks, change, is_epoch_line}
-use Rattle.desk_rules.specs.Steps.{Deed, Nothing, Opens, LongLine, Refuses, Accepts, Names, Declares, Boots, Readies, Thinks, Shows, Forfeits, Answers, Dies, desk_after_deed, rises, call_after}
+use Rattle.desk_rules.specs.Steps.{Effect, Nothing, Opens, LongLine, Refuses, Accepts, Names, Declares, Boots, Readies, Thinks, Shows, Forfeits, Answers, Dies, desk_after_effect, begins_epoch, call_after}
 use Rattle.desk_rules.specs.Fits.{Fits}
 
--- a deed that leaves an open search open
-abbrev pub IsNoAnswer : Deed → Type 0
+-- an effect that leaves an open search open
+abbrev pub IsNoAnswer : Effect → Type 0
 IsNoAnswer (Shows m hint) = ⊥
 IsNoAnswer Forfeits = ⊥
 IsNoAnswer Answers = ⊥
@@ -111,12 +111,12 @@ owed_move true c e = cc
 owed_move false c e = is_move_call c e
 
 -- `hard` and `easy` while a Move is owed
-told_pondering : (h : Here) (k : GoKind) (b : Bool) → not (owes_move h) ≡ false → Serves k (call_before h) → Serves k (call_of h.closed (is_gone h.engine) (record h.desk { pondering = b }))
+told_pondering : (h : Situation) (k : GoKind) (b : Bool) → not (owes_move h) ≡ false → Serves k (call_before h) → Serves k (call_of h.closed (is_gone h.engine) (record h.desk { pondering = b }))
 told_pondering h k b r s =
     let p : call_before h ≡ calls.Move = owed_move h.spent (call_before h) (not_false (owes_move h) r) in
     subst (Serves k) (p ∙ sym (move_stays h.closed (is_gone h.engine) h.desk b p)) s
 
-line_serves : (h : Here) (m : Message) (k : GoKind) → is_epoch_line (owes_move h) (asks (is_gone h.engine) h.desk m) m ≡ false → Serves k (call_before h) → Serves k (call_of h.closed (is_gone h.engine) (change (is_boot h.engine) h.desk m))
+line_serves : (h : Situation) (m : IfaceMsg) (k : GoKind) → is_epoch_line (owes_move h) (asks (is_gone h.engine) h.desk m) m ≡ false → Serves k (call_before h) → Serves k (call_of h.closed (is_gone h.engine) (change (is_boot h.engine) h.desk m))
 unfolding change is_epoch_line call_of
 line_serves h says.New k r s = cc
 line_serves h says.Force k r s = cc
@@ -141,8 +141,8 @@ as_gone : (k : GoKind) (c : Bool) (g : Bool) (d : Desk) → Serves k (call_of c 
 as_gone k c g d s = subst (λ (b : Bool). Serves k (call_of c b d)) (or_false g) s
 
 -- the call goes on to be served
-pub still_serves : (h : Here) (held : List Command) (d : Deed) (k : GoKind) → Fits h held d → IsNoAnswer d → rises h d ≡ false → current h.engine ≡ Some k → Serves k (call_before h) → Serves k (call_after h.closed h d)
-unfolding desk_after_deed
+pub still_serves : (h : Situation) (held : List Order) (d : Effect) (k : GoKind) → Fits h held d → IsNoAnswer d → begins_epoch h d ≡ false → current h.engine ≡ Some k → Serves k (call_before h) → Serves k (call_after h.closed h d)
+unfolding desk_after_effect
 still_serves h held (Accepts m) k f n r c s = as_gone k h.closed (is_gone h.engine) (change (is_boot h.engine) h.desk m) (line_serves h m k r s)
 still_serves h held Nothing k f n r c s = as_gone k h.closed (is_gone h.engine) h.desk s
 still_serves h held Opens k f n r c s = as_gone k h.closed (is_gone h.engine) h.desk s
@@ -152,7 +152,7 @@ still_serves h held (Names x) k f n r c s = absurd (not_boot h.engine k c f.1)
 still_serves h held (Declares x y) k f n r c s = absurd (not_boot h.engine k c f.1)
 still_serves h held Boots k f n r c s = absurd (not_boot h.engine k c f.1)
 still_serves h held Readies k f n r c s = absurd (not_getting h.engine k c f.1)
-still_serves h held (Thinks g i) k f n r c s = as_gone k h.closed (is_gone h.engine) (desk_after_deed h (Thinks g i)) (unfold call_of in s)
+still_serves h held (Thinks g i) k f n r c s = as_gone k h.closed (is_gone h.engine) (desk_after_effect h (Thinks g i)) (unfold call_of in s)
 still_serves h held (Shows m hint) k f n r c s = absurd n
 still_serves h held Forfeits k f n r c s = absurd n
 still_serves h held Answers k f n r c s = absurd n

@@ -3,16 +3,16 @@ use Rattle.std.proofs.Common.{◌≡◌, ℕ, List, Bool, true, false, cond, Opt
 use Rattle.std.specs.Prelude.{IfSome}
 use Rattle.chess_board.specs.declared.board.Move.{Move}
 use Rattle.chess_board.specs.Place.{legal}
-use Rattle.chess_board.specs.Placement.{Placement}
+use Rattle.chess_board.specs.Position.{Position}
 use Rattle.fen_text.specs.declared.fault.FenFault.{FenFault}
 use Rattle.fen_text.specs.Fen.{position_of}
-use Rattle.cecp_lines.specs.Messages.{Message}
+use Rattle.cecp_lines.specs.Messages.{IfaceMsg}
 use Rattle.cecp_lines.specs.Messages as says
 use Rattle.cecp_lines.specs.Reading.{CanBeRead}
 use Rattle.cecp_lines.specs.Replies.{IsWritable}
 use Rattle.cecp_lines.proofs.Spellings.{reading_spells}
-use Rattle.uci_lines.specs.Orders.{Command}
-use Rattle.game_record.specs.Course.{Course, ply_of, now_of, IsPlayable}
+use Rattle.uci_lines.specs.Orders.{Order}
+use Rattle.game_record.specs.Game.{Game, ply_of, now_of, IsPlayable}
 use Rattle.clock_map.specs.declared.clocks.Clocks.{Clocks}
 use Rattle.clock_map.specs.Clocks.{AreShort, after_new}
 use Rattle.clock_map.proofs.Messages.{stay_short}
@@ -21,28 +21,28 @@ use Rattle.think_text.specs.Kept.{nothing_seen}
 use Rattle.think_text.proofs.Legal.{is_legal, stays_writable}
 use Rattle.option_map.proofs.Usable.{stay_declared}
 use Rattle.desk_rules.specs.declared.desk.Desk.{Desk}
-use Rattle.desk_rules.specs.Desk.{Here, is_boot, played}
+use Rattle.desk_rules.specs.Desk.{Situation, is_boot, played}
 use Rattle.desk_rules.specs.Lines.{change, at_position}
-use Rattle.desk_rules.specs.Steps.{Deed, Accepts, Declares, Thinks, Shows, hint_after, searched_by, desk_after_deed, desk_after, clears_seen, rises}
+use Rattle.desk_rules.specs.Steps.{Effect, Accepts, Declares, Thinks, Shows, hint_after, searched_by, desk_after_effect, desk_after, clears_seen, begins_epoch}
 use Rattle.desk_rules.specs.Fits.{Fits, IsSound}
 
 -- a hint that counts can be played
-hint_counts : (g : Course) (m : Move) (b : Bool) → legal (now_of g) m ≡ b → IfSome (cond b (Some m) None) (λ m. IsPlayable (now_of g) (ply_of m))
+hint_counts : (g : Game) (m : Move) (b : Bool) → legal (now_of g) m ≡ b → IfSome (cond b (Some m) None) (λ m. IsPlayable (now_of g) (ply_of m))
 hint_counts g m true e = is_legal (now_of g) m e
 hint_counts g m false e = tt
 
-hint_sound : (g : Course) (hint : Option Move) → IfSome (hint_after g hint) (λ m. IsPlayable (now_of g) (ply_of m))
+hint_sound : (g : Game) (hint : Option Move) → IfSome (hint_after g hint) (λ m. IsPlayable (now_of g) (ply_of m))
 hint_sound g None = tt
 hint_sound g (Some m) = hint_counts g m (legal (now_of g) m) refl
 
 new_short : (c : Clocks) → AreShort c → AreShort (after_new c)
 new_short c s = record { control = s.control; moves = s.moves; base = s.base; increment = s.increment; depth = tt; engine = s.base; opponent = s.base }
 
-position_sound : (d : Desk) (r : Result Placement FenFault) → IsSound d → IsSound (at_position d r)
+position_sound : (d : Desk) (r : Result Position FenFault) → IsSound d → IsSound (at_position d r)
 position_sound d (Ok p) s = record { hint = tt; clocks = s.clocks; current = s.current; options = s.options }
 position_sound d (Err fault) s = s
 
-change_sound : (boot : Bool) (d : Desk) (m : Message) → CanBeRead m → IsSound d → IsSound (change boot d m)
+change_sound : (boot : Bool) (d : Desk) (m : IfaceMsg) → CanBeRead m → IsSound d → IsSound (change boot d m)
 unfolding change
 change_sound boot d says.New r s = record { hint = tt; clocks = new_short d.clocks s.clocks; current = s.current; options = s.options }
 change_sound boot d (says.UserMove m) r s = record { hint = tt; clocks = s.clocks; current = s.current; options = s.options }
@@ -57,9 +57,9 @@ change_sound boot d (says.Time n) r s = record { hint = s.hint; clocks = stay_sh
 change_sound boot d (says.Otim n) r s = record { hint = s.hint; clocks = stay_short d.clocks (says.Otim n) s.clocks r; current = s.current; options = s.options }
 change_sound boot d m r s = record { hint = s.hint; clocks = s.clocks; current = s.current; options = s.options }
 
--- after a deed
-pub stays_sound : (h : Here) (held : List Command) (d : Deed) → IsSound h.desk → Fits h held d → IsSound (desk_after_deed h d)
-unfolding desk_after_deed
+-- after an effect
+pub stays_sound : (h : Situation) (held : List Order) (d : Effect) → IsSound h.desk → Fits h held d → IsSound (desk_after_effect h d)
+unfolding desk_after_effect
 stays_sound h held (Accepts m) s f = change_sound (is_boot h.engine) h.desk m (f.line, reading_spells f.line m f.reads) s
 stays_sound h held (Declares name shape) s f =
     record { hint = s.hint; clocks = s.clocks; current = s.current; options = stay_declared h.desk.options f.2.line name shape s.options f.2.is_line f.2.says }
@@ -73,7 +73,7 @@ cleared_sound true seen s = tt
 cleared_sound false seen s = s
 
 -- after the step
-pub step_sound : (closed owes hits : Bool) (h : Here) (held : List Command) (d : Deed) → IsSound h.desk → Fits h held d → IsSound (desk_after closed owes hits h d)
+pub step_sound : (closed owes hits : Bool) (h : Situation) (held : List Order) (d : Effect) → IsSound h.desk → Fits h held d → IsSound (desk_after closed owes hits h d)
 step_sound closed owes hits h held d s f =
     let t = stays_sound h held d s f in
-    record { hint = t.hint; clocks = t.clocks; current = cleared_sound (clears_seen (rises h d) hits) (desk_after_deed h d).seen t.current; options = t.options }
+    record { hint = t.hint; clocks = t.clocks; current = cleared_sound (clears_seen (begins_epoch h d) hits) (desk_after_effect h d).seen t.current; options = t.options }

@@ -3,13 +3,13 @@ use Rattle.std.proofs.Common.{◌≡◌, ℕ, ◌≤◌, List, [], ◌∷◌, �
 use Rattle.std.specs.List.{AllByRecursion}
 use Rattle.std.specs.Option.{option_to_list, option_map}
 use Rattle.line_io.specs.Event.{is_line}
-use Rattle.cecp_lines.specs.Messages.{Message}
+use Rattle.cecp_lines.specs.Messages.{IfaceMsg}
 use Rattle.cecp_lines.specs.Messages as says
 use Rattle.cecp_lines.specs.Reading.{reading}
 use Rattle.uci_lines.specs.Written.{is_text}
-use Rattle.uci_lines.specs.Orders.{Command}
+use Rattle.uci_lines.specs.Orders.{Order}
 use Rattle.uci_lines.specs.Orders as orders
-use Rattle.uci_lines.specs.Asked.{is_order}
+use Rattle.uci_lines.specs.OrderReading.{is_order}
 use Rattle.option_map.specs.declared.fault.OptFault.{OptFault}
 use Rattle.option_map.specs.declared.fault.OptFault.TheVariants.{UnknownOption, BadValue}
 use Rattle.option_map.specs.Names.{same_text, is_hidden}
@@ -21,18 +21,18 @@ use Rattle.option_map.specs.Settings.{Setting, Kind, Spin, Text, found}
 use Rattle.option_map.specs.Asked.{set_found, set_by, set_to, value_by, is_button, clamped, clamped_by, path_for, path_by}
 use Rattle.option_map.proofs.Orders.{all_stay}
 use Rattle.option_map.proofs.Asking.{asked_spelled, switches_spelled}
-use Rattle.search_epochs.specs.Talk.{AllSetup, Word}
+use Rattle.search_epochs.specs.Tickets.{AllSetup, Word}
 use Rattle.desk_rules.specs.declared.desk.Desk.{Desk}
-use Rattle.desk_rules.specs.Desk.{Here, table, analyses, is_gone, ponder_name, analyse_name}
+use Rattle.desk_rules.specs.Desk.{Situation, table, analyses, is_gone, ponder_name, analyse_name}
 use Rattle.desk_rules.specs.Lines.{switch_text, switches, tells, asks_for_mode, asked_by, asks_of, asks}
-use Rattle.desk_rules.specs.Steps.{Deed, Accepts, Boots}
-use Rattle.desk_rules.specs.Orders.{ponder_at_boot, analysis_at_boot, asked_by_deed, waiting, word_of, IsHeld, AreHeld}
+use Rattle.desk_rules.specs.Steps.{Effect, Accepts, Boots}
+use Rattle.desk_rules.specs.Orders.{ponder_at_boot, analysis_at_boot, asked_by_effect, waiting, word_of, IsHeld, AreHeld}
 use Rattle.desk_rules.specs.Fits.{Fits, IsSound}
 
 -- SETTINGS
 
 -- a new game, or the value of an option
-abbrev IsSetting : Command → Type 0
+abbrev IsSetting : Order → Type 0
 IsSetting orders.NewGame = Unit {0}
 IsSetting (orders.SetOption name value) = Unit {0}
 IsSetting order = ⊥
@@ -49,7 +49,7 @@ set_option : (o : Setting) (value : Option (List ℕ)) → IfSome (asked_by (set
 set_option o None = set_button o.name (is_button o.kind)
 set_option o (Some value) = set_value o.name (value_by o.kind value)
 
-unless_hidden : (b : Bool) (r : Result (Option Command) OptFault) → IfSome (asked_by r) IsSetting → IfSome (asked_by (cond b (Err UnknownOption) r)) IsSetting
+unless_hidden : (b : Bool) (r : Result (Option Order) OptFault) → IfSome (asked_by r) IsSetting → IfSome (asked_by (cond b (Err UnknownOption) r)) IsSetting
 unless_hidden true r i = tt
 unless_hidden false r i = i
 
@@ -73,18 +73,18 @@ set_path : (o : Option Setting) (path : List ℕ) → IfSome (path_for o path) I
 set_path None path = tt
 set_path (Some o) path = set_text o.name o.kind path
 
-where_some : (P : Command → Type 0) (b : Bool) (o : Option Command) → IfSome o P → IfSome (cond b o None) P
+where_some : (P : Order → Type 0) (b : Bool) (o : Option Order) → IfSome o P → IfSome (cond b o None) P
 where_some P true o h = h
 where_some P false o h = tt
 
-asked_sets : (os : List Setting) (m : Message) → IfSome (asked_by (asked os m)) IsSetting
+asked_sets : (os : List Setting) (m : IfaceMsg) → IfSome (asked_by (asked os m)) IsSetting
 asked_sets os (says.SetOption name value) = set_named (found name os) value
 asked_sets os (says.Memory n) = set_number (found (codes "Hash") os) n
 asked_sets os (says.Cores n) = set_number (found (codes "Threads") os) n
 asked_sets os (says.EgtPath kind path) = where_some IsSetting (same_text (codes "nalimov") kind) (path_for (found (codes "NalimovPath") os) path) (set_path (found (codes "NalimovPath") os) path)
 asked_sets os m = tt
 
-setting_held : (o : Command) → IsSetting o → is_order o ≡ true → IsHeld o
+setting_held : (o : Order) → IsSetting o → is_order o ≡ true → IsHeld o
 setting_held orders.NewGame s e = tt
 setting_held (orders.SetOption name value) s e = e
 setting_held orders.Uci s e = absurd s
@@ -122,14 +122,14 @@ mode_held os true false d = told_held os analyse_name false d
 mode_held os true true d = tt
 mode_held os false false d = tt
 
-set_held : (os : List Setting) (line : List ℕ) (m : Message) → AreDeclared os → is_line line ≡ true → reading line ≡ Ok m → IfSome (asked_by (asked os m)) IsHeld
+set_held : (os : List Setting) (line : List ℕ) (m : IfaceMsg) → AreDeclared os → is_line line ≡ true → reading line ≡ Ok m → IfSome (asked_by (asked os m)) IsHeld
 set_held os line m d l r = by_answer (asked os m) refl (asked_sets os m) where
-  by_answer : (a : Result (Option Command) OptFault) → asked os m ≡ a → IfSome (asked_by a) IsSetting → IfSome (asked_by a) IsHeld
+  by_answer : (a : Result (Option Order) OptFault) → asked os m ≡ a → IfSome (asked_by a) IsSetting → IfSome (asked_by a) IsHeld
   by_answer (Ok None) e s = tt
   by_answer (Ok (Some order)) e s = setting_held order s (asked_spelled os line m order d l r e).fits
   by_answer (Err fault) e s = tt
 
-desk_held : (d : Desk) (line : List ℕ) (m : Message) → AreDeclared (table d) → is_line line ≡ true → reading line ≡ Ok m → IfSome (asks_of d m) IsHeld
+desk_held : (d : Desk) (line : List ℕ) (m : IfaceMsg) → AreDeclared (table d) → is_line line ≡ true → reading line ≡ Ok m → IfSome (asks_of d m) IsHeld
 desk_held d line says.New o l r = tt
 desk_held d line says.Force o l r = mode_held (table d) (analyses d.mode) false o
 desk_held d line says.Go o l r = mode_held (table d) (analyses d.mode) false o
@@ -145,40 +145,40 @@ table_declared : (b : Bool) (os : List Setting) → AreDeclared os → AreDeclar
 table_declared true os d = d
 table_declared false os d = tt
 
-gone_held : (gone : Bool) (o : Option Command) → IfSome o IsHeld → IfSome (cond gone None o) IsHeld
+gone_held : (gone : Bool) (o : Option Order) → IfSome o IsHeld → IfSome (cond gone None o) IsHeld
 gone_held true o h = tt
 gone_held false o h = h
 
-asks_held : (gone : Bool) (d : Desk) (line : List ℕ) (m : Message) → AreDeclared d.options → is_line line ≡ true → reading line ≡ Ok m → IfSome (asks gone d m) IsHeld
+asks_held : (gone : Bool) (d : Desk) (line : List ℕ) (m : IfaceMsg) → AreDeclared d.options → is_line line ≡ true → reading line ≡ Ok m → IfSome (asks gone d m) IsHeld
 unfolding asks
 asks_held gone d line m o l r = gone_held gone (asks_of d m) (desk_held d line m (table_declared d.booted d.options o) l r)
 
 -- WHAT WAITS
 
-one_held : (o : Option Command) → IfSome o IsHeld → AreHeld (option_to_list o)
+one_held : (o : Option Order) → IfSome o IsHeld → AreHeld (option_to_list o)
 one_held None h = tt
 one_held (Some order) h = (h, tt)
 
-two_held : (a b : Option Command) → IfSome a IsHeld → IfSome b IsHeld → AreHeld (option_to_list a ++ option_to_list b)
+two_held : (a b : Option Order) → IfSome a IsHeld → IfSome b IsHeld → AreHeld (option_to_list a ++ option_to_list b)
 two_held None None f g = tt
 two_held None (Some y) f g = (g, tt)
 two_held (Some x) None f g = (f, tt)
 two_held (Some x) (Some y) f g = (f, (g, tt))
 
--- what a deed asks may be held
-pub asked_held : (h : Here) (held : List Command) (d : Deed) → IsSound h.desk → Fits h held d → AreHeld (asked_by_deed h d)
-unfolding asked_by_deed
+-- what an effect asks may be held
+pub asked_held : (h : Situation) (held : List Order) (d : Effect) → IsSound h.desk → Fits h held d → AreHeld (asked_by_effect h d)
+unfolding asked_by_effect
 asked_held h held (Accepts m) s f = one_held (asks (is_gone h.engine) h.desk m) (asks_held (is_gone h.engine) h.desk f.line m s.options f.is_line f.reads)
 asked_held h held Boots s f =
     two_held (ponder_at_boot h.desk) (analysis_at_boot h.desk) (told_held h.desk.options ponder_name h.desk.pondering s.options)
     (where_some IsHeld (analyses h.desk.mode) (tells h.desk.options analyse_name true) (told_held h.desk.options analyse_name true s.options))
 asked_held h held d s f = tt
 
--- what waits after a deed may be held
-pub all_held : (h : Here) (held : List Command) (d : Deed) → IsSound h.desk → Fits h held d → AreHeld held → AreHeld (waiting h held d)
-all_held h held d s f a = all_stay IsHeld held (asked_by_deed h d) a (asked_held h held d s f)
+-- what waits after an effect may be held
+pub all_held : (h : Situation) (held : List Order) (d : Effect) → IsSound h.desk → Fits h held d → AreHeld held → AreHeld (waiting h held d)
+all_held h held d s f a = all_stay IsHeld held (asked_by_effect h d) a (asked_held h held d s f)
 
-held_word : (o : Command) (ws : List Word) → IsHeld o → AllSetup ws → AllSetup (word_of o ∷ ws)
+held_word : (o : Order) (ws : List Word) → IsHeld o → AllSetup ws → AllSetup (word_of o ∷ ws)
 held_word orders.NewGame ws h a = a
 held_word (orders.SetOption name value) ws h a = a
 held_word orders.Uci ws h a = absurd h
@@ -190,6 +190,6 @@ held_word orders.PonderHit ws h a = absurd h
 held_word orders.Quit ws h a = absurd h
 
 -- to the dialogue it is what is set up
-pub all_setup : (os : List Command) → AreHeld os → AllSetup (map word_of os)
+pub all_setup : (os : List Order) → AreHeld os → AllSetup (map word_of os)
 all_setup [] a = tt
 all_setup (o ∷ os) a = held_word o (map word_of os) a.0 (all_setup os a.1)

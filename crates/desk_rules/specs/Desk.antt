@@ -10,7 +10,7 @@ use Rattle.peer_words.specs.declared.kinds.GoKind.{GoKind}
 use Rattle.game_record.specs.declared.game.TheConstants.{MOST_PLIES}
 use Rattle.game_record.specs.declared.ending.End.{End}
 use Rattle.game_record.specs.declared.ending.End.TheVariants as ends
-use Rattle.game_record.specs.Course.{Course, ply_of, begun, with_ply, now_of}
+use Rattle.game_record.specs.Game.{Game, ply_of, begun, with_ply, now_of}
 use Rattle.game_record.specs.Ending.{has_legal, ended_of}
 use Rattle.clock_map.specs.Clocks.{first_clocks}
 use Rattle.think_text.specs.Kept.{nothing_seen}
@@ -21,11 +21,11 @@ use Rattle.search_epochs.specs.declared.words.Call.{Call}
 use Rattle.search_epochs.specs.declared.words.Call.TheVariants as calls
 use Rattle.search_epochs.specs.declared.words.EngineState.{EngineState}
 use Rattle.search_epochs.specs.declared.words.EngineState.TheVariants as states
-use Rattle.search_epochs.specs.Talk.{is_move}
+use Rattle.search_epochs.specs.Tickets.{is_move}
 use Rattle.desk_rules.specs.declared.mode.Mode.{Mode}
 use Rattle.desk_rules.specs.declared.mode.Mode.TheVariants as modes
 use Rattle.desk_rules.specs.declared.desk.Desk.{Desk}
-use Rattle.desk_rules.specs.declared.deed.Sight.{Sight}
+use Rattle.desk_rules.specs.declared.effect.Context.{Context}
 
 -- the standard start, the engine plays Black, no pondering, five minutes for the game
 abbrev pub opening_desk : Desk
@@ -62,20 +62,20 @@ abbrev pub other : Side → Side
 other White = Black
 other Black = White
 
-abbrev pub on_move : Course → Side
+abbrev pub on_move : Game → Side
 on_move g = (now_of g).side
 
-abbrev pub plies : Course → ℕ
+abbrev pub plies : Game → ℕ
 plies g = length g.moves
 
 -- no further move can be kept
-abbrev pub is_full : Course → Bool
+abbrev pub is_full : Game → Bool
 is_full g = nat_le MOST_PLIES (plies g)
 
-abbrev pub played : Course → Move → Course
+abbrev pub played : Game → Move → Game
 played g m = with_ply g (ply_of m)
 
-abbrev pub has_ended : Course → Bool
+abbrev pub has_ended : Game → Bool
 has_ended g = is_some (ended_of g)
 
 -- it has ended since the side on move has no legal move
@@ -93,7 +93,7 @@ abbrev pub analyse_name : List ℕ
 analyse_name = codes "UCI_AnalyseMode"
 
 -- the hint is pondered on, where the game after it has not ended
-abbrev pub call_for_hint : Course → Option Move → Call
+abbrev pub call_for_hint : Game → Option Move → Call
 call_for_hint g None = calls.Nothing
 call_for_hint g (Some h) = if has_ended (played g h) then calls.Nothing else calls.Ponder h
 
@@ -113,7 +113,7 @@ call_of closed gone d = if closed || gone || is_full d.game then calls.Nothing e
 
 -- What stands when an event comes: the desk, the engine (a search is stale where its ticket is not the epoch), whether the call is
 -- spent, what the policy says of the scores, and whether thinking lines are shown while pondering.
-pub record Here : Type 0 where
+pub record Situation : Type 0 where
   pub closed : Bool
   pub engine : EngineState
   pub spent : Bool
@@ -124,7 +124,7 @@ pub record Here : Type 0 where
   pub show_ponder : Bool
 
 -- the same, of what is seen beside the desk
-abbrev pub at : Sight → Desk → Here
+abbrev pub at : Context → Desk → Situation
 at s d = record { closed = s.closed; engine = s.engine; spent = s.spent; desk = d; resigns = s.resigns; accepts = s.accepts; show_ponder = s.show_ponder }
 
 abbrev pub is_gone : EngineState → Bool
@@ -144,12 +144,12 @@ abbrev pub current : EngineState → Option GoKind
 current (states.Search k false stopped) = Some k
 current e = None
 
-abbrev pub call_before : Here → Call
+abbrev pub call_before : Situation → Call
 call_before h = call_of h.closed (is_gone h.engine) h.desk
 
 abbrev pub owed_at : Bool → Call → Call
 owed_at spent call = if spent then calls.Nothing else call
 
 -- a Move is owed when the event comes
-abbrev pub owes_move : Here → Bool
+abbrev pub owes_move : Situation → Bool
 owes_move h = is_move (owed_at h.spent (call_before h))

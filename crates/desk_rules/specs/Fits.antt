@@ -1,22 +1,23 @@
--- What holds of the desk between steps, and what a deed tells.
+-- What holds of the desk between steps, and what an effect tells.
 use Rattle.std.specs.Prelude.{◌≡◌, ◌⊎◌, ℕ, List, [], ◌∷◌, ◌*◌, ◌<◌, ◌≤◌, length, true, false, Some, None, IfSome, Ok}
 use Rattle.line_io.specs.Event.{Event, is_line}
 use Rattle.line_io.specs.Event as events
 use Rattle.chess_board.specs.Place.{legal}
 use Rattle.peer_words.specs.declared.kinds.GoKind.{GoKind}
 use Rattle.peer_words.specs.declared.kinds.GoKind.TheVariants as kinds
-use Rattle.cecp_lines.specs.Messages.{Message}
+use Rattle.cecp_lines.specs.Messages.{IfaceMsg}
 use Rattle.cecp_lines.specs.Messages as says
 use Rattle.cecp_lines.specs.Reading.{reading}
 use Rattle.cecp_lines.specs.Replies.{IsWritable}
-use Rattle.uci_lines.specs.Says.{Says, Facts, Shape}
-use Rattle.uci_lines.specs.Says as hears
+use Rattle.uci_lines.specs.Info.{Info}
+use Rattle.uci_lines.specs.Messages.{EngineMsg, OptionKind}
+use Rattle.uci_lines.specs.Messages as hears
 use Rattle.uci_lines.specs.Engine.{engine_message}
 use Rattle.game_record.specs.declared.game.TheConstants.{MOST_PLIES}
-use Rattle.game_record.specs.Course.{Course, ply_of, now_of, IsPlayable}
+use Rattle.game_record.specs.Game.{Game, ply_of, now_of, IsPlayable}
 use Rattle.clock_map.specs.Clocks.{AreShort}
 use Rattle.option_map.specs.Held.{batch_text}
-use Rattle.uci_lines.specs.Orders.{Command, NewGame}
+use Rattle.uci_lines.specs.Orders.{Order, NewGame}
 use Rattle.option_map.specs.Spelled.{AreDeclared}
 use Rattle.search_epochs.specs.declared.words.Call.{Call}
 use Rattle.search_epochs.specs.declared.words.Call.TheVariants as calls
@@ -24,13 +25,13 @@ use Rattle.search_epochs.specs.declared.words.EngineState.{EngineState}
 use Rattle.search_epochs.specs.declared.words.EngineState.TheVariants as states
 use Rattle.search_epochs.specs.declared.words.Orders.{Orders}
 use Rattle.search_epochs.specs.declared.words.Orders.TheVariants as chosen
-use Rattle.search_epochs.specs.Talk.{Serves}
-use Rattle.desk_rules.specs.declared.deed.Refusal.{Refusal}
-use Rattle.desk_rules.specs.declared.deed.Refusal.TheVariants as refusals
+use Rattle.search_epochs.specs.Tickets.{Serves}
+use Rattle.desk_rules.specs.declared.effect.Refusal.{Refusal}
+use Rattle.desk_rules.specs.declared.effect.Refusal.TheVariants as refusals
 use Rattle.desk_rules.specs.declared.desk.Desk.{Desk}
-use Rattle.desk_rules.specs.Desk.{Here, is_boot, is_getting, is_gone, current, call_before, plies}
+use Rattle.desk_rules.specs.Desk.{Situation, is_boot, is_getting, is_gone, current, call_before, plies}
 use Rattle.desk_rules.specs.Lines.{refusal}
-use Rattle.desk_rules.specs.Steps.{Deed, Refuses, Accepts, Names, Declares, Boots, Readies, Thinks, Shows, Forfeits, Answers, Dies}
+use Rattle.desk_rules.specs.Steps.{Effect, Refuses, Accepts, Names, Declares, Boots, Readies, Thinks, Shows, Forfeits, Answers, Dies}
 
 -- the line of an event is a line that a peer may send
 abbrev pub IsLineEvent : Event → Type 0
@@ -57,13 +58,13 @@ IsTellable (refusals.GameTooLong m) = IsWritable m
 IsTellable refusals.IllegalPosition = Unit {0}
 
 -- some line of the interface says this
-pub record IsRead (m : Message) : Type 0 where
+pub record IsRead (m : IfaceMsg) : Type 0 where
   pub line : List ℕ
   pub is_line : is_line line ≡ true
   pub reads : reading line ≡ Ok m
 
 -- the line of an accepted message
-pub record IsAccepted (h : Here) (held : List Command) (m : Message) : Type 0 where
+pub record IsAccepted (h : Situation) (held : List Order) (m : IfaceMsg) : Type 0 where
   pub line : List ℕ
   pub is_line : is_line line ≡ true
   pub reads : reading line ≡ Ok m
@@ -71,12 +72,12 @@ pub record IsAccepted (h : Here) (held : List Command) (m : Message) : Type 0 wh
   pub passes : refusal h held m ≡ None
 
 -- some line of the engine says this
-pub record IsSaid (m : Says) : Type 0 where
+pub record IsSaid (m : EngineMsg) : Type 0 where
   pub line : List ℕ
   pub is_line : is_line line ≡ true
   pub says : engine_message line ≡ m
 
-pub record IsRefused (h : Here) (r : Refusal) (line : List ℕ) : Type 0 where
+pub record IsRefused (h : Situation) (r : Refusal) (line : List ℕ) : Type 0 where
   pub is_open : h.closed ≡ false
   pub tellable : IsTellable r
   pub is_line : is_line line ≡ true
@@ -97,12 +98,12 @@ IsNoIfaceLine (events.Iface line) = ⊥
 IsNoIfaceLine e = Unit {0}
 
 -- no line is obeyed
-abbrev pub IsNoLine : Deed → Type 0
+abbrev pub IsNoLine : Effect → Type 0
 IsNoLine (Accepts m) = ⊥
 IsNoLine d = Unit {0}
 
--- what a deed tells of what stood when the event came
-abbrev pub Fits : Here → List Command → Deed → Type 0
+-- what an effect tells of what stood when the event came
+abbrev pub Fits : Situation → List Order → Effect → Type 0
 Fits h held (Refuses r line) = IsRefused h r line
 Fits h held (Accepts m) = IsAccepted h held m
 Fits h held (Names text) = (h.closed ≡ false) × (is_boot h.engine ≡ true)
@@ -117,15 +118,15 @@ Fits h held Dies = is_gone h.engine ≡ false
 Fits h held d = Unit {0}
 
 -- the same, whatever is held
-abbrev pub IsFit : Here → Deed → Type 0
-IsFit h d = (held : List Command) × Fits h held d
+abbrev pub IsFit : Situation → Effect → Type 0
+IsFit h d = (held : List Order) × Fits h held d
 
 -- a current search serves the call
-abbrev pub IsServed : Here → Type 0
+abbrev pub IsServed : Situation → Type 0
 IsServed h = h.closed ≡ false → (k : GoKind) → current h.engine ≡ Some k → Serves k (call_before h)
 
 -- what the desk needs to change as a message wants
-abbrev pub CanChange : Desk → Message → Type 0
+abbrev pub CanChange : Desk → IfaceMsg → Type 0
 CanChange d (says.UserMove m) = IsPlayable (now_of d.game) (ply_of m) × (plies d.game < MOST_PLIES)
 CanChange d says.Undo = 1 ≤ plies d.game
 CanChange d says.Remove = 2 ≤ plies d.game
@@ -133,29 +134,29 @@ CanChange d (says.Ping n) = length d.pings < 65
 CanChange d m = Unit {0}
 
 -- before `uciok` no more than a new game is held
-abbrev pub IsFirst : List Command → Type 0
+abbrev pub IsFirst : List Order → Type 0
 IsFirst held = (held ≡ []) ⊎ (held ≡ NewGame ∷ [])
 
--- what is held leaves room for the orders of a deed
-abbrev pub CanHold : List Command → Deed → Type 0
+-- what is held leaves room for the orders of an effect
+abbrev pub CanHold : List Order → Effect → Type 0
 CanHold held Boots = IsFirst held
 CanHold held d = Unit {0}
 
 -- at most so many orders, and 300 bytes for each
-abbrev pub AreFew : ℕ → List Command → Type 0
+abbrev pub AreFew : ℕ → List Order → Type 0
 AreFew n held = (length held ≤ n) × (length (batch_text held) ≤ 300 * n)
 
 -- a move that is entered can be played
-abbrev pub CanEnter : Course → Message → Type 0
+abbrev pub CanEnter : Game → IfaceMsg → Type 0
 CanEnter g (says.UserMove m) = IsPlayable (now_of g) (ply_of m)
 CanEnter g m = Unit {0}
 
 -- a move that is to be pondered on can be played
-abbrev pub CanSearch : Course → Call → Type 0
+abbrev pub CanSearch : Game → Call → Type 0
 CanSearch g (calls.Ponder h) = IsPlayable (now_of g) (ply_of h)
 CanSearch g c = Unit {0}
 
 -- the same of the orders that were chosen
-abbrev pub CanWrite : Course → Orders → Type 0
+abbrev pub CanWrite : Game → Orders → Type 0
 CanWrite g (chosen.Begin c) = CanSearch g c
 CanWrite g o = Unit {0}

@@ -3,19 +3,19 @@ use Rattle.std.specs.Prelude.{ℕ, List, [], ◌∷◌, ◌++◌, codes, Bool, t
 use Rattle.std.specs.Option.{is_some, option_map}
 use Rattle.chess_board.specs.declared.board.Side.TheVariants.{Black}
 use Rattle.chess_board.specs.Place.{legal}
-use Rattle.chess_board.specs.Placement.{Placement}
+use Rattle.chess_board.specs.Position.{Position}
 use Rattle.chess_board.specs.Play.{start_position}
 use Rattle.fen_text.specs.declared.fault.FenFault.{FenFault}
 use Rattle.fen_text.specs.Fen.{position_of}
-use Rattle.cecp_lines.specs.Messages.{Message}
+use Rattle.cecp_lines.specs.Messages.{IfaceMsg}
 use Rattle.cecp_lines.specs.Messages as says
 use Rattle.cecp_lines.specs.declared.iface.IfaceFault.{IfaceFault}
 use Rattle.cecp_lines.specs.declared.iface.IfaceFault.TheVariants as faults
 use Rattle.cecp_lines.specs.declared.reply.Reason.{Reason}
 use Rattle.cecp_lines.specs.declared.reply.Reason.TheVariants as reasons
-use Rattle.uci_lines.specs.Orders.{Command}
+use Rattle.uci_lines.specs.Orders.{Order}
 use Rattle.uci_lines.specs.Orders as orders
-use Rattle.game_record.specs.Course.{Course, begun, now_of, without_last}
+use Rattle.game_record.specs.Game.{Game, begun, now_of, without_last}
 use Rattle.clock_map.specs.Clocks.{after_message, after_new}
 use Rattle.option_map.specs.declared.fault.OptFault.{OptFault}
 use Rattle.option_map.specs.declared.fault.OptFault.TheVariants.{UnknownOption, BadValue}
@@ -26,10 +26,10 @@ use Rattle.option_map.specs.Held.{can_join}
 use Rattle.feature_talk.specs.Due.{due_after}
 use Rattle.desk_rules.specs.declared.mode.Mode.{Mode}
 use Rattle.desk_rules.specs.declared.mode.Mode.TheVariants as modes
-use Rattle.desk_rules.specs.declared.deed.Refusal.{Refusal}
-use Rattle.desk_rules.specs.declared.deed.Refusal.TheVariants as refusals
+use Rattle.desk_rules.specs.declared.effect.Refusal.{Refusal}
+use Rattle.desk_rules.specs.declared.effect.Refusal.TheVariants as refusals
 use Rattle.desk_rules.specs.declared.desk.Desk.{Desk}
-use Rattle.desk_rules.specs.Desk.{Here, table, analyses, is_full, is_gone, on_move, other, played, plies, owes_move, ponder_name, analyse_name}
+use Rattle.desk_rules.specs.Desk.{Situation, table, analyses, is_full, is_gone, on_move, other, played, plies, owes_move, ponder_name, analyse_name}
 
 -- WHAT A LINE ASKS
 
@@ -37,24 +37,24 @@ abbrev pub switch_text : Bool → List ℕ
 switch_text true = codes "true"
 switch_text false = codes "false"
 
-abbrev pub switches : Bool → List ℕ → Command
+abbrev pub switches : Bool → List ℕ → Order
 switches on name = orders.SetOption name (Some (switch_text on))
 
 -- the order that tells a check option, where it is declared
-abbrev pub tells : List Setting → List ℕ → Bool → Option Command
+abbrev pub tells : List Setting → List ℕ → Bool → Option Order
 tells os name on = option_map (switches on) (check_named name os)
 
 -- a line by which the mode enters or leaves Analyse asks for UCI_AnalyseMode
-abbrev pub asks_for_mode : List Setting → Bool → Bool → Option Command
+abbrev pub asks_for_mode : List Setting → Bool → Bool → Option Order
 asks_for_mode os false true = tells os analyse_name true
 asks_for_mode os true false = tells os analyse_name false
 asks_for_mode os before after = None
 
-abbrev pub asked_by : Answer (Option Command) OptFault → Option Command
+abbrev pub asked_by : Answer (Option Order) OptFault → Option Order
 asked_by (Ok order) = order
 asked_by (Err fault) = None
 
-abbrev pub asks_of : Desk → Message → Option Command
+abbrev pub asks_of : Desk → IfaceMsg → Option Order
 asks_of d says.New = Some orders.NewGame
 asks_of d says.Force = asks_for_mode (table d) (analyses d.mode) false
 asks_of d says.Go = asks_for_mode (table d) (analyses d.mode) false
@@ -67,7 +67,7 @@ asks_of d says.Easy = tells (table d) ponder_name false
 asks_of d m = asked_by (asked (table d) m)
 
 -- while the engine is Gone no line asks for anything
-unfoldable pub asks : Bool → Desk → Message → Option Command
+unfoldable pub asks : Bool → Desk → IfaceMsg → Option Order
 asks gone d m = if gone then None else asks_of d m
 
 -- REFUSALS
@@ -83,54 +83,54 @@ or_else (Some r) b = Some r
 abbrev pub where_true : Bool → Reason → Option Refusal
 where_true b r = if b then because r else None
 
-abbrev pub needs_engine : Message → Bool
+abbrev pub needs_engine : IfaceMsg → Bool
 needs_engine says.Go = true
 needs_engine says.PlayOther = true
 needs_engine says.Analyze = true
 needs_engine m = false
 
-abbrev pub needs_analysis : Message → Bool
+abbrev pub needs_analysis : IfaceMsg → Bool
 needs_analysis says.Exit = true
 needs_analysis says.Dot = true
 needs_analysis m = false
 
-abbrev pub lacks_moves : Course → Message → Bool
+abbrev pub lacks_moves : Game → IfaceMsg → Bool
 lacks_moves g says.Undo = nat_lt (plies g) 1
 lacks_moves g says.Remove = nat_lt (plies g) 2
 lacks_moves g m = false
 
-abbrev pub illegal_move : Course → Message → Option Refusal
+abbrev pub illegal_move : Game → IfaceMsg → Option Refusal
 illegal_move g (says.UserMove m) = if legal (now_of g) m then None else Some (refusals.IllegalMove m)
 illegal_move g m = None
 
-abbrev pub move_too_many : Course → Message → Option Refusal
+abbrev pub move_too_many : Game → IfaceMsg → Option Refusal
 move_too_many g (says.UserMove m) = if is_full g then Some (refusals.GameTooLong m) else None
 move_too_many g m = None
 
-abbrev pub no_position : Answer Placement FenFault → Option Refusal
+abbrev pub no_position : Answer Position FenFault → Option Refusal
 no_position (Ok p) = None
 no_position (Err fault) = Some refusals.IllegalPosition
 
-abbrev pub illegal_position : Message → Option Refusal
+abbrev pub illegal_position : IfaceMsg → Option Refusal
 illegal_position (says.SetBoard text) = no_position (position_of text)
 illegal_position m = None
 
-abbrev pub refused_option : Answer (Option Command) OptFault → Option Refusal
+abbrev pub refused_option : Answer (Option Order) OptFault → Option Refusal
 refused_option (Ok order) = None
 refused_option (Err UnknownOption) = because reasons.UnknownOption
 refused_option (Err BadValue) = because reasons.BadValue
 
 -- beside the held orders
-abbrev pub does_not_fit : List Command → Option Command → Bool
+abbrev pub does_not_fit : List Order → Option Order → Bool
 does_not_fit held None = false
 does_not_fit held (Some order) = not (can_join held order)
 
-abbrev pub pings_too_often : Here → Message → Bool
+abbrev pub pings_too_often : Situation → IfaceMsg → Bool
 pings_too_often h (says.Ping n) = owes_move h && nat_le 64 (length h.desk.pings)
 pings_too_often h m = false
 
 -- why a message is refused, if it is: the first that applies
-unfoldable pub refusal : Here → List Command → Message → Option Refusal
+unfoldable pub refusal : Situation → List Order → IfaceMsg → Option Refusal
 refusal h held m =
     or_else (where_true (needs_engine m && is_gone h.engine) reasons.EngineEnded)
     (or_else (where_true (needs_analysis m && not (analyses h.desk.mode)) reasons.NotAnalyzing)
@@ -145,13 +145,13 @@ refusal h held m =
 -- what is read of a line is refused or accepted
 pub data Verdict : Type 0 where
   Refused : Refusal → Verdict
-  Accepted : Message → Verdict
+  Accepted : IfaceMsg → Verdict
 
-abbrev pub judged : Message → Option Refusal → Verdict
+abbrev pub judged : IfaceMsg → Option Refusal → Verdict
 judged m None = Accepted m
 judged m (Some r) = Refused r
 
-unfoldable pub verdict : Here → List Command → Answer Message IfaceFault → Verdict
+unfoldable pub verdict : Situation → List Order → Answer IfaceMsg IfaceFault → Verdict
 verdict h held (Err faults.UnknownCommand) = Refused (refusals.Because reasons.UnknownCommand)
 verdict h held (Err faults.BadArgument) = Refused (refusals.Because reasons.BadArgument)
 verdict h held (Ok m) = judged m (refusal h held m)
@@ -159,7 +159,7 @@ verdict h held (Ok m) = judged m (refusal h held m)
 -- EPOCH LINES
 
 -- where a Move is owed or not before the line, and it asks this
-unfoldable pub is_epoch_line : Bool → Option Command → Message → Bool
+unfoldable pub is_epoch_line : Bool → Option Order → IfaceMsg → Bool
 is_epoch_line owes asked says.New = true
 is_epoch_line owes asked says.Force = true
 is_epoch_line owes asked says.Go = true
@@ -186,14 +186,14 @@ new_mode modes.Analyse = modes.Analyse
 new_mode m = modes.Plays Black
 
 -- the game changes, and the hint is lost
-abbrev pub with_game : Desk → Course → Desk
+abbrev pub with_game : Desk → Game → Desk
 with_game d g = record d { game = g; hint = None }
 
-abbrev pub at_position : Desk → Answer Placement FenFault → Desk
+abbrev pub at_position : Desk → Answer Position FenFault → Desk
 at_position d (Ok p) = with_game d (begun p)
 at_position d (Err fault) = d
 
-unfoldable pub change : Bool → Desk → Message → Desk
+unfoldable pub change : Bool → Desk → IfaceMsg → Desk
 change boot d (says.Protover n) = record d { due = due_after boot d.due }
 change boot d says.New = record d { game = begun start_position; hint = None; mode = new_mode d.mode; clocks = after_new d.clocks }
 change boot d says.Force = record d { mode = modes.Force }
@@ -219,7 +219,7 @@ change boot d (says.Ping n) = record d { pings = d.pings ++ n ∷ [] }
 change boot d m = d
 
 -- the scores of shown moves are cleared
-abbrev pub clears_scores : Message → Bool
+abbrev pub clears_scores : IfaceMsg → Bool
 clears_scores says.New = true
 clears_scores says.Go = true
 clears_scores says.PlayOther = true

@@ -3,16 +3,16 @@ use Rattle.std.specs.Prelude.{◌≡◌, ℕ, List, [], ◌∷◌, ◌++◌, map
 use Rattle.std.specs.Option.{option_to_list, option_map}
 use Rattle.std.specs.List.{AllByRecursion, join_with_byte}
 use Rattle.chess_board.specs.declared.board.Move.{Move}
-use Rattle.chess_board.specs.Placement.{Placement}
+use Rattle.chess_board.specs.Position.{Position}
 use Rattle.peer_words.specs.declared.kinds.GoKind.{GoKind}
 use Rattle.peer_words.specs.declared.kinds.GoKind.TheVariants as kinds
 use Rattle.fen_text.specs.Written.{written}
 use Rattle.uci_lines.specs.declared.orders.GoControl.{GoControl}
 use Rattle.uci_lines.specs.declared.orders.GoControl.TheVariants.{Infinite}
-use Rattle.uci_lines.specs.Orders.{Command}
+use Rattle.uci_lines.specs.Orders.{Order}
 use Rattle.uci_lines.specs.Orders as orders
-use Rattle.uci_lines.specs.Asked.{is_order}
-use Rattle.game_record.specs.Course.{Course}
+use Rattle.uci_lines.specs.OrderReading.{is_order}
+use Rattle.game_record.specs.Game.{Game}
 use Rattle.game_record.specs.Line.{ply_text, is_standard}
 use Rattle.clock_map.specs.Search.{search_order}
 use Rattle.option_map.specs.Held.{with_order, with_orders, can_join}
@@ -21,61 +21,61 @@ use Rattle.search_epochs.specs.declared.words.Call.{Call}
 use Rattle.search_epochs.specs.declared.words.Call.TheVariants as calls
 use Rattle.search_epochs.specs.declared.words.Orders.{Orders}
 use Rattle.search_epochs.specs.declared.words.Orders.TheVariants as chosen
-use Rattle.search_epochs.specs.Talk.{Word, kind_of}
-use Rattle.search_epochs.specs.Talk as word
-use Rattle.desk_rules.specs.declared.deed.Asks.{Asks}
-use Rattle.desk_rules.specs.declared.deed.Asks.TheVariants as asks
+use Rattle.search_epochs.specs.Tickets.{Word, kind_of}
+use Rattle.search_epochs.specs.Tickets as word
+use Rattle.desk_rules.specs.declared.effect.Asks.{Asks}
+use Rattle.desk_rules.specs.declared.effect.Asks.TheVariants as asks
 use Rattle.desk_rules.specs.declared.desk.Desk.{Desk}
-use Rattle.desk_rules.specs.Desk.{Here, is_gone, analyses, on_move, plies, played, ponder_name, analyse_name}
+use Rattle.desk_rules.specs.Desk.{Situation, is_gone, analyses, on_move, plies, played, ponder_name, analyse_name}
 use Rattle.desk_rules.specs.Lines.{tells, asks as asked_of}
-use Rattle.desk_rules.specs.Steps.{Deed, Accepts, Boots}
+use Rattle.desk_rules.specs.Steps.{Effect, Accepts, Boots}
 
 -- WAITING
 
 -- what is told when Boot is left: pondering, and the mode where the desk analyses
-abbrev pub ponder_at_boot : Desk → Option Command
+abbrev pub ponder_at_boot : Desk → Option Order
 ponder_at_boot d = tells d.options ponder_name d.pondering
 
-abbrev pub analysis_at_boot : Desk → Option Command
+abbrev pub analysis_at_boot : Desk → Option Order
 analysis_at_boot d = if analyses d.mode then tells d.options analyse_name true else None
 
 -- the orders that an event asks for, in turn
-unfoldable pub asked_by_deed : Here → Deed → List Command
-asked_by_deed h (Accepts m) = option_to_list (asked_of (is_gone h.engine) h.desk m)
-asked_by_deed h Boots = option_to_list (ponder_at_boot h.desk) ++ option_to_list (analysis_at_boot h.desk)
-asked_by_deed h d = []
+unfoldable pub asked_by_effect : Situation → Effect → List Order
+asked_by_effect h (Accepts m) = option_to_list (asked_of (is_gone h.engine) h.desk m)
+asked_by_effect h Boots = option_to_list (ponder_at_boot h.desk) ++ option_to_list (analysis_at_boot h.desk)
+asked_by_effect h d = []
 
 -- what is asked for as data
-abbrev pub orders_asked : Asks → List Command
+abbrev pub orders_asked : Asks → List Order
 orders_asked (asks.One order) = option_to_list (option_map setup_seen order)
 orders_asked (asks.Two first second) = option_to_list (option_map setup_seen first) ++ option_to_list (option_map setup_seen second)
 
 -- the orders that wait after an event
-abbrev pub waiting : Here → List Command → Deed → List Command
-waiting h held d = with_orders held (asked_by_deed h d)
+abbrev pub waiting : Situation → List Order → Effect → List Order
+waiting h held d = with_orders held (asked_by_effect h d)
 
 -- the orders may join one after the other
-abbrev pub AllJoin : List Command → List Command → Type 0
+abbrev pub AllJoin : List Order → List Order → Type 0
 AllJoin held [] = Unit {0}
 AllJoin held (order ∷ later) = (can_join held order ≡ true) × AllJoin (with_order held order) later
 
 -- the order may be written, and is a new game or sets an option
-abbrev pub IsHeld : Command → Type 0
+abbrev pub IsHeld : Order → Type 0
 IsHeld orders.NewGame = Unit {0}
 IsHeld (orders.SetOption name value) = is_order (orders.SetOption name value) ≡ true
 IsHeld order = ⊥
 
-abbrev pub AreHeld : List Command → Type 0
+abbrev pub AreHeld : List Order → Type 0
 AreHeld os = AllByRecursion IsHeld os
 
 -- SEARCHES
 
 -- the start of a game: none for the standard start
-abbrev pub start_of : Placement → Option (List ℕ)
+abbrev pub start_of : Position → Option (List ℕ)
 start_of p = if is_standard p then None else Some (written p)
 
 -- the position of a game: its start, and its moves with one blank between
-abbrev pub position_order : Course → Command
+abbrev pub position_order : Game → Order
 position_order g = orders.Position (start_of g.start) (join_with_byte 32 (map ply_text g.moves))
 
 -- the move that is pondered on
@@ -84,16 +84,16 @@ pondered (calls.Ponder h) = Some h
 pondered c = None
 
 -- the game whose position is searched: for pondering the hint is its last move
-abbrev pub searched : Course → Call → Course
+abbrev pub searched : Game → Call → Game
 searched g (calls.Ponder h) = played g h
 searched g c = g
 
 -- `position` and `go` for what is owed
-abbrev pub search_orders : Desk → Call → List Command
+abbrev pub search_orders : Desk → Call → List Order
 search_orders d c = position_order (searched d.game c) ∷ search_order d.clocks (on_move (searched d.game c)) (plies (searched d.game c)) (kind_of c) ∷ []
 
 -- the orders that were chosen
-abbrev pub order_list : List Command → Desk → Orders → List Command
+abbrev pub order_list : List Order → Desk → Orders → List Order
 order_list ws d chosen.None = []
 order_list ws d chosen.Batch = ws ++ orders.IsReady ∷ []
 order_list ws d (chosen.Begin c) = search_orders d c
@@ -109,7 +109,7 @@ kind_named false Infinite = kinds.Analyse
 kind_named false control = kinds.Move
 
 -- what an order is to the dialogue
-abbrev pub word_of : Command → Word
+abbrev pub word_of : Order → Word
 word_of orders.Uci = word.Uci
 word_of orders.IsReady = word.IsReady
 word_of orders.NewGame = word.Setup

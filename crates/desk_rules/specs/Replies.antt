@@ -7,18 +7,18 @@ use Rattle.chess_board.specs.declared.board.Side.TheVariants.{White, Black}
 use Rattle.peer_words.specs.declared.kinds.GoKind.{GoKind}
 use Rattle.peer_words.specs.declared.kinds.GoKind.TheVariants as kinds
 use Rattle.peer_words.specs.Tokens.{trimmed}
-use Rattle.cecp_lines.specs.Messages.{Message}
+use Rattle.cecp_lines.specs.Messages.{IfaceMsg}
 use Rattle.cecp_lines.specs.Messages as says
-use Rattle.cecp_lines.specs.Replies.{Told}
+use Rattle.cecp_lines.specs.Replies.{Reply}
 use Rattle.cecp_lines.specs.Replies as told
 use Rattle.cecp_lines.specs.declared.reply.Reason.TheVariants as reasons
-use Rattle.cecp_lines.specs.declared.reply.Tell.TheVariants as tell
+use Rattle.cecp_lines.specs.declared.reply.UserError.TheVariants as tell
 use Rattle.cecp_lines.specs.declared.reply.Outcome.{Outcome}
 use Rattle.cecp_lines.specs.declared.reply.Outcome.TheVariants as outcomes
-use Rattle.uci_lines.specs.Says.{Facts}
+use Rattle.uci_lines.specs.Info.{Info}
 use Rattle.game_record.specs.declared.ending.End.{End}
 use Rattle.game_record.specs.declared.ending.End.TheVariants as ends
-use Rattle.game_record.specs.Course.{Course, now_of}
+use Rattle.game_record.specs.Game.{Game, now_of}
 use Rattle.game_record.specs.Ending.{ended_of}
 use Rattle.think_text.specs.Line.{thinking_line}
 use Rattle.think_text.specs.Kept.{stat01_of}
@@ -26,19 +26,19 @@ use Rattle.feature_talk.specs.declared.talk.Say.{Say}
 use Rattle.feature_talk.specs.declared.talk.Say.TheVariants as say
 use Rattle.feature_talk.specs.Due.{answer}
 use Rattle.feature_talk.specs.Features.{feature_list}
-use Rattle.desk_rules.specs.declared.deed.Refusal.{Refusal}
-use Rattle.desk_rules.specs.declared.deed.Refusal.TheVariants as refusals
+use Rattle.desk_rules.specs.declared.effect.Refusal.{Refusal}
+use Rattle.desk_rules.specs.declared.effect.Refusal.TheVariants as refusals
 use Rattle.desk_rules.specs.declared.desk.Desk.{Desk}
-use Rattle.desk_rules.specs.Desk.{Here, table, plays, is_boot, on_move, played, has_ended}
+use Rattle.desk_rules.specs.Desk.{Situation, table, plays, is_boot, on_move, played, has_ended}
 use Rattle.desk_rules.specs.Lines.{change}
-use Rattle.desk_rules.specs.Steps.{Deed, LongLine, Refuses, Accepts, Boots, Thinks, Shows, Forfeits, Dies, desk_after_deed, searched_by, resigns_after, resigns_at_end}
+use Rattle.desk_rules.specs.Steps.{Effect, LongLine, Refuses, Accepts, Boots, Thinks, Shows, Forfeits, Dies, desk_after_effect, searched_by, resigns_after, resigns_at_end}
 
 -- what the line of `Error (line too long)` says in place of the line
 abbrev pub dots : List ℕ
 dots = codes "..."
 
 -- the text of a refused line
-abbrev pub refused : Refusal → List ℕ → Told
+abbrev pub refused : Refusal → List ℕ → Reply
 refused (refusals.Because reason) line = told.Error reason (trimmed line)
 refused (refusals.IllegalMove m) line = told.Illegal m
 refused (refusals.GameTooLong m) line = told.IllegalLong m
@@ -53,38 +53,38 @@ outcome_of s ends.Dead = outcomes.Dead
 outcome_of s ends.Repetition = outcomes.Repetition
 outcome_of s ends.Fifty = outcomes.Fifty
 
-abbrev pub result_by : Side → Option End → List Told
+abbrev pub result_by : Side → Option End → List Reply
 result_by s None = []
 result_by s (Some end) = told.Result (outcome_of s end) ∷ []
 
 -- the result, where the game has ended
-abbrev pub result_of : Course → List Told
+abbrev pub result_of : Game → List Reply
 result_of g = result_by (on_move g) (ended_of g)
 
 -- the result, where the desk plays
-abbrev pub result_at : Desk → List Told
+abbrev pub result_at : Desk → List Reply
 result_at d = if plays d.mode then result_of d.game else []
 
-abbrev pub not_yet : Told
+abbrev pub not_yet : Reply
 not_yet = told.Feature (codes "done") (codes "0")
 
 -- `protover` is answered by `done=0` in Boot, and later by the list
-abbrev pub protover_row : Say → Desk → List Told
+abbrev pub protover_row : Say → Desk → List Reply
 protover_row say.Wait d = not_yet ∷ []
 protover_row say.List d = feature_list (table d) d.name
 
-abbrev pub offer_where : Bool → List Told
+abbrev pub offer_where : Bool → List Reply
 offer_where b = if b then told.OfferDraw ∷ [] else []
 
 -- a draw is offered back where the desk plays a game that has not ended and the policy accepts
-abbrev pub draw_row : Here → List Told
+abbrev pub draw_row : Situation → List Reply
 draw_row h = offer_where (plays h.desk.mode && not (has_ended h.desk.game) && h.accepts)
 
-abbrev pub hint_row : Option Move → List Told
+abbrev pub hint_row : Option Move → List Reply
 hint_row None = []
 hint_row (Some m) = told.Hint m ∷ []
 
-unfoldable pub row_accepted : Here → Message → List Told
+unfoldable pub row_accepted : Situation → IfaceMsg → List Reply
 row_accepted h (says.Protover n) = protover_row (answer (is_boot h.engine)) h.desk
 row_accepted h (says.UserMove m) = result_at (change false h.desk (says.UserMove m))
 row_accepted h says.Go = result_at (change false h.desk says.Go)
@@ -95,21 +95,21 @@ row_accepted h says.Dot = stat01_of h.desk.seen (now_of h.desk.game) ∷ []
 row_accepted h m = []
 
 -- of these lines, what is said of the desk before the line, and of the desk after it
-abbrev pub row_before : Here → Message → List Told
+abbrev pub row_before : Situation → IfaceMsg → List Reply
 row_before h (says.Protover n) = protover_row (answer (is_boot h.engine)) h.desk
 row_before h says.Draw = draw_row h
 row_before h says.Hint = hint_row h.desk.hint
 row_before h says.Dot = stat01_of h.desk.seen (now_of h.desk.game) ∷ []
 row_before h m = []
 
-abbrev pub row_after : Desk → Message → List Told
+abbrev pub row_after : Desk → IfaceMsg → List Reply
 row_after d (says.UserMove m) = result_at d
 row_after d says.Go = result_at d
 row_after d says.PlayOther = result_at d
 row_after d m = []
 
 -- whether thinking lines of a search are written
-abbrev pub is_told : Here → GoKind → Bool
+abbrev pub is_told : Situation → GoKind → Bool
 is_told h kinds.Analyse = true
 is_told h kinds.Move = h.desk.post
 is_told h kinds.Ponder = h.desk.post && h.show_ponder
@@ -119,27 +119,27 @@ abbrev pub named_hint : GoKind → Option Move → Option Move
 named_hint kinds.Ponder hint = hint
 named_hint k hint = None
 
-abbrev pub list_where : Bool → Desk → List Told
+abbrev pub list_where : Bool → Desk → List Reply
 list_where b d = if b then feature_list (table d) d.name else []
 
-abbrev pub resign_where : Bool → List Told
+abbrev pub resign_where : Bool → List Reply
 resign_where b = if b then told.Resign ∷ [] else []
 
 -- a thinking line, if it is shown
-abbrev pub thought : Here → GoKind → Facts → List Told
+abbrev pub thought : Situation → GoKind → Info → List Reply
 thought h k facts =
     if is_told h k then option_to_list (thinking_line facts (now_of (searched_by k h.desk.game h.desk.hint)) (named_hint k h.desk.hint)) else []
 
 -- a move that is shown
-abbrev pub shown_row : Here → Move → List Told
+abbrev pub shown_row : Situation → Move → List Reply
 shown_row h best = told.Move best ∷ (result_of (played h.desk.game best) ++ resign_where (resigns_after h best))
 
 -- the end of the engine
-abbrev pub end_row : Here → List Told
+abbrev pub end_row : Situation → List Reply
 end_row h = list_where h.desk.due h.desk ++ (told.TellError tell.Ended ∷ resign_where (resigns_at_end h))
 
 -- the lines of what comes of an event, but for pongs
-unfoldable pub row : Here → Deed → List Told
+unfoldable pub row : Situation → Effect → List Reply
 row h (Refuses refusal line) = refused refusal line ∷ []
 row h LongLine = told.Error reasons.LineTooLong dots ∷ []
 row h (Accepts m) = row_accepted h m
@@ -151,8 +151,8 @@ row h Dies = end_row h
 row h d = []
 
 -- all lines of a step: its row, then the pongs
-abbrev pub replies_of : Bool → Bool → Here → Deed → List Told
-replies_of closed owes h d = if closed then [] else row h d ++ (if owes then [] else map told.Pong (desk_after_deed h d).pings)
+abbrev pub replies_of : Bool → Bool → Situation → Effect → List Reply
+replies_of closed owes h d = if closed then [] else row h d ++ (if owes then [] else map told.Pong (desk_after_effect h d).pings)
 
-abbrev pub pongs : Bool → List ℕ → List Told
+abbrev pub pongs : Bool → List ℕ → List Reply
 pongs b pings = if b then map told.Pong pings else []

@@ -3,15 +3,16 @@ ghost use Rattle.std.specs.Prelude.{◌≡◌, ◌+◌, ◌*◌, ◌<◌, ◌≤
 ghost use Rattle.line_io.specs.Out.{empty, with};
 ghost use Rattle.cecp_lines.specs.Messages.{message_of};
 ghost use Rattle.cecp_lines.specs.Reading.{CanBeRead};
-ghost use Rattle.uci_lines.specs.Says.{Info as Heard, facts_of};
+ghost use Rattle.uci_lines.specs.Info.{info_of};
+ghost use Rattle.uci_lines.specs.Messages.{Info as Heard};
 ghost use Rattle.game_record.specs.declared.game.TheConstants.{MOST_PLIES};
-ghost use Rattle.game_record.specs.Course.{ply_of, now_of, with_ply, IsPlayable};
+ghost use Rattle.game_record.specs.Game.{ply_of, now_of, with_ply, IsPlayable};
 ghost use Rattle.think_text.specs.Line.{IsHeard};
 ghost use Rattle.think_text.specs.Kept.{after_info, nothing_seen};
-ghost use Rattle.feature_talk.specs.Features.{told_lines};
+ghost use Rattle.feature_talk.specs.Features.{reply_lines};
 ghost use Rattle.desk_rules.specs.Desk.{at, is_boot};
 ghost use Rattle.desk_rules.specs.Lines.{change};
-ghost use Rattle.desk_rules.specs.Steps.{deed_of, hint_after, searched_by, resigns_at_end, over_where, desk_with_move, desk_after_deed, answers_pings};
+ghost use Rattle.desk_rules.specs.Steps.{effect_of, hint_after, searched_by, resigns_at_end, over_where, desk_with_move, desk_after_effect, answers_pings};
 ghost use Rattle.desk_rules.specs.Replies.{row_accepted, list_where, thought, shown_row, end_row, row, pongs};
 ghost use Rattle.desk_rules.specs.Fits.{IsHintPlayable, IsSound, IsFit, IsServed, IsSaid, CanChange};
 ghost use Rattle.desk_rules.specs.declared.sizes.TheConstants.{ENGINE_END, FEATURE_LIST, OBEYED, STEP_REPLIES, SHOWN_MOVE, THINKING_LINE};
@@ -22,7 +23,7 @@ use crate::answers::{
 use crate::call::{has_ended, is_boot};
 use crate::change::play;
 use crate::refuse::is_legal;
-use crate::{Deed, Desk, Mode, Sight};
+use crate::{Context, Desk, Effect, Mode};
 use cecp_lines::{IfaceMsg, Reason};
 use chess_board::{Move, Position};
 use feature_talk::Talk;
@@ -78,28 +79,29 @@ impl Desk {
     }
 
     // Whether `resign` is written where the engine ends.
-    pub(crate) fn resigns_at_end(&self, sight: Sight) -> bool
+    pub(crate) fn resigns_at_end(&self, context: Context) -> bool
         requires { IsHintPlayable self.now }
-        ensures { result ≡ resigns_at_end (at sight self.now) }
+        ensures { result ≡ resigns_at_end (at context self.now) }
     {
-        self.owes_move(sight) && !sight.closed
+        self.owes_move(context) && !context.closed
     }
 
     // Obeys a line.
-    fn obey(&mut self, sight: Sight, message: &IfaceMsg, out: &mut Out)
+    fn obey(&mut self, context: Context, message: &IfaceMsg, out: &mut Out)
         requires sound { IsSound self.old }
         requires change { CanChange self.old (message_of message.now) }
         requires read { CanBeRead (message_of message.now) }
         requires room { length out.old.text + OBEYED ≤ out.old.room }
-        ensures desk { self.new ≡ change (is_boot sight.engine) self.old (message_of message.now) }
+        ensures desk { self.new
+            ≡ change (is_boot context.engine) self.old (message_of message.now) }
         ensures lines { out.new
             ≡ with out.old
-            (told_lines (row_accepted (at sight self.old) (message_of message.now))) }
-        ensures short { length (told_lines (row_accepted (at sight self.old)
+            (reply_lines (row_accepted (at context self.old) (message_of message.now))) }
+        ensures short { length (reply_lines (row_accepted (at context self.old)
             (message_of message.now))) ≤ OBEYED }
     {
-        self.put_before(sight, message, out);
-        self.change(is_boot(sight.engine), message);
+        self.put_before(context, message, out);
+        self.change(is_boot(context.engine), message);
         self.put_after(message, out);
     }
 
@@ -109,8 +111,8 @@ impl Desk {
         ensures desk { self.new ≡ record self.old { booted = true; due = false } }
         ensures lines { out.new
             ≡ with out.old
-            (told_lines (list_where self.old.due (record self.old { booted = true }))) }
-        ensures short { length (told_lines (list_where self.old.due
+            (reply_lines (list_where self.old.due (record self.old { booted = true }))) }
+        ensures short { length (reply_lines (list_where self.old.due
             (record self.old { booted = true }))) ≤ FEATURE_LIST }
     {
         self.put_due_list(true, out);
@@ -119,110 +121,112 @@ impl Desk {
     }
 
     // Hears a current search.
-    fn think(&mut self, sight: Sight, kind: GoKind, info: &Info, out: &mut Out)
+    fn think(&mut self, context: Context, kind: GoKind, info: &Info, out: &mut Out)
         requires sound { IsSound self.old }
-        requires heard { IsHeard (facts_of info.now) }
-        requires said { IsSaid (Heard (facts_of info.now)) }
+        requires heard { IsHeard (info_of info.now) }
+        requires said { IsSaid (Heard (info_of info.now)) }
         requires room { length out.old.text + THINKING_LINE ≤ out.old.room }
         ensures desk { self.new
             ≡ record self.old {
-              seen = after_info self.old.seen (facts_of info.now)
+              seen = after_info self.old.seen (info_of info.now)
                   (now_of (searched_by kind self.old.game self.old.hint));
             } }
         ensures lines { out.new
-            ≡ with out.old (told_lines (thought (at sight self.old) kind (facts_of info.now))) }
-        ensures short { length (told_lines (thought (at sight self.old) kind (facts_of info.now)))
+            ≡ with out.old (reply_lines (thought (at context self.old) kind (info_of info.now))) }
+        ensures short { length (reply_lines (thought (at context self.old) kind (info_of info.now)))
             ≤ THINKING_LINE }
     {
         let position = self.searched(kind);
-        if self.is_told(sight, kind) {
+        if self.is_told(context, kind) {
             put_thinking(info, &position, named_hint(kind, self.hint), out);
         }
         self.seen.hear(info, &position);
     }
 
     // Shows a move, and plays it.
-    fn show(&mut self, sight: Sight, best: Move, hint: Option<Move>, out: &mut Out)
+    fn show(&mut self, context: Context, best: Move, hint: Option<Move>, out: &mut Out)
         requires legal { IsPlayable (now_of self.old.game) (ply_of best) }
         requires moves { length self.old.game.moves < MOST_PLIES }
         requires room { length out.old.text + SHOWN_MOVE ≤ out.old.room }
-        ensures desk { self.new ≡ desk_with_move (at sight self.old) best hint }
-        ensures lines { out.new ≡ with out.old (told_lines (shown_row (at sight self.old) best)) }
-        ensures short { length (told_lines (shown_row (at sight self.old) best)) ≤ SHOWN_MOVE }
+        ensures desk { self.new ≡ desk_with_move (at context self.old) best hint }
+        ensures lines { out.new
+            ≡ with out.old (reply_lines (shown_row (at context self.old) best)) }
+        ensures short { length (reply_lines (shown_row (at context self.old) best)) ≤ SHOWN_MOVE }
     {
         play(&mut self.game, best);
-        let resigns = sight.resigns && !has_ended(self.game.ended());
+        let resigns = context.resigns && !has_ended(self.game.ended());
         self.hint = hint_after(&self.game, hint);
         self.mode = over_where(resigns, self.mode);
         put_shown(best, &self.game, resigns, out);
     }
 
-    fn lose_engine(&mut self, sight: Sight, out: &mut Out)
+    fn lose_engine(&mut self, context: Context, out: &mut Out)
         requires hint { IsHintPlayable self.old }
         requires room { length out.old.text + ENGINE_END ≤ out.old.room }
         ensures desk { self.new
             ≡ record self.old {
               mode = over_where
-                  (resigns_at_end (at sight self.old)) self.old.mode;
-              due = self.old.due && sight.closed;
+                  (resigns_at_end (at context self.old)) self.old.mode;
+              due = self.old.due && context.closed;
             } }
-        ensures lines { out.new ≡ with out.old (told_lines (end_row (at sight self.old))) }
-        ensures short { length (told_lines (end_row (at sight self.old))) ≤ ENGINE_END }
+        ensures lines { out.new ≡ with out.old (reply_lines (end_row (at context self.old))) }
+        ensures short { length (reply_lines (end_row (at context self.old))) ≤ ENGINE_END }
     {
-        let resigns = self.resigns_at_end(sight);
+        let resigns = self.resigns_at_end(context);
         self.put_end(resigns, out);
         self.mode = over_where(resigns, self.mode);
-        leave_boot(&mut self.due, sight.closed);
+        leave_boot(&mut self.due, context.closed);
     }
 
-    // Writes the lines of a deed, but for pongs, and changes the desk.
-    #[tactic(auto, unfolding(crate::specs::Steps::desk_after_deed, crate::specs::Replies::row))]
-    fn follow(&mut self, sight: Sight, deed: &Deed, out: &mut Out)
+    // Writes the lines of an effect, but for pongs, and changes the desk.
+    #[tactic(auto, unfolding(crate::specs::Steps::desk_after_effect, crate::specs::Replies::row))]
+    fn follow(&mut self, context: Context, effect: &Effect, out: &mut Out)
         requires sound { IsSound self.old }
-        requires fits { IsFit (at sight self.old) (deed_of deed.now) }
-        requires served { IsServed (at sight self.old) }
+        requires fits { IsFit (at context self.old) (effect_of effect.now) }
+        requires served { IsServed (at context self.old) }
         requires pings { length self.old.pings ≤ 64 }
         requires room { length out.old.text + STEP_REPLIES ≤ out.old.room }
-        ensures desk { self.new ≡ desk_after_deed (at sight self.old) (deed_of deed.now) }
+        ensures desk { self.new ≡ desk_after_effect (at context self.old) (effect_of effect.now) }
         ensures lines { out.new
-            ≡ with out.old (told_lines (row (at sight self.old) (deed_of deed.now))) }
-        ensures short { length (told_lines (row (at sight self.old) (deed_of deed.now))) ≤ STEP_REPLIES }
+            ≡ with out.old (reply_lines (row (at context self.old) (effect_of effect.now))) }
+        ensures short { length (reply_lines (row (at context self.old) (effect_of effect.now)))
+            ≤ STEP_REPLIES }
     {
-        match deed {
-            Deed::Refuses { refusal, line } => put_refused(*refusal, line, out),
-            Deed::LongLine => put_error(Reason::LineTooLong, b"...", out),
-            Deed::Accepts(message) => self.obey(sight, message, out),
-            Deed::Names(text) => self.name.set(text),
-            Deed::Declares(option) => {
+        match effect {
+            Effect::Refuses { refusal, line } => put_refused(*refusal, line, out),
+            Effect::LongLine => put_error(Reason::LineTooLong, b"...", out),
+            Effect::Accepts(message) => self.obey(context, message, out),
+            Effect::Names(text) => self.name.set(text),
+            Effect::Declares(option) => {
                 self.options.declare(option);
             }
-            Deed::Boots => self.boot(out),
-            Deed::Thinks { kind, info } => self.think(sight, *kind, info, out),
-            Deed::Shows { best, hint } => self.show(sight, *best, *hint, out),
-            Deed::Forfeits => {
+            Effect::Boots => self.boot(out),
+            Effect::Thinks { kind, info } => self.think(context, *kind, info, out),
+            Effect::Shows { best, hint } => self.show(context, *best, *hint, out),
+            Effect::Forfeits => {
                 put_forfeit(out);
                 self.mode = Mode::Over;
             }
-            Deed::Dies => self.lose_engine(sight, out),
+            Effect::Dies => self.lose_engine(context, out),
             _ => {}
         }
     }
 
-    /// Writes the lines of a deed, but for pongs, none where the session is closed then, and changes the desk.
-    pub fn commit(&mut self, sight: Sight, deed: &Deed, closed: bool, out: &mut Out)
+    /// Writes the lines of an effect, but for pongs, none where the session is closed then, and changes the desk.
+    pub fn commit(&mut self, context: Context, effect: &Effect, closed: bool, out: &mut Out)
         requires sound { IsSound self.old }
-        requires fits { IsFit (at sight self.old) (deed_of deed.now) }
-        requires served { IsServed (at sight self.old) }
+        requires fits { IsFit (at context self.old) (effect_of effect.now) }
+        requires served { IsServed (at context self.old) }
         requires pings { length self.old.pings ≤ 64 }
         requires empty { out.old ≡ empty out.old.room }
         requires room { STEP_REPLIES ≤ out.old.room }
-        ensures desk { self.new ≡ desk_after_deed (at sight self.old) (deed_of deed.now) }
+        ensures desk { self.new ≡ desk_after_effect (at context self.old) (effect_of effect.now) }
         ensures lines { out.new
             ≡ with out.old
-            (told_lines (cond closed [] (row (at sight self.old) (deed_of deed.now)))) }
+            (reply_lines (cond closed [] (row (at context self.old) (effect_of effect.now)))) }
         ensures short { length out.new.text ≤ STEP_REPLIES }
     {
-        self.follow(sight, deed, out);
+        self.follow(context, effect, out);
         if closed {
             out.clear();
         }
@@ -233,7 +237,7 @@ impl Desk {
     pub fn finish(&mut self, closed: bool, owes: bool, clears: bool, out: &mut Out)
         requires { length out.old.text + 16 * length self.old.pings ≤ out.old.room }
         ensures lines { out.new
-            ≡ with out.old (told_lines (pongs (answers_pings closed owes) self.old.pings)) }
+            ≡ with out.old (reply_lines (pongs (answers_pings closed owes) self.old.pings)) }
         ensures room { length out.new.text ≤ length out.old.text + 16 * length self.old.pings }
         ensures desk { self.new
             ≡ record self.old {

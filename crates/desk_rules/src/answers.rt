@@ -3,22 +3,23 @@ ghost use Rattle.std.specs.Prelude.{◌≡◌, ◌+◌, ◌*◌, ◌≤◌, ◌�
 ghost use Rattle.std.specs.Option.{option_to_list};
 ghost use Rattle.line_io.specs.Out.{with};
 ghost use Rattle.cecp_lines.specs.Messages.{message_of};
-ghost use Rattle.cecp_lines.specs.Replies.{told_of, HasWritableMoves, IsWritable, borrowed, Fits as HasNumbers};
+ghost use Rattle.cecp_lines.specs.Replies.{reply_of, HasWritableMoves, IsWritable, borrowed, Fits as HasNumbers};
 ghost use Rattle.cecp_lines.specs.Replies as told;
-ghost use Rattle.cecp_lines.specs.declared.reply.Tell.TheVariants as tell;
-ghost use Rattle.uci_lines.specs.Says.{Info as SaysInfo, facts_of};
+ghost use Rattle.cecp_lines.specs.declared.reply.UserError.TheVariants as tell;
+ghost use Rattle.uci_lines.specs.Info.{info_of};
+ghost use Rattle.uci_lines.specs.Messages.{Info as SaysInfo};
 ghost use Rattle.think_text.specs.Line.{thinking_line};
 ghost use Rattle.think_text.specs.Kept.{stat01_of};
 ghost use Rattle.feature_talk.specs.Due.{answer};
-ghost use Rattle.feature_talk.specs.Features.{feature_list, told_line, told_lines};
+ghost use Rattle.feature_talk.specs.Features.{feature_list, reply_line, reply_lines};
 ghost use Rattle.desk_rules.specs.Desk.{at, table};
 ghost use Rattle.desk_rules.specs.Replies.{refused, outcome_of, result_by, result_of, protover_row, offer_where, draw_row, hint_row, row_before, row_after, is_told, named_hint, list_where, resign_where};
 ghost use Rattle.desk_rules.specs.Fits.{IsSound, IsSaid, IsTellable};
 ghost use Rattle.desk_rules.specs.declared.sizes.TheConstants.{ENGINE_END, ERROR_REPLY, FEATURE_LIST, PEER_LINE, SHORT_REPLY, SHOWN_MOVE, THINKING_LINE};
 
 use crate::call::{has_ended, is_boot, on_move, plays};
-use crate::{Desk, Refusal, Sight};
-use cecp_lines::{IfaceMsg, Outcome, Reason, Reply, Tell, write_reply};
+use crate::{Context, Desk, Refusal};
+use cecp_lines::{IfaceMsg, Outcome, Reason, Reply, UserError, write_reply};
 use chess_board::{Move, Position, Side};
 use feature_talk::{write_bare_list, write_list};
 use game_record::{End, Game};
@@ -29,9 +30,9 @@ use uci_lines::Info;
 
 // Puts a reply and its line feed.
 fn put_reply(reply: &Reply, out: &mut Out)
-    requires moves { HasWritableMoves (told_of reply.now) }
-    requires room { length out.old.text + length (told_line (told_of reply.now)) ≤ out.old.room }
-    ensures { out.new ≡ with out.old (told_line (told_of reply.now)) }
+    requires moves { HasWritableMoves (reply_of reply.now) }
+    requires room { length out.old.text + length (reply_line (reply_of reply.now)) ≤ out.old.room }
+    ensures { out.new ≡ with out.old (reply_line (reply_of reply.now)) }
 {
     write_reply(reply, out);
     out.put(b"\n");
@@ -39,12 +40,12 @@ fn put_reply(reply: &Reply, out: &mut Out)
 
 // Puts a reply that borrows nothing.
 fn put_short(reply: &Reply, out: &mut Out)
-    requires moves { HasWritableMoves (told_of reply.now) }
-    requires numbers { HasNumbers (told_of reply.now) }
-    requires plain { borrowed (told_of reply.now) ≡ 0 }
+    requires moves { HasWritableMoves (reply_of reply.now) }
+    requires numbers { HasNumbers (reply_of reply.now) }
+    requires plain { borrowed (reply_of reply.now) ≡ 0 }
     requires room { length out.old.text + SHORT_REPLY ≤ out.old.room }
-    ensures line { out.new ≡ with out.old (told_lines (told_of reply.now ∷ [])) }
-    ensures short { length (told_lines (told_of reply.now ∷ [])) ≤ SHORT_REPLY }
+    ensures line { out.new ≡ with out.old (reply_lines (reply_of reply.now ∷ [])) }
+    ensures short { length (reply_lines (reply_of reply.now ∷ [])) ≤ SHORT_REPLY }
 {
     put_reply(reply, out);
 }
@@ -52,8 +53,8 @@ fn put_short(reply: &Reply, out: &mut Out)
 pub(crate) fn put_error(reason: Reason, line: &[u8], out: &mut Out)
     requires line { length line.now ≤ PEER_LINE }
     requires room { length out.old.text + ERROR_REPLY ≤ out.old.room }
-    ensures line { out.new ≡ with out.old (told_lines (told.Error reason line.now ∷ [])) }
-    ensures short { length (told_lines (told.Error reason line.now ∷ [])) ≤ ERROR_REPLY }
+    ensures line { out.new ≡ with out.old (reply_lines (told.Error reason line.now ∷ [])) }
+    ensures short { length (reply_lines (told.Error reason line.now ∷ [])) ≤ ERROR_REPLY }
 {
     put_reply(&Reply::Error { reason, line }, out);
 }
@@ -63,14 +64,14 @@ pub(crate) fn put_refused(refusal: Refusal, line: &[u8], out: &mut Out)
     requires moves { IsTellable refusal }
     requires line { length line.now ≤ PEER_LINE }
     requires room { length out.old.text + ERROR_REPLY ≤ out.old.room }
-    ensures line { out.new ≡ with out.old (told_lines (refused refusal line.now ∷ [])) }
-    ensures short { length (told_lines (refused refusal line.now ∷ [])) ≤ ERROR_REPLY }
+    ensures line { out.new ≡ with out.old (reply_lines (refused refusal line.now ∷ [])) }
+    ensures short { length (reply_lines (refused refusal line.now ∷ [])) ≤ ERROR_REPLY }
 {
     match refusal {
         Refusal::Because(reason) => put_error(reason, trim(line), out),
         Refusal::IllegalMove(m) => put_short(&Reply::Illegal(m), out),
         Refusal::GameTooLong(m) => put_short(&Reply::IllegalLong(m), out),
-        Refusal::IllegalPosition => put_short(&Reply::TellError(Tell::Position), out),
+        Refusal::IllegalPosition => put_short(&Reply::TellError(UserError::Position), out),
     }
 }
 
@@ -89,8 +90,8 @@ fn outcome_of(side: Side, end: End) -> Outcome
 
 fn put_result(side: Side, end: Option<End>, out: &mut Out)
     requires { length out.old.text + SHORT_REPLY ≤ out.old.room }
-    ensures line { out.new ≡ with out.old (told_lines (result_by side end)) }
-    ensures short { length (told_lines (result_by side end)) ≤ SHORT_REPLY }
+    ensures line { out.new ≡ with out.old (reply_lines (result_by side end)) }
+    ensures short { length (reply_lines (result_by side end)) ≤ SHORT_REPLY }
 {
     if let Some(end) = end {
         put_short(&Reply::Result(outcome_of(side, end)), out);
@@ -100,16 +101,16 @@ fn put_result(side: Side, end: Option<End>, out: &mut Out)
 // Puts the result that a game has.
 pub(crate) fn put_result_of(game: &Game, out: &mut Out)
     requires { length out.old.text + SHORT_REPLY ≤ out.old.room }
-    ensures line { out.new ≡ with out.old (told_lines (result_of game.now)) }
-    ensures short { length (told_lines (result_of game.now)) ≤ SHORT_REPLY }
+    ensures line { out.new ≡ with out.old (reply_lines (result_of game.now)) }
+    ensures short { length (reply_lines (result_of game.now)) ≤ SHORT_REPLY }
 {
     put_result(on_move(game), game.ended(), out);
 }
 
 fn put_resign(resigns: bool, out: &mut Out)
     requires { length out.old.text + SHORT_REPLY ≤ out.old.room }
-    ensures line { out.new ≡ with out.old (told_lines (resign_where resigns)) }
-    ensures short { length (told_lines (resign_where resigns)) ≤ SHORT_REPLY }
+    ensures line { out.new ≡ with out.old (reply_lines (resign_where resigns)) }
+    ensures short { length (reply_lines (resign_where resigns)) ≤ SHORT_REPLY }
 {
     if resigns {
         put_short(&Reply::Resign, out);
@@ -118,8 +119,8 @@ fn put_resign(resigns: bool, out: &mut Out)
 
 fn put_offer(offers: bool, out: &mut Out)
     requires { length out.old.text + SHORT_REPLY ≤ out.old.room }
-    ensures line { out.new ≡ with out.old (told_lines (offer_where offers)) }
-    ensures short { length (told_lines (offer_where offers)) ≤ SHORT_REPLY }
+    ensures line { out.new ≡ with out.old (reply_lines (offer_where offers)) }
+    ensures short { length (reply_lines (offer_where offers)) ≤ SHORT_REPLY }
 {
     if offers {
         put_short(&Reply::OfferDraw, out);
@@ -129,8 +130,8 @@ fn put_offer(offers: bool, out: &mut Out)
 fn put_hint(hint: Option<Move>, out: &mut Out)
     requires hint { IfSome hint IsWritable }
     requires room { length out.old.text + SHORT_REPLY ≤ out.old.room }
-    ensures line { out.new ≡ with out.old (told_lines (hint_row hint)) }
-    ensures short { length (told_lines (hint_row hint)) ≤ SHORT_REPLY }
+    ensures line { out.new ≡ with out.old (reply_lines (hint_row hint)) }
+    ensures short { length (reply_lines (hint_row hint)) ≤ SHORT_REPLY }
 {
     if let Some(hint) = hint {
         put_short(&Reply::Hint(hint), out);
@@ -140,8 +141,8 @@ fn put_hint(hint: Option<Move>, out: &mut Out)
 fn put_stat(seen: &Seen, at: &Position, out: &mut Out)
     requires current { IfSome seen.now.current IsWritable }
     requires room { length out.old.text + SHORT_REPLY ≤ out.old.room }
-    ensures line { out.new ≡ with out.old (told_lines (stat01_of seen.now at.now ∷ [])) }
-    ensures short { length (told_lines (stat01_of seen.now at.now ∷ [])) ≤ SHORT_REPLY }
+    ensures line { out.new ≡ with out.old (reply_lines (stat01_of seen.now at.now ∷ [])) }
+    ensures short { length (reply_lines (stat01_of seen.now at.now ∷ [])) ≤ SHORT_REPLY }
 {
     // Read for the proof alone: each number fits its type, so the line is short.
     let _depth = seen.depth;
@@ -153,14 +154,14 @@ fn put_stat(seen: &Seen, at: &Position, out: &mut Out)
 }
 
 pub(crate) fn put_thinking(info: &Info, at: &Position, hint: Option<Move>, out: &mut Out)
-    requires said { IsSaid (SaysInfo (facts_of info.now)) }
+    requires said { IsSaid (SaysInfo (info_of info.now)) }
     requires hint { IfSome hint IsWritable }
     requires room { length out.old.text + THINKING_LINE ≤ out.old.room }
     ensures line { out.new
         ≡ with out.old
-        (told_lines (option_to_list (thinking_line (facts_of info.now) at.now hint))) }
-    ensures short { length (told_lines (option_to_list
-        (thinking_line (facts_of info.now) at.now hint))) ≤ THINKING_LINE }
+        (reply_lines (option_to_list (thinking_line (info_of info.now) at.now hint))) }
+    ensures short { length (reply_lines (option_to_list
+        (thinking_line (info_of info.now) at.now hint))) ≤ THINKING_LINE }
 {
     if thinking(info, at, hint, out) {
         out.put(b"\n");
@@ -182,8 +183,9 @@ impl Desk {
         requires { length out.old.text + FEATURE_LIST ≤ out.old.room }
         ensures lines { out.new
             ≡ with out.old
-            (told_lines (feature_list (table (record self.now { booted = booted })) self.now.name)) }
-        ensures short { length (told_lines (feature_list
+            (reply_lines
+            (feature_list (table (record self.now { booted = booted })) self.now.name)) }
+        ensures short { length (reply_lines (feature_list
             (table (record self.now { booted = booted })) self.now.name)) ≤ FEATURE_LIST }
     {
         if booted {
@@ -199,8 +201,8 @@ impl Desk {
         requires { length out.old.text + FEATURE_LIST ≤ out.old.room }
         ensures lines { out.new
             ≡ with out.old
-            (told_lines (list_where self.now.due (record self.now { booted = booted }))) }
-        ensures short { length (told_lines (list_where self.now.due
+            (reply_lines (list_where self.now.due (record self.now { booted = booted }))) }
+        ensures short { length (reply_lines (list_where self.now.due
             (record self.now { booted = booted }))) ≤ FEATURE_LIST }
     {
         if self.due.is_due() {
@@ -210,8 +212,8 @@ impl Desk {
 
     fn put_protover(&self, boot: bool, out: &mut Out)
         requires { length out.old.text + FEATURE_LIST ≤ out.old.room }
-        ensures lines { out.new ≡ with out.old (told_lines (protover_row (answer boot) self.now)) }
-        ensures short { length (told_lines (protover_row (answer boot) self.now)) ≤ FEATURE_LIST }
+        ensures lines { out.new ≡ with out.old (reply_lines (protover_row (answer boot) self.now)) }
+        ensures short { length (reply_lines (protover_row (answer boot) self.now)) ≤ FEATURE_LIST }
     {
         if boot {
             out.put(b"feature done=0\n");
@@ -221,18 +223,19 @@ impl Desk {
     }
 
     // Puts the lines of an accepted message that tell of the desk before it.
-    pub(crate) fn put_before(&self, sight: Sight, message: &IfaceMsg, out: &mut Out)
+    pub(crate) fn put_before(&self, context: Context, message: &IfaceMsg, out: &mut Out)
         requires sound { IsSound self.now }
         requires room { length out.old.text + FEATURE_LIST ≤ out.old.room }
         ensures lines { out.new
-            ≡ with out.old (told_lines (row_before (at sight self.now) (message_of message.now))) }
-        ensures short { length (told_lines (row_before (at sight self.now)
+            ≡ with out.old
+            (reply_lines (row_before (at context self.now) (message_of message.now))) }
+        ensures short { length (reply_lines (row_before (at context self.now)
             (message_of message.now))) ≤ FEATURE_LIST }
     {
         match message {
-            IfaceMsg::Protover(_) => self.put_protover(is_boot(sight.engine), out),
+            IfaceMsg::Protover(_) => self.put_protover(is_boot(context.engine), out),
             IfaceMsg::Draw => put_offer(
-                plays(self.mode) && !has_ended(self.game.ended()) && sight.accepts,
+                plays(self.mode) && !has_ended(self.game.ended()) && context.accepts,
                 out,
             ),
             IfaceMsg::Hint => put_hint(self.hint, out),
@@ -245,8 +248,9 @@ impl Desk {
     pub(crate) fn put_after(&self, message: &IfaceMsg, out: &mut Out)
         requires { length out.old.text + SHORT_REPLY ≤ out.old.room }
         ensures lines { out.new
-            ≡ with out.old (told_lines (row_after self.now (message_of message.now))) }
-        ensures short { length (told_lines (row_after self.now (message_of message.now))) ≤ SHORT_REPLY }
+            ≡ with out.old (reply_lines (row_after self.now (message_of message.now))) }
+        ensures short { length (reply_lines (row_after self.now (message_of message.now)))
+            ≤ SHORT_REPLY }
     {
         match message {
             IfaceMsg::UserMove(_) | IfaceMsg::Go | IfaceMsg::PlayOther => {
@@ -259,13 +263,13 @@ impl Desk {
     }
 
     // Whether thinking lines of a search are written.
-    pub(crate) fn is_told(&self, sight: Sight, kind: GoKind) -> bool
-        ensures { result ≡ is_told (at sight self.now) kind }
+    pub(crate) fn is_told(&self, context: Context, kind: GoKind) -> bool
+        ensures { result ≡ is_told (at context self.now) kind }
     {
         match kind {
             GoKind::Analyse => true,
             GoKind::Move => self.post,
-            GoKind::Ponder => self.post && sight.show_ponder,
+            GoKind::Ponder => self.post && context.show_ponder,
         }
     }
 
@@ -274,13 +278,13 @@ impl Desk {
         requires { length out.old.text + ENGINE_END ≤ out.old.room }
         ensures lines { out.new
             ≡ with out.old
-            (told_lines (list_where self.now.due self.now
+            (reply_lines (list_where self.now.due self.now
             ++ (told.TellError tell.Ended ∷ resign_where resigns))) }
-        ensures short { length (told_lines (list_where self.now.due self.now
+        ensures short { length (reply_lines (list_where self.now.due self.now
             ++ (told.TellError tell.Ended ∷ resign_where resigns))) ≤ ENGINE_END }
     {
         self.put_due_list(self.booted, out);
-        put_short(&Reply::TellError(Tell::Ended), out);
+        put_short(&Reply::TellError(UserError::Ended), out);
         put_resign(resigns, out);
     }
 }
@@ -291,8 +295,8 @@ pub(crate) fn put_shown(best: Move, game: &Game, resigns: bool, out: &mut Out)
     requires room { length out.old.text + SHOWN_MOVE ≤ out.old.room }
     ensures lines { out.new
         ≡ with out.old
-        (told_lines (told.Move best ∷ (result_of game.now ++ resign_where resigns))) }
-    ensures short { length (told_lines (told.Move best
+        (reply_lines (told.Move best ∷ (result_of game.now ++ resign_where resigns))) }
+    ensures short { length (reply_lines (told.Move best
         ∷ (result_of game.now ++ resign_where resigns))) ≤ SHOWN_MOVE }
 {
     put_short(&Reply::Move(best), out);
@@ -304,17 +308,18 @@ pub(crate) fn put_shown(best: Move, game: &Game, resigns: bool, out: &mut Out)
 pub(crate) fn put_forfeit(out: &mut Out)
     requires { length out.old.text + SHOWN_MOVE ≤ out.old.room }
     ensures lines { out.new
-        ≡ with out.old (told_lines (told.TellError tell.Move ∷ told.Resign ∷ [])) }
-    ensures short { length (told_lines (told.TellError tell.Move ∷ told.Resign ∷ [])) ≤ SHOWN_MOVE }
+        ≡ with out.old (reply_lines (told.TellError tell.Move ∷ told.Resign ∷ [])) }
+    ensures short { length (reply_lines (told.TellError tell.Move ∷ told.Resign ∷ []))
+        ≤ SHOWN_MOVE }
 {
-    put_short(&Reply::TellError(Tell::Move), out);
+    put_short(&Reply::TellError(UserError::Move), out);
     put_short(&Reply::Resign, out);
 }
 
 fn put_pong(number: u32, out: &mut Out)
     requires { length out.old.text + 16 ≤ out.old.room }
-    ensures line { out.new ≡ with out.old (told_line (told.Pong number)) }
-    ensures short { length (told_line (told.Pong number)) ≤ 16 }
+    ensures line { out.new ≡ with out.old (reply_line (told.Pong number)) }
+    ensures short { length (reply_line (told.Pong number)) ≤ 16 }
 {
     put_reply(&Reply::Pong(number), out);
 }
@@ -322,7 +327,7 @@ fn put_pong(number: u32, out: &mut Out)
 /// Puts a pong for each ping.
 pub fn put_pongs(numbers: &[u32], out: &mut Out)
     requires { length out.old.text + 16 * length numbers.now ≤ out.old.room }
-    ensures lines { out.new ≡ with out.old (told_lines (map told.Pong numbers.now)) }
+    ensures lines { out.new ≡ with out.old (reply_lines (map told.Pong numbers.now)) }
     ensures room { length out.new.text ≤ length out.old.text + 16 * length numbers.now }
 {
     for number in numbers {

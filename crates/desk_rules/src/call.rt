@@ -2,15 +2,15 @@
 ghost use Rattle.std.specs.Prelude.{◌≡◌};
 ghost use Rattle.std.specs.Option.{is_some};
 ghost use Rattle.chess_board.specs.Board.{same_side};
-ghost use Rattle.game_record.specs.Course.{now_of};
+ghost use Rattle.game_record.specs.Game.{now_of};
 ghost use Rattle.game_record.specs.Ending.{has_legal, ended_of};
 ghost use Rattle.option_map.specs.Shown.{check_named};
 ghost use Rattle.uci_lines.specs.Orders.{optional_now};
-ghost use Rattle.search_epochs.specs.Talk.{is_move};
+ghost use Rattle.search_epochs.specs.Tickets.{is_move};
 ghost use Rattle.desk_rules.specs.Desk.{at, table, analyses, plays, is_full, has_ended, is_moveless, on_move, is_gone, is_boot, call_for_hint, call_while_waiting, call_in, call_of, owes_move};
 ghost use Rattle.desk_rules.specs.Fits.{IsHintPlayable};
 
-use crate::{Desk, Mode, Sight};
+use crate::{Context, Desk, Mode};
 use chess_board::Side;
 use game_record::{End, Game, MOST_PLIES};
 use search_epochs::{Call, EngineState};
@@ -176,10 +176,10 @@ impl Desk {
     }
 
     /// Whether a Move is owed when an event comes.
-    pub fn owes_move(&self, sight: Sight) -> bool
+    pub fn owes_move(&self, context: Context) -> bool
         requires { IsHintPlayable self.now }
-        ensures { result ≡ owes_move (at sight self.now) }
+        ensures { result ≡ owes_move (at context self.now) }
     {
-        !sight.spent && is_move(self.call(sight.closed, is_gone(sight.engine)))
+        !context.spent && is_move(self.call(context.closed, is_gone(context.engine)))
     }
 }

@@ -4,7 +4,7 @@ ghost use Rattle.chess_board.specs.Play.{start_position};
 ghost use Rattle.fen_text.specs.Fen.{position_of};
 ghost use Rattle.cecp_lines.specs.Messages.{message_of};
 ghost use Rattle.cecp_lines.specs.Reading.{CanBeRead};
-ghost use Rattle.game_record.specs.Course.{ply_of, begun, with_ply, without_last, now_of, IsPlayable};
+ghost use Rattle.game_record.specs.Game.{ply_of, begun, with_ply, without_last, now_of, IsPlayable};
 ghost use Rattle.clock_map.specs.Clocks.{after_new};
 ghost use Rattle.desk_rules.specs.Desk.{other};
 ghost use Rattle.desk_rules.specs.Lines.{new_mode, with_game, at_position, change, clears_scores};

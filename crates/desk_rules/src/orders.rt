@@ -3,15 +3,15 @@ ghost use Rattle.std.specs.Prelude.{◌≡◌, ◌+◌, ◌≤◌, ◌∷◌, �
 ghost use Rattle.std.specs.Option.{option_map, option_to_list};
 ghost use Rattle.line_io.specs.Out.{with};
 ghost use Rattle.uci_lines.specs.Orders.{IsReady};
-ghost use Rattle.game_record.specs.Course.{ply_of, now_of, IsPlayable};
+ghost use Rattle.game_record.specs.Game.{ply_of, now_of, IsPlayable};
 ghost use Rattle.game_record.specs.Line.{position_text};
 ghost use Rattle.clock_map.specs.Search.{search_order};
 ghost use Rattle.option_map.specs.Data.{setup_seen};
 ghost use Rattle.option_map.specs.Held.{with_orders, order_line};
-ghost use Rattle.search_epochs.specs.Talk.{kind_of};
+ghost use Rattle.search_epochs.specs.Tickets.{kind_of};
 ghost use Rattle.desk_rules.specs.Desk.{on_move, plies};
 ghost use Rattle.desk_rules.specs.Orders.{AllJoin, position_order, pondered, searched, search_orders, order_list};
-ghost use Rattle.desk_rules.specs.Texts.{command_lines};
+ghost use Rattle.desk_rules.specs.Texts.{order_lines};
 ghost use Rattle.desk_rules.specs.Fits.{IsSound, CanSearch, CanWrite};
 ghost use Rattle.desk_rules.specs.declared.sizes.TheConstants.{GO_LINE, STEP_ORDERS, POSITION_LINE};
 
@@ -79,7 +79,8 @@ fn put_game(game: &Game, hint: Option<Move>, out: &mut Out)
     requires room { length out.old.text + POSITION_LINE ≤ out.old.room }
     ensures line { out.new
         ≡ with out.old (position_text game.now (option_map ply_of hint) ++ 10 ∷ []) }
-    ensures short { length (position_text game.now (option_map ply_of hint) ++ 10 ∷ []) ≤ POSITION_LINE }
+    ensures short { length (position_text game.now (option_map ply_of hint) ++ 10 ∷ [])
+        ≤ POSITION_LINE }
 {
     game.facts();
     game.write_position(hint, out);
@@ -141,8 +142,8 @@ impl Desk {
         requires sound { IsSound self.now }
         requires hint { CanSearch self.now.game call }
         requires room { length out.old.text + STEP_ORDERS ≤ out.old.room }
-        ensures lines { out.new ≡ with out.old (command_lines (search_orders self.now call)) }
-        ensures short { length (command_lines (search_orders self.now call)) ≤ STEP_ORDERS }
+        ensures lines { out.new ≡ with out.old (order_lines (search_orders self.now call)) }
+        ensures short { length (order_lines (search_orders self.now call)) ≤ STEP_ORDERS }
     {
         put_position(&self.game, call, out);
         self.put_go(call, out);
@@ -152,8 +153,8 @@ impl Desk {
 // Puts the held orders, and what ends a batch.
 fn put_batch(held: &Held, out: &mut Out)
     requires { length out.old.text + STEP_ORDERS ≤ out.old.room }
-    ensures lines { out.new ≡ with out.old (command_lines (held.now ++ IsReady ∷ [])) }
-    ensures short { length (command_lines (held.now ++ IsReady ∷ [])) ≤ STEP_ORDERS }
+    ensures lines { out.new ≡ with out.old (order_lines (held.now ++ IsReady ∷ [])) }
+    ensures short { length (order_lines (held.now ++ IsReady ∷ [])) ≤ STEP_ORDERS }
 {
     held.facts();
     held.write(out);
@@ -161,13 +162,13 @@ fn put_batch(held: &Held, out: &mut Out)
 }
 
 /// Puts the orders that were chosen, where these are held.
-#[tactic(auto, unfolding(uci_lines::specs::Orders::command_text))]
+#[tactic(auto, unfolding(uci_lines::specs::Orders::order_text))]
 pub fn put_chosen(held: &Held, desk: &Desk, orders: Orders, out: &mut Out)
     requires sound { IsSound desk.now }
     requires hint { CanWrite desk.now.game orders }
     requires room { length out.old.text + STEP_ORDERS ≤ out.old.room }
-    ensures lines { out.new ≡ with out.old (command_lines (order_list held.now desk.now orders)) }
-    ensures short { length (command_lines (order_list held.now desk.now orders)) ≤ STEP_ORDERS }
+    ensures lines { out.new ≡ with out.old (order_lines (order_list held.now desk.now orders)) }
+    ensures short { length (order_lines (order_list held.now desk.now orders)) ≤ STEP_ORDERS }
 {
     match orders {
         Orders::None => {}

@@ -3,7 +3,7 @@ ghost use Rattle.std.specs.Prelude.{◌≡◌};
 ghost use Rattle.std.specs.Option.{option_map};
 ghost use Rattle.chess_board.specs.Place.{legal};
 ghost use Rattle.cecp_lines.specs.Messages.{message_of};
-ghost use Rattle.game_record.specs.Course.{now_of};
+ghost use Rattle.game_record.specs.Game.{now_of};
 ghost use Rattle.option_map.specs.Asked.{asked};
 ghost use Rattle.option_map.specs.Data.{setup_seen, answer_seen};
 ghost use Rattle.desk_rules.specs.Desk.{at, table, is_gone};
@@ -11,7 +11,7 @@ ghost use Rattle.desk_rules.specs.Lines.{because, needs_engine, needs_analysis, 
 ghost use Rattle.desk_rules.specs.Fits.{IsHintPlayable};
 
 use crate::call::{analyses, is_full, is_gone};
-use crate::{Desk, Refusal, Sight};
+use crate::{Context, Desk, Refusal};
 use cecp_lines::{IfaceMsg, Reason};
 use chess_board::Move;
 use fen_text::read_fen;
@@ -118,12 +118,12 @@ fn does_not_fit(held: &Held, asks: &Option<Setup>) -> bool
 }
 
 impl Desk {
-    fn pings_too_often(&self, sight: Sight, message: &IfaceMsg) -> bool
+    fn pings_too_often(&self, context: Context, message: &IfaceMsg) -> bool
         requires { IsHintPlayable self.now }
-        ensures { result ≡ pings_too_often (at sight self.now) (message_of message.now) }
+        ensures { result ≡ pings_too_often (at context self.now) (message_of message.now) }
     {
         match message {
-            IfaceMsg::Ping(_) => self.owes_move(sight) && self.pings.len() >= 64,
+            IfaceMsg::Ping(_) => self.owes_move(context) && self.pings.len() >= 64,
             _ => false,
         }
     }
@@ -133,7 +133,7 @@ impl Desk {
     #[tactic(auto, unfolding(crate::specs::Lines::refusal))]
     pub(crate) fn refusal(
         &self,
-        sight: Sight,
+        context: Context,
         held: &Held,
         message: &IfaceMsg,
         answer: &Result<Option<Asked>, OptFault>,
@@ -142,10 +142,10 @@ impl Desk {
         requires hint { IsHintPlayable self.now }
         requires answer { answer_seen answer.now ≡ asked (table self.now) (message_of message.now) }
         requires asks { option_map setup_seen asks.now
-            ≡ asks_for (is_gone sight.engine) self.now (message_of message.now) }
-        ensures { result ≡ refusal (at sight self.now) held.now (message_of message.now) }
+            ≡ asks_for (is_gone context.engine) self.now (message_of message.now) }
+        ensures { result ≡ refusal (at context self.now) held.now (message_of message.now) }
     {
-        if needs_engine(message) && is_gone(sight.engine) {
+        if needs_engine(message) && is_gone(context.engine) {
             return because(Reason::EngineEnded);
         }
         if needs_analysis(message) && !analyses(self.mode) {
@@ -169,7 +169,7 @@ impl Desk {
         if does_not_fit(held, asks) {
             return because(Reason::TooManySettings);
         }
-        if self.pings_too_often(sight, message) {
+        if self.pings_too_often(context, message) {
             return because(Reason::TooManyPings);
         }
         None

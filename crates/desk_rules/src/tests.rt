@@ -3,15 +3,15 @@ ghost use Rattle.std.specs.Prelude.{◌≡◌, ◌≤◌, length, true, Some, If
 ghost use Rattle.line_io.specs.Event.{event_of, is_line};
 ghost use Rattle.line_io.specs.Out.{empty};
 ghost use Rattle.peer_words.specs.declared.kinds.GoKind.{GoKind as AnyKind};
-ghost use Rattle.search_epochs.specs.Talk.{Serves};
+ghost use Rattle.search_epochs.specs.Tickets.{Serves};
 ghost use Rattle.desk_rules.specs.Desk.{at, current};
-ghost use Rattle.desk_rules.specs.Steps.{deed_of};
+ghost use Rattle.desk_rules.specs.Steps.{effect_of};
 ghost use Rattle.desk_rules.specs.Fits.{IsSound, IsHintPlayable, IsServed, IsLineEvent, IsFit, CanHold};
 
 mod calls;
 mod turns;
 
-use crate::{Deed, Desk, Ruling, Sight, is_gone};
+use crate::{Context, Desk, Effect, Ruling, is_gone};
 use line_io::{Event, NoMemory, Out};
 use option_map::Held;
 use peer_words::GoKind;
@@ -33,7 +33,7 @@ const STALE: EngineState = EngineState::Search {
 };
 
 /// Nothing is said of the engine yet, and the policy neither resigns nor accepts a draw.
-const SIGHT: Sight = Sight {
+const SIGHT: Context = Context {
     closed: false,
     engine: EngineState::Boot,
     spent: false,
@@ -50,7 +50,7 @@ struct Bench {
     told: Out,
 }
 
-/// An event, and what comes of it: the state of the engine before it, its mark, the deed, whether the epoch rises, the
+/// An event, and what comes of it: the state of the engine before it, its mark, the effect, whether the epoch rises, the
 /// call after it, and what the interface is told.
 type Turn<'a> = (EngineState, &'a str, &'a str, bool, Call, &'a str);
 
@@ -104,19 +104,22 @@ fn serves(engine: EngineState, call: Call) -> bool
     }
 }
 
-fn is_served(desk: &Desk, sight: Sight) -> bool
+fn is_served(desk: &Desk, context: Context) -> bool
     requires { IsHintPlayable desk.now }
-    ensures { result ≡ true → IsServed (at sight desk.now) }
+    ensures { result ≡ true → IsServed (at context desk.now) }
 {
-    serves(sight.engine, desk.call(sight.closed, is_gone(sight.engine)))
+    serves(
+        context.engine,
+        desk.call(context.closed, is_gone(context.engine)),
+    )
 }
 
-/// Whether there is room for the orders of a deed.
-fn can_hold(held: &Held, deed: &Deed) -> bool
-    ensures { result ≡ true → CanHold held.now (deed_of deed.now) }
+/// Whether there is room for the orders of an effect.
+fn can_hold(held: &Held, effect: &Effect) -> bool
+    ensures { result ≡ true → CanHold held.now (effect_of effect.now) }
 {
-    match deed {
-        Deed::Boots => held.count() == 0,
+    match effect {
+        Effect::Boots => held.count() == 0,
         _ => true,
     }
 }
@@ -128,29 +131,29 @@ fn expect_line_event(rt: &impl Abort, event: &Event)
     assert!(rt; is_line_event(event));
 }
 
-/// There is room for the orders of a deed.
-fn expect_room(rt: &impl Abort, held: &Held, deed: &Deed)
-    ensures { CanHold held.now (deed_of deed.now) }
+/// There is room for the orders of an effect.
+fn expect_room(rt: &impl Abort, held: &Held, effect: &Effect)
+    ensures { CanHold held.now (effect_of effect.now) }
 {
-    assert!(rt; can_hold(held, deed));
+    assert!(rt; can_hold(held, effect));
 }
 
-fn word_of(deed: &Deed) -> &'static str {
-    match deed {
-        Deed::Nothing => "nothing",
-        Deed::Opens => "opens",
-        Deed::LongLine => "long line",
-        Deed::Refuses { .. } => "refuses",
-        Deed::Accepts(_) => "accepts",
-        Deed::Names(_) => "names",
-        Deed::Declares(_) => "declares",
-        Deed::Boots => "boots",
-        Deed::Readies => "readies",
-        Deed::Thinks { .. } => "thinks",
-        Deed::Shows { .. } => "shows",
-        Deed::Forfeits => "forfeits",
-        Deed::Answers => "answers",
-        Deed::Dies => "dies",
+fn word_of(effect: &Effect) -> &'static str {
+    match effect {
+        Effect::Nothing => "nothing",
+        Effect::Opens => "opens",
+        Effect::LongLine => "long line",
+        Effect::Refuses { .. } => "refuses",
+        Effect::Accepts(_) => "accepts",
+        Effect::Names(_) => "names",
+        Effect::Declares(_) => "declares",
+        Effect::Boots => "boots",
+        Effect::Readies => "readies",
+        Effect::Thinks { .. } => "thinks",
+        Effect::Shows { .. } => "shows",
+        Effect::Forfeits => "forfeits",
+        Effect::Answers => "answers",
+        Effect::Dies => "dies",
     }
 }
 
@@ -165,8 +168,13 @@ impl Bench {
         })
     }
 
-    /// Decides what comes of an event, and does it. It gives the deed, whether an epoch begins and the call.
-    fn take(&mut self, rt: &impl Abort, sight: Sight, event: &Event) -> (&'static str, bool, Call)
+    /// Decides what comes of an event, and does it. It gives the effect, whether an epoch begins and the call.
+    fn take(
+        &mut self,
+        rt: &impl Abort,
+        context: Context,
+        event: &Event,
+    ) -> (&'static str, bool, Call)
         requires { IsSound self.old.desk }
         ensures { IsSound self.new.desk }
     {
@@ -174,12 +182,12 @@ impl Bench {
         assert!(rt; self.told.spare() == 131_072);
         assert!(rt; self.desk.pings.len() <= 64);
         expect_line_event(rt, event);
-        assert!(rt; is_served(&self.desk, sight));
-        let decision = self.desk.decide(sight, &self.held, event);
-        expect_room(rt, &self.held, &decision.ruling.deed);
+        assert!(rt; is_served(&self.desk, context));
+        let decision = self.desk.decide(context, &self.held, event);
+        expect_room(rt, &self.held, &decision.ruling.effect);
         decision.asks.hold(&mut self.held);
         let ruling = decision.ruling;
-        self.follow(sight, &ruling)
+        self.follow(context, &ruling)
     }
 
     /// Compares the held orders.
@@ -194,40 +202,41 @@ impl Bench {
         assert_eq!(rt; self.told.bytes(), want.as_bytes());
     }
 
-    fn follow(&mut self, sight: Sight, ruling: &Ruling) -> (&'static str, bool, Call)
+    fn follow(&mut self, context: Context, ruling: &Ruling) -> (&'static str, bool, Call)
         requires sound { IsSound self.old.desk }
-        requires fits { IsFit (at sight self.old.desk) (deed_of ruling.now.deed) }
-        requires served { IsServed (at sight self.old.desk) }
+        requires fits { IsFit (at context self.old.desk) (effect_of ruling.now.effect) }
+        requires served { IsServed (at context self.old.desk) }
         requires pings { length self.old.desk.pings ≤ 64 }
         requires told { self.old.told ≡ empty 131072 }
         ensures { IsSound self.new.desk }
     {
-        let deed = &ruling.deed;
-        self.desk.commit(sight, deed, sight.closed, &mut self.told);
-        let gone = is_gone(sight.engine) || deed.is_death();
-        let call = self.desk.call(sight.closed, gone);
-        (word_of(deed), ruling.begins_epoch, call)
+        let effect = &ruling.effect;
+        self.desk
+            .commit(context, effect, context.closed, &mut self.told);
+        let gone = is_gone(context.engine) || effect.is_death();
+        let call = self.desk.call(context.closed, gone);
+        (word_of(effect), ruling.begins_epoch, call)
     }
 }
 
 /// Takes the events of turns, and compares what comes of them.
-fn check_turns(rt: &impl Abort, bench: &mut Bench, sight: Sight, turns: &[Turn])
+fn check_turns(rt: &impl Abort, bench: &mut Bench, context: Context, turns: &[Turn])
     requires { IsSound bench.old.desk }
     ensures { IsSound bench.new.desk }
 {
     for turn in turns {
-        check_turn(rt, bench, sight, turn);
+        check_turn(rt, bench, context, turn);
     }
 }
 
-fn check_turn(rt: &impl Abort, bench: &mut Bench, sight: Sight, turn: &Turn)
+fn check_turn(rt: &impl Abort, bench: &mut Bench, context: Context, turn: &Turn)
     requires { IsSound bench.old.desk }
     ensures { IsSound bench.new.desk }
 {
-    let (engine, mark, deed, rises, call, told) = *turn;
+    let (engine, mark, effect, begins_epoch, call, told) = *turn;
     let event = event_in(rt, mark);
-    let came = bench.take(rt, Sight { engine, ..sight }, &event);
-    assert_eq!(rt; came, (deed, rises, call), "{mark}");
+    let came = bench.take(rt, Context { engine, ..context }, &event);
+    assert_eq!(rt; came, (effect, begins_epoch, call), "{mark}");
     assert_eq!(rt; bench.told.bytes(), told.as_bytes(), "{mark}");
 }
 

@@ -6,9 +6,9 @@ use Rattle.chess_board.specs.declared.board.Side.TheVariants.{Black}
 use Rattle.chess_board.specs.Board.{same_side}
 use Rattle.peer_words.specs.declared.kinds.GoKind.{GoKind}
 use Rattle.peer_words.specs.declared.kinds.GoKind.TheVariants as kinds
-use Rattle.cecp_lines.specs.Messages.{Message}
+use Rattle.cecp_lines.specs.Messages.{IfaceMsg}
 use Rattle.cecp_lines.specs.Messages as says
-use Rattle.game_record.specs.Course.{Course, now_of}
+use Rattle.game_record.specs.Game.{Game, now_of}
 use Rattle.game_record.specs.Ending.{has_legal}
 use Rattle.option_map.specs.Settings.{Setting}
 use Rattle.option_map.specs.Shown.{check_named}
@@ -17,17 +17,17 @@ use Rattle.search_epochs.specs.declared.words.Call.TheVariants as calls
 use Rattle.search_epochs.specs.declared.words.Said.TheVariants as said
 use Rattle.search_epochs.specs.declared.words.EngineState.TheVariants as states
 use Rattle.option_map.specs.Settings.{after_declared}
-use Rattle.search_epochs.specs.Talk.{Engine, Boot, Getting, Idle, Search, Gone, Says, is_move}
-use Rattle.search_epochs.specs.View.{forget}
+use Rattle.search_epochs.specs.Tickets.{Engine, Boot, Getting, Idle, Search, Gone, Says, is_move}
+use Rattle.search_epochs.specs.Dialogue.{forget}
 use Rattle.search_epochs.specs.History.{answers_at, is_end}
 use Rattle.desk_rules.specs.declared.mode.Mode.{Mode}
 use Rattle.desk_rules.specs.declared.mode.Mode.TheVariants as modes
 use Rattle.desk_rules.specs.declared.desk.Desk.{Desk}
-use Rattle.desk_rules.specs.Desk.{Here, call_of, call_in, call_for_hint, call_while_waiting, call_before, is_gone, is_boot, is_full, table, ponder_name, has_ended, on_move, played, owes_move, owed_at}
+use Rattle.desk_rules.specs.Desk.{Situation, call_of, call_in, call_for_hint, call_while_waiting, call_before, is_gone, is_boot, is_full, table, ponder_name, has_ended, on_move, played, owes_move, owed_at}
 use Rattle.desk_rules.specs.Lines.{asks, change, is_epoch_line}
-use Rattle.desk_rules.specs.Steps.{Deed, Nothing, Opens, LongLine, Refuses, Accepts, Names, Declares, Boots, Readies, Thinks, Shows, Forfeits, Answers, Dies, what_of, desk_after_deed, rises, is_death}
+use Rattle.desk_rules.specs.Steps.{Effect, Nothing, Opens, LongLine, Refuses, Accepts, Names, Declares, Boots, Readies, Thinks, Shows, Forfeits, Answers, Dies, what_of, desk_after_effect, begins_epoch, is_death}
 use Rattle.desk_rules.specs.Fits.{Fits, IsCurrentMove, IsOther}
-use Rattle.adapter_core.specs.Trace.{State, here}
+use Rattle.adapter_core.specs.Trace.{State, situation}
 use Rattle.adapter_core.proofs.Fresh.{call_is}
 
 -- WHERE NOTHING IS CALLED FOR
@@ -84,7 +84,7 @@ wait_ponder : (b : Bool) (c : Call) (m : Move) → cond b c calls.Nothing ≡ ca
 wait_ponder true c m e = e
 wait_ponder false c m e = cc
 
-hint_ponder : (g : Course) (o : Option Move) (m : Move) → call_for_hint g o ≡ calls.Ponder m → o ≡ Some m
+hint_ponder : (g : Game) (o : Option Move) (m : Move) → call_for_hint g o ≡ calls.Ponder m → o ≡ Some m
 hint_ponder g None m e = cc
 hint_ponder g (Some h) m e = let x = out_ponder (has_ended (played g h)) (calls.Ponder h) m e in cc
 
@@ -145,13 +145,13 @@ owed_move false c e = not_false (is_move c) e where
   not_false false e = cc
 
 -- `hard` and `easy` while a Move is owed
-told_call : (h : Here) (b : Bool) → not (owes_move h) ≡ false → call_of h.closed (is_gone h.engine) (record h.desk { pondering = b }) ≡ call_before h
+told_call : (h : Situation) (b : Bool) → not (owes_move h) ≡ false → call_of h.closed (is_gone h.engine) (record h.desk { pondering = b }) ≡ call_before h
 told_call h b r =
     let x = owed_move h.spent (call_before h) r in
     move_call _ (call_is h.closed (is_gone h.engine) (record h.desk { pondering = b }) ∙ sym (call_is h.closed (is_gone h.engine) h.desk) ∙ x)
     ∙ sym (move_call (call_before h) x)
 
-line_call : (h : Here) (m : Message) → is_epoch_line (owes_move h) (asks (is_gone h.engine) h.desk m) m ≡ false → call_of h.closed (is_gone h.engine) (change (is_boot h.engine) h.desk m) ≡ call_before h
+line_call : (h : Situation) (m : IfaceMsg) → is_epoch_line (owes_move h) (asks (is_gone h.engine) h.desk m) m ≡ false → call_of h.closed (is_gone h.engine) (change (is_boot h.engine) h.desk m) ≡ call_before h
 unfolding change is_epoch_line call_of
 line_call h says.New r = cc
 line_call h says.Force r = cc
@@ -174,10 +174,10 @@ as_gone c false d = refl
 
 -- WHAT ENDS THE CALL
 
-abbrev ends_here : ℕ → Engine → Deed → Bool
-ends_here epoch e d = answers_at (what_of d) epoch e || is_end (what_of d)
+abbrev ends_situation : ℕ → Engine → Effect → Bool
+ends_situation epoch e d = answers_at (what_of d) epoch e || is_end (what_of d)
 
-line_ends : (epoch : ℕ) (e : Engine) (m : Message) → ends_here epoch e (Accepts m) ≡ false
+line_ends : (epoch : ℕ) (e : Engine) (m : IfaceMsg) → ends_situation epoch e (Accepts m) ≡ false
 line_ends epoch e (says.UserMove m) = refl
 line_ends epoch e says.MoveNow = refl
 line_ends epoch e m = refl
@@ -222,7 +222,7 @@ going false x c e n = n
 
 -- what holds in Boot
 abbrev pub IsFreshInBoot : State → Type 0
-IsFreshInBoot s = s.talk.engine ≡ Boot → (s.desk.booted ≡ false) × (s.desk.hint ≡ None)
+IsFreshInBoot s = s.dialogue.engine ≡ Boot → (s.desk.booted ≡ false) × (s.desk.hint ≡ None)
 
 boot_back : (epoch : ℕ) (e : Engine) → is_boot (forget epoch e) ≡ true → e ≡ Boot
 boot_back epoch Boot b = refl
@@ -234,32 +234,32 @@ boot_back epoch Gone b = cc
 -- the call in a step after which the session is open and which begins no epoch
 module _ (s : State) (fresh : IsFreshInBoot s) where
   abbrev gone : Bool
-  gone = is_gone (here s).engine
+  gone = is_gone (situation s).engine
 
-  same_call : (d : Deed) → call_of s.ends.closed gone (desk_after_deed (here s) d) ≡ call_before (here s) → call_of s.ends.closed (gone || false) (desk_after_deed (here s) d) ≡ call_before (here s)
-  same_call d e = as_gone s.ends.closed gone (desk_after_deed (here s) d) ∙ e
+  same_call : (d : Effect) → call_of s.ends.closed gone (desk_after_effect (situation s) d) ≡ call_before (situation s) → call_of s.ends.closed (gone || false) (desk_after_effect (situation s) d) ≡ call_before (situation s)
+  same_call d e = as_gone s.ends.closed gone (desk_after_effect (situation s) d) ∙ e
 
-  pub deed_call : (d : Deed) → Fits (here s) s.held d → rises (here s) d ≡ false
-      → call_of s.ends.closed (gone || is_death d) (desk_after_deed (here s) d) ≡ cond (ends_here s.talk.epoch s.talk.engine d) calls.Nothing (call_before (here s))
-  unfolding desk_after_deed
-  deed_call (Accepts m) f r =
-      going (ends_here s.talk.epoch s.talk.engine (Accepts m)) (call_of s.ends.closed (gone || false) (desk_after_deed (here s) (Accepts m))) (call_before (here s))
-      (line_ends s.talk.epoch s.talk.engine m) (same_call (Accepts m) (line_call (here s) m r))
-  deed_call Nothing f r = same_call Nothing refl
-  deed_call Opens f r = same_call Opens refl
-  deed_call LongLine f r = same_call LongLine refl
-  deed_call (Refuses reason line) f r = same_call (Refuses reason line) refl
-  deed_call (Names text) f r = same_call (Names text) (unfold call_of in refl)
-  deed_call (Declares name shape) f r =
-      same_call (Declares name shape) (unbooted_call s.ends.closed gone s.desk (after_declared s.desk.options name shape) (fresh (boot_back s.talk.epoch s.talk.engine f.1)).0)
-  deed_call Boots f r = same_call Boots (boots_call s.ends.closed gone s.desk (fresh (boot_back s.talk.epoch s.talk.engine f.1)).1)
-  deed_call Readies f r = same_call Readies refl
-  deed_call (Thinks k facts) f r = same_call (Thinks k facts) (unfold call_of in refl)
-  deed_call (Shows best hint) f r = cc
-  deed_call Forfeits f r =
-      ended (ends_here s.talk.epoch s.talk.engine Forfeits) (call_of s.ends.closed (gone || false) (desk_after_deed (here s) Forfeits)) (call_before (here s))
-      (or_none (answers_at (Says said.Best) s.talk.epoch s.talk.engine) ∙ current_ends s.talk.epoch s.talk.engine f.1) (over_call s.ends.closed (gone || false) s.desk)
-  deed_call Answers f r =
-      going (ends_here s.talk.epoch s.talk.engine Answers) (call_of s.ends.closed (gone || false) (desk_after_deed (here s) Answers)) (call_before (here s))
-      (or_none (answers_at (Says said.Best) s.talk.epoch s.talk.engine) ∙ other_ends s.talk.epoch s.talk.engine f.1) (same_call Answers refl)
-  deed_call Dies f r = gone_call s.ends.closed gone (desk_after_deed (here s) Dies)
+  pub effect_call : (d : Effect) → Fits (situation s) s.held d → begins_epoch (situation s) d ≡ false
+      → call_of s.ends.closed (gone || is_death d) (desk_after_effect (situation s) d) ≡ cond (ends_situation s.dialogue.epoch s.dialogue.engine d) calls.Nothing (call_before (situation s))
+  unfolding desk_after_effect
+  effect_call (Accepts m) f r =
+      going (ends_situation s.dialogue.epoch s.dialogue.engine (Accepts m)) (call_of s.ends.closed (gone || false) (desk_after_effect (situation s) (Accepts m))) (call_before (situation s))
+      (line_ends s.dialogue.epoch s.dialogue.engine m) (same_call (Accepts m) (line_call (situation s) m r))
+  effect_call Nothing f r = same_call Nothing refl
+  effect_call Opens f r = same_call Opens refl
+  effect_call LongLine f r = same_call LongLine refl
+  effect_call (Refuses reason line) f r = same_call (Refuses reason line) refl
+  effect_call (Names text) f r = same_call (Names text) (unfold call_of in refl)
+  effect_call (Declares name shape) f r =
+      same_call (Declares name shape) (unbooted_call s.ends.closed gone s.desk (after_declared s.desk.options name shape) (fresh (boot_back s.dialogue.epoch s.dialogue.engine f.1)).0)
+  effect_call Boots f r = same_call Boots (boots_call s.ends.closed gone s.desk (fresh (boot_back s.dialogue.epoch s.dialogue.engine f.1)).1)
+  effect_call Readies f r = same_call Readies refl
+  effect_call (Thinks k facts) f r = same_call (Thinks k facts) (unfold call_of in refl)
+  effect_call (Shows best hint) f r = cc
+  effect_call Forfeits f r =
+      ended (ends_situation s.dialogue.epoch s.dialogue.engine Forfeits) (call_of s.ends.closed (gone || false) (desk_after_effect (situation s) Forfeits)) (call_before (situation s))
+      (or_none (answers_at (Says said.Best) s.dialogue.epoch s.dialogue.engine) ∙ current_ends s.dialogue.epoch s.dialogue.engine f.1) (over_call s.ends.closed (gone || false) s.desk)
+  effect_call Answers f r =
+      going (ends_situation s.dialogue.epoch s.dialogue.engine Answers) (call_of s.ends.closed (gone || false) (desk_after_effect (situation s) Answers)) (call_before (situation s))
+      (or_none (answers_at (Says said.Best) s.dialogue.epoch s.dialogue.engine) ∙ other_ends s.dialogue.epoch s.dialogue.engine f.1) (same_call Answers refl)
+  effect_call Dies f r = gone_call s.ends.closed gone (desk_after_effect (situation s) Dies)

@@ -2,60 +2,60 @@
 use Rattle.std.proofs.Common.{◌≡◌, ℕ, ◌+◌, List, [], ◌∷◌, map, Bool, true, false, not, cond, ◌||◌, Option, Some, None, Result, Ok, Err, refl, sym, ap, subst, ◌∙◌}
 use Rattle.line_io.specs.Event.{Event}
 use Rattle.line_io.specs.Event as events
-use Rattle.cecp_lines.specs.Messages.{Message}
+use Rattle.cecp_lines.specs.Messages.{IfaceMsg}
 use Rattle.cecp_lines.specs.Messages as says
 use Rattle.cecp_lines.specs.Reading.{reading}
 use Rattle.cecp_lines.specs.Quit.{is_quit, is_quit_message}
 use Rattle.cecp_lines.specs.declared.iface.IfaceFault.{IfaceFault}
 use Rattle.cecp_lines.specs.declared.iface.IfaceFault.TheVariants as faults
-use Rattle.uci_lines.specs.Orders.{Command}
+use Rattle.uci_lines.specs.Orders.{Order}
 use Rattle.uci_lines.specs.Orders as orders
 use Rattle.uci_lines.specs.Engine.{engine_message}
 use Rattle.policy_rules.specs.declared.settings.Settings.{Settings}
 use Rattle.search_epochs.specs.declared.words.Said.{Said}
 use Rattle.search_epochs.specs.declared.words.Said.TheVariants as said
-use Rattle.search_epochs.specs.Talk as talks
-use Rattle.search_epochs.specs.Talk.{Engine, Boot, Getting, Idle, Search, Gone, Word, Talk, heard, said_of, sent, closed_ticket, turned, after}
+use Rattle.search_epochs.specs.Tickets as talks
+use Rattle.search_epochs.specs.Tickets.{Engine, Boot, Getting, Idle, Search, Gone, Word, Ticketed, heard, said_of, sent, closed_ticket, turned, after}
 use Rattle.search_epochs.specs.History as history
 use Rattle.search_epochs.specs.History.{Exchange, IsDeaf, MayCome, AreLawful}
 use Rattle.search_epochs.proofs.Stops.{stops_once}
-use Rattle.search_epochs.specs.View.{forget}
-use Rattle.desk_rules.specs.declared.deed.Refusal.{Refusal}
-use Rattle.desk_rules.specs.Desk.{Here, is_gone}
+use Rattle.search_epochs.specs.Dialogue.{forget}
+use Rattle.desk_rules.specs.declared.effect.Refusal.{Refusal}
+use Rattle.desk_rules.specs.Desk.{Situation, is_gone}
 use Rattle.desk_rules.specs.Lines.{verdict, judged, refusal}
-use Rattle.desk_rules.specs.Steps.{Deed, Nothing, LongLine, Accepts, Boots, Readies, Shows, Forfeits, Answers, Dies, comes, line_deed, engine_says, what_of, what_accepted, is_death}
+use Rattle.desk_rules.specs.Steps.{Effect, Nothing, LongLine, Accepts, Boots, Readies, Shows, Forfeits, Answers, Dies, classify, line_effect, engine_says, what_of, what_accepted, is_death}
 use Rattle.desk_rules.specs.Orders.{waiting, word_of}
-use Rattle.desk_rules.proofs.Deeds.{comes_fits}
+use Rattle.desk_rules.proofs.Effects.{comes_fits}
 use Rattle.desk_rules.proofs.Waits.{all_setup, all_held}
 use Rattle.adapter_core.specs.Ends.{may, is_open}
-use Rattle.adapter_core.specs.Trace.{State, Step, IsLawful, Lawful, state, state_after, here, deed, turn, mid, closed_after, gone_after, last_orders}
+use Rattle.adapter_core.specs.Trace.{State, Step, IsLawful, Lawful, state, state_after, situation, effect, turn, mid, closed_after, gone_after, last_orders}
 use Rattle.adapter_core.proofs.Closing.{line_event, closed_stays, closed_rises}
 use Rattle.adapter_core.proofs.Traces.{Lasts, lasts}
 use Rattle.dialogue_laws.specs.Dialogue.{exchange, exchanges, IsDialogueOf, TracesAreDialogues, stops_after, stops_since_go, StopsOnce}
 
 -- THE OPENING
 
-opening_talk : (s : State) (e : Event) (os : List Command) → is_open e ≡ true → may s.ends e ≡ true → (s.ends.opened ≡ false → s.talk.engine ≡ Boot) → os ≡ orders.Uci ∷ []
-    → s.talk ≡ after (mid s e) (map word_of os)
-unfolding comes
-opening_talk s events.Open os o m b u =
-    let t = s.talk in
+opening_dialogue : (s : State) (e : Event) (os : List Order) → is_open e ≡ true → may s.ends e ≡ true → (s.ends.opened ≡ false → s.dialogue.engine ≡ Boot) → os ≡ orders.Uci ∷ []
+    → s.dialogue ≡ after (mid s e) (map word_of os)
+unfolding classify
+opening_dialogue s events.Open os o m b u =
+    let t = s.dialogue in
     let boot = b (not_true s.ends.opened m) in
-    ap (λ (x : Engine). let y : Talk = record { engine = x; epoch = t.epoch; last = t.last } in y) boot
-    ∙ ap (λ (x : Engine). let y : Talk = record { engine = sent t.epoch x talks.Uci; epoch = t.epoch; last = closed_ticket x None t.last } in y) (sym boot)
-    ∙ ap (λ (ws : List Command). after (mid s events.Open) (map word_of ws)) (sym u)
+    ap (λ (x : Engine). let y : Ticketed = record { engine = x; epoch = t.epoch; last = t.last } in y) boot
+    ∙ ap (λ (x : Engine). let y : Ticketed = record { engine = sent t.epoch x talks.Uci; epoch = t.epoch; last = closed_ticket x None t.last } in y) (sym boot)
+    ∙ ap (λ (ws : List Order). after (mid s events.Open) (map word_of ws)) (sym u)
   where
     not_true : (b : Bool) → not b ≡ true → b ≡ false
     not_true true e = cc
     not_true false e = refl
-opening_talk s (events.Iface line) os o m b u = cc
-opening_talk s events.IfaceLong os o m b u = cc
-opening_talk s events.IfaceEnd os o m b u = cc
-opening_talk s events.IfaceLost os o m b u = cc
-opening_talk s (events.Engine line) os o m b u = cc
-opening_talk s events.EngineLong os o m b u = cc
-opening_talk s events.EngineEnd os o m b u = cc
-opening_talk s events.EngineLost os o m b u = cc
+opening_dialogue s (events.Iface line) os o m b u = cc
+opening_dialogue s events.IfaceLong os o m b u = cc
+opening_dialogue s events.IfaceEnd os o m b u = cc
+opening_dialogue s events.IfaceLost os o m b u = cc
+opening_dialogue s (events.Engine line) os o m b u = cc
+opening_dialogue s events.EngineLong os o m b u = cc
+opening_dialogue s events.EngineEnd os o m b u = cc
+opening_dialogue s events.EngineLost os o m b u = cc
 
 opening_closed : (s : State) (e : Event) → is_open e ≡ true → s.ends.closed ≡ closed_after s e
 opening_closed s events.Open o = refl
@@ -70,24 +70,24 @@ opening_closed s events.EngineLost o = cc
 
 -- WHAT IS HEARD IN A STEP AFTER WHICH THE SESSION IS CLOSED
 
-quit_deaf : (line : List ℕ) (r : Option Refusal) → IsDeaf (what_of (line_deed (judged says.Quit r) line))
+quit_deaf : (line : List ℕ) (r : Option Refusal) → IsDeaf (what_of (line_effect (judged says.Quit r) line))
 quit_deaf line None = tt
 quit_deaf line (Some r) = tt
 
-line_deaf : (h : Here) (held : List Command) (line : List ℕ) (r : Result Message IfaceFault) → is_quit_message r ≡ true → IsDeaf (what_of (line_deed (verdict h held r) line))
+line_deaf : (h : Situation) (held : List Order) (line : List ℕ) (r : Result IfaceMsg IfaceFault) → is_quit_message r ≡ true → IsDeaf (what_of (line_effect (verdict h held r) line))
 unfolding verdict
 line_deaf h held line (Err faults.UnknownCommand) q = cc
 line_deaf h held line (Err faults.BadArgument) q = cc
 line_deaf h held line (Ok says.Quit) q = quit_deaf line (refusal h held says.Quit)
 line_deaf h held line (Ok m) q = cc
 
-either_deaf : (h : Here) (held : List Command) (b q : Bool) (line : List ℕ) (r : Result Message IfaceFault) → is_quit_message r ≡ q → (b || q) ≡ true
-    → IsDeaf (what_of (cond b Nothing (line_deed (verdict h held r) line)))
+either_deaf : (h : Situation) (held : List Order) (b q : Bool) (line : List ℕ) (r : Result IfaceMsg IfaceFault) → is_quit_message r ≡ q → (b || q) ≡ true
+    → IsDeaf (what_of (cond b Nothing (line_effect (verdict h held r) line)))
 either_deaf h held true q line r e c = tt
 either_deaf h held false true line r e c = line_deaf h held line r e
 either_deaf h held false false line r e c = cc
 
-where_deaf : (b : Bool) (d : Deed) → b ≡ true → IsDeaf (what_of (cond b Nothing d))
+where_deaf : (b : Bool) (d : Effect) → b ≡ true → IsDeaf (what_of (cond b Nothing d))
 where_deaf true d e = tt
 where_deaf false d e = cc
 
@@ -95,17 +95,17 @@ dead_deaf : (b : Bool) → IsDeaf (what_of (cond b Nothing Dies))
 dead_deaf true = tt
 dead_deaf false = tt
 
-deaf : (s : State) (e : Event) → closed_after s e ≡ true → IsDeaf (what_of (deed s e))
-unfolding comes
+deaf : (s : State) (e : Event) → closed_after s e ≡ true → IsDeaf (what_of (effect s e))
+unfolding classify
 deaf s events.Open c = tt
-deaf s (events.Iface line) c = either_deaf (here s) s.held s.ends.closed (is_quit line) line (reading line) refl c
+deaf s (events.Iface line) c = either_deaf (situation s) s.held s.ends.closed (is_quit line) line (reading line) refl c
 deaf s events.IfaceLong c = where_deaf s.ends.closed LongLine c
 deaf s events.IfaceEnd c = tt
 deaf s events.IfaceLost c = tt
-deaf s (events.Engine line) c = where_deaf s.ends.closed (engine_says (here s) (engine_message line)) c
+deaf s (events.Engine line) c = where_deaf s.ends.closed (engine_says (situation s) (engine_message line)) c
 deaf s events.EngineLong c = tt
-deaf s events.EngineEnd c = dead_deaf (is_gone (here s).engine)
-deaf s events.EngineLost c = dead_deaf (is_gone (here s).engine)
+deaf s events.EngineEnd c = dead_deaf (is_gone (situation s).engine)
+deaf s events.EngineLost c = dead_deaf (is_gone (situation s).engine)
 
 -- WHETHER THE ENGINE IS GONE
 
@@ -140,25 +140,25 @@ gone_heard n Gone (Some said.ReadyOk) = refl
 gone_heard n Gone (Some said.Best) = refl
 gone_heard n Gone (Some said.Ended) = refl
 
-line_ending : (m : Message) → is_ending (said_of (what_accepted m)) ≡ false
+line_ending : (m : IfaceMsg) → is_ending (said_of (what_accepted m)) ≡ false
 line_ending (says.UserMove m) = refl
 line_ending says.MoveNow = refl
 line_ending m = refl
 
-deed_ending : (d : Deed) → is_ending (said_of (what_of d)) ≡ is_death d
-deed_ending (Accepts m) = line_ending m
-deed_ending Boots = refl
-deed_ending Readies = refl
-deed_ending (Shows best hint) = refl
-deed_ending Forfeits = refl
-deed_ending Answers = refl
-deed_ending Dies = refl
-deed_ending d = refl
+effect_ending : (d : Effect) → is_ending (said_of (what_of d)) ≡ is_death d
+effect_ending (Accepts m) = line_ending m
+effect_ending Boots = refl
+effect_ending Readies = refl
+effect_ending (Shows best hint) = refl
+effect_ending Forfeits = refl
+effect_ending Answers = refl
+effect_ending Dies = refl
+effect_ending d = refl
 
 gone_is : (s : State) (e : Event) → gone_after s e ≡ talks.is_gone (mid s e).engine
 gone_is s e =
-    ap (λ (b : Bool). is_gone (here s).engine || b) (sym (deed_ending (deed s e)))
-    ∙ sym (gone_heard s.talk.epoch s.talk.engine (said_of (what_of (deed s e))))
+    ap (λ (b : Bool). is_gone (situation s).engine || b) (sym (effect_ending (effect s e)))
+    ∙ sym (gone_heard s.dialogue.epoch s.dialogue.engine (said_of (what_of (effect s e))))
 
 last_words : (gone : Bool) → map word_of (last_orders gone) ≡ history.last_orders false gone
 last_words true = refl
@@ -171,13 +171,13 @@ module _ (s : State) (step : Step) (last : Lasts s) (l : IsLawful s step) where
   e = step.event
 
   waits : talks.AllSetup (turn s e).waiting
-  waits = all_setup (waiting (here s) s.held (deed s e)) (all_held (here s) s.held (deed s e) last.sound (comes_fits (here s) s.held e (line_event s.ends e l.may_come)) last.held)
+  waits = all_setup (waiting (situation s) s.held (effect s e)) (all_held (situation s) s.held (effect s e) last.sound (comes_fits (situation s) s.held e (line_event s.ends e l.may_come)) last.held)
 
   comes_in : MayCome s.ends.closed (exchange s step)
   comes_in = record {
     waiting = waits;
     stays_closed = λ c. closed_stays s.ends e c;
-    no_epoch = λ c. closed_rises s.ends (here s) s.held e refl c;
+    no_epoch = λ c. closed_rises s.ends (situation s) s.held e refl c;
     deaf = λ c. deaf s e c;
   }
 
@@ -185,35 +185,35 @@ module _ (s : State) (step : Step) (last : Lasts s) (l : IsLawful s step) where
   closing o true c n = ap (map word_of) (l.closed o c)
   closing o false c n = ap (map word_of) (l.closes c n) ∙ last_words (gone_after s e) ∙ ap (history.last_orders false) (gone_is s e)
 
-  pub lawful_in : is_open e ≡ false → AreLawful s.talk s.ends.closed (exchange s step)
+  pub lawful_in : is_open e ≡ false → AreLawful s.dialogue s.ends.closed (exchange s step)
   lawful_in o = record { settled = λ n. (l.settled o n).words; closing = λ n. closing o s.ends.closed refl n }
 
   by_open : (b : Bool) (xs : List Exchange) → is_open e ≡ b → IsDialogueOf s xs → IsDialogueOf (state_after s step) (cond b xs (exchange s step ∷ xs))
   by_open true xs o d = record {
     lawful = d.lawful;
-    talk = d.talk ∙ opening_talk s e step.orders o l.may_come last.begins (l.opens o);
+    dialogue = d.dialogue ∙ opening_dialogue s e step.orders o l.may_come last.begins (l.opens o);
     closed = d.closed ∙ opening_closed s e o;
   }
   by_open false xs o d = record {
     lawful = (
       d.lawful,
       subst (λ (b : Bool). MayCome b (exchange s step)) (sym d.closed) comes_in,
-      subst (λ (b : Bool). AreLawful (history.talk xs) b (exchange s step)) (sym d.closed)
-          (subst (λ (t : Talk). AreLawful t s.ends.closed (exchange s step)) (sym d.talk) (lawful_in o)),
+      subst (λ (b : Bool). AreLawful (history.dialogue xs) b (exchange s step)) (sym d.closed)
+          (subst (λ (t : Ticketed). AreLawful t s.ends.closed (exchange s step)) (sym d.dialogue) (lawful_in o)),
     );
-    talk = ap (λ (t : Talk). after (turned t (turn s e)) (map word_of step.orders)) d.talk;
+    dialogue = ap (λ (t : Ticketed). after (turned t (turn s e)) (map word_of step.orders)) d.dialogue;
     closed = refl;
   }
 
 -- EACH TRACE
 
 pub dialogues : (o : Settings) → TracesAreDialogues o
-dialogues o [] l = record { lawful = tt; talk = refl; closed = refl }
+dialogues o [] l = record { lawful = tt; dialogue = refl; closed = refl }
 dialogues o (step ∷ t) l = by_open (state o t) step (lasts o t l.0) l.1 (is_open step.event) (exchanges o t) refl (dialogues o t l.0)
 
 -- STOPS
 
-same_stops : (n : ℕ) (os : List Command) → stops_after n os ≡ history.stops_after n (map word_of os)
+same_stops : (n : ℕ) (os : List Order) → stops_after n os ≡ history.stops_after n (map word_of os)
 same_stops n [] = refl
 same_stops n (orders.Go ponder control depth ∷ later) = same_stops 0 later
 same_stops n (orders.Stop ∷ later) = same_stops (n + 1) later

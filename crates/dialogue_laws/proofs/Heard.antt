@@ -6,27 +6,27 @@ use Rattle.chess_board.specs.declared.board.Move.{Move}
 use Rattle.chess_board.specs.Place.{legal}
 use Rattle.peer_words.specs.declared.kinds.GoKind.{GoKind}
 use Rattle.peer_words.specs.declared.kinds.GoKind.TheVariants as kinds
-use Rattle.cecp_lines.specs.Messages.{Message}
+use Rattle.cecp_lines.specs.Messages.{IfaceMsg}
 use Rattle.cecp_lines.specs.Messages as messages
 use Rattle.cecp_lines.specs.Reading.{reading}
-use Rattle.uci_lines.specs.Says.{Says}
-use Rattle.uci_lines.specs.Says as says
+use Rattle.uci_lines.specs.Messages.{EngineMsg}
+use Rattle.uci_lines.specs.Messages as says
 use Rattle.uci_lines.specs.Engine.{engine_message}
-use Rattle.uci_lines.specs.Orders.{Command}
+use Rattle.uci_lines.specs.Orders.{Order}
 use Rattle.uci_lines.specs.Orders as orders
-use Rattle.game_record.specs.Course.{Course, now_of}
+use Rattle.game_record.specs.Game.{Game, now_of}
 use Rattle.policy_rules.specs.declared.settings.Settings.{Settings}
 use Rattle.search_epochs.specs.declared.words.Said.{Said}
 use Rattle.search_epochs.specs.declared.words.Said.TheVariants as said
 use Rattle.search_epochs.specs.declared.words.EngineState.TheVariants as states
-use Rattle.search_epochs.specs.Talk.{Engine, Boot, Getting, Idle, Search, Gone, heard, said_of, sent, sent_all}
-use Rattle.search_epochs.specs.View.{forget}
-use Rattle.desk_rules.specs.Desk.{Here, is_boot, is_getting, is_gone, current}
+use Rattle.search_epochs.specs.Tickets.{Engine, Boot, Getting, Idle, Search, Gone, heard, said_of, sent, sent_all}
+use Rattle.search_epochs.specs.Dialogue.{forget}
+use Rattle.desk_rules.specs.Desk.{Situation, is_boot, is_getting, is_gone, current}
 use Rattle.desk_rules.specs.Lines.{Verdict, Refused, Accepted, verdict}
-use Rattle.desk_rules.specs.Steps.{Deed, Nothing, LongLine, Names, Declares, Boots, Readies, Shows, Forfeits, Dies, comes, line_deed, engine_says, thinks, answers, what_of, what_accepted}
+use Rattle.desk_rules.specs.Steps.{Effect, Nothing, LongLine, Names, Declares, Boots, Readies, Shows, Forfeits, Dies, classify, line_effect, engine_says, thinks, answers, what_of, what_accepted}
 use Rattle.desk_rules.specs.Orders.{word_of}
 use Rattle.adapter_core.specs.Ends.{ends_after}
-use Rattle.adapter_core.specs.Trace.{State, Step, state, here, deed, mid}
+use Rattle.adapter_core.specs.Trace.{State, Step, state, situation, effect, mid}
 use Rattle.dialogue_laws.specs.Wire.{Wire, said_in, said_by, hearing, writing, writing_all, ends, wire, on_wire, EngineIsOnWire, EndsAreOnWire}
 
 -- WHAT IS HEARD AND WRITTEN
@@ -54,7 +54,7 @@ heard_on_wire Gone (Some said.ReadyOk) = refl
 heard_on_wire Gone (Some said.Best) = refl
 heard_on_wire Gone (Some said.Ended) = refl
 
-sent_on_wire : (n : ℕ) (e : Engine) (order : Command) → on_wire (sent n e (word_of order)) ≡ writing (on_wire e) order
+sent_on_wire : (n : ℕ) (e : Engine) (order : Order) → on_wire (sent n e (word_of order)) ≡ writing (on_wire e) order
 sent_on_wire n Gone order = refl
 sent_on_wire n Boot orders.Uci = refl
 sent_on_wire n Boot order = refl
@@ -69,29 +69,29 @@ sent_on_wire n (Search kinds.Ponder t s) order = refl
 sent_on_wire n (Search kinds.Analyse t s) orders.Uci = refl
 sent_on_wire n (Search kinds.Analyse t s) order = refl
 
-pub all_on_wire : (n : ℕ) (e : Engine) (os : List Command) → on_wire (sent_all n e (map word_of os)) ≡ writing_all (on_wire e) os
+pub all_on_wire : (n : ℕ) (e : Engine) (os : List Order) → on_wire (sent_all n e (map word_of os)) ≡ writing_all (on_wire e) os
 all_on_wire n e [] = refl
 all_on_wire n e (order ∷ later) = all_on_wire n (sent n e (word_of order)) later ∙ ap (λ (x : Wire). writing_all x later) (sent_on_wire n e order)
 
 -- WHAT AN EVENT SAYS
 
-abbrev tells : Deed → Option Said
+abbrev tells : Effect → Option Said
 tells d = said_of (what_of d)
 
-silent_where : (b : Bool) (d : Deed) → tells d ≡ None → tells (cond b Nothing d) ≡ None
+silent_where : (b : Bool) (d : Effect) → tells d ≡ None → tells (cond b Nothing d) ≡ None
 silent_where true d e = refl
 silent_where false d e = e
 
-silent_unless : (b : Bool) (d : Deed) → tells d ≡ None → tells (cond b d Nothing) ≡ None
+silent_unless : (b : Bool) (d : Effect) → tells d ≡ None → tells (cond b d Nothing) ≡ None
 silent_unless true d e = e
 silent_unless false d e = refl
 
-accepted_silent : (m : Message) → said_of (what_accepted m) ≡ None
+accepted_silent : (m : IfaceMsg) → said_of (what_accepted m) ≡ None
 accepted_silent (messages.UserMove m) = refl
 accepted_silent messages.MoveNow = refl
 accepted_silent m = refl
 
-line_silent : (v : Verdict) (line : List ℕ) → tells (line_deed v line) ≡ None
+line_silent : (v : Verdict) (line : List ℕ) → tells (line_effect v line) ≡ None
 line_silent (Refused r) line = refl
 line_silent (Accepted m) line = accepted_silent m
 
@@ -99,14 +99,14 @@ shown_best : (b : Bool) (m : Move) (hint : Option Move) → tells (cond b (Shows
 shown_best true m hint = refl
 shown_best false m hint = refl
 
-answer_best : (k : GoKind) (stale s : Bool) (g : Course) (best hint : Option Move) → tells (answers (states.Search k stale s) g best hint) ≡ Some said.Best
+answer_best : (k : GoKind) (stale s : Bool) (g : Game) (best hint : Option Move) → tells (answers (states.Search k stale s) g best hint) ≡ Some said.Best
 answer_best kinds.Move false s g None hint = refl
 answer_best kinds.Move false s g (Some m) hint = shown_best (legal (now_of g) m) m hint
 answer_best kinds.Move true s g best hint = refl
 answer_best kinds.Ponder stale s g best hint = refl
 answer_best kinds.Analyse stale s g best hint = refl
 
-best_heard : (n : ℕ) (e : Engine) (g : Course) (best hint : Option Move) → heard e (tells (answers (forget n e) g best hint)) ≡ heard e (Some said.Best)
+best_heard : (n : ℕ) (e : Engine) (g : Game) (best hint : Option Move) → heard e (tells (answers (forget n e) g best hint)) ≡ heard e (Some said.Best)
 best_heard n Boot g best hint = refl
 best_heard n Getting g best hint = refl
 best_heard n Idle g best hint = refl
@@ -139,28 +139,28 @@ thinks_silent (Some k) facts = refl
 thinks_silent None facts = refl
 
 module _ (s : State) where
-  abbrev h : Here
-  h = here s
+  abbrev h : Situation
+  h = situation s
 
   abbrev engine : Engine
-  engine = s.talk.engine
+  engine = s.dialogue.engine
 
-  says_heard : (m : Says) → heard engine (tells (engine_says h m)) ≡ heard engine (said_in m)
+  says_heard : (m : EngineMsg) → heard engine (tells (engine_says h m)) ≡ heard engine (said_in m)
   says_heard (says.Name text) = ap (heard engine) (silent_unless (is_boot h.engine) (Names text) refl)
   says_heard (says.OptionLine name shape) = ap (heard engine) (silent_unless (is_boot h.engine) (Declares name shape) refl)
-  says_heard says.UciOk = uciok_heard s.talk.epoch engine
-  says_heard says.ReadyOk = readyok_heard s.talk.epoch engine
+  says_heard says.UciOk = uciok_heard s.dialogue.epoch engine
+  says_heard says.ReadyOk = readyok_heard s.dialogue.epoch engine
   says_heard (says.Info facts) = ap (heard engine) (thinks_silent (current h.engine) facts)
-  says_heard (says.Best best hint) = best_heard s.talk.epoch engine s.desk.game best hint
+  says_heard (says.Best best hint) = best_heard s.dialogue.epoch engine s.desk.game best hint
   says_heard says.Nothing = refl
 
-  line_heard : (closed : Bool) (m : Says) → heard engine (tells (cond closed Nothing (engine_says h m))) ≡ heard engine (cond closed None (said_in m))
+  line_heard : (closed : Bool) (m : EngineMsg) → heard engine (tells (cond closed Nothing (engine_says h m))) ≡ heard engine (cond closed None (said_in m))
   line_heard true m = refl
   line_heard false m = says_heard m
 
   -- the engine after the event is as the event says
-  pub event_heard : (e : Event) → heard engine (tells (deed s e)) ≡ heard engine (said_by s.ends.closed e)
-  unfolding comes
+  pub event_heard : (e : Event) → heard engine (tells (effect s e)) ≡ heard engine (said_by s.ends.closed e)
+  unfolding classify
   event_heard events.Open = refl
   event_heard (events.Iface line) = ap (heard engine) (silent_where s.ends.closed _ (line_silent (verdict h s.held (reading line)) line))
   event_heard events.IfaceLong = ap (heard engine) (silent_where s.ends.closed LongLine refl)
@@ -168,8 +168,8 @@ module _ (s : State) where
   event_heard events.IfaceLost = refl
   event_heard (events.Engine line) = line_heard s.ends.closed (engine_message line)
   event_heard events.EngineLong = refl
-  event_heard events.EngineEnd = end_heard s.talk.epoch engine
-  event_heard events.EngineLost = end_heard s.talk.epoch engine
+  event_heard events.EngineEnd = end_heard s.dialogue.epoch engine
+  event_heard events.EngineLost = end_heard s.dialogue.epoch engine
 
 -- THE LAW
 
@@ -178,11 +178,11 @@ ends_on_wire o [] = refl
 ends_on_wire o (step ∷ t) = ap (λ x. ends_after x step.event) (ends_on_wire o t)
 
 -- the engine after an event, before the orders
-pub mid_on_wire : (o : Settings) (t : List Step) (e : Event) → on_wire (state o t).talk.engine ≡ wire t
+pub mid_on_wire : (o : Settings) (t : List Step) (e : Event) → on_wire (state o t).dialogue.engine ≡ wire t
     → on_wire (mid (state o t) e).engine ≡ hearing (wire t) (said_by (ends t).closed e)
 mid_on_wire o t e w =
     let s = state o t in
-    ap on_wire (event_heard s e) ∙ heard_on_wire s.talk.engine (said_by s.ends.closed e)
+    ap on_wire (event_heard s e) ∙ heard_on_wire s.dialogue.engine (said_by s.ends.closed e)
     ∙ ap (λ (x : Wire). hearing x (said_by s.ends.closed e)) w
     ∙ ap (λ x. hearing (wire t) (said_by x.closed e)) (ends_on_wire o t)
 

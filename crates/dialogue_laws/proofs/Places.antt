@@ -5,12 +5,12 @@ use Rattle.line_io.specs.Event.{Event}
 use Rattle.line_io.specs.Event as events
 use Rattle.peer_words.specs.declared.kinds.GoKind.{GoKind}
 use Rattle.peer_words.specs.declared.kinds.GoKind.TheVariants as kinds
-use Rattle.uci_lines.specs.Orders.{Command}
+use Rattle.uci_lines.specs.Orders.{Order}
 use Rattle.uci_lines.specs.Orders as orders
 use Rattle.policy_rules.specs.declared.settings.Settings.{Settings}
-use Rattle.search_epochs.specs.Talk as talks
-use Rattle.search_epochs.specs.Talk.{Engine, Word, Talk, MaySend, MaySendAll, sent_all}
-use Rattle.search_epochs.specs.Talk.{Paired}
+use Rattle.search_epochs.specs.Tickets as talks
+use Rattle.search_epochs.specs.Tickets.{Engine, Word, Ticketed, MaySend, MaySendAll, sent_all}
+use Rattle.search_epochs.specs.Tickets.{Paired}
 use Rattle.search_epochs.specs.History as history
 use Rattle.search_epochs.specs.History.{Exchange}
 use Rattle.search_epochs.proofs.Stops.{may_all}
@@ -26,7 +26,7 @@ use Rattle.dialogue_laws.proofs.Dialogues.{dialogues, lawful_in}
 
 -- WHAT AN ORDER NEEDS
 
-idle_needed : (e : Engine) (order : Command) → needs_idle order ≡ true → MaySend e (word_of order) → on_wire e ≡ Idle
+idle_needed : (e : Engine) (order : Order) → needs_idle order ≡ true → MaySend e (word_of order) → on_wire e ≡ Idle
 idle_needed e orders.Uci n m = absurd m
 idle_needed e orders.NewGame n m = ap on_wire m
 idle_needed e (orders.SetOption name value) n m = ap on_wire m
@@ -70,7 +70,7 @@ not_gone talks.Gone w m g = gone_refuses w m
 
 -- AT THE OPENING
 
-opening_is : (before behind : List Command) (order other : Command) → other ∷ [] ≡ before ++ order ∷ behind → (before ≡ []) × (order ≡ other)
+opening_is : (before behind : List Order) (order other : Order) → other ∷ [] ≡ before ++ order ∷ behind → (before ≡ []) × (order ≡ other)
 opening_is [] behind order other e = (refl, cc)
 opening_is (x ∷ []) behind order other e = absurd (cc)
 opening_is (x ∷ y ∷ before) behind order other e = absurd (cc)
@@ -102,22 +102,22 @@ opening_may s events.EngineLost o m = cc
 
 -- AT EACH PLACE
 
-module _ (o : Settings) (step : Step) (t : List Step) (l : Lawful o (step ∷ t)) (before behind : List Command) (order : Command) (at : step.orders ≡ before ++ order ∷ behind) where
+module _ (o : Settings) (step : Step) (t : List Step) (l : Lawful o (step ∷ t)) (before behind : List Order) (order : Order) (at : step.orders ≡ before ++ order ∷ behind) where
   abbrev s : State
   s = state o t
 
-  abbrev m : Talk
+  abbrev m : Ticketed
   m = mid s step.event
 
-  abbrev engine_here : Engine
-  engine_here = sent_all m.epoch m.engine (map word_of before)
+  abbrev engine_situation : Engine
+  engine_situation = sent_all m.epoch m.engine (map word_of before)
 
-  here_on_wire : on_wire engine_here ≡ wire_at t step before
-  here_on_wire = all_on_wire m.epoch m.engine before ∙ ap (λ (x : Wire). writing_all x before) (mid_on_wire o t step.event (engine_on_wire o t))
+  situation_on_wire : on_wire engine_situation ≡ wire_at t step before
+  situation_on_wire = all_on_wire m.epoch m.engine before ∙ ap (λ (x : Wire). writing_all x before) (mid_on_wire o t step.event (engine_on_wire o t))
 
-  placed : is_open step.event ≡ false → MaySend engine_here (word_of order)
+  placed : is_open step.event ≡ false → MaySend engine_situation (word_of order)
   placed n =
-      let all = may_all s.talk s.ends.closed (exchange s step) (lawful_in s step (lasts o t l.0) l.1 n) in
+      let all = may_all s.dialogue s.ends.closed (exchange s step) (lawful_in s step (lasts o t l.0) l.1 n) in
       at_place m.epoch m.engine (map word_of before) (map word_of behind) (word_of order)
       (subst (MaySendAll m.epoch m.engine) (ap (map word_of) at ∙ map-append word_of before (order ∷ behind)) all)
 
@@ -140,22 +140,22 @@ module _ (o : Settings) (step : Step) (t : List Step) (l : Lawful o (step ∷ t)
   in_idle n =
       by_open (wire_at t step before ≡ Idle)
       (λ y. let u = ap needs_idle (opened y).0 in cc)
-      (λ y. sym here_on_wire ∙ idle_needed engine_here order n (placed y))
+      (λ y. sym situation_on_wire ∙ idle_needed engine_situation order n (placed y))
 
   in_life : wire_at t step before ≡ Gone → ⊥
-  in_life g = by_open ⊥ (λ y. let b = (opened y).1 in cc) (λ y. not_gone engine_here (word_of order) (placed y) (here_on_wire ∙ g))
+  in_life g = by_open ⊥ (λ y. let b = (opened y).1 in cc) (λ y. not_gone engine_situation (word_of order) (placed y) (situation_on_wire ∙ g))
 
   in_search : order ≡ orders.Stop → (k : GoKind) × (wire_at t step before ≡ Search k false)
   in_search x =
       by_open ((k : GoKind) × (wire_at t step before ≡ Search k false))
       (λ y. let u = (opened y).0 in absurd (cc))
-      (λ y. let k = stop_needs engine_here (subst (λ (c : Command). MaySend engine_here (word_of c)) x (placed y)) in (k.0, sym here_on_wire ∙ k.1))
+      (λ y. let k = stop_needs engine_situation (subst (λ (c : Order). MaySend engine_situation (word_of c)) x (placed y)) in (k.0, sym situation_on_wire ∙ k.1))
 
   in_pondering : order ≡ orders.PonderHit → wire_at t step before ≡ Search kinds.Ponder false
   in_pondering x =
       by_open (wire_at t step before ≡ Search kinds.Ponder false)
       (λ y. let u = (opened y).0 in cc)
-      (λ y. sym here_on_wire ∙ hit_needs engine_here (subst (λ (c : Command). MaySend engine_here (word_of c)) x (placed y)))
+      (λ y. sym situation_on_wire ∙ hit_needs engine_situation (subst (λ (c : Order). MaySend engine_situation (word_of c)) x (placed y)))
 
 pub idle_gets_them : (o : Settings) → IdleGetsThem o
 idle_gets_them o step t before behind order l at n = in_idle o step t l before behind order at n
@@ -176,5 +176,5 @@ paired_by false xs x e l = go_follows x xs l
 pub go_follows_position : (o : Settings) → GoFollowsPosition o
 go_follows_position o step t l = by (is_open step.event) refl where
   by : (b : Bool) → is_open step.event ≡ b → Paired (map word_of step.orders)
-  by true y = subst (λ (os : List Command). Paired (map word_of os)) (sym (l.1.opens y)) tt
+  by true y = subst (λ (os : List Order). Paired (map word_of os)) (sym (l.1.opens y)) tt
   by false y = paired_by (is_open step.event) (exchanges o t) (exchange (state o t) step) y (dialogues o (step ∷ t) l).lawful

@@ -3,44 +3,44 @@ use Rattle.std.proofs.Common.{◌≡◌, ℕ, List, [], ◌∷◌, ◌++◌, map
 use Rattle.std.specs.Option.{option_to_list}
 use Rattle.chess_board.specs.declared.board.Move.{Move as AnyMove}
 use Rattle.chess_board.specs.declared.board.Side.{Side}
-use Rattle.cecp_lines.specs.Messages.{Message}
+use Rattle.cecp_lines.specs.Messages.{IfaceMsg}
 use Rattle.cecp_lines.specs.Messages as says
-use Rattle.cecp_lines.specs.Replies.{Told}
+use Rattle.cecp_lines.specs.Replies.{Reply}
 use Rattle.cecp_lines.specs.Replies as told
-use Rattle.uci_lines.specs.Says.{Facts}
+use Rattle.uci_lines.specs.Info.{Info}
 use Rattle.game_record.specs.declared.ending.End.{End}
-use Rattle.game_record.specs.Course.{Course, now_of}
+use Rattle.game_record.specs.Game.{Game, now_of}
 use Rattle.game_record.specs.Ending.{ended_of}
 use Rattle.option_map.specs.Settings.{Setting}
 use Rattle.option_map.specs.Shown.{takes_tables}
-use Rattle.uci_lines.specs.declared.says.Score.{Score}
+use Rattle.uci_lines.specs.declared.messages.Score.{Score}
 use Rattle.think_text.specs.Line.{thinking_line, line_with, legal_run}
 use Rattle.feature_talk.specs.declared.talk.Say.{Say}
 use Rattle.feature_talk.specs.declared.talk.Say.TheVariants as say
 use Rattle.feature_talk.specs.Due.{answer}
 use Rattle.feature_talk.specs.Features.{feature_list, tables, option_feature, shown_options}
 use Rattle.policy_rules.specs.declared.settings.Settings.{Settings}
-use Rattle.search_epochs.specs.Talk.{is_move}
-use Rattle.desk_rules.specs.declared.deed.Refusal.{Refusal}
-use Rattle.desk_rules.specs.declared.deed.Refusal.TheVariants as refusals
+use Rattle.search_epochs.specs.Tickets.{is_move}
+use Rattle.desk_rules.specs.declared.effect.Refusal.{Refusal}
+use Rattle.desk_rules.specs.declared.effect.Refusal.TheVariants as refusals
 use Rattle.desk_rules.specs.declared.desk.Desk.{Desk}
-use Rattle.desk_rules.specs.Desk.{Here, is_boot, table, on_move, played, plays}
+use Rattle.desk_rules.specs.Desk.{Situation, is_boot, table, on_move, played, plays}
 use Rattle.desk_rules.specs.Lines.{change}
-use Rattle.desk_rules.specs.Steps.{Deed, Nothing, Opens, LongLine, Refuses, Accepts, Names, Declares, Boots, Readies, Thinks, Shows, Forfeits, Answers as Closes, Dies, searched_by, resigns_after, resigns_at_end, desk_after_deed, answers_pings}
+use Rattle.desk_rules.specs.Steps.{Effect, Nothing, Opens, LongLine, Refuses, Accepts, Names, Declares, Boots, Readies, Thinks, Shows, Forfeits, Answers as Closes, Dies, searched_by, resigns_after, resigns_at_end, desk_after_effect, answers_pings}
 use Rattle.desk_rules.specs.Replies.{refused, result_by, result_of, protover_row, offer_where, hint_row, row_accepted, list_where, resign_where, row, is_told, named_hint, replies_of}
 use Rattle.desk_rules.proofs.Quiet.{added_ping, quiet_pings}
-use Rattle.adapter_core.specs.Trace.{State, Step, IsLawful, state, here, deed, owing, closed_after}
+use Rattle.adapter_core.specs.Trace.{State, Step, IsLawful, state, situation, effect, owing, closed_after}
 use Rattle.dialogue_laws.specs.Pings.{ping_in, pongs_told, ponged, PingsHavePongs, PongsWait, NoneIsHeld}
 
 -- LINES THAT TELL A PONG
 
 -- the pongs of lines that stand one after the other
-joined : (xs ys : List Told) → pongs_told (xs ++ ys) ≡ pongs_told xs ++ pongs_told ys
+joined : (xs ys : List Reply) → pongs_told (xs ++ ys) ≡ pongs_told xs ++ pongs_told ys
 joined [] ys = refl
 joined (told.Pong n ∷ xs) ys = ap (λ (l : List ℕ). n ∷ l) (joined xs ys)
 joined (x ∷ xs) ys = joined xs ys
 
-none_joined : (xs ys : List Told) → pongs_told xs ≡ [] → pongs_told ys ≡ [] → pongs_told (xs ++ ys) ≡ []
+none_joined : (xs ys : List Reply) → pongs_told xs ≡ [] → pongs_told ys ≡ [] → pongs_told (xs ++ ys) ≡ []
 none_joined xs ys a b = joined xs ys ∙ ap (λ (l : List ℕ). l ++ pongs_told ys) a ∙ b
 
 -- ROWS WITHOUT A PONG
@@ -75,7 +75,7 @@ no_result : (side : Side) (end : Option End) → pongs_told (result_by side end)
 no_result side None = refl
 no_result side (Some end) = refl
 
-no_result_at : (b : Bool) (g : Course) → pongs_told (cond b (result_of g) []) ≡ []
+no_result_at : (b : Bool) (g : Game) → pongs_told (cond b (result_of g) []) ≡ []
 no_result_at true g = no_result (on_move g) (ended_of g)
 no_result_at false g = refl
 
@@ -93,17 +93,17 @@ no_refusal (refusals.IllegalMove m) line = refl
 no_refusal (refusals.GameTooLong m) line = refl
 no_refusal refusals.IllegalPosition line = refl
 
-no_line : (depth : Option ℕ) (score : Option Score) (moves : List AnyMove) (facts : Facts) (hint : Option AnyMove) → pongs_told (option_to_list (line_with depth score moves facts hint)) ≡ []
+no_line : (depth : Option ℕ) (score : Option Score) (moves : List AnyMove) (facts : Info) (hint : Option AnyMove) → pongs_told (option_to_list (line_with depth score moves facts hint)) ≡ []
 no_line (Some depth) (Some score) (m ∷ moves) facts hint = refl
 no_line (Some depth) (Some score) [] facts hint = refl
 no_line (Some depth) None moves facts hint = refl
 no_line None score moves facts hint = refl
 
-no_thinking : (b : Bool) (x : Option Told) → pongs_told (option_to_list x) ≡ [] → pongs_told (cond b (option_to_list x) []) ≡ []
+no_thinking : (b : Bool) (x : Option Reply) → pongs_told (option_to_list x) ≡ [] → pongs_told (cond b (option_to_list x) []) ≡ []
 no_thinking true x e = e
 no_thinking false x e = refl
 
-no_answer : (h : Here) (m : Message) → pongs_told (row_accepted h m) ≡ []
+no_answer : (h : Situation) (m : IfaceMsg) → pongs_told (row_accepted h m) ≡ []
 unfolding row_accepted
 no_answer h (says.Protover n) = no_wait (answer (is_boot h.engine)) h.desk
 no_answer h (says.UserMove m) = no_result_at (plays (change false h.desk (says.UserMove m)).mode) (change false h.desk (says.UserMove m)).game
@@ -114,7 +114,7 @@ no_answer h says.Hint = no_hint h.desk.hint
 no_answer h says.Dot = refl
 no_answer h m = refl
 
-no_pong : (h : Here) (d : Deed) → pongs_told (row h d) ≡ []
+no_pong : (h : Situation) (d : Effect) → pongs_told (row h d) ≡ []
 unfolding row
 no_pong h (Refuses r line) = no_refusal r line
 no_pong h LongLine = refl
@@ -145,31 +145,31 @@ none_owed true ns = refl
 none_owed false ns = pongs_in ns
 
 -- in a session that is not closed
-open_pongs : (owes : Bool) (h : Here) (d : Deed) → pongs_told (replies_of false owes h d) ≡ cond owes [] (desk_after_deed h d).pings
+open_pongs : (owes : Bool) (h : Situation) (d : Effect) → pongs_told (replies_of false owes h d) ≡ cond owes [] (desk_after_effect h d).pings
 open_pongs owes h d =
-    joined (row h d) (cond owes [] (map told.Pong (desk_after_deed h d).pings))
-    ∙ ap (λ (l : List ℕ). l ++ pongs_told (cond owes [] (map told.Pong (desk_after_deed h d).pings))) (no_pong h d)
-    ∙ none_owed owes (desk_after_deed h d).pings
+    joined (row h d) (cond owes [] (map told.Pong (desk_after_effect h d).pings))
+    ∙ ap (λ (l : List ℕ). l ++ pongs_told (cond owes [] (map told.Pong (desk_after_effect h d).pings))) (no_pong h d)
+    ∙ none_owed owes (desk_after_effect h d).pings
 
 -- what is told and what is held then are all that were held
-told_or_held : (closed owes : Bool) (h : Here) (d : Deed) → pongs_told (replies_of closed owes h d) ++ cond (answers_pings closed owes) [] (desk_after_deed h d).pings ≡ (desk_after_deed h d).pings
+told_or_held : (closed owes : Bool) (h : Situation) (d : Effect) → pongs_told (replies_of closed owes h d) ++ cond (answers_pings closed owes) [] (desk_after_effect h d).pings ≡ (desk_after_effect h d).pings
 told_or_held true owes h d = refl
-told_or_held false true h d = ap (λ (l : List ℕ). l ++ (desk_after_deed h d).pings) (open_pongs true h d)
+told_or_held false true h d = ap (λ (l : List ℕ). l ++ (desk_after_effect h d).pings) (open_pongs true h d)
 told_or_held false false h d = append-nil _ ∙ open_pongs false h d
 
-deed_pings : (h : Here) (d : Deed) → (desk_after_deed h d).pings ≡ h.desk.pings ++ ping_in d
-deed_pings h (Accepts (says.Ping n)) = added_ping h n
-deed_pings h (Accepts m) = quiet_pings h (Accepts m) (λ x. x) ∙ sym (append-nil h.desk.pings)
-deed_pings h d = quiet_pings h d (λ x. x) ∙ sym (append-nil h.desk.pings)
+effect_pings : (h : Situation) (d : Effect) → (desk_after_effect h d).pings ≡ h.desk.pings ++ ping_in d
+effect_pings h (Accepts (says.Ping n)) = added_ping h n
+effect_pings h (Accepts m) = quiet_pings h (Accepts m) (λ x. x) ∙ sym (append-nil h.desk.pings)
+effect_pings h d = quiet_pings h d (λ x. x) ∙ sym (append-nil h.desk.pings)
 
-step_pings : (s : State) (step : Step) → IsLawful s step → s.desk.pings ++ ping_in (deed s step.event) ≡ pongs_told step.replies ++ cond (answers_pings (closed_after s step.event) (is_move (owing s step.event))) [] (desk_after_deed (here s) (deed s step.event)).pings
+step_pings : (s : State) (step : Step) → IsLawful s step → s.desk.pings ++ ping_in (effect s step.event) ≡ pongs_told step.replies ++ cond (answers_pings (closed_after s step.event) (is_move (owing s step.event))) [] (desk_after_effect (situation s) (effect s step.event)).pings
 step_pings s step l =
-    let h = here s in
-    let d = deed s step.event in
+    let h = situation s in
+    let d = effect s step.event in
     let closed = closed_after s step.event in
     let owes = is_move (owing s step.event) in
-    sym (deed_pings h d) ∙ sym (told_or_held closed owes h d)
-    ∙ ap (λ (rs : List Told). pongs_told rs ++ cond (answers_pings closed owes) [] (desk_after_deed h d).pings) (sym l.replies)
+    sym (effect_pings h d) ∙ sym (told_or_held closed owes h d)
+    ∙ ap (λ (rs : List Reply). pongs_told rs ++ cond (answers_pings closed owes) [] (desk_after_effect h d).pings) (sym l.replies)
 
 -- THE LAWS
 
@@ -177,12 +177,12 @@ pub pings_have_pongs : (o : Settings) → PingsHavePongs o
 pings_have_pongs o [] l = refl
 pings_have_pongs o (step ∷ t) l =
     let s = state o t in
-    ap (λ (ns : List ℕ). ns ++ ping_in (deed s step.event)) (pings_have_pongs o t l.0)
-    ∙ append_assoc (ponged t) s.desk.pings (ping_in (deed s step.event))
+    ap (λ (ns : List ℕ). ns ++ ping_in (effect s step.event)) (pings_have_pongs o t l.0)
+    ∙ append_assoc (ponged t) s.desk.pings (ping_in (effect s step.event))
     ∙ ap (λ (ns : List ℕ). ponged t ++ ns) (step_pings s step l.1)
     ∙ sym (append_assoc (ponged t) (pongs_told step.replies) (state o (step ∷ t)).desk.pings)
 
-waits_by : (closed owes : Bool) (h : Here) (d : Deed) → owes ≡ true → pongs_told (replies_of closed owes h d) ≡ []
+waits_by : (closed owes : Bool) (h : Situation) (d : Effect) → owes ≡ true → pongs_told (replies_of closed owes h d) ≡ []
 waits_by true owes h d e = refl
 waits_by false true h d e = open_pongs true h d
 waits_by false false h d e = cc
@@ -190,7 +190,7 @@ waits_by false false h d e = cc
 pub pongs_wait : (o : Settings) → PongsWait o
 pongs_wait o step t l e =
     let s = state o t in
-    ap pongs_told l.1.replies ∙ waits_by (closed_after s step.event) (is_move (owing s step.event)) (here s) (deed s step.event) e
+    ap pongs_told l.1.replies ∙ waits_by (closed_after s step.event) (is_move (owing s step.event)) (situation s) (effect s step.event) e
 
 none_held : (closed owes : Bool) (ns : List ℕ) → closed ≡ false → owes ≡ false → cond (answers_pings closed owes) [] ns ≡ []
 none_held true owes ns c e = cc
@@ -200,4 +200,4 @@ none_held false false ns c e = refl
 pub none_is_held : (o : Settings) → NoneIsHeld o
 none_is_held o step t l c e =
     let s = state o t in
-    none_held (closed_after s step.event) (is_move (owing s step.event)) (desk_after_deed (here s) (deed s step.event)).pings c e
+    none_held (closed_after s step.event) (is_move (owing s step.event)) (desk_after_effect (situation s) (effect s step.event)).pings c e

@@ -1,19 +1,19 @@
 -- For each lawful trace there is a core that stands for it, and is within its limits.
 use Rattle.std.proofs.Common.{◌≡◌, ◌+◌, ◌≤◌, List, [], ◌∷◌, ◌++◌, map, length, Bool, true, false, cond, refl, sym, ap, subst, ◌∙◌, arith}
 use Rattle.line_io.specs.Event.{Event}
-use Rattle.uci_lines.specs.Orders.{Command}
+use Rattle.uci_lines.specs.Orders.{Order}
 use Rattle.option_map.specs.Held.{batch_text, with_order, with_orders, staying_beside}
 use Rattle.option_map.proofs.KeptOrders.{join_few, join_short}
 use Rattle.policy_rules.specs.declared.settings.Settings.{Settings}
 use Rattle.policy_rules.specs.Policy.{IsProper}
 use Rattle.desk_rules.specs.Desk.{current}
-use Rattle.desk_rules.specs.Steps.{comes}
-use Rattle.desk_rules.specs.Orders.{waiting, asked_by_deed, AllJoin}
+use Rattle.desk_rules.specs.Steps.{classify}
+use Rattle.desk_rules.specs.Orders.{waiting, asked_by_effect, AllJoin}
 use Rattle.desk_rules.proofs.Joins.{asked_join}
 use Rattle.adapter_core.specs.Ends.{may, ends_after}
 use Rattle.adapter_core.specs.Trace.{Step, Lawful, state, event_in}
-use Rattle.adapter_core.specs.View as view
-use Rattle.adapter_core.specs.View.{View, advance}
+use Rattle.adapter_core.specs.Parts as parts
+use Rattle.adapter_core.specs.Parts.{Parts, advance}
 use Rattle.adapter_core.specs.Stands.{Keeps, Stands, step_by}
 use Rattle.adapter_core.proofs.Keeps.{keeps, is_ready, opening_keeps}
 use Rattle.adapter_core.proofs.Holds.{stands_first, extended}
@@ -23,51 +23,51 @@ use Rattle.dialogue_laws.specs.Limits.{IsWithinLimits, CoresAreWithinLimits}
 
 -- WHAT IS HELD
 
-record AreFew (held : List Command) : Type 0 where
+record AreFew (held : List Order) : Type 0 where
   orders : length held ≤ 256
   bytes : length (batch_text held) ≤ 65536
 
 none_few : AreFew []
 none_few = record { orders = omega arith; bytes = omega arith }
 
-last_length : (xs : List Command) (x : Command) → length (xs ++ x ∷ []) ≡ length xs + 1
+last_length : (xs : List Order) (x : Order) → length (xs ++ x ∷ []) ≡ length xs + 1
 last_length [] x = refl
 last_length (y ∷ xs) x = omega (arith, last_length xs x)
 
-joined : (held asked : List Command) → AreFew held → AllJoin held asked → AreFew (with_orders held asked)
+joined : (held asked : List Order) → AreFew held → AllJoin held asked → AreFew (with_orders held asked)
 joined held [] f j = f
 joined held (order ∷ later) f j =
     joined (with_order held order) later
     (record { orders = omega (arith, last_length (staying_beside order held) order, join_few held order j.0); bytes = join_short held order j.0 })
     j.1
 
-left : (b : Bool) (held : List Command) → AreFew held → AreFew (cond b [] held)
+left : (b : Bool) (held : List Order) → AreFew held → AreFew (cond b [] held)
 left true held f = none_few
 left false held f = f
 
-few_after : (v : View) (e : Event) (k : Keeps v) (m : may v.ends e ≡ true) → AreFew v.held → AreFew (advance v e).held
+few_after : (v : Parts) (e : Event) (k : Keeps v) (m : may v.ends e ≡ true) → AreFew v.held → AreFew (advance v e).held
 unfolding advance
 few_after v e k m f =
-    let h = view.here v in
-    let d = comes h v.held e in
+    let h = parts.situation v in
+    let d = classify h v.held e in
     let ready = is_ready v e k m in
-    left _ (waiting h v.held d) (joined v.held (asked_by_deed h d) f (asked_join h v.held d k.sound ready.fits ready.holds))
+    left _ (waiting h v.held d) (joined v.held (asked_by_effect h d) f (asked_join h v.held d k.sound ready.fits ready.holds))
 
 -- A CORE FOR EACH LAWFUL TRACE
 
 pub record Reached (o : Settings) (trace : List Step) : Type 0 where
-  pub core : View
+  pub core : Parts
   pub keeps_it : Keeps core
   pub stands : Stands o core trace
   few : AreFew core.held
 
 first_reached : (o : Settings) → IsProper o → Reached o []
-first_reached o p = record { core = view.opening o; keeps_it = opening_keeps o p; stands = stands_first o p; few = none_few }
+first_reached o p = record { core = parts.opening o; keeps_it = opening_keeps o p; stands = stands_first o p; few = none_few }
 
-same_ends : (o : Settings) (core : View) (t : List Step) (e : Event) → Stands o core t → may (state o t).ends e ≡ true → may core.ends e ≡ true
-same_ends o core t e st m = ap (λ (v : View). may v.ends e) st.0 ∙ m
+same_ends : (o : Settings) (core : Parts) (t : List Step) (e : Event) → Stands o core t → may (state o t).ends e ≡ true → may core.ends e ≡ true
+same_ends o core t e st m = ap (λ (v : Parts). may v.ends e) st.0 ∙ m
 
-event_is : (core : View) (e : Event) → (step_by core e).event ≡ e
+event_is : (core : Parts) (e : Event) → (step_by core e).event ≡ e
 unfolding step_by
 event_is core e = refl
 
@@ -90,10 +90,10 @@ reached o (step ∷ t) p l = reached_on o t step l (reached o t p l.0)
 
 -- LIMITS
 
-kept_in : (o : Settings) (core core' : View) (t : List Step) → Stands o core t → Stands o core' t → core ≡ record core' { told = core.told; ordered = core.ordered }
-kept_in o core core' t a b = a.0 ∙ ap (λ (v : View). let w : View = record v { told = core.told; ordered = core.ordered } in w) (sym b.0)
+kept_in : (o : Settings) (core core' : Parts) (t : List Step) → Stands o core t → Stands o core' t → core ≡ record core' { to_iface = core.to_iface; to_engine = core.to_engine }
+kept_in o core core' t a b = a.0 ∙ ap (λ (v : Parts). let w : Parts = record v { to_iface = core.to_iface; to_engine = core.to_engine } in w) (sym b.0)
 
-within : (core : View) → AreFew core.held → Keeps core → IsWithinLimits core
+within : (core : Parts) → AreFew core.held → Keeps core → IsWithinLimits core
 within core f k = record {
   orders = f.orders;
   bytes = f.bytes;
@@ -101,7 +101,7 @@ within core f k = record {
   search = λ g stopped c s. k.serves c g (ap current s);
 }
 
-texts_within : (core core' : View) → IsWithinLimits core' → IsWithinLimits (record core' { told = core.told; ordered = core.ordered })
+texts_within : (core core' : Parts) → IsWithinLimits core' → IsWithinLimits (record core' { to_iface = core.to_iface; to_engine = core.to_engine })
 texts_within core core' w = record { orders = w.orders; bytes = w.bytes; pings = w.pings; search = w.search }
 
 pub within_limits : (o : Settings) → CoresAreWithinLimits o

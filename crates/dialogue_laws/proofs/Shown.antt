@@ -1,18 +1,18 @@
 -- A search is answered by at most one shown move.
 use Rattle.std.proofs.Common.{◌≡◌, ℕ, ◌+◌, ◌≤◌, List, [], ◌∷◌, map, length, Bool, true, false, cond, Option, Some, None, refl, sym, subst, arith}
-use Rattle.cecp_lines.specs.Replies.{Told}
-use Rattle.uci_lines.specs.Orders.{Command}
+use Rattle.cecp_lines.specs.Replies.{Reply}
+use Rattle.uci_lines.specs.Orders.{Order}
 use Rattle.uci_lines.specs.Orders as orders
 use Rattle.policy_rules.specs.declared.settings.Settings.{Settings}
 use Rattle.search_epochs.specs.declared.words.Said.{Said}
 use Rattle.search_epochs.specs.declared.words.Said.TheVariants as said
-use Rattle.search_epochs.specs.Talk.{Engine, Boot, Getting, Idle, Search, Gone, Word, Go, Talk, heard, said_of, sent, sent_all, is_move}
-use Rattle.search_epochs.specs.View.{forget}
-use Rattle.desk_rules.specs.Steps.{Deed, Shows, what_of}
+use Rattle.search_epochs.specs.Tickets.{Engine, Boot, Getting, Idle, Search, Gone, Word, Go, Ticketed, heard, said_of, sent, sent_all, is_move}
+use Rattle.search_epochs.specs.Dialogue.{forget}
+use Rattle.desk_rules.specs.Steps.{Effect, Shows, what_of}
 use Rattle.desk_rules.specs.Replies.{replies_of}
 use Rattle.desk_rules.specs.Orders.{word_of}
 use Rattle.desk_rules.specs.Fits.{Fits, IsCurrentMove}
-use Rattle.adapter_core.specs.Trace.{State, Step, IsLawful, Lawful, state, here, deed, mid, owing, closed_after}
+use Rattle.adapter_core.specs.Trace.{State, Step, IsLawful, Lawful, state, situation, effect, mid, owing, closed_after}
 use Rattle.adapter_core.specs.Shown.{moves_told}
 use Rattle.adapter_core.proofs.Shown.{shown_by, open_shows}
 use Rattle.adapter_core.proofs.Traces.{Lasts, lasts, fits}
@@ -53,7 +53,7 @@ sent_none n Idle (Go k) g x = cc
 sent_none n Idle w g x = cc
 sent_none n Gone w g x = cc
 
-written_none : (n : ℕ) (e : Engine) (os : List Command) → begins_search os ≡ false → searches (sent_all n e (map word_of os)) ≡ true → searches e ≡ true
+written_none : (n : ℕ) (e : Engine) (os : List Order) → begins_search os ≡ false → searches (sent_all n e (map word_of os)) ≡ true → searches e ≡ true
 written_none n e [] b x = x
 written_none n e (orders.Go ponder control depth ∷ later) b x = cc
 written_none n e (order ∷ later) b x = sent_none n e (word_of order) refl (written_none n (sent n e (word_of order)) later b x)
@@ -74,25 +74,25 @@ shows_to epoch n (Search k t s) i a = record { few = omega (arith, a.none refl);
 stays_few : (n : ℕ) (e : Engine) (w : Option Said) → AreFew e n → AreFew (heard e w) (n + 0)
 stays_few n e w a = record { few = omega (arith, a.few); none = λ x. omega (arith, a.none (heard_none e w x)) }
 
-by_deed : (s : State) (n : ℕ) (d : Deed) → Fits (here s) s.held d → AreFew s.talk.engine n → AreFew (heard s.talk.engine (said_of (what_of d))) (n + length (shown_by d))
-by_deed s n (Shows best hint) f a = shows_to s.talk.epoch n s.talk.engine f.1 a
-by_deed s n d f a = stays_few n s.talk.engine (said_of (what_of d)) a
+by_effect : (s : State) (n : ℕ) (d : Effect) → Fits (situation s) s.held d → AreFew s.dialogue.engine n → AreFew (heard s.dialogue.engine (said_of (what_of d))) (n + length (shown_by d))
+by_effect s n (Shows best hint) f a = shows_to s.dialogue.epoch n s.dialogue.engine f.1 a
+by_effect s n d f a = stays_few n s.dialogue.engine (said_of (what_of d)) a
 
-by_closed : (s : State) (n : ℕ) (d : Deed) (closed owes : Bool) → Fits (here s) s.held d → AreFew s.talk.engine n
-    → AreFew (heard s.talk.engine (said_of (what_of d))) (n + length (moves_told (replies_of closed owes (here s) d)))
-by_closed s n d true owes f a = stays_few n s.talk.engine (said_of (what_of d)) a
-by_closed s n d false owes f a = subst (λ (ms : List _). AreFew (heard s.talk.engine (said_of (what_of d))) (n + length ms)) (sym (open_shows owes (here s) d)) (by_deed s n d f a)
+by_closed : (s : State) (n : ℕ) (d : Effect) (closed owes : Bool) → Fits (situation s) s.held d → AreFew s.dialogue.engine n
+    → AreFew (heard s.dialogue.engine (said_of (what_of d))) (n + length (moves_told (replies_of closed owes (situation s) d)))
+by_closed s n d true owes f a = stays_few n s.dialogue.engine (said_of (what_of d)) a
+by_closed s n d false owes f a = subst (λ (ms : List _). AreFew (heard s.dialogue.engine (said_of (what_of d))) (n + length ms)) (sym (open_shows owes (situation s) d)) (by_effect s n d f a)
 
-mid_few : (s : State) (step : Step) (n : ℕ) → Lasts s → IsLawful s step → AreFew s.talk.engine n → AreFew (mid s step.event).engine (n + length (moves_told step.replies))
+mid_few : (s : State) (step : Step) (n : ℕ) → Lasts s → IsLawful s step → AreFew s.dialogue.engine n → AreFew (mid s step.event).engine (n + length (moves_told step.replies))
 mid_few s step n last l a =
-    subst (λ (rs : List Told). AreFew (mid s step.event).engine (n + length (moves_told rs))) (sym l.replies)
-    (by_closed s n (deed s step.event) (closed_after s step.event) (is_move (owing s step.event)) (fits s step last l) a)
+    subst (λ (rs : List Reply). AreFew (mid s step.event).engine (n + length (moves_told rs))) (sym l.replies)
+    (by_closed s n (effect s step.event) (closed_after s step.event) (is_move (owing s step.event)) (fits s step last l) a)
 
-after_few : (m : Talk) (n : ℕ) (os : List Command) (b : Bool) → begins_search os ≡ b → AreFew m.engine n → AreFew (sent_all m.epoch m.engine (map word_of os)) (cond b 0 n)
+after_few : (m : Ticketed) (n : ℕ) (os : List Order) (b : Bool) → begins_search os ≡ b → AreFew m.engine n → AreFew (sent_all m.epoch m.engine (map word_of os)) (cond b 0 n)
 after_few m n os true e a = record { few = omega arith; none = λ x. refl }
 after_few m n os false e a = record { few = a.few; none = λ x. a.none (written_none m.epoch m.engine os e x) }
 
-few : (o : Settings) (t : List Step) → Lawful o t → AreFew (state o t).talk.engine (shown_since_go t)
+few : (o : Settings) (t : List Step) → Lawful o t → AreFew (state o t).dialogue.engine (shown_since_go t)
 few o [] l = record { few = omega arith; none = λ x. refl }
 few o (step ∷ t) l =
     after_few (mid (state o t) step.event) (shown_since_go t + length (moves_told step.replies)) step.orders (begins_search step.orders) refl

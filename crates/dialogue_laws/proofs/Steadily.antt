@@ -4,7 +4,7 @@ use Rattle.line_io.specs.Event.{Event}
 use Rattle.line_io.specs.Event as events
 use Rattle.chess_board.specs.declared.board.Move.{Move}
 use Rattle.peer_words.specs.declared.kinds.GoKind.TheVariants as kinds
-use Rattle.cecp_lines.specs.Messages.{Message}
+use Rattle.cecp_lines.specs.Messages.{IfaceMsg}
 use Rattle.cecp_lines.specs.Messages as says
 use Rattle.policy_rules.specs.declared.settings.Settings.{Settings}
 use Rattle.policy_rules.specs.Policy.{IsProper}
@@ -12,33 +12,33 @@ use Rattle.search_epochs.specs.declared.words.Call.{Call}
 use Rattle.search_epochs.specs.declared.words.Call.TheVariants as calls
 use Rattle.search_epochs.specs.declared.words.Said.{Said}
 use Rattle.search_epochs.specs.declared.words.Said.TheVariants as said
-use Rattle.search_epochs.specs.Talk as talks
-use Rattle.search_epochs.specs.Talk.{Engine, Boot, Getting, Idle, Search, Gone, Word, Talk, MaySend, MaySendAll, Serves, heard, said_of, sent, sent_all}
-use Rattle.search_epochs.specs.View.{forget}
+use Rattle.search_epochs.specs.Tickets as talks
+use Rattle.search_epochs.specs.Tickets.{Engine, Boot, Getting, Idle, Search, Gone, Word, Ticketed, MaySend, MaySendAll, Serves, heard, said_of, sent, sent_all}
+use Rattle.search_epochs.specs.Dialogue.{forget}
 use Rattle.search_epochs.specs.History as history
 use Rattle.search_epochs.specs.History.{Exchange, IsSteady, ends_call}
 use Rattle.search_epochs.proofs.Serving.{current_serves}
 use Rattle.search_epochs.proofs.Stops.{may_all}
-use Rattle.desk_rules.specs.Desk.{Here, current, call_of, call_before, is_gone, is_boot, owes_move}
+use Rattle.desk_rules.specs.Desk.{Situation, current, call_of, call_before, is_gone, is_boot, owes_move}
 use Rattle.desk_rules.specs.Lines.{asks, change, is_epoch_line}
-use Rattle.desk_rules.specs.Steps.{Deed, Opens, Accepts, Shows, Forfeits, what_of, rises, call_after, desk_after_deed, is_death, comes}
+use Rattle.desk_rules.specs.Steps.{Effect, Opens, Accepts, Shows, Forfeits, what_of, begins_epoch, call_after, desk_after_effect, is_death, classify}
 use Rattle.desk_rules.specs.Orders.{word_of}
 use Rattle.desk_rules.specs.Fits.{Fits}
 use Rattle.adapter_core.specs.Ends.{is_open}
 use Rattle.adapter_core.specs.Alone.{is_answer}
-use Rattle.adapter_core.specs.Trace.{State, Step, IsLawful, Lawful, state, state_after, here, deed, mid, closed_after}
+use Rattle.adapter_core.specs.Trace.{State, Step, IsLawful, Lawful, state, state_after, situation, effect, mid, closed_after}
 use Rattle.adapter_core.proofs.Closing.{open_before}
 use Rattle.adapter_core.proofs.Sides.{no_hint}
 use Rattle.adapter_core.proofs.Traces.{Lasts, lasts, fits, call_is_after}
 use Rattle.dialogue_laws.specs.Dialogue.{exchange, exchanges, IsSteadyOf, TracesAreSteady, SearchesServe}
 use Rattle.dialogue_laws.proofs.Reached.{reached}
-use Rattle.dialogue_laws.proofs.Calls.{IsFreshInBoot, deed_call, closed_call, first_call, called_hint}
+use Rattle.dialogue_laws.proofs.Calls.{IsFreshInBoot, effect_call, closed_call, first_call, called_hint}
 use Rattle.dialogue_laws.proofs.Dialogues.{dialogues, lawful_in}
 use Rattle.dialogue_laws.proofs.Places.{opening_may}
 
 -- THE HINT
 
-line_hint : (h : Here) (m : Message) → is_epoch_line (owes_move h) (asks (is_gone h.engine) h.desk m) m ≡ false → (change (is_boot h.engine) h.desk m).hint ≡ h.desk.hint
+line_hint : (h : Situation) (m : IfaceMsg) → is_epoch_line (owes_move h) (asks (is_gone h.engine) h.desk m) m ≡ false → (change (is_boot h.engine) h.desk m).hint ≡ h.desk.hint
 unfolding change is_epoch_line
 line_hint h says.New r = cc
 line_hint h (says.UserMove m) r = cc
@@ -47,11 +47,11 @@ line_hint h says.Remove r = cc
 line_hint h (says.SetBoard text) r = cc
 line_hint h m r = refl
 
-deed_hint : (h : Here) (d : Deed) → rises h d ≡ false → (desk_after_deed h d).hint ≡ h.desk.hint
-unfolding desk_after_deed
-deed_hint h (Accepts m) r = line_hint h m r
-deed_hint h (Shows best hint) r = cc
-deed_hint h d r = refl
+effect_hint : (h : Situation) (d : Effect) → begins_epoch h d ≡ false → (desk_after_effect h d).hint ≡ h.desk.hint
+unfolding desk_after_effect
+effect_hint h (Accepts m) r = line_hint h m r
+effect_hint h (Shows best hint) r = cc
+effect_hint h d r = refl
 
 -- IN BOOT
 
@@ -95,30 +95,30 @@ not_answered epoch Idle b i = cc
 not_answered epoch Gone b i = cc
 not_answered epoch (Search k t s) b i = cc
 
-boot_answer : (s : State) (d : Deed) → Fits (here s) s.held d → s.talk.engine ≡ Boot → is_answer d ≡ false
-boot_answer s (Shows best hint) f b = absurd (not_answered s.talk.epoch s.talk.engine b f.1)
-boot_answer s Forfeits f b = absurd (not_answered s.talk.epoch s.talk.engine b f.1)
+boot_answer : (s : State) (d : Effect) → Fits (situation s) s.held d → s.dialogue.engine ≡ Boot → is_answer d ≡ false
+boot_answer s (Shows best hint) f b = absurd (not_answered s.dialogue.epoch s.dialogue.engine b f.1)
+boot_answer s Forfeits f b = absurd (not_answered s.dialogue.epoch s.dialogue.engine b f.1)
 boot_answer s d f b = refl
 
-boot_before : (s : State) (step : Step) → Lasts s → IsLawful s step → (state_after s step).talk.engine ≡ Boot → s.talk.engine ≡ Boot
+boot_before : (s : State) (step : Step) → Lasts s → IsLawful s step → (state_after s step).dialogue.engine ≡ Boot → s.dialogue.engine ≡ Boot
 boot_before s step last l x = by (is_open step.event) refl where
-  by : (b : Bool) → is_open step.event ≡ b → s.talk.engine ≡ Boot
+  by : (b : Bool) → is_open step.event ≡ b → s.dialogue.engine ≡ Boot
   by true o = last.begins (opening_may s step.event o l.may_come)
   by false o =
       let m = mid s step.event in
-      heard_boot s.talk.engine _ (all_boot m.epoch m.engine (map word_of step.orders) (may_all s.talk s.ends.closed (exchange s step) (lawful_in s step last l o)) x)
+      heard_boot s.dialogue.engine _ (all_boot m.epoch m.engine (map word_of step.orders) (may_all s.dialogue s.ends.closed (exchange s step) (lawful_in s step last l o)) x)
 
-hintless : (o : Settings) (t : List Step) → Lawful o t → (state o t).talk.engine ≡ Boot → (state o t).desk.hint ≡ None
+hintless : (o : Settings) (t : List Step) → Lawful o t → (state o t).dialogue.engine ≡ Boot → (state o t).desk.hint ≡ None
 hintless o [] l b = refl
 hintless o (step ∷ t) l b =
     let s = state o t in
     let before = boot_before s step (lasts o t l.0) l.1 b in
-    no_hint (here s) (deed s step.event) (boot_answer s (deed s step.event) (fits s step (lasts o t l.0) l.1) before) (hintless o t l.0 before)
+    no_hint (situation s) (effect s step.event) (boot_answer s (effect s step.event) (fits s step (lasts o t l.0) l.1) before) (hintless o t l.0 before)
 
 fresh : (o : Settings) (t : List Step) → IsProper o → Lawful o t → IsFreshInBoot (state o t)
 fresh o t p l b =
     let r = reached o t p l in
-    let core_boot = ap (λ v. v.talk.state) r.stands.0 ∙ ap (forget (state o t).talk.epoch) b in
+    let core_boot = ap (λ v. v.dialogue.state) r.stands.0 ∙ ap (forget (state o t).dialogue.epoch) b in
     (sym (ap (λ v. v.desk.booted) r.stands.0) ∙ (r.keeps_it.first core_boot).1, hintless o t l b)
 
 -- A STEP
@@ -127,52 +127,52 @@ module _ (s : State) (step : Step) (last : Lasts s) (l : IsLawful s step) (new :
   abbrev e : Event
   e = step.event
 
-  abbrev d : Deed
-  d = deed s e
+  abbrev d : Effect
+  d = effect s e
 
-  call_by : (c : Bool) → closed_after s e ≡ c → rises (here s) d ≡ false
-      → call_after c (here s) d ≡ cond (c || (history.answers s.talk (what_of d) || history.is_end (what_of d))) calls.Nothing (call_before (here s))
-  call_by true c r = closed_call (is_gone (here s).engine || is_death d) (desk_after_deed (here s) d)
+  call_by : (c : Bool) → closed_after s e ≡ c → begins_epoch (situation s) d ≡ false
+      → call_after c (situation s) d ≡ cond (c || (history.answers s.dialogue (what_of d) || history.is_end (what_of d))) calls.Nothing (call_before (situation s))
+  call_by true c r = closed_call (is_gone (situation s).engine || is_death d) (desk_after_effect (situation s) d)
   call_by false c r =
-      ap (λ (b : Bool). call_after b (here s) d) (sym (open_before s.ends e c)) ∙ deed_call s new d (fits s step last l) r
+      ap (λ (b : Bool). call_after b (situation s) d) (sym (open_before s.ends e c)) ∙ effect_call s new d (fits s step last l) r
 
-  steady_in : IsSteady s.talk (call_before (here s)) s.desk.hint (exchange s step)
+  steady_in : IsSteady s.dialogue (call_before (situation s)) s.desk.hint (exchange s step)
   steady_in = record {
     call_stays = λ r. call_by (closed_after s e) refl r;
     hint_before = refl;
-    hint_stays = λ r. deed_hint (here s) d r;
-    hint_called = λ m c. called_hint (closed_after s e) (is_gone (here s).engine || is_death d) (desk_after_deed (here s) d) m c;
+    hint_stays = λ r. effect_hint (situation s) d r;
+    hint_called = λ m c. called_hint (closed_after s e) (is_gone (situation s).engine || is_death d) (desk_after_effect (situation s) d) m c;
   }
 
-  open_deed : (x : Event) → is_open x ≡ true → (closed_after s x ≡ s.ends.closed) × (deed s x ≡ Opens)
-  unfolding comes
-  open_deed events.Open y = (refl, refl)
-  open_deed (events.Iface line) y = absurd (cc)
-  open_deed events.IfaceLong y = absurd (cc)
-  open_deed events.IfaceEnd y = absurd (cc)
-  open_deed events.IfaceLost y = absurd (cc)
-  open_deed (events.Engine line) y = absurd (cc)
-  open_deed events.EngineLong y = absurd (cc)
-  open_deed events.EngineEnd y = absurd (cc)
-  open_deed events.EngineLost y = absurd (cc)
+  open_effect : (x : Event) → is_open x ≡ true → (closed_after s x ≡ s.ends.closed) × (effect s x ≡ Opens)
+  unfolding classify
+  open_effect events.Open y = (refl, refl)
+  open_effect (events.Iface line) y = absurd (cc)
+  open_effect events.IfaceLong y = absurd (cc)
+  open_effect events.IfaceEnd y = absurd (cc)
+  open_effect events.IfaceLost y = absurd (cc)
+  open_effect (events.Engine line) y = absurd (cc)
+  open_effect events.EngineLong y = absurd (cc)
+  open_effect events.EngineEnd y = absurd (cc)
+  open_effect events.EngineLost y = absurd (cc)
 
   or_none : (b : Bool) → (b || false) ≡ b
   or_none true = refl
   or_none false = refl
 
-  opened_call : (x : Deed) (c : Bool) → x ≡ Opens → c ≡ s.ends.closed → call_after c (here s) x ≡ call_before (here s)
-  unfolding desk_after_deed
+  opened_call : (x : Effect) (c : Bool) → x ≡ Opens → c ≡ s.ends.closed → call_after c (situation s) x ≡ call_before (situation s)
+  unfolding desk_after_effect
   opened_call x c o n =
-      ap (λ (y : Deed). call_after c (here s) y) o ∙ ap (λ (y : Bool). call_after y (here s) Opens) n
-      ∙ ap (λ (y : Bool). call_of s.ends.closed y s.desk) (or_none (is_gone (here s).engine))
+      ap (λ (y : Effect). call_after c (situation s) y) o ∙ ap (λ (y : Bool). call_after y (situation s) Opens) n
+      ∙ ap (λ (y : Bool). call_of s.ends.closed y s.desk) (or_none (is_gone (situation s).engine))
 
-  opened_hint : (x : Deed) → x ≡ Opens → (desk_after_deed (here s) x).hint ≡ s.desk.hint
-  unfolding desk_after_deed
-  opened_hint x o = ap (λ (y : Deed). (desk_after_deed (here s) y).hint) o
+  opened_hint : (x : Effect) → x ≡ Opens → (desk_after_effect (situation s) x).hint ≡ s.desk.hint
+  unfolding desk_after_effect
+  opened_hint x o = ap (λ (y : Effect). (desk_after_effect (situation s) y).hint) o
 
-  by_open : (b : Bool) (xs : List Exchange) → is_open e ≡ b → history.talk xs ≡ s.talk → IsSteadyOf s xs → IsSteadyOf (state_after s step) (cond b xs (exchange s step ∷ xs))
+  by_open : (b : Bool) (xs : List Exchange) → is_open e ≡ b → history.dialogue xs ≡ s.dialogue → IsSteadyOf s xs → IsSteadyOf (state_after s step) (cond b xs (exchange s step ∷ xs))
   by_open true xs o same x =
-      let y = open_deed e o in
+      let y = open_effect e o in
       record {
         steady = x.steady;
         call = x.call ∙ sym (opened_call d (closed_after s e) y.1 y.0) ∙ sym (call_is_after s step last l);
@@ -181,9 +181,9 @@ module _ (s : State) (step : Step) (last : Lasts s) (l : IsLawful s step) (new :
   by_open false xs o same x = record {
     steady = (
       x.steady,
-      subst (λ (t : Talk). IsSteady t (history.last_call xs) (history.last_hint xs) (exchange s step)) (sym same)
-          (subst (λ (c : Call). IsSteady s.talk c (history.last_hint xs) (exchange s step)) (sym x.call)
-          (subst (λ (h : Option Move). IsSteady s.talk (call_before (here s)) h (exchange s step)) (sym x.hint) steady_in)),
+      subst (λ (t : Ticketed). IsSteady t (history.last_call xs) (history.last_hint xs) (exchange s step)) (sym same)
+          (subst (λ (c : Call). IsSteady s.dialogue c (history.last_hint xs) (exchange s step)) (sym x.call)
+          (subst (λ (h : Option Move). IsSteady s.dialogue (call_before (situation s)) h (exchange s step)) (sym x.hint) steady_in)),
     );
     call = sym (call_is_after s step last l);
     hint = refl;
@@ -194,12 +194,12 @@ module _ (s : State) (step : Step) (last : Lasts s) (l : IsLawful s step) (new :
 pub steadily : (o : Settings) → TracesAreSteady o
 steadily o p [] l = record { steady = tt; call = sym (first_call false false _ refl refl refl); hint = refl }
 steadily o p (step ∷ t) l =
-    by_open (state o t) step (lasts o t l.0) l.1 (fresh o t p l.0) (is_open step.event) (exchanges o t) refl (dialogues o t l.0).talk (steadily o p t l.0)
+    by_open (state o t) step (lasts o t l.0) l.1 (fresh o t p l.0) (is_open step.event) (exchanges o t) refl (dialogues o t l.0).dialogue (steadily o p t l.0)
 
 pub serve : (o : Settings) → SearchesServe o
 serve o p t k stopped l c e =
     let s = state o t in
     let x = dialogues o t l in
     let y = steadily o p t l in
-    let served = current_serves (exchanges o t) k stopped y.steady x.lawful (x.closed ∙ c) (ap (λ (w : Talk). w.engine) x.talk ∙ e ∙ ap (λ (w : Talk). Search k w.epoch stopped) (sym x.talk)) in
+    let served = current_serves (exchanges o t) k stopped y.steady x.lawful (x.closed ∙ c) (ap (λ (w : Ticketed). w.engine) x.dialogue ∙ e ∙ ap (λ (w : Ticketed). Search k w.epoch stopped) (sym x.dialogue)) in
     (subst (Serves k) y.call served.0, served.1 ∙ y.call)

@@ -1,17 +1,17 @@
 -- A lawful trace as a dialogue with the engine: one exchange for each step but the opening.
 use Rattle.std.specs.Prelude.{◌≡◌, ℕ, ◌+◌, ◌≤◌, List, [], ◌∷◌, map, length, Bool, true, false, if◌then◌else◌}
-use Rattle.uci_lines.specs.Orders.{Command}
+use Rattle.uci_lines.specs.Orders.{Order}
 use Rattle.uci_lines.specs.Orders as orders
 use Rattle.peer_words.specs.declared.kinds.GoKind.{GoKind}
 use Rattle.policy_rules.specs.declared.settings.Settings.{Settings}
 use Rattle.policy_rules.specs.Policy.{IsProper}
 use Rattle.search_epochs.specs.History as history
 use Rattle.search_epochs.specs.History.{Exchange}
-use Rattle.search_epochs.specs.Talk.{Search, Serves}
+use Rattle.search_epochs.specs.Tickets.{Search, Serves}
 use Rattle.desk_rules.specs.Desk.{call_before}
 use Rattle.desk_rules.specs.Orders.{word_of}
 use Rattle.adapter_core.specs.Ends.{is_open}
-use Rattle.adapter_core.specs.Trace.{State, Step, Lawful, state, here, turn, desk_of, closed_after}
+use Rattle.adapter_core.specs.Trace.{State, Step, Lawful, state, situation, turn, desk_of, closed_after}
 use Rattle.adapter_core.specs.Shown.{moves_told}
 
 -- what a step is to the dialogue
@@ -28,10 +28,10 @@ abbrev pub exchanges : Settings → List Step → List Exchange
 exchanges o [] = []
 exchanges o (step ∷ trace) = if is_open step.event then exchanges o trace else exchange (state o trace) step ∷ exchanges o trace
 
--- The exchanges are a lawful dialogue, and its talk is that of the state.
+-- The exchanges are a lawful dialogue, and its dialogue is that of the state.
 pub record IsDialogueOf (s : State) (xs : List Exchange) : Type 0 where
   pub lawful : history.Lawful xs
-  pub talk : history.talk xs ≡ s.talk
+  pub dialogue : history.dialogue xs ≡ s.dialogue
   pub closed : history.is_closed xs ≡ s.ends.closed
 
 -- Each lawful trace is a lawful dialogue, so that all laws of lawful dialogues are laws of it.
@@ -41,7 +41,7 @@ TracesAreDialogues o = (trace : List Step) → Lawful o trace → IsDialogueOf (
 -- SEARCHES
 
 -- how many `stop`s were written since the last `go`
-abbrev pub stops_after : ℕ → List Command → ℕ
+abbrev pub stops_after : ℕ → List Order → ℕ
 stops_after n [] = n
 stops_after n (orders.Go ponder control depth ∷ later) = stops_after 0 later
 stops_after n (orders.Stop ∷ later) = stops_after (n + 1) later
@@ -55,7 +55,7 @@ stops_since_go (step ∷ trace) = stops_after (stops_since_go trace) step.orders
 abbrev pub StopsOnce : Settings → Type 0
 StopsOnce o = (trace : List Step) → Lawful o trace → stops_since_go trace ≤ 1
 
-abbrev pub begins_search : List Command → Bool
+abbrev pub begins_search : List Order → Bool
 begins_search [] = false
 begins_search (orders.Go ponder control depth ∷ later) = true
 begins_search (order ∷ later) = begins_search later
@@ -76,7 +76,7 @@ SearchesShowOnce o =
 -- The dialogue is steady, and what is called for and the hint are those of the desk.
 pub record IsSteadyOf (s : State) (xs : List Exchange) : Type 0 where
   pub steady : history.Steady xs
-  pub call : history.last_call xs ≡ call_before (here s)
+  pub call : history.last_call xs ≡ call_before (situation s)
   pub hint : history.last_hint xs ≡ s.desk.hint
 
 -- With proper settings the dialogue of each lawful trace is steady, so that it is no premise of the laws of dialogues.
@@ -87,5 +87,5 @@ TracesAreSteady o = IsProper o → (trace : List Step) → Lawful o trace → Is
 abbrev pub SearchesServe : Settings → Type 0
 SearchesServe o =
     IsProper o → (trace : List Step) (k : GoKind) (stopped : Bool) → Lawful o trace → (state o trace).ends.closed ≡ false
-    → (state o trace).talk.engine ≡ Search k (state o trace).talk.epoch stopped
-    → Serves k (call_before (here (state o trace))) × (history.began (exchanges o trace) ≡ call_before (here (state o trace)))
+    → (state o trace).dialogue.engine ≡ Search k (state o trace).dialogue.epoch stopped
+    → Serves k (call_before (situation (state o trace))) × (history.began (exchanges o trace) ≡ call_before (situation (state o trace)))

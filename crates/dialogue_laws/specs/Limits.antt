@@ -6,10 +6,10 @@ use Rattle.option_map.specs.declared.held.TheConstants.{MOST_ORDERS, MOST_BYTES}
 use Rattle.policy_rules.specs.declared.settings.Settings.{Settings}
 use Rattle.policy_rules.specs.Policy.{IsProper}
 use Rattle.search_epochs.specs.declared.words.EngineState.TheVariants as states
-use Rattle.search_epochs.specs.Talk.{Serves}
+use Rattle.search_epochs.specs.Tickets.{Serves}
 use Rattle.desk_rules.specs.Desk.{call_before}
 use Rattle.adapter_core.specs.Trace.{Step, Lawful}
-use Rattle.adapter_core.specs.View.{View, here}
+use Rattle.adapter_core.specs.Parts.{Parts, situation}
 use Rattle.adapter_core.specs.Stands.{Stands}
 
 -- the most pings that are held
@@ -18,14 +18,14 @@ MOST_PINGS = 64
 
 -- Orders are held up to their number and their bytes, pings up to their number, and in a session that is not closed an open current
 -- search is of the kind that is called for.
-pub record IsWithinLimits (core : View) : Type 0 where
+pub record IsWithinLimits (core : Parts) : Type 0 where
   pub orders : length core.held ≤ MOST_ORDERS
   pub bytes : length (batch_text core.held) ≤ MOST_BYTES
   pub pings : length core.desk.pings ≤ MOST_PINGS
   pub search :
       (k : GoKind) (stopped : Bool) → core.ends.closed ≡ false
-      → core.talk.state ≡ states.Search k false stopped → Serves k (call_before (here core))
+      → core.dialogue.state ≡ states.Search k false stopped → Serves k (call_before (situation core))
 
 abbrev pub CoresAreWithinLimits : Settings → Type 0
 CoresAreWithinLimits o =
-    (core : View) (trace : List Step) → IsProper o → Lawful o trace → Stands o core trace → IsWithinLimits core
+    (core : Parts) (trace : List Step) → IsProper o → Lawful o trace → Stands o core trace → IsWithinLimits core

@@ -1,25 +1,25 @@
 -- Pings and their pongs.
 use Rattle.std.specs.Prelude.{◌≡◌, ℕ, List, [], ◌∷◌, ◌++◌, true, false}
 use Rattle.cecp_lines.specs.Messages as says
-use Rattle.cecp_lines.specs.Replies.{Told}
+use Rattle.cecp_lines.specs.Replies.{Reply}
 use Rattle.cecp_lines.specs.Replies as told
 use Rattle.policy_rules.specs.declared.settings.Settings.{Settings}
-use Rattle.search_epochs.specs.Talk.{is_move}
-use Rattle.desk_rules.specs.Steps.{Deed, Accepts}
-use Rattle.adapter_core.specs.Trace.{Step, Lawful, state, deed, owing}
+use Rattle.search_epochs.specs.Tickets.{is_move}
+use Rattle.desk_rules.specs.Steps.{Effect, Accepts}
+use Rattle.adapter_core.specs.Trace.{Step, Lawful, state, effect, owing}
 
 -- the number of an accepted ping
-abbrev pub ping_in : Deed → List ℕ
+abbrev pub ping_in : Effect → List ℕ
 ping_in (Accepts (says.Ping n)) = n ∷ []
 ping_in d = []
 
 -- the pings that were accepted, the oldest first
 abbrev pub pinged : Settings → List Step → List ℕ
 pinged o [] = []
-pinged o (step ∷ trace) = pinged o trace ++ ping_in (deed (state o trace) step.event)
+pinged o (step ∷ trace) = pinged o trace ++ ping_in (effect (state o trace) step.event)
 
 -- the pongs of these lines
-abbrev pub pongs_told : List Told → List ℕ
+abbrev pub pongs_told : List Reply → List ℕ
 pongs_told [] = []
 pongs_told (told.Pong n ∷ rest) = n ∷ pongs_told rest
 pongs_told (line ∷ rest) = pongs_told rest

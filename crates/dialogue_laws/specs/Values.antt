@@ -1,39 +1,39 @@
 -- The settings that were asked for and those that were written.
 use Rattle.std.specs.Prelude.{◌≡◌, List, [], ◌∷◌, ◌++◌, true, if◌then◌else◌, Option, Some, None}
-use Rattle.uci_lines.specs.Orders.{Command}
+use Rattle.uci_lines.specs.Orders.{Order}
 use Rattle.option_map.specs.Held.{are_for_same}
 use Rattle.policy_rules.specs.declared.settings.Settings.{Settings}
-use Rattle.desk_rules.specs.Orders.{asked_by_deed}
-use Rattle.adapter_core.specs.Trace.{Step, Lawful, state, here, deed}
+use Rattle.desk_rules.specs.Orders.{asked_by_effect}
+use Rattle.adapter_core.specs.Trace.{Step, Lawful, state, situation, effect}
 use Rattle.dialogue_laws.specs.Dialogue.{begins_search}
 
 -- the settings that were asked for, the oldest first
-abbrev pub asked_for : Settings → List Step → List Command
+abbrev pub asked_for : Settings → List Step → List Order
 asked_for o [] = []
-asked_for o (step ∷ trace) = asked_for o trace ++ asked_by_deed (here (state o trace)) (deed (state o trace) step.event)
+asked_for o (step ∷ trace) = asked_for o trace ++ asked_by_effect (situation (state o trace)) (effect (state o trace) step.event)
 
 -- the orders that were written, the oldest first
-abbrev pub written : List Step → List Command
+abbrev pub written : List Step → List Order
 written [] = []
 written (step ∷ trace) = written trace ++ step.orders
 
-abbrev pub latest : Option Command → Option Command → Option Command
+abbrev pub latest : Option Order → Option Order → Option Order
 latest None before = before
 latest (Some order) before = Some order
 
 -- the last of these orders that is for the same game, or for the value of the same option, as this one
-abbrev pub last_for : Command → List Command → Option Command
+abbrev pub last_for : Order → List Order → Option Order
 last_for order [] = None
 last_for order (other ∷ later) = latest (last_for order later) (if are_for_same order other then Some other else None)
 
 -- What was asked for last is what was written last, or is held.
 abbrev pub LastAskedStands : Settings → Type 0
 LastAskedStands o =
-    (trace : List Step) (order : Command) → Lawful o trace
+    (trace : List Step) (order : Order) → Lawful o trace
     → last_for order (written trace ++ (state o trace).held) ≡ last_for order (asked_for o trace)
 
 -- So where a search is begun, the last value that was written for an option is the last one that was asked for.
 abbrev pub SearchesHaveSettings : Settings → Type 0
 SearchesHaveSettings o =
-    (step : Step) (trace : List Step) (order : Command) → Lawful o (step ∷ trace) → begins_search step.orders ≡ true
+    (step : Step) (trace : List Step) (order : Order) → Lawful o (step ∷ trace) → begins_search step.orders ≡ true
     → last_for order (written (step ∷ trace)) ≡ last_for order (asked_for o (step ∷ trace))

@@ -4,16 +4,16 @@ use Rattle.line_io.specs.Event.{Event}
 use Rattle.line_io.specs.Event as events
 use Rattle.peer_words.specs.declared.kinds.GoKind.{GoKind}
 use Rattle.peer_words.specs.declared.kinds.GoKind.TheVariants as kinds
-use Rattle.uci_lines.specs.Says.{Says}
-use Rattle.uci_lines.specs.Says as says
+use Rattle.uci_lines.specs.Messages.{EngineMsg}
+use Rattle.uci_lines.specs.Messages as says
 use Rattle.uci_lines.specs.Engine.{engine_message}
-use Rattle.uci_lines.specs.Orders.{Command}
+use Rattle.uci_lines.specs.Orders.{Order}
 use Rattle.uci_lines.specs.Orders as orders
 use Rattle.policy_rules.specs.declared.settings.Settings.{Settings}
 use Rattle.search_epochs.specs.declared.words.Said.{Said}
 use Rattle.search_epochs.specs.declared.words.Said.TheVariants as said
-use Rattle.search_epochs.specs.Talk.{Engine, Paired}
-use Rattle.search_epochs.specs.Talk as talks
+use Rattle.search_epochs.specs.Tickets.{Engine, Paired}
+use Rattle.search_epochs.specs.Tickets as talks
 use Rattle.desk_rules.specs.Orders.{kind_named, word_of}
 use Rattle.adapter_core.specs.declared.ends.Ends.{Ends}
 use Rattle.adapter_core.specs.Ends.{ends_after, at_start}
@@ -28,7 +28,7 @@ pub data Wire : Type 0 where
   Gone : Wire
 
 -- what a line of the engine says to the dialogue
-abbrev pub said_in : Says → Option Said
+abbrev pub said_in : EngineMsg → Option Said
 said_in says.UciOk = Some said.UciOk
 said_in says.ReadyOk = Some said.ReadyOk
 said_in (says.Best best hint) = Some said.Best
@@ -51,7 +51,7 @@ hearing e (Some said.Ended) = Gone
 hearing e (Some _) = e
 
 -- the engine after an order
-abbrev pub writing : Wire → Command → Wire
+abbrev pub writing : Wire → Order → Wire
 writing Gone order = Gone
 writing e orders.Uci = Boot
 writing e orders.IsReady = Getting
@@ -61,7 +61,7 @@ writing (Search kinds.Ponder s) orders.PonderHit = Search kinds.Move false
 writing e order = e
 
 -- and after several, one by one
-abbrev pub writing_all : Wire → List Command → Wire
+abbrev pub writing_all : Wire → List Order → Wire
 writing_all e [] = e
 writing_all e (order ∷ later) = writing_all (writing e order) later
 
@@ -76,7 +76,7 @@ wire [] = Boot
 wire (step ∷ trace) = writing_all (hearing (wire trace) (said_by (ends trace).closed step.event)) step.orders
 
 -- the engine at the place of an order, with these of the step's orders before it
-abbrev pub wire_at : List Step → Step → List Command → Wire
+abbrev pub wire_at : List Step → Step → List Order → Wire
 wire_at trace step before = writing_all (hearing (wire trace) (said_by (ends trace).closed step.event)) before
 
 -- what the wire shows of an engine whose searches have tickets
@@ -89,7 +89,7 @@ on_wire talks.Gone = Gone
 
 -- THE LAW: the engine of each trace is what the wire shows, and so are the sides that have ended.
 abbrev pub EngineIsOnWire : Settings → Type 0
-EngineIsOnWire o = (trace : List Step) → on_wire (state o trace).talk.engine ≡ wire trace
+EngineIsOnWire o = (trace : List Step) → on_wire (state o trace).dialogue.engine ≡ wire trace
 
 abbrev pub EndsAreOnWire : Settings → Type 0
 EndsAreOnWire o = (trace : List Step) → (state o trace).ends ≡ ends trace
@@ -97,7 +97,7 @@ EndsAreOnWire o = (trace : List Step) → (state o trace).ends ≡ ends trace
 -- WHERE ORDERS STAND
 
 -- settings, `isready`, `position` and `go` are for an idle engine
-abbrev pub needs_idle : Command → Bool
+abbrev pub needs_idle : Order → Bool
 needs_idle orders.NewGame = true
 needs_idle (orders.SetOption name value) = true
 needs_idle orders.IsReady = true
@@ -108,25 +108,25 @@ needs_idle order = false
 -- In a lawful trace they reach only an idle engine.
 abbrev pub IdleGetsThem : Settings → Type 0
 IdleGetsThem o =
-    (step : Step) (trace : List Step) (before behind : List Command) (order : Command) → Lawful o (step ∷ trace)
+    (step : Step) (trace : List Step) (before behind : List Order) (order : Order) → Lawful o (step ∷ trace)
     → step.orders ≡ before ++ order ∷ behind → needs_idle order ≡ true → wire_at trace step before ≡ Idle
 
 -- `stop` reaches only an open search that is not stopped.
 abbrev pub SearchGetsStop : Settings → Type 0
 SearchGetsStop o =
-    (step : Step) (trace : List Step) (before behind : List Command) → Lawful o (step ∷ trace)
+    (step : Step) (trace : List Step) (before behind : List Order) → Lawful o (step ∷ trace)
     → step.orders ≡ before ++ orders.Stop ∷ behind → (k : GoKind) × (wire_at trace step before ≡ Search k false)
 
 -- `ponderhit` reaches only an open Ponder search that is not stopped.
 abbrev pub PonderGetsHit : Settings → Type 0
 PonderGetsHit o =
-    (step : Step) (trace : List Step) (before behind : List Command) → Lawful o (step ∷ trace)
+    (step : Step) (trace : List Step) (before behind : List Order) → Lawful o (step ∷ trace)
     → step.orders ≡ before ++ orders.PonderHit ∷ behind → wire_at trace step before ≡ Search kinds.Ponder false
 
 -- Nothing reaches a gone engine.
 abbrev pub GoneGetsNothing : Settings → Type 0
 GoneGetsNothing o =
-    (step : Step) (trace : List Step) (before behind : List Command) (order : Command) → Lawful o (step ∷ trace)
+    (step : Step) (trace : List Step) (before behind : List Order) (order : Order) → Lawful o (step ∷ trace)
     → step.orders ≡ before ++ order ∷ behind → wire_at trace step before ≢ Gone
 
 -- Each `go` stands directly after a `position`, and each `position` directly before a `go`.

@@ -8,14 +8,14 @@ use Rattle.chess_board.specs.declared.board.Move.{Move}
 use Rattle.chess_board.specs.Play.{HasLegal}
 use Rattle.chess_board.specs.Text.{text_of, ComesBefore}
 use Rattle.fen_text.specs.Written.{written}
-use Rattle.game_record.specs.Course.{now_of}
+use Rattle.game_record.specs.Game.{now_of}
 use Rattle.policy_rules.specs.Policy.{usual}
 use Rattle.desk_rules.specs.Desk.{has_ended}
 use Rattle.adapter_core.specs.Trace.{Step}
 use Rattle.adapter_core.proofs.Unique.{unique}
 use Rattle.session_script.proofs.Scripts.{same_trace}
 use Rattle.drill.specs.Generator.{next, place_of}
-use Rattle.drill.specs.Rounds.{Stand, Draws, Misses, Answers, Nothing, Alone, WithHint, Round, Rounds, renewal, renewed, entry, moved, hinted, answer, answer_with, greeting, preparation, closing, starting}
+use Rattle.drill.specs.Rounds.{Drill, Draws, Misses, Answers, Nothing, Alone, WithHint, Round, Rounds, renewal, renewed, entry, moved, hinted, answer, answer_with, greeting, preparation, closing, starting}
 use Rattle.drill.specs.Tally.{tally_of, line_of}
 use Rattle.drill.specs.Alike.{DrillsAreOne}
 use Rattle.drill.proofs.Ordered.{same_lists}
@@ -25,10 +25,10 @@ use Rattle.drill.proofs.Ordered.{same_lists}
 not_both : (a b : Move) → ComesBefore a b → ComesBefore b a → ⊥
 not_both a b h k = let e = sym h ∙ nat_list_cmp_total.antisymm (text_of a) (text_of b) ∙ ap ordering_reverse k in cc
 
-same_moves : (s : Stand) (m n : Move) (d : Draws s m) (e : Draws s n) → d.moves ≡ e.moves
+same_moves : (s : Drill) (m n : Move) (d : Draws s m) (e : Draws s n) → d.moves ≡ e.moves
 same_moves s m n d e = same_lists ComesBefore not_both d.moves e.moves d.legal.ordered e.legal.ordered (λ x. (λ c. (e.legal.each x).1 ((d.legal.each x).0 c), λ c. (d.legal.each x).1 ((e.legal.each x).0 c)))
 
-one_drawn : (s : Stand) (m n : Move) → Draws s m → Draws s n → m ≡ n
+one_drawn : (s : Drill) (m n : Move) → Draws s m → Draws s n → m ≡ n
 one_drawn s m n d e =
     let both = sym d.drawn ∙ ap (λ (ms : List Move). slice_get ms (place_of (next s.seed) (length ms))) (same_moves s m n d e) ∙ e.drawn in
     of_some m n both where
@@ -45,13 +45,13 @@ one_missed (Some hint) m es fs (inr a) (inl b) = absurd (a.0 b.0)
 one_missed (Some hint) m es fs (inr a) (inr b) = a.1 ∙ sym b.1
 
 -- events, and the stand after them
-abbrev Both : List Event → List Event → Stand → Stand → Type 0
+abbrev Both : List Event → List Event → Drill → Drill → Type 0
 Both es fs s t = (es ≡ fs) × (s ≡ t)
 
 open_or_not : (b : Bool) → b ≡ true → b ≡ false → ⊥
 open_or_not b e f = let z = sym e ∙ f in cc
 
-has_drawn : (s : Stand) (m : Move) → Draws s m → HasLegal (now_of s.game)
+has_drawn : (s : Drill) (m : Move) → Draws s m → HasLegal (now_of s.game)
 has_drawn s m d = of d.moves refl where
   some : (x : Move) (xs : List Move) → d.moves ≡ x ∷ xs → Contains d.moves x
   some x xs e = subst (λ (ms : List Move). Contains ms x) (sym e) (0, (let z : 0 < suc (length xs) = omega arith in z), refl)
@@ -60,7 +60,7 @@ has_drawn s m d = of d.moves refl where
   of [] e = let z = sym d.drawn ∙ ap (λ (ms : List Move). slice_get ms (place_of (next s.seed) (length ms))) e in cc
   of (x ∷ xs) e = record { move = x; legal = (d.legal.each x).0 (some x xs e) }
 
-one_answer : (s : Stand) (es fs : List Event) (t u : Stand) → Answers s es t → Answers s fs u → Both es fs t u
+one_answer : (s : Drill) (es fs : List Event) (t u : Drill) → Answers s es t → Answers s fs u → Both es fs t u
 one_answer s es fs t u (Nothing h e f) (Nothing k g i) = (e ∙ sym g, f ∙ sym i)
 one_answer s es fs t u (Nothing h e f) (Alone n k d l g i) = absurd (open_or_not (has_ended s.game) h k)
 one_answer s es fs t u (Nothing h e f) (WithHint n hint k d l g i) = absurd (open_or_not (has_ended s.game) h k)
@@ -78,7 +78,7 @@ one_answer s es fs t u (WithHint m a h d l e f) (WithHint n b k x y g i) =
 
 -- ROUNDS
 
-one_round : (s : Stand) (es fs : List Event) (t u : Stand) → Round s es t → Round s fs u → Both es fs t u
+one_round : (s : Drill) (es fs : List Event) (t u : Drill) → Round s es t → Round s fs u → Both es fs t u
 one_round s es fs t u a b =
     let b0 = renewed s in
     let m = one_drawn b0 a.entered b.entered a.drawn b.drawn in
@@ -89,11 +89,11 @@ one_round s es fs t u a b =
       answered.1,
     )
 
-one_course : (n : ℕ) (s : Stand) (es fs : List Event) (t u : Stand) → Rounds n s es t → Rounds n s fs u → Both es fs t u
+one_course : (n : ℕ) (s : Drill) (es fs : List Event) (t u : Drill) → Rounds n s es t → Rounds n s fs u → Both es fs t u
 one_course zero s es fs t u a b = (a.0 ∙ sym b.0, a.1 ∙ sym b.1)
 one_course (suc n) s es fs t u (p, first, last, many, one, e) (q, first', last', many', one', e') =
     let before = one_course n s first first' p q many many' in
-    let after = one_round q last last' t u (subst (λ (z : Stand). Round z last t) before.1 one) one' in
+    let after = one_round q last last' t u (subst (λ (z : Drill). Round z last t) before.1 one) one' in
     (e ∙ ap (λ (z : List Event). z ++ last) before.0 ∙ ap (λ (z : List Event). first' ++ z) after.0 ∙ sym e', after.1)
 
 -- LINES
@@ -103,4 +103,4 @@ drills_alike number count line line' a b =
     let both = one_course count (starting number) a.rounds b.rounds a.last b.last a.plays b.plays in
     let heard = a.events_are ∙ ap (λ (z : List Event). Open ∷ (greeting ++ (preparation ++ (z ++ closing)))) both.0 ∙ sym b.events_are in
     let trace = same_trace usual (unique usual) a.trace b.trace a.lawful b.lawful heard in
-    a.line_is ∙ ap (λ (z : List Step). line_of number count (tally_of z) (written (now_of a.last.game))) trace ∙ ap (λ (z : Stand). line_of number count (tally_of b.trace) (written (now_of z.game))) both.1 ∙ sym b.line_is
+    a.line_is ∙ ap (λ (z : List Step). line_of number count (tally_of z) (written (now_of a.last.game))) trace ∙ ap (λ (z : Drill). line_of number count (tally_of b.trace) (written (now_of z.game))) both.1 ∙ sym b.line_is

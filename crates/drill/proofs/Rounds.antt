@@ -3,12 +3,12 @@ use Rattle.std.proofs.Common.{◌≡◌, ℕ, suc, List, [], ◌++◌, false, if
 use Rattle.line_io.specs.Event.{Event}
 use Rattle.chess_board.specs.declared.board.Move.{Move}
 use Rattle.chess_board.specs.Play.{HasLegal}
-use Rattle.game_record.specs.Course.{Course, ply_of, now_of, with_ply}
+use Rattle.game_record.specs.Game.{Game, ply_of, now_of, with_ply}
 use Rattle.desk_rules.specs.Desk.{has_ended}
 use Rattle.drill.specs.declared.round.Drill.{Drill}
 use Rattle.drill.specs.Generator.{next}
-use Rattle.drill.specs.Rounds.{Stand, Draws, Misses, Answers, Alone, WithHint, moved, hinted, ponders, renewal, renewed, entry, answer, answer_with}
-use Rattle.drill.specs.Sent.{Progress, Sent}
+use Rattle.drill.specs.Rounds.{Drill as AnyDrill, Draws, Misses, Answers, Alone, WithHint, moved, hinted, ponders, renewal, renewed, entry, answer, answer_with}
+use Rattle.drill.specs.Sent.{Session, Sent}
 use Rattle.drill.specs.Stood.{stand_of, UserMoves, HintDrawn, EngineMoves, RoundPlayed, RoundsPlayed}
 use Rattle.drill.proofs.Sending.{sent_both}
 
@@ -23,11 +23,11 @@ played old begun entered new sent stands user engine =
       events = renewal s ++ es;
       round = record {
         entered = m;
-        drawn = subst (λ (x : Stand). Draws x m) stands user.drawn;
+        drawn = subst (λ (x : AnyDrill). Draws x m) stands user.drawn;
         missed = user.missed;
-        misses = subst (λ (x : Stand). Misses x.hint m user.missed) stands user.misses;
+        misses = subst (λ (x : AnyDrill). Misses x.hint m user.missed) stands user.misses;
         answered = engine.answered;
-        answers = subst (λ (x : Stand). Answers x engine.answered (stand_of new)) (user.stand ∙ ap (λ (x : Stand). moved x m) stands) engine.answers;
+        answers = subst (λ (x : AnyDrill). Answers x engine.answered (stand_of new)) (user.stand ∙ ap (λ (x : AnyDrill). moved x m) stands) engine.answers;
         events_are = refl;
       };
       sent = sent_both old.session begun.session new.session (renewal s) es sent both;
@@ -46,7 +46,7 @@ none_yet first = record { events = []; rounds = (refl, refl); sent = refl }
 
 -- THE STAND AFTER A MOVE
 
-abbrev stand : ℕ → Course → Option Move → Stand
+abbrev stand : ℕ → Game → Option Move → AnyDrill
 stand seed game hint = record { seed = seed; game = game; hint = hint }
 
 -- a hint that was drawn is kept where the engine ponders on it
@@ -56,7 +56,7 @@ hint_kept old drawn hint kept e k =
     ap (λ (h : Option Move). stand drawn.seed drawn.game h) k ∙ ap (λ (d : Drill). stand d.seed d.game (if ponders d.game hint then Some hint else None)) e
 
 -- a move that was drawn was played
-pub move_played : (old drawn new : Drill) (m : Move) (session : Progress) → drawn ≡ record old { seed = next old.seed } → new ≡ record drawn { session = session; game = with_ply drawn.game (ply_of m) }
+pub move_played : (old drawn new : Drill) (m : Move) (session : Session) → drawn ≡ record old { seed = next old.seed } → new ≡ record drawn { session = session; game = with_ply drawn.game (ply_of m) }
     → (new.seed ≡ next old.seed) × (new.game ≡ with_ply old.game (ply_of m)) × (new.hint ≡ old.hint) × (new.session ≡ session)
 move_played old drawn new m session e f = (
   ap (λ (d : Drill). d.seed) f ∙ ap (λ (d : Drill). d.seed) e,
@@ -65,12 +65,12 @@ move_played old drawn new m session e f = (
   ap (λ (d : Drill). d.session) f,
 )
 
-pub stand_moved : (old : Drill) (m : Move) (seed : ℕ) (game : Course) → seed ≡ next old.seed → game ≡ with_ply old.game (ply_of m) → record { seed = seed; game = game; hint = None } ≡ moved (stand_of old) m
-stand_moved old m seed game e f = ap (λ n. stand n game None) e ∙ ap (λ (g : Course). stand (next old.seed) g None) f
+pub stand_moved : (old : Drill) (m : Move) (seed : ℕ) (game : Game) → seed ≡ next old.seed → game ≡ with_ply old.game (ply_of m) → record { seed = seed; game = game; hint = None } ≡ moved (stand_of old) m
+stand_moved old m seed game e f = ap (λ n. stand n game None) e ∙ ap (λ (g : Game). stand (next old.seed) g None) f
 
 -- THE MOVES OF A ROUND
 
-pub user_moves : (old drawn new : Drill) (m : Move) (entered answered : Progress) → Draws (stand_of old) m → drawn ≡ record old { seed = next old.seed }
+pub user_moves : (old drawn new : Drill) (m : Move) (entered answered : Session) → Draws (stand_of old) m → drawn ≡ record old { seed = next old.seed }
     → Sent drawn.session entered (entry m) → (missed : (es : List Event) × Misses drawn.hint m es × Sent entered answered es) → new ≡ record drawn { session = answered; game = with_ply drawn.game (ply_of m) }
     → UserMoves old (record { session = new.session; game = new.game; seed = new.seed; hint = None })
 user_moves old drawn new m entered answered d e enters missed f =
@@ -81,20 +81,20 @@ user_moves old drawn new m entered answered d e enters missed f =
       drawn = d;
       missed = missed.0;
       misses = subst (λ (x : Drill). Misses x.hint m missed.0) e missed.1;
-      sent = subst (λ (x : Progress). Sent old.session x (entry m ++ missed.0)) (sym p.3) (sent_both old.session entered answered (entry m) missed.0 enters' missed.2);
+      sent = subst (λ (x : Session). Sent old.session x (entry m ++ missed.0)) (sym p.3) (sent_both old.session entered answered (entry m) missed.0 enters' missed.2);
       stand = stand_moved old m new.seed new.game p.0 p.1;
     }
 
 -- the engine answers without a hint
-pub answers_alone : (old drawn played : Drill) (m : Move) (answered : Progress) → old.hint ≡ None → has_ended old.game ≡ false → Draws (stand_of old) m → drawn ≡ record old { seed = next old.seed }
+pub answers_alone : (old drawn played : Drill) (m : Move) (answered : Session) → old.hint ≡ None → has_ended old.game ≡ false → Draws (stand_of old) m → drawn ≡ record old { seed = next old.seed }
     → played ≡ record drawn { session = drawn.session; game = with_ply drawn.game (ply_of m) } → (HasLegal (now_of played.game) → ⊥) → Sent played.session answered (answer m)
     → EngineMoves old (record { session = answered; game = played.game; seed = played.seed; hint = played.hint })
 answers_alone old drawn played m answered none still d e f stuck sends =
     let p = move_played old drawn played m drawn.session e f in
     record {
       answered = answer m;
-      answers = Alone m still d (λ h. stuck (subst (λ (g : Course). HasLegal (now_of g)) (sym p.1) h)) refl (ap (λ (h : Option Move). stand played.seed played.game h) (p.2 ∙ none) ∙ stand_moved old m played.seed played.game p.0 p.1);
-      sent = subst (λ (x : Progress). Sent x answered (answer m)) (p.3 ∙ ap (λ (x : Drill). x.session) e) sends;
+      answers = Alone m still d (λ h. stuck (subst (λ (g : Game). HasLegal (now_of g)) (sym p.1) h)) refl (ap (λ (h : Option Move). stand played.seed played.game h) (p.2 ∙ none) ∙ stand_moved old m played.seed played.game p.0 p.1);
+      sent = subst (λ (x : Session). Sent x answered (answer m)) (p.3 ∙ ap (λ (x : Drill). x.session) e) sends;
     }
 
 -- or with one
@@ -105,6 +105,6 @@ answers_hinted old drawn played new m none still d e f h =
     let stands : stand_of played ≡ moved (stand_of old) m = ap (λ (k : Option Move). stand played.seed played.game k) (p.2 ∙ none) ∙ stand_moved old m played.seed played.game p.0 p.1 in
     record {
       answered = answer_with m h.hint;
-      answers = WithHint m h.hint still d (subst (λ (s : Stand). Draws s h.hint) stands h.drawn) refl (h.stand ∙ ap (λ (s : Stand). hinted s h.hint) stands);
-      sent = subst (λ (x : Progress). Sent x new.session (answer_with m h.hint)) (p.3 ∙ ap (λ (x : Drill). x.session) e) h.sent;
+      answers = WithHint m h.hint still d (subst (λ (s : AnyDrill). Draws s h.hint) stands h.drawn) refl (h.stand ∙ ap (λ (s : AnyDrill). hinted s h.hint) stands);
+      sent = subst (λ (x : Session). Sent x new.session (answer_with m h.hint)) (p.3 ∙ ap (λ (x : Drill). x.session) e) h.sent;
     }

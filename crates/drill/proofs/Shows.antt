@@ -3,18 +3,18 @@ use Rattle.std.proofs.Common.{◌≡◌, ℕ, zero, suc, ◌+◌, ◌/◌, ◌%�
 use Rattle.std.proofs.lemmas.Bool.Decides.{nat_tests}
 use Rattle.std.specs.Fmt.{decimal, digits, digits_onto, digit_glyph}
 use Rattle.chess_board.specs.declared.board.Move.{Move as AnyMove}
-use Rattle.cecp_lines.specs.declared.reply.Tell.TheVariants as tells
+use Rattle.cecp_lines.specs.declared.reply.UserError.TheVariants as tells
 use Rattle.cecp_lines.specs.declared.reply.Outcome.TheVariants as outcomes
-use Rattle.cecp_lines.specs.Replies.{Told}
+use Rattle.cecp_lines.specs.Replies.{Reply}
 use Rattle.cecp_lines.specs.Replies as told
-use Rattle.feature_talk.specs.Features.{told_lines}
+use Rattle.feature_talk.specs.Features.{reply_lines}
 use Rattle.policy_rules.specs.declared.settings.Settings.{Settings}
-use Rattle.search_epochs.specs.Talk.{is_move}
-use Rattle.desk_rules.specs.Desk.{Here}
-use Rattle.desk_rules.specs.Steps.{Deed, Shows}
+use Rattle.search_epochs.specs.Tickets.{is_move}
+use Rattle.desk_rules.specs.Desk.{Situation}
+use Rattle.desk_rules.specs.Steps.{Effect, Shows}
 use Rattle.desk_rules.specs.Replies.{replies_of, row}
 use Rattle.adapter_core.specs.Shown.{moves_told}
-use Rattle.adapter_core.specs.Trace.{Step, Lawful, iface_text, engine_text, state, here, deed, owing, closed_after}
+use Rattle.adapter_core.specs.Trace.{Step, Lawful, iface_text, engine_text, state, situation, effect, owing, closed_after}
 use Rattle.adapter_core.proofs.Shown.{open_shows, shown_by}
 use Rattle.line_io.specs.Lines.{parts}
 use Rattle.drill.specs.declared.tally.Tally.{Tally}
@@ -56,7 +56,7 @@ thinking_begins depth a b c d e f g =
     begins_more _ g (begins_more _ f (begins_more _ e (begins_more _ d (begins_more _ c (begins_more _ b (begins_more _ a (decimal_begins depth)))))))
 
 -- lines that tell no move do not begin with one
-none_first : (rs : List Told) → moves_told rs ≡ [] → shows_move (told_lines rs) ≡ false
+none_first : (rs : List Reply) → moves_told rs ≡ [] → shows_move (reply_lines rs) ≡ false
 none_first [] e = refl
 none_first (told.Feature name value ∷ rs) e = refl
 none_first (told.Move m ∷ rs) e = cc
@@ -77,27 +77,27 @@ none_first (told.Result outcomes.Dead ∷ rs) e = refl
 none_first (told.Result outcomes.Repetition ∷ rs) e = refl
 none_first (told.Result outcomes.Fifty ∷ rs) e = refl
 none_first (told.Thinking depth score time nodes hint pv ∷ rs) e =
-    none_shown (told_lines (told.Thinking depth score time nodes hint pv ∷ rs)) (begins_more _ (told_lines rs) (thinking_begins depth (32 ∷ []) _ _ _ _ pv (10 ∷ [])))
+    none_shown (reply_lines (told.Thinking depth score time nodes hint pv ∷ rs)) (begins_more _ (reply_lines rs) (thinking_begins depth (32 ∷ []) _ _ _ _ pv (10 ∷ [])))
 none_first (told.Stat01 time nodes depth left all current ∷ rs) e = refl
 
 -- the count of moves of lines, by how they begin
-shown_next : (n : ℕ) (rs : List Told) (ms : List AnyMove) → moves_told rs ≡ ms → ms ≡ [] → cond (shows_move (told_lines rs)) (n + 1) n ≡ n + length (moves_told rs)
+shown_next : (n : ℕ) (rs : List Reply) (ms : List AnyMove) → moves_told rs ≡ ms → ms ≡ [] → cond (shows_move (reply_lines rs)) (n + 1) n ≡ n + length (moves_told rs)
 shown_next n rs ms e z = ap (λ (b : Bool). cond b (n + 1) n) (none_first rs (e ∙ z)) ∙ (let q : n ≡ n + length (moves_told rs) = omega (arith, ap length (e ∙ z)) in q)
 
-one_next : (n : ℕ) (m : AnyMove) (rs : List Told) → moves_told rs ≡ m ∷ [] → shows_move (told_lines rs) ≡ true → cond (shows_move (told_lines rs)) (n + 1) n ≡ n + length (moves_told rs)
+one_next : (n : ℕ) (m : AnyMove) (rs : List Reply) → moves_told rs ≡ m ∷ [] → shows_move (reply_lines rs) ≡ true → cond (shows_move (reply_lines rs)) (n + 1) n ≡ n + length (moves_told rs)
 one_next n m rs e z = ap (λ (b : Bool). cond b (n + 1) n) z ∙ (let q : n + 1 ≡ n + length (moves_told rs) = omega (arith, ap length e) in q)
 
-by_deed : (n : ℕ) (closed owes : Bool) (h : Here) (d : Deed) → cond (shows_move (told_lines (replies_of closed owes h d))) (n + 1) n ≡ n + length (moves_told (replies_of closed owes h d))
+by_effect : (n : ℕ) (closed owes : Bool) (h : Situation) (d : Effect) → cond (shows_move (reply_lines (replies_of closed owes h d))) (n + 1) n ≡ n + length (moves_told (replies_of closed owes h d))
 unfolding row
-by_deed n true owes h d = omega arith
-by_deed n false owes h (Shows best hint) = one_next n best (replies_of false owes h (Shows best hint)) (open_shows owes h (Shows best hint)) refl
-by_deed n false owes h d = shown_next n (replies_of false owes h d) (shown_by d) (open_shows owes h d) refl
+by_effect n true owes h d = omega arith
+by_effect n false owes h (Shows best hint) = one_next n best (replies_of false owes h (Shows best hint)) (open_shows owes h (Shows best hint)) refl
+by_effect n false owes h d = shown_next n (replies_of false owes h d) (shown_by d) (open_shows owes h d) refl
 
 -- a lawful step tells a move exactly where what it wrote begins with one
-pub is_shown : (o : Settings) (step : Step) (t : List Step) (n : ℕ) → Lawful o (step ∷ t) → cond (shows_move (told_lines step.replies)) (n + 1) n ≡ n + length (moves_told step.replies)
+pub is_shown : (o : Settings) (step : Step) (t : List Step) (n : ℕ) → Lawful o (step ∷ t) → cond (shows_move (reply_lines step.replies)) (n + 1) n ≡ n + length (moves_told step.replies)
 is_shown o step t n l =
     let s = state o t in
-    subst (λ (rs : List Told). cond (shows_move (told_lines rs)) (n + 1) n ≡ n + length (moves_told rs)) (sym l.1.replies) (by_deed n (closed_after s step.event) (is_move (owing s step.event)) (here s) (deed s step.event))
+    subst (λ (rs : List Reply). cond (shows_move (reply_lines rs)) (n + 1) n ≡ n + length (moves_told rs)) (sym l.1.replies) (by_effect n (closed_after s step.event) (is_move (owing s step.event)) (situation s) (effect s step.event))
 
 -- so what it wrote counts it
 pub counts_step : (o : Settings) (step : Step) (t : List Step) (tally : Tally) → Lawful o (step ∷ t) → counted_texts tally (iface_text step) (engine_text step) ≡ counted tally step

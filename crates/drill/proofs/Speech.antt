@@ -11,7 +11,7 @@ use Rattle.chess_board.proofs.Texts.{reads-back}
 use Rattle.peer_words.proofs.TokenLists.{tokens_alone, tokens_more}
 use Rattle.line_io.specs.Event.{has_feed, is_line}
 use Rattle.cecp_lines.specs.Messages as says
-use Rattle.cecp_lines.specs.Messages.{Message}
+use Rattle.cecp_lines.specs.Messages.{IfaceMsg}
 use Rattle.cecp_lines.specs.Reading.{HasMove}
 use Rattle.cecp_lines.proofs.Complete.{spells_reading}
 use Rattle.cecp_lines.proofs.Lengths.{move_short}

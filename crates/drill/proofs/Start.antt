@@ -8,7 +8,7 @@ use Rattle.chess_board.specs.Rules.{is_legal, is_legal_of, men_after}
 use Rattle.chess_board.proofs.Legal.{legal-law}
 use Rattle.game_record.specs.declared.ending.End.{End}
 use Rattle.game_record.specs.declared.ending.End.TheVariants.{Mate, Stale, Dead, Repetition, Fifty}
-use Rattle.game_record.specs.Course.{begun}
+use Rattle.game_record.specs.Game.{begun}
 use Rattle.game_record.specs.Ending.{ended_of, repeats_of, is_same, Ends}
 use Rattle.game_record.proofs.States.{ending-law}
 use Rattle.desk_rules.specs.Desk.{has_ended}

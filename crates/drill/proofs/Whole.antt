@@ -2,19 +2,19 @@
 use Rattle.std.proofs.Common.{◌≡◌, ℕ, List, [], ◌∷◌, ◌++◌, refl, ap, subst, ◌∙◌}
 use Rattle.line_io.specs.Event.{Open}
 use Rattle.fen_text.specs.Written.{written}
-use Rattle.game_record.specs.Course.{now_of}
+use Rattle.game_record.specs.Game.{now_of}
 use Rattle.policy_rules.specs.Policy.{usual}
 use Rattle.adapter_core.specs.Stands.{Stands}
 use Rattle.drill.specs.declared.round.Drill.{Drill}
 use Rattle.drill.specs.declared.tally.Tally.{Tally}
-use Rattle.drill.specs.Rounds.{Stand, Rounds, starting, greeting, preparation, closing}
+use Rattle.drill.specs.Rounds.{Drill as AnyDrill, Rounds, starting, greeting, preparation, closing}
 use Rattle.drill.specs.Tally.{nothing, line_of}
 use Rattle.drill.specs.Played.{Drills}
-use Rattle.drill.specs.Sent.{Progress, Sent}
+use Rattle.drill.specs.Sent.{Session, Sent}
 use Rattle.drill.specs.Stood.{stand_of, RoundsPlayed}
 use Rattle.drill.proofs.Sending.{Traced, traced, sent_both}
 
-pub drilled : (number count : ℕ) (fresh greeted closed : Progress) (ready played : Drill) (line : List ℕ) → Stands usual fresh.core [] → fresh.tally ≡ nothing
+pub drilled : (number count : ℕ) (fresh greeted closed : Session) (ready played : Drill) (line : List ℕ) → Stands usual fresh.core [] → fresh.tally ≡ nothing
     → Sent fresh greeted (Open ∷ greeting) → Sent greeted ready.session preparation → stand_of ready ≡ starting number → RoundsPlayed count ready played → Sent played.session closed closing
     → line ≡ line_of number count closed.tally (written (now_of played.game)) → Drills number count line
 drilled number count fresh greeted closed ready played line stands none hello prepares stand r ends is =
@@ -25,7 +25,7 @@ drilled number count fresh greeted closed ready played line stands none hello pr
     record {
       rounds = r.events;
       last = stand_of played;
-      plays = subst (λ (s : Stand). Rounds count s r.events (stand_of played)) stand r.rounds;
+      plays = subst (λ (s : AnyDrill). Rounds count s r.events (stand_of played)) stand r.rounds;
       trace = t.trace;
       lawful = t.lawful;
       events_are = t.events_are;

@@ -2,17 +2,17 @@
 use Rattle.std.specs.Prelude.{◌≡◌, ℕ, List, ◌∷◌, ◌++◌}
 use Rattle.line_io.specs.Event.{Event, Open}
 use Rattle.fen_text.specs.Written.{written}
-use Rattle.game_record.specs.Course.{now_of}
+use Rattle.game_record.specs.Game.{now_of}
 use Rattle.policy_rules.specs.Policy.{usual}
 use Rattle.adapter_core.specs.Trace.{Step, Lawful}
 use Rattle.session_script.specs.Script.{events}
-use Rattle.drill.specs.Rounds.{Stand, Rounds, starting, greeting, preparation, closing}
+use Rattle.drill.specs.Rounds.{Drill, Rounds, starting, greeting, preparation, closing}
 use Rattle.drill.specs.Tally.{tally_of, line_of}
 
 -- The line tells the counts of the lawful trace of the drill's events with the usual settings, and the position of its game.
 pub record Drills (number count : ℕ) (line : List ℕ) : Type 0 where
   pub rounds : List Event
-  pub last : Stand
+  pub last : Drill
   pub plays : Rounds count (starting number) rounds last
   pub trace : List Step
   pub lawful : Lawful usual trace

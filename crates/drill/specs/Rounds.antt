@@ -4,21 +4,21 @@ use Rattle.line_io.specs.Event.{Event, Iface, Engine, EngineEnd}
 use Rattle.chess_board.specs.declared.board.Move.{Move}
 use Rattle.chess_board.specs.Play.{start_position, HasLegal}
 use Rattle.chess_board.specs.Text.{text_of, AreLegalMoves}
-use Rattle.game_record.specs.Course.{Course, ply_of, now_of, begun, with_ply}
+use Rattle.game_record.specs.Game.{Game, ply_of, now_of, begun, with_ply}
 use Rattle.desk_rules.specs.Desk.{has_ended}
 use Rattle.drill.specs.Generator.{next, place_of}
 
 -- where a drill stands: the last number of its generator, the game that it keeps, and the move that it has the engine ponder on
-pub record Stand : Type 0 where
+pub record Drill : Type 0 where
   pub seed : ℕ
-  pub game : Course
+  pub game : Game
   pub hint : Option Move
 
-abbrev pub starting : ℕ → Stand
+abbrev pub starting : ℕ → Drill
 starting number = record { seed = number; game = begun start_position; hint = None }
 
 -- a move is drawn from all legal ones, which stand in the order of their texts
-pub record Draws (s : Stand) (m : Move) : Type 0 where
+pub record Draws (s : Drill) (m : Move) : Type 0 where
   pub moves : List Move
   pub legal : AreLegalMoves (now_of s.game) moves
   pub drawn : slice_get moves (place_of (next s.seed) (length moves)) ≡ Some m
@@ -39,7 +39,7 @@ closing = Iface (codes "quit") ∷ EngineEnd ∷ []
 -- A NEW GAME
 
 -- the game has ended, or has at least 10,000 moves of both sides
-abbrev pub is_spent : Course → Bool
+abbrev pub is_spent : Game → Bool
 is_spent g = has_ended g || nat_le 10000 (length g.moves)
 
 -- an answer without a move
@@ -55,10 +55,10 @@ abbrev pub new_game : Option Move → List Event
 new_game hint = Iface (codes "new") ∷ (lapsed hint ++ Engine (codes "readyok") ∷ [])
 
 -- a new game, where the one that stands is spent
-abbrev pub renewal : Stand → List Event
+abbrev pub renewal : Drill → List Event
 renewal s = if is_spent s.game then new_game s.hint else []
 
-abbrev pub renewed : Stand → Stand
+abbrev pub renewed : Drill → Drill
 renewed s = if is_spent s.game then starting s.seed else s
 
 -- THE MOVE OF THE USER
@@ -67,7 +67,7 @@ abbrev pub entry : Move → List Event
 entry m = Iface (codes "time 30000") ∷ Iface (codes "otim 30000") ∷ Iface (codes "usermove " ++ text_of m) ∷ []
 
 -- after a move that was drawn
-abbrev pub moved : Stand → Move → Stand
+abbrev pub moved : Drill → Move → Drill
 moved s m = record { seed = next s.seed; game = with_ply s.game (ply_of m); hint = None }
 
 -- the ponder search of another move is over
@@ -87,14 +87,14 @@ abbrev pub answer_with : Move → Move → List Event
 answer_with m hint = thinks m ∷ Engine (codes "bestmove " ++ (text_of m ++ (codes " ponder " ++ text_of hint))) ∷ []
 
 -- the engine ponders on the hint where the game has not ended, and would not have after the hint
-abbrev pub ponders : Course → Move → Bool
+abbrev pub ponders : Game → Move → Bool
 ponders g hint = not (has_ended g) && not (has_ended (with_ply g (ply_of hint)))
 
-abbrev pub hinted : Stand → Move → Stand
+abbrev pub hinted : Drill → Move → Drill
 hinted s hint = record { seed = next s.seed; game = s.game; hint = (if ponders s.game hint then Some hint else None) }
 
 -- what the engine answers, where the game has not ended: with a hint, where the side then on move has a legal move
-pub data Answers (s : Stand) (es : List Event) (s' : Stand) : Type 0 where
+pub data Answers (s : Drill) (es : List Event) (s' : Drill) : Type 0 where
   Nothing : has_ended s.game ≡ true → es ≡ [] → s' ≡ s → Answers s es s'
   Alone : (m : Move) → has_ended s.game ≡ false → Draws s m → ¬ HasLegal (now_of (moved s m).game) → es ≡ answer m → s' ≡ moved s m → Answers s es s'
   WithHint : (m hint : Move) → has_ended s.game ≡ false → Draws s m → Draws (moved s m) hint → es ≡ answer_with m hint → s' ≡ hinted (moved s m) hint → Answers s es s'
@@ -102,7 +102,7 @@ pub data Answers (s : Stand) (es : List Event) (s' : Stand) : Type 0 where
 -- ROUNDS
 
 -- a round: a new game where one is due, a move of the user and one of the engine
-pub record Round (s : Stand) (es : List Event) (s' : Stand) : Type 0 where
+pub record Round (s : Drill) (es : List Event) (s' : Drill) : Type 0 where
   pub entered : Move
   pub drawn : Draws (renewed s) entered
   pub missed : List Event
@@ -112,6 +112,6 @@ pub record Round (s : Stand) (es : List Event) (s' : Stand) : Type 0 where
   pub events_are : es ≡ renewal s ++ (entry entered ++ (missed ++ answered))
 
 -- so many rounds, one after the other
-abbrev pub Rounds : ℕ → Stand → List Event → Stand → Type 0
+abbrev pub Rounds : ℕ → Drill → List Event → Drill → Type 0
 Rounds zero s es s' = (es ≡ []) × (s' ≡ s)
-Rounds (suc n) s es s' = (between : Stand) × (first last : List Event) × Rounds n s first between × Round between last s' × (es ≡ first ++ last)
+Rounds (suc n) s es s' = (between : Drill) × (first last : List Event) × Rounds n s first between × Round between last s' × (es ≡ first ++ last)

@@ -3,10 +3,10 @@ use Rattle.std.specs.Prelude.{◌≡◌, ℕ, List, ◌++◌}
 use Rattle.line_io.specs.Event.{Event}
 use Rattle.chess_board.specs.declared.board.Move.{Move}
 use Rattle.drill.specs.declared.round.Drill.{Drill}
-use Rattle.drill.specs.Rounds.{Stand, Draws, Misses, Answers, Round, Rounds, entry, answer_with, moved, hinted}
+use Rattle.drill.specs.Rounds.{Drill as AnyDrill, Draws, Misses, Answers, Round, Rounds, entry, answer_with, moved, hinted}
 use Rattle.drill.specs.Sent.{Sent}
 
-abbrev pub stand_of : Drill → Stand
+abbrev pub stand_of : Drill → AnyDrill
 stand_of d = record { seed = d.seed; game = d.game; hint = d.hint }
 
 -- a move was drawn for the user, and entered

@@ -1,13 +1,13 @@
 //! A large session made from a number: the core plays games of drawn legal moves, and what it wrote is counted.
 #![tactic(auto)]
 
+mod dialogue;
 mod generator;
 mod laws;
 mod lines;
 mod round;
 mod run;
 mod session;
-mod talk;
 mod tally;
 
 pub use laws::drills_are_one;

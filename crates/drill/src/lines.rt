@@ -26,7 +26,8 @@ pub fn line_with(words: &[u8], m: Move) -> Line
 pub fn answer_with(best: Move, hint: Move) -> Line
     requires best { IsOfficer best.promo }
     requires hint { IsOfficer hint.promo }
-    ensures { result.items ≡ codes "bestmove " ++ (text_of best ++ (codes " ponder " ++ text_of hint)) }
+    ensures { result.items
+        ≡ codes "bestmove " ++ (text_of best ++ (codes " ponder " ++ text_of hint)) }
 {
     let mut line = line_with(b"bestmove ", best);
     let behind = line_with(b" ponder ", hint);

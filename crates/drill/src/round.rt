@@ -3,7 +3,7 @@ ghost use Rattle.std.specs.Prelude.{◌≡◌, ◌≤◌, ◌<◌, ◌+◌, ◌*
 ghost use Rattle.chess_board.specs.Laws.{IsLegal};
 ghost use Rattle.chess_board.specs.Play.{HasLegal};
 ghost use Rattle.chess_board.specs.Text.{IsOfficer};
-ghost use Rattle.game_record.specs.Course.{now_of, ply_of, with_ply};
+ghost use Rattle.game_record.specs.Game.{now_of, ply_of, with_ply};
 ghost use Rattle.policy_rules.specs.Policy.{usual};
 ghost use Rattle.adapter_core.specs.Ends.{at_start};
 ghost use Rattle.adapter_core.specs.Stands.{Stands};
@@ -99,7 +99,8 @@ impl Drill {
     fn draw(&mut self) -> Move
         requires { HasLegal (now_of self.old.game) }
         ensures drawn { Draws (stand_of self.old) result }
-        ensures legal { IsLegal (now_of self.old.game) result.from.index result.to.index result.promo }
+        ensures legal { IsLegal
+            (now_of self.old.game) result.from.index result.to.index result.promo }
         ensures officer { IsOfficer result.promo }
         ensures after { self.new ≡ record self.old { seed = next self.old.seed } }
     {

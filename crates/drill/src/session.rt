@@ -22,9 +22,9 @@ pub struct Session {
 }
 
 impl Model for Session {
-    ghost use Rattle.drill.specs.Sent.{Progress, IsSteady};
+    ghost use Rattle.drill.specs.Sent.{Session as AnySession, IsSteady};
 
-    ghost Value = { Progress };
+    ghost Value = { AnySession };
 
     ghost view = { λ s. record { core = s.core; tally = s.tally } };
 

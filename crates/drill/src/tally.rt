@@ -54,7 +54,8 @@ impl Tally {
     pub fn count(&mut self, iface: &[u8], engine: &[u8])
         requires iface { length iface.now ≤ 131072 }
         requires engine { length engine.now ≤ 131072 }
-        requires few { (self.old.steps < 4294967296) × (self.old.to_iface < 4294967296000000) × (self.old.to_engine < 4294967296000000) × (self.old.shown < 4294967296000000) }
+        requires few { (self.old.steps < 4294967296) × (self.old.to_iface < 4294967296000000)
+            × (self.old.to_engine < 4294967296000000) × (self.old.shown < 4294967296000000) }
         ensures counted { self.new ≡ counted_texts self.old iface.now engine.now }
         ensures to_iface { self.new.to_iface ≤ self.old.to_iface + 131072 }
         ensures to_engine { self.new.to_engine ≤ self.old.to_engine + 131072 }

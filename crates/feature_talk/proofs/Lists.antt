@@ -8,38 +8,38 @@ use Rattle.cecp_lines.specs.Replies.{Feature}
 use Rattle.option_map.specs.Names.{is_hidden, holds}
 use Rattle.option_map.specs.Settings.{Setting, features, feature_text, feature_line, shown_length, text_size}
 use Rattle.option_map.specs.Shown.{takes_memory, takes_cores, takes_tables}
-use Rattle.feature_talk.specs.Features.{shown_name, in_quotes, bit, fixed, by_options, option_feature, shown_options, feature_list, told_line, told_lines, IsShort, is_unfit, tables}
+use Rattle.feature_talk.specs.Features.{shown_name, in_quotes, bit, fixed, by_options, option_feature, shown_options, feature_list, reply_line, reply_lines, IsShort, is_unfit, tables}
 
-shown_step : (w : Bool) (o : Setting) (rest : List Setting) (text : List ℕ) → text ≡ told_lines (map option_feature rest) → (if w then [] else feature_line o ++ 10 ∷ []) ++ text ≡ told_lines (map option_feature (cond (not w) (o ∷ rest) rest))
+shown_step : (w : Bool) (o : Setting) (rest : List Setting) (text : List ℕ) → text ≡ reply_lines (map option_feature rest) → (if w then [] else feature_line o ++ 10 ∷ []) ++ text ≡ reply_lines (map option_feature (cond (not w) (o ∷ rest) rest))
 shown_step true o rest text h = h
 shown_step false o rest text h = ap (λ (t : List ℕ). (feature_line o ++ 10 ∷ []) ++ t) h
 
 -- The options' lines are their replies.
-pub features_told : (os : List Setting) → features os ≡ told_lines (map option_feature (shown_options os))
+pub features_told : (os : List Setting) → features os ≡ reply_lines (map option_feature (shown_options os))
 features_told [] = refl
 features_told (o ∷ os) = shown_step (is_hidden o.name) o (shown_options os) (features os) (features_told os)
 
 abbrev pub name_line : List ℕ → List ℕ
-name_line said = told_line (Feature (codes "myname") (in_quotes (shown_name said)))
+name_line said = reply_line (Feature (codes "myname") (in_quotes (shown_name said)))
 
 abbrev pub done_line : List ℕ
 done_line = codes "feature done=1\n"
 
 -- the whole text, part by part
-pub list_text : (os : List Setting) (said : List ℕ) → told_lines (feature_list os said) ≡ name_line said ++ told_lines fixed ++ told_lines (by_options os) ++ features os ++ done_line
+pub list_text : (os : List Setting) (said : List ℕ) → reply_lines (feature_list os said) ≡ name_line said ++ reply_lines fixed ++ reply_lines (by_options os) ++ features os ++ done_line
 list_text os said =
     let name = Feature (codes "myname") (in_quotes (shown_name said)) in
     let shown = map option_feature (shown_options os) in
-    flat_map-append told_line (name ∷ fixed ++ by_options os ++ shown) (Feature (codes "done") (codes "1") ∷ [])
-    ∙ ap (λ (t : List ℕ). t ++ done_line) (flat_map-append told_line (name ∷ fixed ++ by_options os) shown
-    ∙ ap (λ (t : List ℕ). t ++ told_lines shown) (flat_map-append told_line (name ∷ fixed) (by_options os)))
-    ∙ ap (λ (t : List ℕ). name_line said ++ told_lines fixed ++ told_lines (by_options os) ++ t ++ done_line) (sym (features_told os))
+    flat_map-append reply_line (name ∷ fixed ++ by_options os ++ shown) (Feature (codes "done") (codes "1") ∷ [])
+    ∙ ap (λ (t : List ℕ). t ++ done_line) (flat_map-append reply_line (name ∷ fixed ++ by_options os) shown
+    ∙ ap (λ (t : List ℕ). t ++ reply_lines shown) (flat_map-append reply_line (name ∷ fixed) (by_options os)))
+    ∙ ap (λ (t : List ℕ). name_line said ++ reply_lines fixed ++ reply_lines (by_options os) ++ t ++ done_line) (sym (features_told os))
 
 put_on : (o : Text) (a b : List ℕ) → with (with o a) b ≡ with o (a ++ b)
 put_on o a b = ap (λ (t : List ℕ). record { text = t; room = o.room }) (append_assoc o.text a b)
 
 -- the name with its line feed, put in three pieces
-pub named : (o : Text) (name : List ℕ) → with (with (with o (codes "feature myname=\"")) name) (codes "\"\n") ≡ with o (told_line (Feature (codes "myname") (in_quotes name)))
+pub named : (o : Text) (name : List ℕ) → with (with (with o (codes "feature myname=\"")) name) (codes "\"\n") ≡ with o (reply_line (Feature (codes "myname") (in_quotes name)))
 named o name =
     put_on (with o (codes "feature myname=\"")) name (codes "\"\n")
     ∙ put_on o (codes "feature myname=\"") (name ++ codes "\"\n")
@@ -59,15 +59,15 @@ five o p q r s t a b d e f whole h i j k l w =
     l ∙ ap (λ (x : Text). with x f) (four o p q r s a b d e h i j k) ∙ put_on o (a ++ b ++ d ++ e) f ∙ ap (λ (x : List ℕ). with o x) (sym w)
 
 -- the features by the options, put one after the other
-pub by_bits : (o p q r : Text) (os : List Setting) (m s t : Bool) → p ≡ with o (told_line (Feature (codes "memory") (bit m))) → q ≡ with p (told_line (Feature (codes "smp") (bit s))) → r ≡ with q (told_lines (tables t)) → m ≡ takes_memory os → s ≡ takes_cores os → t ≡ takes_tables os → r ≡ with o (told_lines (by_options os))
+pub by_bits : (o p q r : Text) (os : List Setting) (m s t : Bool) → p ≡ with o (reply_line (Feature (codes "memory") (bit m))) → q ≡ with p (reply_line (Feature (codes "smp") (bit s))) → r ≡ with q (reply_lines (tables t)) → m ≡ takes_memory os → s ≡ takes_cores os → t ≡ takes_tables os → r ≡ with o (reply_lines (by_options os))
 by_bits o p q r os m s t h i j e f g =
-    let a = told_line (Feature (codes "memory") (bit m)) in
-    let b = told_line (Feature (codes "smp") (bit s)) in
-    three o p q r a b (told_lines (tables t)) h i j
-    ∙ ap (λ (x : List ℕ). with o x) (append_assoc a b (told_lines (tables t)))
-    ∙ ap (λ x. with o (told_lines (Feature (codes "memory") (bit x) ∷ Feature (codes "smp") (bit s) ∷ tables t))) e
-    ∙ ap (λ x. with o (told_lines (Feature (codes "memory") (bit (takes_memory os)) ∷ Feature (codes "smp") (bit x) ∷ tables t))) f
-    ∙ ap (λ x. with o (told_lines (Feature (codes "memory") (bit (takes_memory os)) ∷ Feature (codes "smp") (bit (takes_cores os)) ∷ tables x))) g
+    let a = reply_line (Feature (codes "memory") (bit m)) in
+    let b = reply_line (Feature (codes "smp") (bit s)) in
+    three o p q r a b (reply_lines (tables t)) h i j
+    ∙ ap (λ (x : List ℕ). with o x) (append_assoc a b (reply_lines (tables t)))
+    ∙ ap (λ x. with o (reply_lines (Feature (codes "memory") (bit x) ∷ Feature (codes "smp") (bit s) ∷ tables t))) e
+    ∙ ap (λ x. with o (reply_lines (Feature (codes "memory") (bit (takes_memory os)) ∷ Feature (codes "smp") (bit x) ∷ tables t))) f
+    ∙ ap (λ x. with o (reply_lines (Feature (codes "memory") (bit (takes_memory os)) ∷ Feature (codes "smp") (bit (takes_cores os)) ∷ tables x))) g
 
 -- room for a piece behind others
 pub room_for : (o p : Text) (before piece behind whole : List ℕ) → p ≡ with o before → whole ≡ (before ++ piece) ++ behind → length o.text + length whole ≤ o.room → length p.text + length piece ≤ p.room
@@ -91,10 +91,10 @@ short_name said =
     leb-false-le : (nat_lt (length said) 1 || nat_lt 256 (length said)) ≡ false → length said ≤ 256
     leb-false-le h = let k = leb-false (suc 256) (length said) (either (nat_lt (length said) 1) (nat_lt 256 (length said)) h).1 in omega (arith, k)
 
-name_length : (name : List ℕ) → length (told_line (Feature (codes "myname") (in_quotes name))) ≡ 18 + length name
+name_length : (name : List ℕ) → length (reply_line (Feature (codes "myname") (in_quotes name))) ≡ 18 + length name
 name_length name = omega (arith, length-append (codes "feature myname=\"" ++ (name ++ 34 ∷ [])) (10 ∷ []), length-append (codes "feature myname=\"") (name ++ 34 ∷ []), length-append name (34 ∷ []))
 
-options_length : (m s t : Bool) → length (told_lines (Feature (codes "memory") (bit m) ∷ Feature (codes "smp") (bit s) ∷ tables t)) ≤ 60
+options_length : (m s t : Bool) → length (reply_lines (Feature (codes "memory") (bit m) ∷ Feature (codes "smp") (bit s) ∷ tables t)) ≤ 60
 options_length true true true = omega arith
 options_length true true false = omega arith
 options_length true false true = omega arith
@@ -116,8 +116,8 @@ features_length (o ∷ os) =
 pub short_list : IsShort
 short_list os said =
     let a = name_line said in
-    let b = told_lines fixed in
-    let d = told_lines (by_options os) in
+    let b = reply_lines fixed in
+    let d = reply_lines (by_options os) in
     let e = features os in
     omega (
       arith,

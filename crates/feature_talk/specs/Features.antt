@@ -1,7 +1,7 @@
 -- The list of features, a reply each.
 use Rattle.std.specs.Prelude.{◌≡◌, ℕ, ◌+◌, ◌≤◌, List, [], ◌∷◌, ◌++◌, codes, length, map, filter, Bool, true, false, not, ◌||◌, if◌then◌else◌, nat_lt}
 use Rattle.std.specs.List.{flat_map}
-use Rattle.cecp_lines.specs.Replies.{Told, Feature, told_text}
+use Rattle.cecp_lines.specs.Replies.{Reply, Feature, reply_text}
 use Rattle.option_map.specs.Names.{holds, is_hidden}
 use Rattle.option_map.specs.Settings.{Setting, kind_text, text_size}
 use Rattle.option_map.specs.Shown.{takes_memory, takes_cores, takes_tables}
@@ -22,7 +22,7 @@ bit true = codes "1"
 bit false = codes "0"
 
 -- the features that are the same for all engines
-abbrev pub fixed : List Told
+abbrev pub fixed : List Reply
 fixed =
     Feature (codes "ping") (codes "1") ∷ Feature (codes "setboard") (codes "1") ∷ Feature (codes "playother") (codes "1") ∷ Feature (codes "san") (codes "0")
     ∷ Feature (codes "usermove") (codes "1") ∷ Feature (codes "time") (codes "1") ∷ Feature (codes "draw") (codes "1") ∷ Feature (codes "sigint") (codes "0")
@@ -30,17 +30,17 @@ fixed =
     ∷ Feature (codes "variants") (in_quotes (codes "normal")) ∷ Feature (codes "colors") (codes "0") ∷ []
 
 -- the feature of endgame tables, if it is in the list
-abbrev pub tables : Bool → List Told
+abbrev pub tables : Bool → List Reply
 tables true = Feature (codes "egt") (in_quotes (codes "nalimov")) ∷ []
 tables false = []
 
 -- the features by the options that have commands of their own
-abbrev pub by_options : List Setting → List Told
+abbrev pub by_options : List Setting → List Reply
 by_options os =
     Feature (codes "memory") (bit (takes_memory os)) ∷ Feature (codes "smp") (bit (takes_cores os))
     ∷ tables (takes_tables os)
 
-abbrev pub option_feature : Setting → Told
+abbrev pub option_feature : Setting → Reply
 option_feature o = Feature (codes "option") (in_quotes (o.name ++ kind_text o.kind))
 
 -- the options that are not hidden
@@ -48,20 +48,20 @@ abbrev pub shown_options : List Setting → List Setting
 shown_options os = filter (λ o. not (is_hidden o.name)) os
 
 -- The whole list. The name is the one that the engine said, or nothing.
-abbrev pub feature_list : List Setting → List ℕ → List Told
+abbrev pub feature_list : List Setting → List ℕ → List Reply
 feature_list os said =
     Feature (codes "myname") (in_quotes (shown_name said)) ∷ fixed ++ by_options os ++ map option_feature (shown_options os) ++ Feature (codes "done") (codes "1") ∷ []
 
 -- a reply as it is written, with its line feed
-abbrev pub told_line : Told → List ℕ
-told_line reply = told_text reply ++ 10 ∷ []
+abbrev pub reply_line : Reply → List ℕ
+reply_line reply = reply_text reply ++ 10 ∷ []
 
-abbrev pub told_lines : List Told → List ℕ
-told_lines replies = flat_map told_line replies
+abbrev pub reply_lines : List Reply → List ℕ
+reply_lines replies = flat_map reply_line replies
 
 -- how long the list may be
 abbrev pub IsShort : Type 0
-IsShort = (os : List Setting) (said : List ℕ) → length (told_lines (feature_list os said)) ≤ 1000 + text_size os + length os
+IsShort = (os : List Setting) (said : List ℕ) → length (reply_lines (feature_list os said)) ≤ 1000 + text_size os + length os
 
 -- The name that is shown is shown again.
 abbrev pub ShowsAgain : Type 0

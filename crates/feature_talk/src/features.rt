@@ -2,7 +2,7 @@
 ghost use Rattle.std.specs.Prelude.{◌≡◌, ◌≤◌, ◌+◌, ◌∷◌, [], length, codes};
 ghost use Rattle.line_io.specs.Out.{with};
 ghost use Rattle.cecp_lines.specs.Replies.{Feature};
-ghost use Rattle.feature_talk.specs.Features.{shown_name, in_quotes, bit, fixed, tables, by_options, feature_list, told_line, told_lines};
+ghost use Rattle.feature_talk.specs.Features.{shown_name, in_quotes, bit, fixed, tables, by_options, feature_list, reply_line, reply_lines};
 
 use line_io::Out;
 use option_map::Options;
@@ -21,8 +21,9 @@ pub fn shown_name(said: &[u8]) -> &[u8]
 }
 
 fn put_name(name: &[u8], out: &mut Out)
-    requires { length out.old.text + length (told_line (Feature (codes "myname") (in_quotes name.now))) ≤ out.old.room }
-    ensures { out.new ≡ with out.old (told_line (Feature (codes "myname") (in_quotes name.now))) }
+    requires { length out.old.text
+        + length (reply_line (Feature (codes "myname") (in_quotes name.now))) ≤ out.old.room }
+    ensures { out.new ≡ with out.old (reply_line (Feature (codes "myname") (in_quotes name.now))) }
 {
     out.put(b"feature myname=\"");
     out.put(name);
@@ -30,8 +31,8 @@ fn put_name(name: &[u8], out: &mut Out)
 }
 
 fn put_fixed(out: &mut Out)
-    requires { length out.old.text + length (told_lines fixed) ≤ out.old.room }
-    ensures { out.new ≡ with out.old (told_lines fixed) }
+    requires { length out.old.text + length (reply_lines fixed) ≤ out.old.room }
+    ensures { out.new ≡ with out.old (reply_lines fixed) }
 {
     out.put(
         b"feature ping=1\nfeature setboard=1\nfeature playother=1\nfeature san=0\nfeature usermove=1\nfeature time=1\nfeature draw=1\nfeature sigint=0\nfeature sigterm=0\nfeature reuse=1\nfeature analyze=1\nfeature variants=\"normal\"\nfeature colors=0\n",
@@ -39,8 +40,9 @@ fn put_fixed(out: &mut Out)
 }
 
 fn put_memory(can: bool, out: &mut Out)
-    requires { length out.old.text + length (told_line (Feature (codes "memory") (bit can))) ≤ out.old.room }
-    ensures { out.new ≡ with out.old (told_line (Feature (codes "memory") (bit can))) }
+    requires { length out.old.text + length (reply_line (Feature (codes "memory") (bit can)))
+        ≤ out.old.room }
+    ensures { out.new ≡ with out.old (reply_line (Feature (codes "memory") (bit can))) }
 {
     if can {
         out.put(b"feature memory=1\n");
@@ -50,8 +52,9 @@ fn put_memory(can: bool, out: &mut Out)
 }
 
 fn put_cores(can: bool, out: &mut Out)
-    requires { length out.old.text + length (told_line (Feature (codes "smp") (bit can))) ≤ out.old.room }
-    ensures { out.new ≡ with out.old (told_line (Feature (codes "smp") (bit can))) }
+    requires { length out.old.text + length (reply_line (Feature (codes "smp") (bit can)))
+        ≤ out.old.room }
+    ensures { out.new ≡ with out.old (reply_line (Feature (codes "smp") (bit can))) }
 {
     if can {
         out.put(b"feature smp=1\n");
@@ -61,8 +64,8 @@ fn put_cores(can: bool, out: &mut Out)
 }
 
 fn put_tables(can: bool, out: &mut Out)
-    requires { length out.old.text + length (told_lines (tables can)) ≤ out.old.room }
-    ensures { out.new ≡ with out.old (told_lines (tables can)) }
+    requires { length out.old.text + length (reply_lines (tables can)) ≤ out.old.room }
+    ensures { out.new ≡ with out.old (reply_lines (tables can)) }
 {
     if can {
         out.put(b"feature egt=\"nalimov\"\n");
@@ -70,8 +73,8 @@ fn put_tables(can: bool, out: &mut Out)
 }
 
 fn put_by_options(options: &Options, out: &mut Out)
-    requires { length out.old.text + length (told_lines (by_options options.now)) ≤ out.old.room }
-    ensures { out.new ≡ with out.old (told_lines (by_options options.now)) }
+    requires { length out.old.text + length (reply_lines (by_options options.now)) ≤ out.old.room }
+    ensures { out.new ≡ with out.old (reply_lines (by_options options.now)) }
 {
     put_memory(options.can_memory(), out);
     put_cores(options.can_cores(), out);
@@ -81,8 +84,9 @@ fn put_by_options(options: &Options, out: &mut Out)
 /// Writes the list of features, a line each with its line feed. The name is the last that the engine said, or
 /// empty.
 pub fn write_list(options: &Options, name: &[u8], out: &mut Out)
-    requires { length out.old.text + length (told_lines (feature_list options.now name.now)) ≤ out.old.room }
-    ensures { out.new ≡ with out.old (told_lines (feature_list options.now name.now)) }
+    requires { length out.old.text + length (reply_lines (feature_list options.now name.now))
+        ≤ out.old.room }
+    ensures { out.new ≡ with out.old (reply_lines (feature_list options.now name.now)) }
 {
     put_name(shown_name(name), out);
     put_fixed(out);
@@ -93,8 +97,9 @@ pub fn write_list(options: &Options, name: &[u8], out: &mut Out)
 
 /// Writes the list of features when no options count as declared.
 pub fn write_bare_list(name: &[u8], out: &mut Out)
-    requires { length out.old.text + length (told_lines (feature_list [] name.now)) ≤ out.old.room }
-    ensures { out.new ≡ with out.old (told_lines (feature_list [] name.now)) }
+    requires { length out.old.text + length (reply_lines (feature_list [] name.now))
+        ≤ out.old.room }
+    ensures { out.new ≡ with out.old (reply_lines (feature_list [] name.now)) }
 {
     put_name(shown_name(name), out);
     put_fixed(out);

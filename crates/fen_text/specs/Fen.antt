@@ -7,7 +7,7 @@ use Rattle.chess_board.specs.declared.board.Rights.{Rights}
 use Rattle.chess_board.specs.declared.board.BuildFault.{BuildFault}
 use Rattle.chess_board.specs.declared.board.BuildFault.TheVariants as build
 use Rattle.chess_board.specs.Board.{Men}
-use Rattle.chess_board.specs.Placement.{Placement}
+use Rattle.chess_board.specs.Position.{Position}
 use Rattle.chess_board.specs.Play.{built}
 use Rattle.peer_words.specs.Tokens.{tokens}
 use Rattle.fen_text.specs.declared.fault.FenFault.{FenFault}
@@ -19,12 +19,12 @@ abbrev pub fault_of : BuildFault → FenFault
 fault_of build.Board = Board
 fault_of build.Kings = Kings
 
-abbrev pub or_fault : Result Placement BuildFault → Result Placement FenFault
+abbrev pub or_fault : Result Position BuildFault → Result Position FenFault
 or_fault (Ok p) = Ok p
 or_fault (Err fault) = Err (fault_of fault)
 
 -- the position of what the fields spell, or the fault of the first that spells nothing
-abbrev pub spelled : Option Men → Option Side → Option Rights → Option (Option ℕ) → Option ℕ → Option ℕ → Result Placement FenFault
+abbrev pub spelled : Option Men → Option Side → Option Rights → Option (Option ℕ) → Option ℕ → Option ℕ → Result Position FenFault
 spelled None side rights passant half full = Err Board
 spelled (Some men) None rights passant half full = Err SideFault
 spelled (Some men) (Some side) None passant half full = Err Castling
@@ -35,7 +35,7 @@ spelled (Some men) (Some side) (Some rights) (Some passant) (Some half) (Some fu
     or_fault (built (record { men = men; side = side; rights = rights; passant = passant; half = half; full = full }))
 
 -- The first four fields are needed. A half-move count that is missing is 0, and a full one 1.
-abbrev pub position_of_fields : List (List ℕ) → Result Placement FenFault
+abbrev pub position_of_fields : List (List ℕ) → Result Position FenFault
 position_of_fields fields = spelled
     (option_and_then board_of (slice_get fields 0))
     (option_and_then side_of (slice_get fields 1))
@@ -45,5 +45,5 @@ position_of_fields fields = spelled
     (if is_none (slice_get fields 6) then count_or 1 (slice_get fields 5) else None)
 
 -- the position that a text spells, or its first fault
-unfoldable pub position_of : List ℕ → Result Placement FenFault
+unfoldable pub position_of : List ℕ → Result Position FenFault
 position_of text = position_of_fields (tokens text)

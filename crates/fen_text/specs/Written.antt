@@ -7,7 +7,7 @@ use Rattle.chess_board.specs.declared.board.Kind.{Kind}
 use Rattle.chess_board.specs.declared.board.Kind.TheVariants.{Pawn, Knight, Bishop, Rook, Queen, King}
 use Rattle.chess_board.specs.declared.board.Rights.{Rights}
 use Rattle.chess_board.specs.Board.{Men, file_of, rank_of}
-use Rattle.chess_board.specs.Placement.{Placement}
+use Rattle.chess_board.specs.Position.{Position}
 use Rattle.chess_board.specs.Play.{IsPosition}
 use Rattle.fen_text.specs.Fen.{position_of}
 
@@ -67,18 +67,18 @@ abbrev pub passant_text : Option ℕ → List ℕ
 passant_text None = 45 ∷ []
 passant_text (Some at) = (97 + file_of at) ∷ (49 + rank_of at) ∷ []
 
-abbrev pub fields_text : Placement → List (List ℕ)
+abbrev pub fields_text : Position → List (List ℕ)
 fields_text p =
     board_text p.men ∷ side_text p.side ∷ rights_text p.rights ∷ passant_text p.passant ∷ decimal p.half ∷ decimal p.full ∷ []
 
 -- the text of a position
-unfoldable pub written : Placement → List ℕ
+unfoldable pub written : Position → List ℕ
 written p = join_with_byte 32 (fields_text p)
 
 -- the text of a position is short
 abbrev pub IsShort : Type 0
-IsShort = (p : Placement) → IsPosition p → length (written p) ≤ 93
+IsShort = (p : Position) → IsPosition p → length (written p) ≤ 93
 
 -- What is written of a position spells it.
 abbrev pub ReadsBack : Type 0
-ReadsBack = (p : Placement) → IsPosition p → position_of (written p) ≡ Ok p
+ReadsBack = (p : Position) → IsPosition p → position_of (written p) ≡ Ok p

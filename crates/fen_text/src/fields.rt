@@ -81,7 +81,8 @@ pub(crate) fn read_rights(field: Option<&[u8]>) -> Option<Rights>
 
 /// The square that a pawn passed, if there is one.
 pub(crate) fn read_passant(field: Option<&[u8]>) -> Option<Option<Square>>
-    ensures { option_map (λ passed. option_map (λ square. square.index) passed) result ≡ option_and_then passant_of (bytes_of field.entry) }
+    ensures { option_map (λ passed. option_map (λ square. square.index) passed) result
+        ≡ option_and_then passant_of (bytes_of field.entry) }
 {
     match field? {
         [b'-'] => Some(None),

@@ -50,7 +50,8 @@ fn put_empty(count: usize, row: &mut ArrayVec<Man, 8>) -> Result<(), CapacityErr
 
 /// Puts the squares that a byte of a rank stands for behind those before it, if there is room.
 fn put_squares(byte: u8, row: &mut ArrayVec<Man, 8>) -> Option<()>
-    ensures some { OnSome result (joined (Some row.old.items) (squares_of byte) ≡ Some row.new.items) }
+    ensures some { OnSome result
+        (joined (Some row.old.items) (squares_of byte) ≡ Some row.new.items) }
     ensures none { IfNone result (HasMoreThan 8 (joined (Some row.old.items) (squares_of byte))) }
 {
     match byte {

@@ -46,7 +46,9 @@ fn write_run(empty: u8, text: &mut Text)
 fn write_square(man: Man, empty: u8, text: &mut Text) -> u8
     requires few { empty < 8 }
     requires room { length text.old.items + empty < 96 }
-    ensures text { (squares : Men) → text.new.items ++ rank_text result squares ≡ text.old.items ++ rank_text empty (man ∷ squares) }
+    ensures text { (squares : Men)
+        → text.new.items ++ rank_text result squares
+        ≡ text.old.items ++ rank_text empty (man ∷ squares) }
     ensures short { length text.new.items + result ≤ length text.old.items + empty + 1 }
     ensures counted { result ≤ empty + 1 }
 {
@@ -126,7 +128,8 @@ fn write_rights(rights: Rights, text: &mut Text)
 
 fn write_passant(passant: Option<Square>, text: &mut Text)
     requires { length text.old.items + 2 ≤ 96 }
-    ensures text { text.new.items ≡ text.old.items ++ passant_text (option_map (λ s. s.index) passant) }
+    ensures text { text.new.items
+        ≡ text.old.items ++ passant_text (option_map (λ s. s.index) passant) }
     ensures short { length text.new.items ≤ length text.old.items + 2 }
 {
     match passant {

@@ -2,9 +2,9 @@
 use Rattle.std.proofs.Common.{◌≡◌, ℕ, ◌+◌, ◌<◌, ◌≤◌, List, [], ◌∷◌, ◌++◌, Option, length, take, sym, ap, subst, ◌∙◌, arith, length-append}
 use Rattle.std.proofs.lemmas.List.{map-append, take-map, length-map}
 use Rattle.chess_board.specs.declared.board.Move.{Move}
-use Rattle.chess_board.specs.Placement.{Placement}
+use Rattle.chess_board.specs.Position.{Position}
 use Rattle.game_record.specs.declared.ending.End.{End}
-use Rattle.game_record.specs.Course.{Ply, Course, ply_of, plies_of, IsPlayable, played, now_after, later, AreLegal}
+use Rattle.game_record.specs.Game.{Ply, Game, ply_of, plies_of, IsPlayable, played, now_after, later, AreLegal}
 use Rattle.game_record.specs.Ending.{stood_in, state_of, ended_by, ended_of}
 use Rattle.game_record.specs.Keeps.{Keeps, most_plies, times_of}
 use Rattle.game_record.proofs.Replays.{later-append, legal-append, take-later, legal-take}
@@ -15,23 +15,23 @@ pub plies_of-take : (n : ℕ) (moves : List Move) → plies_of (take n moves) �
 plies_of-take n moves = sym (take-map ply_of n moves)
 
 -- a game keeps what it keeps when a move is played
-pub keeps_push : (p : Placement) (moves longer : List Move) (positions more : List Placement) (times often : List ℕ) (m : Move) (after : Placement) (stood : ℕ) (ended ended' : Option End) (room room' places places' rows rows' : ℕ) →
+pub keeps_push : (p : Position) (moves longer : List Move) (positions more : List Position) (times often : List ℕ) (m : Move) (after : Position) (stood : ℕ) (ended ended' : Option End) (room room' places places' rows rows' : ℕ) →
     Keeps p (plies_of moves) positions times ended room places rows → longer ≡ moves ++ m ∷ [] → more ≡ positions ++ after ∷ [] → often ≡ times ++ stood ∷ [] → room' ≡ room → places' ≡ places → rows' ≡ rows →
     after ≡ played (now_after p (plies_of moves)) (ply_of m) → stood ≡ stood_in after (p ∷ later p (plies_of moves)) + 1 →
     ended' ≡ ended_by (state_of after) stood after.half →
     IsPlayable (now_after p (plies_of moves)) (ply_of m) → length (plies_of moves) < most_plies → Keeps p (plies_of longer) more often ended' room' places' rows'
 keeps_push p moves longer positions more times often m after stood ended ended' room room' places places' rows rows' k l q t r s u a o e legal few =
-    let course : List Ply → Course = λ plies. record { start = p; moves = plies } in
+    let course : List Ply → Game = λ plies. record { start = p; moves = plies } in
     let plies : plies_of longer ≡ plies_of moves ++ ply_of m ∷ [] = ap plies_of l ∙ map-append ply_of moves (m ∷ []) in
     let count : length (plies_of longer) ≡ length (plies_of moves) + 1 = ap length plies ∙ length-append (plies_of moves) (ply_of m ∷ []) in
     let next = played (now_after p (plies_of moves)) (ply_of m) in
     let once : stood ≡ stood_in next (p ∷ (later p (plies_of moves) ++ next ∷ [])) =
-    o ∙ ap (λ (x : Placement). stood_in x (p ∷ later p (plies_of moves)) + 1) a ∙ sym (stood_once next (p ∷ later p (plies_of moves))) in
+    o ∙ ap (λ (x : Position). stood_in x (p ∷ later p (plies_of moves)) + 1) a ∙ sym (stood_once next (p ∷ later p (plies_of moves))) in
     let wide = k.move_room_is in
     let high = k.position_room_is in
     let deep = k.time_room_is in
     record {
-      positions_are = q ∙ ap (λ (xs : List Placement). xs ++ after ∷ []) k.positions_are ∙ ap (λ (x : Placement). later p (plies_of moves) ++ x ∷ []) a
+      positions_are = q ∙ ap (λ (xs : List Position). xs ++ after ∷ []) k.positions_are ∙ ap (λ (x : Position). later p (plies_of moves) ++ x ∷ []) a
           ∙ sym (later-append p (plies_of moves) (ply_of m)) ∙ ap (later p) (sym plies);
       times_are = t ∙ ap (λ (xs : List ℕ). xs ++ stood ∷ []) k.times_are ∙ ap (λ (n : ℕ). times_of (p ∷ []) p (plies_of moves) ++ n ∷ []) once
           ∙ sym (times-append (p ∷ []) p (plies_of moves) (ply_of m)) ∙ ap (times_of (p ∷ []) p) (sym plies);
@@ -44,7 +44,7 @@ keeps_push p moves longer positions more times often m after stood ended ended' 
     }
 
 -- and when moves are taken back
-pub keeps_take : (n : ℕ) (p : Placement) (moves shorter : List Move) (positions fewer : List Placement) (times rarer : List ℕ) (ended ended' : Option End) (room room' places places' rows rows' : ℕ) →
+pub keeps_take : (n : ℕ) (p : Position) (moves shorter : List Move) (positions fewer : List Position) (times rarer : List ℕ) (ended ended' : Option End) (room room' places places' rows rows' : ℕ) →
     Keeps p (plies_of moves) positions times ended room places rows → shorter ≡ take n moves → fewer ≡ take n positions → rarer ≡ take n times → room' ≡ room → places' ≡ places → rows' ≡ rows →
     length shorter ≤ length moves → ((left : List Ply) → fewer ≡ later p left → rarer ≡ times_of (p ∷ []) p left → ended' ≡ ended_of (record { start = p; moves = left })) → Keeps p (plies_of shorter) fewer rarer ended' room' places' rows'
 keeps_take n p moves shorter positions fewer times rarer ended ended' room room' places places' rows rows' k l q t r s u less end =

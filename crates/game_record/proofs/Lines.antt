@@ -9,7 +9,7 @@ use Rattle.chess_board.specs.declared.board.Kind.{Kind}
 use Rattle.chess_board.specs.declared.board.Kind.TheVariants.{Pawn, Knight, Bishop, Rook, Queen, King}
 use Rattle.chess_board.specs.declared.board.Rights.{Rights}
 use Rattle.chess_board.specs.Board.{Men}
-use Rattle.chess_board.specs.Placement.{Placement}
+use Rattle.chess_board.specs.Position.{Position}
 use Rattle.chess_board.specs.Play.{start_position, IsPosition}
 use Rattle.chess_board.specs.Text.{letter_of, promotion_text}
 use Rattle.fen_text.specs.Written.{written}
@@ -19,15 +19,15 @@ use Rattle.std.specs.List.{AllByRecursion}
 use Rattle.chess_board.specs.declared.board.Move.{Move}
 use Rattle.chess_board.specs.Text.{text_of, IsOfficer}
 use Rattle.chess_board.proofs.Texts.{legal-written}
-use Rattle.game_record.specs.Course.{Ply, Course, ply_of, plies_of, played, AreLegal}
+use Rattle.game_record.specs.Game.{Ply, Game, ply_of, plies_of, played, AreLegal}
 use Rattle.game_record.specs.Ending.{is_same}
 use Rattle.game_record.specs.Line.{ply_text, spaced, told, moves_text, is_standard, start_text, position_text, StandardLaw, IsShort}
 use Rattle.game_record.proofs.Sames.{same-law}
 
-abbrev six : Men → Side → Rights → Option ℕ → ℕ → ℕ → Placement
+abbrev six : Men → Side → Rights → Option ℕ → ℕ → ℕ → Position
 six men side rights passant half full = record { men = men; side = side; rights = rights; passant = passant; half = half; full = full }
 
-same_parts : (p q : Placement) → p.men ≡ q.men → p.side ≡ q.side → p.rights ≡ q.rights → p.passant ≡ q.passant → p.half ≡ q.half → p.full ≡ q.full → p ≡ q
+same_parts : (p q : Position) → p.men ≡ q.men → p.side ≡ q.side → p.rights ≡ q.rights → p.passant ≡ q.passant → p.half ≡ q.half → p.full ≡ q.full → p ≡ q
 same_parts p q m s r e h f =
     let whole : six p.men p.side p.rights p.passant p.half p.full ≡ six q.men q.side q.rights q.passant q.half q.full =
     ap (λ (x : Men). six x p.side p.rights p.passant p.half p.full) m ∙ ap (λ (x : Side). six q.men x p.rights p.passant p.half p.full) s
@@ -35,13 +35,13 @@ same_parts p q m s r e h f =
     ∙ ap (λ (x : ℕ). six q.men q.side q.rights q.passant x p.full) h ∙ ap (λ (x : ℕ). six q.men q.side q.rights q.passant q.half x) f in
     whole
 
-equal_by : (p q : Placement) → Decides (is_same p q && (eqb p.half q.half && eqb p.full q.full)) (p ≡ q)
+equal_by : (p q : Position) → Decides (is_same p q && (eqb p.half q.half && eqb p.full q.full)) (p ≡ q)
 equal_by p q =
     let both = Decides-and (is_same p q) (eqb p.half q.half && eqb p.full q.full) (same-law p q) (Decides-and (eqb p.half q.half) (eqb p.full q.full) (Decides-eqb p.half q.half) (Decides-eqb p.full q.full)) in (
       λ e. let parts = both.0 e in same_parts p q parts.0.men parts.0.side parts.0.rights parts.0.passant parts.1.0 parts.1.1,
       λ e. both.1 (
-        record { men = ap (λ (x : Placement). x.men) e; side = ap (λ (x : Placement). x.side) e; rights = ap (λ (x : Placement). x.rights) e; passant = ap (λ (x : Placement). x.passant) e },
-        (ap (λ (x : Placement). x.half) e, ap (λ (x : Placement). x.full) e),
+        record { men = ap (λ (x : Position). x.men) e; side = ap (λ (x : Position). x.side) e; rights = ap (λ (x : Position). x.rights) e; passant = ap (λ (x : Position). x.passant) e },
+        (ap (λ (x : Position). x.half) e, ap (λ (x : Position). x.full) e),
       ),
     )
 
@@ -75,7 +75,7 @@ length-moves moves =
     let both = length-append (codes " moves") (spaced moves) in
     elim (ltb 0 (length moves)) as (λ v. length (cond v (codes " moves" ++ spaced moves) []) ≤ 6 + 6 * length moves) [ true ↦ omega arith | false ↦ omega arith ]
 
-length-start : (p : Placement) → IsPosition p → length (start_text p) ≤ 97
+length-start : (p : Position) → IsPosition p → length (start_text p) ≤ 97
 length-start p q =
     let text = length-written p q in
     let both = length-append (codes "fen ") (written p) in
@@ -144,11 +144,11 @@ officer_at (x ∷ moves) zero m h e a = subst (λ (n : Move). IsOfficer n.promo)
 officer_at (x ∷ moves) (suc i) m h e a = officer_at moves i m (omega arith) e a.1
 
 -- legal moves have texts
-pub officers : (p : Placement) (moves : List Move) → AreLegal p (plies_of moves) → AllByRecursion (λ (m : Ply). IsOfficer m.promo) (plies_of moves)
+pub officers : (p : Position) (moves : List Move) → AreLegal p (plies_of moves) → AllByRecursion (λ (m : Ply). IsOfficer m.promo) (plies_of moves)
 officers p [] h = tt
 officers p (m ∷ moves) h = (legal-written p m h.0, officers (played p (ply_of m)) moves h.1)
 
-pub line_fits : (g : Course) (hint : Option Ply) (before room : ℕ) → before + length (position_text g hint) ≤ room → before + 9 + length (start_text g.start) + length (moves_text (told g.moves hint)) ≤ room
+pub line_fits : (g : Game) (hint : Option Ply) (before room : ℕ) → before + length (position_text g hint) ≤ room → before + 9 + length (start_text g.start) + length (moves_text (told g.moves hint)) ≤ room
 unfolding position_text
 line_fits g hint before room fits =
     let tail = length-append (start_text g.start) (moves_text (told g.moves hint)) in
@@ -165,7 +165,7 @@ at_most_one None = omega arith
 at_most_one (Some m) = omega arith
 
 -- no line of a game of at most 12,000 moves has more bytes
-pub most_bytes : (g : Course) (hint : Option Ply) → IsPosition g.start → length g.moves ≤ 12000 → length (position_text g hint) ≤ 72126
+pub most_bytes : (g : Game) (hint : Option Ply) → IsPosition g.start → length g.moves ≤ 12000 → length (position_text g hint) ≤ 72126
 most_bytes g hint q few =
     let short = short-law g hint q in
     let count = length-append g.moves (option_to_list hint) in

@@ -9,7 +9,7 @@ use Rattle.chess_board.specs.declared.board.Kind.{Kind}
 use Rattle.chess_board.specs.declared.board.Kind.TheVariants.{Pawn, Knight, Bishop, Rook, Queen, King}
 use Rattle.chess_board.specs.declared.board.Rights.{Rights}
 use Rattle.chess_board.specs.Board.{Man, Men, same_side}
-use Rattle.chess_board.specs.Placement.{Placement}
+use Rattle.chess_board.specs.Position.{Position}
 use Rattle.game_record.specs.Ending.{kind_number, same_man, same_men, same_right, same_rights, same_square, is_same, SameLaw}
 
 kind_at : ℕ → Kind
@@ -100,7 +100,7 @@ same-law p q =
       λ s. both.1 ((s.men, s.side), (s.rights, s.passant)),
     )
 
-pub is_same-refl : (p : Placement) → is_same p p ≡ true
+pub is_same-refl : (p : Position) → is_same p p ≡ true
 is_same-refl p = (same-law p p).1 (record { men = refl; side = refl; rights = refl; passant = refl })
 
 -- two tests for one fact agree

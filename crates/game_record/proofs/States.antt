@@ -8,17 +8,17 @@ use Rattle.chess_board.specs.declared.board.State.TheVariants as states
 use Rattle.chess_board.specs.Attack.{is_checked}
 use Rattle.chess_board.specs.Board.{Men}
 use Rattle.chess_board.specs.Laws.{IsChecked}
-use Rattle.chess_board.specs.Placement.{Placement}
+use Rattle.chess_board.specs.Position.{Position}
 use Rattle.chess_board.specs.Play.{is_man, is_minor, HasLegal, IsDead, StateFits}
 use Rattle.chess_board.proofs.Legal.{checked-law}
 use Rattle.chess_board.proofs.Ways.{way-law}
 use Rattle.game_record.specs.declared.ending.End.TheVariants as ends
-use Rattle.game_record.specs.Course.{played, Ply, Course, now_of, positions_of, with_ply, later}
+use Rattle.game_record.specs.Game.{played, Ply, Game, now_of, positions_of, with_ply, later}
 use Rattle.game_record.specs.Ending.{has_legal, is_dead, state_by, state_of, ended_by, ended_of, stood_in, repeats_of, Ends, StateLaw, EndingLaw}
 use Rattle.game_record.proofs.Replays.{later-append, now_after-append}
 use Rattle.game_record.proofs.Times.{stood_once}
 
-has_legal-law : (p : Placement) → Decides (has_legal p) (HasLegal p)
+has_legal-law : (p : Position) → Decides (has_legal p) (HasLegal p)
 unfolding has_legal
 has_legal-law p = way-law p
 
@@ -27,7 +27,7 @@ dead-law men =
     Decides-or (eqb (count_by is_man men) 2) (eqb (count_by is_man men) 3 && eqb (count_by is_minor men) 1) (Decides-eqb (count_by is_man men) 2)
     (Decides-and (eqb (count_by is_man men) 3) (eqb (count_by is_minor men) 1) (Decides-eqb (count_by is_man men) 3) (Decides-eqb (count_by is_minor men) 1))
 
-fits_by : (p : Placement) (moves checked dead : Bool) → Decides moves (HasLegal p) → Decides checked (IsChecked p.men p.side) → Decides dead (IsDead p.men) → StateFits p (state_by moves checked dead)
+fits_by : (p : Position) (moves checked dead : Bool) → Decides moves (HasLegal p) → Decides checked (IsChecked p.men p.side) → Decides dead (IsDead p.men) → StateFits p (state_by moves checked dead)
 fits_by p false true dead m c d = (c.0 refl, λ h. let e = m.1 h in cc)
 fits_by p false false dead m c d = (λ h. let e = c.1 h in cc, λ h. let e = m.1 h in cc)
 fits_by p true checked true m c d = (m.0 refl, d.0 refl)
@@ -38,7 +38,7 @@ unfolding state_of
 state-law p = fits_by p (has_legal p) (is_checked p.men p.side) (is_dead p.men) (has_legal-law p) (checked-law p.men p.side) (dead-law p.men)
 
 -- a position stands in one way
-pub one_state : (p : Placement) (a b : State) → StateFits p a → StateFits p b → a ≡ b
+pub one_state : (p : Position) (a b : State) → StateFits p a → StateFits p b → a ≡ b
 one_state p states.Mate states.Mate h k = refl
 one_state p states.Mate states.Stale h k = absurd (k.0 h.0)
 one_state p states.Mate states.Dead h k = absurd (h.1 k.0)
@@ -62,7 +62,7 @@ at_least a b e = grind (arith, nat_tests)
 below : (a b : ℕ) → leb a b ≡ false → b < a
 below a b e = grind (arith, nat_tests)
 
-open_ends : (g : Course) → StateFits (now_of g) states.Open → Ends g (ended_by states.Open (repeats_of g) (now_of g).half)
+open_ends : (g : Game) → StateFits (now_of g) states.Open → Ends g (ended_by states.Open (repeats_of g) (now_of g).half)
 open_ends g f =
     elim (leb 3 (repeats_of g)) as (λ v. leb 3 (repeats_of g) ≡ v → Ends g (cond v (Some ends.Repetition) (cond (leb 100 (now_of g).half) (Some ends.Fifty) None))) [
       | true ↦ λ e. (f, at_least 3 (repeats_of g) e)
@@ -72,7 +72,7 @@ open_ends g f =
       ] refl
     ] refl
 
-ends_by : (g : Course) (state : State) → StateFits (now_of g) state → Ends g (ended_by state (repeats_of g) (now_of g).half)
+ends_by : (g : Game) (state : State) → StateFits (now_of g) state → Ends g (ended_by state (repeats_of g) (now_of g).half)
 ends_by g states.Mate f = f
 ends_by g states.Stale f = f
 ends_by g states.Dead f = f
@@ -86,18 +86,18 @@ pub ended_same : (a b : State) (r q h k : ℕ) → a ≡ b → r ≡ q → h ≡
 ended_same a b r q h k s t u = ap (λ (x : State). ended_by x r h) s ∙ ap (λ (x : ℕ). ended_by b x h) t ∙ ap (λ (x : ℕ). ended_by b q x) u
 
 -- after a move its position stood once more than before
-pub repeats_more : (g : Course) (m : Ply) → repeats_of (with_ply g m) ≡ stood_in (now_of (with_ply g m)) (positions_of g) + 1
+pub repeats_more : (g : Game) (m : Ply) → repeats_of (with_ply g m) ≡ stood_in (now_of (with_ply g m)) (positions_of g) + 1
 repeats_more g m =
     let now = now_of (with_ply g m) in
     let all : positions_of (with_ply g m) ≡ positions_of g ++ now ∷ [] =
-    ap (λ (xs : List Placement). g.start ∷ xs) (later-append g.start g.moves m ∙ ap (λ (q : Placement). later g.start g.moves ++ q ∷ []) (sym (now_after-append g.start g.moves m))) in
+    ap (λ (xs : List Position). g.start ∷ xs) (later-append g.start g.moves m ∙ ap (λ (q : Position). later g.start g.moves ++ q ∷ []) (sym (now_after-append g.start g.moves m))) in
     ap (stood_in now) all ∙ stood_once now (positions_of g)
 
 -- the end after a move, by its position and how often that stood
-pub ended_more : (g : Course) (m : Ply) (after : Placement) (times : ℕ) → after ≡ played (now_of g) m → times ≡ stood_in after (positions_of g) + 1 →
+pub ended_more : (g : Game) (m : Ply) (after : Position) (times : ℕ) → after ≡ played (now_of g) m → times ≡ stood_in after (positions_of g) + 1 →
     ended_by (state_of after) times after.half ≡ ended_of (with_ply g m)
 unfolding ended_of
 ended_more g m after times a t =
     let now : after ≡ now_of (with_ply g m) = a ∙ sym (now_after-append g.start g.moves m) in
-    let repeats : times ≡ repeats_of (with_ply g m) = t ∙ ap (λ (p : Placement). stood_in p (positions_of g) + 1) now ∙ sym (repeats_more g m) in
-    ended_same _ _ _ _ _ _ (ap state_of now) repeats (ap (λ (p : Placement). p.half) now)
+    let repeats : times ≡ repeats_of (with_ply g m) = t ∙ ap (λ (p : Position). stood_in p (positions_of g) + 1) now ∙ sym (repeats_more g m) in
+    ended_same _ _ _ _ _ _ (ap state_of now) repeats (ap (λ (p : Position). p.half) now)

@@ -9,44 +9,44 @@ use Rattle.std.specs.Option.{unwrap_or}
 use Rattle.chess_board.specs.Board.{Men, same_side}
 use Rattle.chess_board.specs.declared.board.Side.{Side}
 use Rattle.chess_board.specs.declared.board.Rights.{Rights}
-use Rattle.chess_board.specs.Placement.{Placement}
-use Rattle.game_record.specs.Course.{Ply, played, now_after, later}
+use Rattle.chess_board.specs.Position.{Position}
+use Rattle.game_record.specs.Game.{Ply, played, now_after, later}
 use Rattle.game_record.specs.Ending.{is_same, same_men, same_rights, same_square, stood_in}
 use Rattle.game_record.specs.Keeps.{times_of, AreTimes}
 use Rattle.game_record.proofs.Replays.{length-later, last_is}
 use Rattle.game_record.proofs.Sames.{same-law, is_same-refl}
 
-pub stood_in-append : (p : Placement) (xs ys : List Placement) → stood_in p (xs ++ ys) ≡ stood_in p xs + stood_in p ys
-stood_in-append p xs ys = sum_by-append (λ (q : Placement). cond (is_same p q) 1 0) xs ys
+pub stood_in-append : (p : Position) (xs ys : List Position) → stood_in p (xs ++ ys) ≡ stood_in p xs + stood_in p ys
+stood_in-append p xs ys = sum_by-append (λ (q : Position). cond (is_same p q) 1 0) xs ys
 
-pub stood_in-cons : (p q : Placement) (xs : List Placement) → stood_in p (q ∷ xs) ≡ cond (is_same p q) 1 0 + stood_in p xs
-stood_in-cons p q xs = sum_by-cons (λ (r : Placement). cond (is_same p r) 1 0) q xs
+pub stood_in-cons : (p q : Position) (xs : List Position) → stood_in p (q ∷ xs) ≡ cond (is_same p q) 1 0 + stood_in p xs
+stood_in-cons p q xs = sum_by-cons (λ (r : Position). cond (is_same p r) 1 0) q xs
 
 -- a position stands once itself
-pub stood_once : (p : Placement) (xs : List Placement) → stood_in p (xs ++ p ∷ []) ≡ stood_in p xs + 1
+pub stood_once : (p : Position) (xs : List Position) → stood_in p (xs ++ p ∷ []) ≡ stood_in p xs + 1
 stood_once p xs =
     let own : stood_in p (p ∷ []) ≡ 1 = rw (is_same-refl p) refl in
     stood_in-append p xs (p ∷ []) ∙ ap (λ (n : ℕ). stood_in p xs + n) own
 
-pub times-append : (before : List Placement) (p : Placement) (moves : List Ply) (m : Ply) →
+pub times-append : (before : List Position) (p : Position) (moves : List Ply) (m : Ply) →
     times_of before p (moves ++ m ∷ []) ≡ times_of before p moves ++ stood_in (played (now_after p moves) m) (before ++ (later p moves ++ played (now_after p moves) m ∷ [])) ∷ []
 times-append before p [] m = refl
 times-append before p (n ∷ moves) m =
     let q = played p n in
     let last = played (now_after q moves) m in
     ap (λ (xs : List ℕ). stood_in q (before ++ q ∷ []) ∷ xs) (times-append (before ++ q ∷ []) q moves m
-    ∙ ap (λ (xs : List Placement). times_of (before ++ q ∷ []) q moves ++ stood_in last xs ∷ []) (append_assoc before (q ∷ []) (later q moves ++ last ∷ [])))
+    ∙ ap (λ (xs : List Position). times_of (before ++ q ∷ []) q moves ++ stood_in last xs ∷ []) (append_assoc before (q ∷ []) (later q moves ++ last ∷ [])))
 
-pub take-times : (k : ℕ) (before : List Placement) (p : Placement) (moves : List Ply) → take k (times_of before p moves) ≡ times_of before p (take k moves)
+pub take-times : (k : ℕ) (before : List Position) (p : Position) (moves : List Ply) → take k (times_of before p moves) ≡ times_of before p (take k moves)
 take-times zero before p moves = refl
 take-times (suc k) before p [] = refl
 take-times (suc k) before p (m ∷ moves) = ap (λ (xs : List ℕ). stood_in (played p m) (before ++ played p m ∷ []) ∷ xs) (take-times k (before ++ played p m ∷ []) (played p m) moves)
 
-pub length-times : (before : List Placement) (p : Placement) (moves : List Ply) → length (times_of before p moves) ≡ length moves
+pub length-times : (before : List Position) (p : Position) (moves : List Ply) → length (times_of before p moves) ≡ length moves
 length-times before p [] = refl
 length-times before p (m ∷ moves) = ap suc (length-times (before ++ played p m ∷ []) (played p m) moves)
 
-times_at : (before : List Placement) (p : Placement) (moves : List Ply) (i : ℕ) (d : Placement) → i < length moves →
+times_at : (before : List Position) (p : Position) (moves : List Ply) (i : ℕ) (d : Position) → i < length moves →
     get_or (times_of before p moves) i 0 ≡ stood_in (get_or (later p moves) i d) (before ++ take (i + 1) (later p moves))
 times_at before p [] i d h = absurd (omega arith)
 times_at before p (m ∷ moves) zero d h = refl
@@ -57,16 +57,16 @@ times_at before p (m ∷ moves) (suc i) d h =
     ∙ ap (stood_in (get_or (later q moves) i d)) (append_assoc before (q ∷ []) (take (i + 1) (later q moves)))
     ∙ ap (λ (k : ℕ). stood_in (get_or (later q moves) i d) (before ++ take k (q ∷ later q moves))) (sym n)
 
-pub are_times : (p : Placement) (moves : List Ply) (positions : List Placement) (times : List ℕ) → positions ≡ later p moves → times ≡ times_of (p ∷ []) p moves → AreTimes p positions times
+pub are_times : (p : Position) (moves : List Ply) (positions : List Position) (times : List ℕ) → positions ≡ later p moves → times ≡ times_of (p ∷ []) p moves → AreTimes p positions times
 are_times p moves positions times l t =
     let own : AreTimes p (later p moves) (times_of (p ∷ []) p moves) = record {
       length_is = length-times (p ∷ []) p moves ∙ sym (length-later p moves);
       each = λ k h. let count = length-later p moves in times_at (p ∷ []) p moves k p (omega arith);
     } in
-    subst (λ (xs : List Placement). AreTimes p xs times) (sym l) (subst (λ (ns : List ℕ). AreTimes p (later p moves) ns) (sym t) own)
+    subst (λ (xs : List Position). AreTimes p xs times) (sym l) (subst (λ (ns : List ℕ). AreTimes p (later p moves) ns) (sym t) own)
 
 -- the last of the times is that of the present position
-pub times_last : (p : Placement) (moves : List Ply) (n : ℕ) → slice_get (times_of (p ∷ []) p moves) (length (times_of (p ∷ []) p moves) - 1) ≡ Some n → n ≡ stood_in (now_after p moves) (p ∷ later p moves)
+pub times_last : (p : Position) (moves : List Ply) (n : ℕ) → slice_get (times_of (p ∷ []) p moves) (length (times_of (p ∷ []) p moves) - 1) ≡ Some n → n ≡ stood_in (now_after p moves) (p ∷ later p moves)
 times_last p moves n e =
     let ts = times_of (p ∷ []) p moves in
     let i = length ts - 1 in
@@ -81,23 +81,23 @@ times_last p moves n e =
     let position = slice_get-get_or (later p moves) i p (omega arith) in
     let last : Some (now_after p moves) ≡ Some (get_or (later p moves) i p) =
     sym (last_is p moves) ∙ ap (slice_get (p ∷ later p moves)) (sym next) ∙ position in
-    let now : get_or (later p moves) i p ≡ now_after p moves = ap (λ (o : Option Placement). unwrap_or o p) (sym last) in
+    let now : get_or (later p moves) i p ≡ now_after p moves = ap (λ (o : Option Position). unwrap_or o p) (sym last) in
     sym value ∙ times_at (p ∷ []) p moves i p low
-    ∙ ap (λ (q : Placement). stood_in q (p ∷ take (i + 1) (later p moves))) now
+    ∙ ap (λ (q : Position). stood_in q (p ∷ take (i + 1) (later p moves))) now
     ∙ ap (λ (k : ℕ). stood_in (now_after p moves) (p ∷ take k (later p moves))) all
-    ∙ ap (λ (xs : List Placement). stood_in (now_after p moves) (p ∷ xs)) (take-length (later p moves))
+    ∙ ap (λ (xs : List Position). stood_in (now_after p moves) (p ∷ xs)) (take-length (later p moves))
 
-pub times_none : (p : Placement) (moves : List Ply) → slice_get (times_of (p ∷ []) p moves) (length (times_of (p ∷ []) p moves) - 1) ≡ None → 1 ≡ stood_in (now_after p moves) (p ∷ later p moves)
+pub times_none : (p : Position) (moves : List Ply) → slice_get (times_of (p ∷ []) p moves) (length (times_of (p ∷ []) p moves) - 1) ≡ None → 1 ≡ stood_in (now_after p moves) (p ∷ later p moves)
 times_none p [] e = sym (stood_once p [])
 times_none p (m ∷ moves) e =
     let there = slice_get-get_or (times_of (p ∷ []) p (m ∷ moves)) (length (times_of (p ∷ []) p (m ∷ moves)) - 1) 0 (omega arith) in
     cc
 
-test : Men → Side → Rights → Option ℕ → Placement → Bool
+test : Men → Side → Rights → Option ℕ → Position → Bool
 test men side rights passant q = (same_men men q.men && same_side side q.side) && (same_rights rights q.rights && same_square passant q.passant)
 
 -- what is the same as one of two same positions is the same as the other
-same_test : (p q : Placement) → is_same p q ≡ true → (xs : List Placement) → stood_in p xs ≡ stood_in q xs
+same_test : (p q : Position) → is_same p q ≡ true → (xs : List Position) → stood_in p xs ≡ stood_in q xs
 unfolding is_same test
 same_test p q e xs =
     let s = (same-law p q).0 e in
@@ -107,18 +107,18 @@ same_test p q e xs =
     ∙ ap (λ (m : Option ℕ). count_by (test q.men q.side q.rights m) xs) s.passant
 
 -- the last occurrence tells how often a position stood
-pub stood_found : (p start : Placement) (positions : List Placement) (i : ℕ) → i < length positions → is_same p (get_or positions i start) ≡ true → stood_in p (drop (i + 1) positions) ≡ 0 →
+pub stood_found : (p start : Position) (positions : List Position) (i : ℕ) → i < length positions → is_same p (get_or positions i start) ≡ true → stood_in p (drop (i + 1) positions) ≡ 0 →
     stood_in (get_or positions i start) (start ∷ take (i + 1) positions) ≡ stood_in p (start ∷ positions)
 stood_found p start positions i h same none =
     let front = sym (same_test p (get_or positions i start) same (start ∷ take (i + 1) positions)) in
     let parts : stood_in p (start ∷ positions) ≡ stood_in p (start ∷ take (i + 1) positions) + stood_in p (drop (i + 1) positions) =
-    ap (λ (xs : List Placement). stood_in p (start ∷ xs)) (sym (take-append-drop (i + 1) positions)) ∙ stood_in-append p (start ∷ take (i + 1) positions) (drop (i + 1) positions) in
+    ap (λ (xs : List Position). stood_in p (start ∷ xs)) (sym (take-append-drop (i + 1) positions)) ∙ stood_in-append p (start ∷ take (i + 1) positions) (drop (i + 1) positions) in
     front ∙ (let zero_more : stood_in p (start ∷ take (i + 1) positions) ≡ stood_in p (start ∷ positions) = omega arith in zero_more)
 
 -- one position before, which is another
-pub stood_before : (p start : Placement) (positions : List Placement) (i : ℕ) → i < length positions → is_same p (get_or positions i start) ≡ false → stood_in p (drop (i + 1) positions) ≡ 0 → stood_in p (drop i positions) ≡ 0
+pub stood_before : (p start : Position) (positions : List Position) (i : ℕ) → i < length positions → is_same p (get_or positions i start) ≡ false → stood_in p (drop (i + 1) positions) ≡ 0 → stood_in p (drop i positions) ≡ 0
 stood_before p start positions i h other none =
     ap (stood_in p) (drop_more positions i start h) ∙ stood_in-cons p (get_or positions i start) (drop (i + 1) positions) ∙ rw (other, none) refl
 
-pub stood_few : (p start : Placement) (positions : List Placement) → stood_in p (start ∷ positions) ≤ length positions + 1
+pub stood_few : (p start : Position) (positions : List Position) → stood_in p (start ∷ positions) ≤ length positions + 1
 stood_few p start positions = let most = count_by-le-length (is_same p) (start ∷ positions) in omega arith

@@ -8,12 +8,12 @@ use Rattle.chess_board.specs.declared.board.State.TheVariants as states
 use Rattle.chess_board.specs.Attack.{is_checked}
 use Rattle.chess_board.specs.Board.{Man, Men, same_side}
 use Rattle.chess_board.specs.Laws.{Same}
-use Rattle.chess_board.specs.Placement.{Placement}
+use Rattle.chess_board.specs.Position.{Position}
 use Rattle.chess_board.specs.Place.{has_any_way}
 use Rattle.chess_board.specs.Play.{is_man, is_minor, StateFits}
 use Rattle.game_record.specs.declared.ending.End.{End}
 use Rattle.game_record.specs.declared.ending.End.TheVariants.{Mate, Stale, Dead, Repetition, Fifty}
-use Rattle.game_record.specs.Course.{Course, now_of, positions_of}
+use Rattle.game_record.specs.Game.{Game, now_of, positions_of}
 
 -- each kind by a number of its own
 abbrev pub kind_number : Kind → ℕ
@@ -50,23 +50,23 @@ same_square (Some a) None = false
 same_square (Some a) (Some b) = a == b
 
 -- whether two positions are the same for repetition: men, side on move, rights and passant square
-unfoldable pub is_same : Placement → Placement → Bool
+unfoldable pub is_same : Position → Position → Bool
 is_same p q = (same_men p.men q.men && same_side p.side q.side) && (same_rights p.rights q.rights && same_square p.passant q.passant)
 
 -- the test for it decides the relation of the Laws
 abbrev pub SameLaw : Type 0
-SameLaw = (p q : Placement) → IsTrue (is_same p q) ↔ Same p q
+SameLaw = (p q : Position) → IsTrue (is_same p q) ↔ Same p q
 
 -- how many of the positions are the same as this one
-abbrev pub stood_in : Placement → List Placement → ℕ
+abbrev pub stood_in : Position → List Position → ℕ
 stood_in p positions = count_by (is_same p) positions
 
 -- how often the present position stood, the present time counted
-abbrev pub repeats_of : Course → ℕ
+abbrev pub repeats_of : Game → ℕ
 repeats_of g = stood_in (now_of g) (positions_of g)
 
 -- whether the side on move has a legal move
-unfoldable pub has_legal : Placement → Bool
+unfoldable pub has_legal : Position → Bool
 has_legal p = has_any_way p
 
 -- beside the two kings no man, or one bishop or knight alone
@@ -80,11 +80,11 @@ state_by true checked true = states.Dead
 state_by true checked false = states.Open
 
 -- how a position stands: the first that holds of mate, stalemate and dead
-unfoldable pub state_of : Placement → State
+unfoldable pub state_of : Position → State
 state_of p = state_by (has_legal p) (is_checked p.men p.side) (is_dead p.men)
 
 abbrev pub StateLaw : Type 0
-StateLaw = (p : Placement) → StateFits p (state_of p)
+StateLaw = (p : Position) → StateFits p (state_of p)
 
 -- the first that holds of mate, stalemate, dead position, third occurrence and 100 moves without pawn move or capture
 abbrev pub ended_by : State → ℕ → ℕ → Option End
@@ -94,11 +94,11 @@ ended_by states.Dead repeats half = Some Dead
 ended_by states.Open repeats half = if nat_le 3 repeats then Some Repetition else (if nat_le 100 half then Some Fifty else None)
 
 -- how a game has ended, if it has
-unfoldable pub ended_of : Course → Option End
+unfoldable pub ended_of : Game → Option End
 ended_of g = ended_by (state_of (now_of g)) (repeats_of g) (now_of g).half
 
 -- the end of a game in the words of the Laws
-abbrev pub Ends : Course → Option End → Type 0
+abbrev pub Ends : Game → Option End → Type 0
 Ends g (Some Mate) = StateFits (now_of g) states.Mate
 Ends g (Some Stale) = StateFits (now_of g) states.Stale
 Ends g (Some Dead) = StateFits (now_of g) states.Dead
@@ -107,4 +107,4 @@ Ends g (Some Fifty) = StateFits (now_of g) states.Open × (repeats_of g < 3) × 
 Ends g None = StateFits (now_of g) states.Open × (repeats_of g < 3) × ((now_of g).half < 100)
 
 abbrev pub EndingLaw : Type 0
-EndingLaw = (g : Course) → Ends g (ended_of g)
+EndingLaw = (g : Game) → Ends g (ended_of g)

@@ -1,7 +1,7 @@
 -- What a game keeps.
 use Rattle.std.specs.Prelude.{ℕ, ◌≡◌, ◌+◌, ◌-◌, ◌<◌, ◌≤◌, Option, List, [], ◌∷◌, ◌++◌, length, take, slice_index, slice_index_or}
-use Rattle.chess_board.specs.Placement.{Placement}
-use Rattle.game_record.specs.Course.{Ply, played, later, AreLegal}
+use Rattle.chess_board.specs.Position.{Position}
+use Rattle.game_record.specs.Game.{Ply, played, later, AreLegal}
 use Rattle.game_record.specs.Ending.{stood_in, ended_of}
 use Rattle.game_record.specs.declared.ending.End.{End}
 
@@ -10,21 +10,21 @@ abbrev pub most_plies : ℕ
 most_plies = 12000
 
 -- how often the position after each move then stood, where these stood before the first
-abbrev pub times_of : List Placement → Placement → List Ply → List ℕ
+abbrev pub times_of : List Position → Position → List Ply → List ℕ
 times_of before p [] = []
 times_of before p (m ∷ moves) = stood_in (played p m) (before ++ played p m ∷ []) ∷ times_of (before ++ played p m ∷ []) (played p m) moves
 
 -- the positions from before the last pawn's move or capture, by the half-move count of the one that follows them
-abbrev pub left_behind : Placement → List Placement → List Placement
+abbrev pub left_behind : Position → List Position → List Position
 left_behind p positions = take (length positions - p.half) positions
 
 -- with each position how often it then stood
-pub record AreTimes (start : Placement) (positions : List Placement) (times : List ℕ) : Type 0 where
+pub record AreTimes (start : Position) (positions : List Position) (times : List ℕ) : Type 0 where
   pub length_is : length times ≡ length positions
   pub each : (k : ℕ) → k < length positions → slice_index times k ≡ stood_in (slice_index_or positions k start) (start ∷ take (k + 1) positions)
 
 -- the positions are those after the moves, with their times, the end is the game's, and there is room for more of all
-pub record Keeps (start : Placement) (moves : List Ply) (positions : List Placement) (times : List ℕ) (ended : Option End) (move_room position_room time_room : ℕ) : Type 0 where
+pub record Keeps (start : Position) (moves : List Ply) (positions : List Position) (times : List ℕ) (ended : Option End) (move_room position_room time_room : ℕ) : Type 0 where
   pub positions_are : positions ≡ later start moves
   pub times_are : times ≡ times_of (start ∷ []) start moves
   pub ended_is : ended ≡ ended_of (record { start = start; moves = moves })

@@ -1,4 +1,4 @@
-pub mod Course
+pub mod Game
 pub mod Ending
 pub mod Line
 pub mod Keeps

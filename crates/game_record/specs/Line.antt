@@ -2,11 +2,11 @@
 use Rattle.std.specs.Prelude.{ℕ, ◌≡◌, ◌≤◌, ◌+◌, ◌*◌, Bool, ◌&&◌, ◌==◌, nat_lt, IsTrue, ◌↔◌, if◌then◌else◌, List, [], ◌∷◌, ◌++◌, length, Option, codes}
 use Rattle.std.specs.Option.{option_to_list}
 use Rattle.chess_board.specs.Board.{file_of, rank_of}
-use Rattle.chess_board.specs.Placement.{Placement}
+use Rattle.chess_board.specs.Position.{Position}
 use Rattle.chess_board.specs.Play.{start_position, IsPosition}
 use Rattle.chess_board.specs.Text.{promotion_text}
 use Rattle.fen_text.specs.Written.{written}
-use Rattle.game_record.specs.Course.{Ply, Course}
+use Rattle.game_record.specs.Game.{Ply, Game}
 use Rattle.game_record.specs.Ending.{is_same}
 
 abbrev pub ply_text : Ply → List ℕ
@@ -26,20 +26,20 @@ abbrev pub moves_text : List Ply → List ℕ
 moves_text moves = if nat_lt 0 (length moves) then codes " moves" ++ spaced moves else []
 
 -- whether it is the standard start, with its counts 0 and 1
-unfoldable pub is_standard : Placement → Bool
+unfoldable pub is_standard : Position → Bool
 is_standard p = is_same p start_position && ((p.half == 0) && (p.full == 1))
 
 abbrev pub StandardLaw : Type 0
-StandardLaw = (p : Placement) → IsTrue (is_standard p) ↔ (p ≡ start_position)
+StandardLaw = (p : Position) → IsTrue (is_standard p) ↔ (p ≡ start_position)
 
 -- `startpos`, or `fen` and the text of the start
-abbrev pub start_text : Placement → List ℕ
+abbrev pub start_text : Position → List ℕ
 start_text p = if is_standard p then codes "startpos" else codes "fen " ++ written p
 
 -- the line of a game, with a move that may follow, without a line feed
-unfoldable pub position_text : Course → Option Ply → List ℕ
+unfoldable pub position_text : Game → Option Ply → List ℕ
 position_text g hint = codes "position " ++ (start_text g.start ++ moves_text (told g.moves hint))
 
 -- at most 6 bytes for each move, and 120 for the rest
 abbrev pub IsShort : Type 0
-IsShort = (g : Course) (hint : Option Ply) → IsPosition g.start → length (position_text g hint) ≤ 120 + 6 * length (told g.moves hint)
+IsShort = (g : Game) (hint : Option Ply) → IsPosition g.start → length (position_text g hint) ≤ 120 + 6 * length (told g.moves hint)

@@ -2,7 +2,7 @@
 ghost use Rattle.std.specs.Prelude.{◌≡◌, ◌+◌, ◌<◌, ◌≤◌, ◌↔◌, ◌∷◌, [], List, length, Option, IsErr, IfOk, OnOk, OnErr};
 ghost use Rattle.chess_board.specs.Laws.{IsLegal};
 ghost use Rattle.chess_board.specs.Play.{start_position, IsPosition};
-ghost use Rattle.game_record.specs.Course.{Course, Ply, ply_of, plies_of, IsPlayable, played, AreLegal, now_of, now_after, later, positions_of, begun, with_ply, without_last};
+ghost use Rattle.game_record.specs.Game.{Game as AnyGame, Ply, ply_of, plies_of, IsPlayable, played, AreLegal, now_of, now_after, later, positions_of, begun, with_ply, without_last};
 ghost use Rattle.game_record.specs.Line.{position_text};
 ghost use Rattle.game_record.specs.Ending.{stood_in, repeats_of, ended_of};
 ghost use Rattle.game_record.specs.Keeps.{AreTimes, times_of, left_behind};
@@ -44,14 +44,15 @@ pub struct Game {
 
 impl Model for Game {
     ghost use Rattle.std.specs.Prelude.{vec_capacity};
-    ghost use Rattle.game_record.specs.Course.{Course, plies_of};
+    ghost use Rattle.game_record.specs.Game.{Game as AnyGame, plies_of};
     ghost use Rattle.game_record.specs.Keeps.{Keeps};
 
-    ghost Value = { Course };
+    ghost Value = { AnyGame };
 
     ghost view = { λ g. record { start = g.start; moves = plies_of g.moves.items } };
 
-    ghost invariant = { λ g. Keeps g.start (plies_of g.moves.items) g.later.items g.times.items g.ended (vec_capacity g.moves) (vec_capacity g.later) (vec_capacity g.times) };
+    ghost invariant = { λ g. Keeps g.start (plies_of g.moves.items) g.later.items g.times.items
+        g.ended (vec_capacity g.moves) (vec_capacity g.later) (vec_capacity g.times) };
 }
 
 impl Game {
@@ -86,8 +87,10 @@ impl Game {
 
     /// Plays a move.
     pub fn push(&mut self, m: Move) -> Result<(), PushFault>
-        ensures illegal { (result ≡ Err PushFault.Illegal) ↔ (¬ IsPlayable (now_of self.old) (ply_of m)) }
-        ensures long { (result ≡ Err PushFault.TooLong) ↔ (IsPlayable (now_of self.old) (ply_of m) × (length self.old.moves ≡ 12000)) }
+        ensures illegal { (result ≡ Err PushFault.Illegal)
+            ↔ (¬ IsPlayable (now_of self.old) (ply_of m)) }
+        ensures long { (result ≡ Err PushFault.TooLong)
+            ↔ (IsPlayable (now_of self.old) (ply_of m) × (length self.old.moves ≡ 12000)) }
         ensures ok { OnOk result (self.new ≡ with_ply self.old (ply_of m)) }
         ensures err { OnErr result (self.new ≡ self.old) }
     {
@@ -209,7 +212,8 @@ impl Game {
 
 /// The last of the positions, or the start where no move was played.
 fn last_position<'a>(start: &'a Position, positions: &'a [Position]) -> &'a Position
-    ensures { (moves : List Ply) → positions.now ≡ later start.now moves → result.now ≡ now_after start.now moves }
+    ensures { (moves : List Ply) → positions.now ≡ later start.now moves
+        → result.now ≡ now_after start.now moves }
 {
     match positions.last() {
         Some(position) => position,
@@ -219,7 +223,8 @@ fn last_position<'a>(start: &'a Position, positions: &'a [Position]) -> &'a Posi
 
 /// The last of the times, or once where no move was played.
 fn last_times(times: &[u32]) -> u32
-    ensures { (g : Course) → times.now ≡ times_of (g.start ∷ []) g.start g.moves → result ≡ repeats_of g }
+    ensures { (g : AnyGame) → times.now ≡ times_of (g.start ∷ []) g.start g.moves
+        → result ≡ repeats_of g }
 {
     match times.last() {
         Some(times) => *times,
@@ -229,7 +234,9 @@ fn last_times(times: &[u32]) -> u32
 
 /// How a game with these positions and their times has ended.
 fn ended_in(start: &Position, positions: &[Position], times: &[u32]) -> Option<End>
-    ensures { (moves : List Ply) → positions.now ≡ later start.now moves → times.now ≡ times_of (start.now ∷ []) start.now moves → result ≡ ended_of (record { start = start.now; moves = moves }) }
+    ensures { (moves : List Ply) → positions.now ≡ later start.now moves
+        → times.now ≡ times_of (start.now ∷ []) start.now moves
+        → result ≡ ended_of (record { start = start.now; moves = moves }) }
 {
     let now = last_position(start, positions);
     ended_by(state_of(now), last_times(times), now.half())

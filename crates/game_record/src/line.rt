@@ -4,7 +4,7 @@ ghost use Rattle.std.specs.Option.{option_map};
 ghost use Rattle.std.specs.List.{AllByRecursion};
 ghost use Rattle.chess_board.specs.Text.{IsOfficer, text_of};
 ghost use Rattle.line_io.specs.Out.{with};
-ghost use Rattle.game_record.specs.Course.{ply_of, plies_of, IsPlayable, now_of};
+ghost use Rattle.game_record.specs.Game.{ply_of, plies_of, IsPlayable, now_of};
 ghost use Rattle.game_record.specs.Line.{is_standard, start_text, spaced, told, moves_text, position_text};
 
 use crate::ending::is_same;
@@ -65,8 +65,10 @@ fn has_moves(moves: &[Move], hint: Option<Move>) -> bool
 fn write_told(moves: &[Move], hint: Option<Move>, out: &mut Out)
     requires officers { AllByRecursion (λ m. IsOfficer m.promo) (plies_of moves.now) }
     requires officer { IfSome hint (λ m. IsOfficer m.promo) }
-    requires room { length out.old.text + length (moves_text (told (plies_of moves.now) (option_map ply_of hint))) ≤ out.old.room }
-    ensures { out.new ≡ with out.old (moves_text (told (plies_of moves.now) (option_map ply_of hint))) }
+    requires room { length out.old.text
+        + length (moves_text (told (plies_of moves.now) (option_map ply_of hint))) ≤ out.old.room }
+    ensures { out.new
+        ≡ with out.old (moves_text (told (plies_of moves.now) (option_map ply_of hint))) }
 {
     if !has_moves(moves, hint) {
         return;
@@ -83,7 +85,8 @@ impl Game {
     /// Writes the `position` line of the game, with a move that may follow, and no line feed (UCI, April 2006).
     pub fn write_position(&self, hint: Option<Move>, out: &mut Out)
         requires legal { IfSome hint (λ m. IsPlayable (now_of self.now) (ply_of m)) }
-        requires room { length out.old.text + length (position_text self.now (option_map ply_of hint)) ≤ out.old.room }
+        requires room { length out.old.text
+            + length (position_text self.now (option_map ply_of hint)) ≤ out.old.room }
         ensures { out.new ≡ with out.old (position_text self.now (option_map ply_of hint)) }
     {
         out.put(b"position ");

@@ -1,5 +1,5 @@
 ghost use Rattle.std.specs.Prelude.{◌≡◌, ◌+◌, ◌≤◌, length, IfSome};
-ghost use Rattle.game_record.specs.Course.{ply_of, IsPlayable, now_of};
+ghost use Rattle.game_record.specs.Game.{ply_of, IsPlayable, now_of};
 
 use crate::{End, Game, NoMove, PushFault};
 use chess_board::{Move, Position, read_move};

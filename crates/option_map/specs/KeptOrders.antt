@@ -3,7 +3,7 @@ use Rattle.std.specs.Prelude.{◌≡◌, ℕ, ◌≤◌, List, [], ◌++◌, map
 use Rattle.std.specs.Fmt.{signed_decimal}
 use Rattle.std.specs.List.{AllByRecursion}
 use Rattle.line_io.specs.Out.{Text as Buffer}
-use Rattle.uci_lines.specs.Orders.{Command, NewGame, SetOption}
+use Rattle.uci_lines.specs.Orders.{Order, NewGame, SetOption}
 use Rattle.option_map.specs.declared.order.Value.{Value}
 use Rattle.option_map.specs.declared.order.Value.TheVariants as value
 use Rattle.option_map.specs.declared.order.Setup.{Setup}
@@ -21,11 +21,11 @@ value_in texts Nothing = None
 value_in texts (Text part) = Some (text_at texts part)
 value_in texts (Number n) = Some (signed_decimal n)
 
-abbrev pub order_in : List ℕ → KeptOrder → Command
+abbrev pub order_in : List ℕ → KeptOrder → Order
 order_in texts kept.NewGame = NewGame
 order_in texts (kept.Set name value) = SetOption (text_at texts name) (value_in texts value)
 
-abbrev pub orders_in : List ℕ → List KeptOrder → List Command
+abbrev pub orders_in : List ℕ → List KeptOrder → List Order
 orders_in texts list = map (order_in texts) list
 
 abbrev pub IsValueIn : ℕ → KeptValue → Type 0

@@ -2,7 +2,7 @@
 ghost use Rattle.std.specs.Prelude.{◌≡◌, ◌≤◌, ◌+◌, length, nat_le, None, Some};
 ghost use Rattle.std.specs.Fmt.{signed_decimal};
 ghost use Rattle.line_io.specs.Out.{with};
-ghost use Rattle.uci_lines.specs.Orders.{command_text};
+ghost use Rattle.uci_lines.specs.Orders.{order_text};
 ghost use Rattle.uci_lines.specs.Orders as orders;
 ghost use Rattle.option_map.specs.Held.{are_for_same, order_line};
 
@@ -39,8 +39,8 @@ pub enum Setup<'a> {
 
 fn put_setting(name: &[u8], value: &[u8], out: &mut Out)
     requires { length out.old.text
-        + length (command_text (orders.SetOption name.now (Some value.now))) ≤ out.old.room }
-    ensures { out.new ≡ with out.old (command_text (orders.SetOption name.now (Some value.now))) }
+        + length (order_text (orders.SetOption name.now (Some value.now))) ≤ out.old.room }
+    ensures { out.new ≡ with out.old (order_text (orders.SetOption name.now (Some value.now))) }
 {
     write_order(
         &Order::SetOption {
@@ -52,19 +52,19 @@ fn put_setting(name: &[u8], value: &[u8], out: &mut Out)
 }
 
 fn put_button(name: &[u8], out: &mut Out)
-    requires { length out.old.text + length (command_text (orders.SetOption name.now None))
+    requires { length out.old.text + length (order_text (orders.SetOption name.now None))
         ≤ out.old.room }
-    ensures { out.new ≡ with out.old (command_text (orders.SetOption name.now None)) }
+    ensures { out.new ≡ with out.old (order_text (orders.SetOption name.now None)) }
 {
     write_order(&Order::SetOption { name, value: None }, out);
 }
 
 fn put_number(name: &[u8], n: i64, out: &mut Out)
     requires { length out.old.text
-        + length (command_text (orders.SetOption name.now (Some (signed_decimal n))))
+        + length (order_text (orders.SetOption name.now (Some (signed_decimal n))))
         ≤ out.old.room }
     ensures { out.new
-        ≡ with out.old (command_text (orders.SetOption name.now (Some (signed_decimal n)))) }
+        ≡ with out.old (order_text (orders.SetOption name.now (Some (signed_decimal n)))) }
 {
     put_setting(name, Buffer::new().format(n).as_bytes(), out);
 }
@@ -87,9 +87,9 @@ impl Asked<'_> {
 
     /// Writes the order, with no line feed.
     pub fn write(&self, out: &mut Out)
-        requires { length out.old.text + length (command_text (order_seen self.now))
+        requires { length out.old.text + length (order_text (order_seen self.now))
             ≤ out.old.room }
-        ensures { out.new ≡ with out.old (command_text (order_seen self.now)) }
+        ensures { out.new ≡ with out.old (order_text (order_seen self.now)) }
     {
         match self.value {
             None => put_button(self.name, out),
@@ -130,9 +130,9 @@ impl Setup<'_> {
     ghost use Rattle.option_map.specs.Data.{setup_seen};
 
     fn write(&self, out: &mut Out)
-        requires { length out.old.text + length (command_text (setup_seen self.now))
+        requires { length out.old.text + length (order_text (setup_seen self.now))
             ≤ out.old.room }
-        ensures { out.new ≡ with out.old (command_text (setup_seen self.now)) }
+        ensures { out.new ≡ with out.old (order_text (setup_seen self.now)) }
     {
         match self {
             Setup::NewGame => write_order(&Order::NewGame, out),
@@ -150,9 +150,9 @@ impl Setup<'_> {
     }
 
     /// Whether its text has at most so many bytes.
-    #[tactic(auto, unfolding(uci_lines::specs::Orders::command_text))]
+    #[tactic(auto, unfolding(uci_lines::specs::Orders::order_text))]
     pub(crate) fn is_within(&self, most: usize) -> bool
-        ensures { result ≡ nat_le (length (command_text (setup_seen self.now))) most }
+        ensures { result ≡ nat_le (length (order_text (setup_seen self.now))) most }
     {
         match self {
             Setup::NewGame => b"ucinewgame".len() <= most,
@@ -161,10 +161,10 @@ impl Setup<'_> {
     }
 
     /// How many bytes its text has.
-    #[tactic(auto, unfolding(uci_lines::specs::Orders::command_text))]
+    #[tactic(auto, unfolding(uci_lines::specs::Orders::order_text))]
     pub(crate) fn size(&self) -> usize
-        requires { length (command_text (setup_seen self.now)) ≤ MOST_BYTES }
-        ensures { result ≡ length (command_text (setup_seen self.now)) }
+        requires { length (order_text (setup_seen self.now)) ≤ MOST_BYTES }
+        ensures { result ≡ length (order_text (setup_seen self.now)) }
     {
         match self {
             Setup::NewGame => b"ucinewgame".len(),

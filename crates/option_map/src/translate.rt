@@ -4,7 +4,7 @@ ghost use Rattle.std.specs.Fmt.{signed_decimal};
 ghost use Rattle.std.specs.Option.{option_map, option_and_then};
 ghost use Rattle.peer_words.specs.Numbers.{signed};
 ghost use Rattle.line_io.specs.Out.{with};
-ghost use Rattle.uci_lines.specs.Orders.{command_of, command_text, optional_now};
+ghost use Rattle.uci_lines.specs.Orders.{order_of, order_text, optional_now};
 ghost use Rattle.uci_lines.specs.Orders as orders;
 ghost use Rattle.cecp_lines.specs.Messages.{message_of};
 ghost use Rattle.option_map.specs.Choices.{chosen, choices_in};

@@ -1,10 +1,10 @@
 -- What holds of each lawful trace.
 use Rattle.std.proofs.Common.{◌≡◌, ◌≢◌, ℕ, List, [], ◌∷◌, ◌++◌, Bool, true, false, not, cond, ◌&&◌, ◌||◌, refl, sym, ap, subst, ◌∙◌, append-nil}
 use Rattle.line_io.specs.Event.{Event, Open, Iface, IfaceLong, IfaceEnd, IfaceLost, Engine, EngineLong, EngineEnd, EngineLost, is_line}
-use Rattle.cecp_lines.specs.Replies.{Told}
-use Rattle.uci_lines.specs.Orders.{Command}
-use Rattle.feature_talk.specs.Features.{told_lines}
-use Rattle.desk_rules.specs.Texts.{command_lines}
+use Rattle.cecp_lines.specs.Replies.{Reply}
+use Rattle.uci_lines.specs.Orders.{Order}
+use Rattle.feature_talk.specs.Features.{reply_lines}
+use Rattle.desk_rules.specs.Texts.{order_lines}
 use Rattle.policy_rules.specs.declared.settings.Settings.{Settings}
 use Rattle.adapter_core.specs.declared.ends.Ends.{Ends}
 use Rattle.cecp_lines.specs.Quit.{is_quit}
@@ -49,10 +49,10 @@ or_left true b h = refl
 or_left false b h = cc
 
 pub open_iface : (o : Settings) (s : Step) (t : List Step) → Lawful o (s ∷ t) → iface_text s ≢ [] → (state o (s ∷ t)).ends.iface ≡ false
-open_iface o s t l some = case_of (state o (s ∷ t)).ends.iface (λ h. some (ap told_lines (silent_to_iface o t s l (or_left _ (state o (s ∷ t)).ends.iface_lost h))))
+open_iface o s t l some = case_of (state o (s ∷ t)).ends.iface (λ h. some (ap reply_lines (silent_to_iface o t s l (or_left _ (state o (s ∷ t)).ends.iface_lost h))))
 
 pub open_engine : (o : Settings) (s : Step) (t : List Step) → Lawful o (s ∷ t) → engine_text s ≢ [] → (state o (s ∷ t)).ends.engine ≡ false
-open_engine o s t l some = case_of (state o (s ∷ t)).ends.engine (λ h. some (ap command_lines (silent_to_engine o t s l (or_left _ (state o (s ∷ t)).ends.engine_lost h))))
+open_engine o s t l some = case_of (state o (s ∷ t)).ends.engine (λ h. some (ap order_lines (silent_to_engine o t s l (or_left _ (state o (s ∷ t)).ends.engine_lost h))))
 
 -- which sides have ended
 or_true : (a : Bool) → true ≡ (a || (true || false))

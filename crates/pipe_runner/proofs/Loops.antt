@@ -11,7 +11,7 @@ use Rattle.policy_rules.specs.declared.settings.Settings.{Settings}
 use Rattle.adapter_core.specs.declared.ends.Ends.{Ends}
 use Rattle.adapter_core.specs.Ends.{ends_after, may}
 use Rattle.adapter_core.specs.Trace.{Step, Lawful, state, iface_text, engine_text}
-use Rattle.adapter_core.specs.View.{View}
+use Rattle.adapter_core.specs.Parts.{Parts}
 use Rattle.adapter_core.specs.Stands.{Stands}
 use Rattle.adapter_core.proofs.Unique.{unique}
 use Rattle.script_lines.specs.Header.{header_text}
@@ -273,7 +273,7 @@ behind cfg s t n e =
     ap (λ k. script2 cfg t ++ numbered_marks k s.event (iface_text s) (engine_text s)) e
     ∙ append_assoc (header_text cfg) (10 ∷ numbered_texts t) (numbered_text (length t) s)
 
-module _ (cfg : Settings) (core core' : View) (e : Event) (front : List ℕ) (p p' : Progress) (events events' : List Event) (b m a : Sinks) (r : Reached cfg core events b m p) (s : Stepped core core' e front m a p p') where
+module _ (cfg : Settings) (core core' : Parts) (e : Event) (front : List ℕ) (p p' : Progress) (events events' : List Event) (b m a : Sinks) (r : Reached cfg core events b m p) (s : Stepped core core' e front m a p p') where
   pub reached_next : front ≡ [] → events' ≡ events ++ cond (is_own e) [] (e ∷ [])
       → (p.end.output ≡ true → (state cfg r.trace).ends.iface_lost ≡ false → is_iface_lost e ≡ true)
       → (is_iface_lost e ≡ true → (p.end.output ≡ true) × ((state cfg r.trace).ends.iface_lost ≡ false))
@@ -308,7 +308,7 @@ abbrev none_failed : LoopEnd
 none_failed = record { output = false; engine = false; log = false }
 
 -- before the first step
-pub reached_first : (cfg : Settings) (core core' : View) (front : List ℕ) (p p' : Progress) (events : List Event) (b a : Sinks) → front ≡ header_text cfg ++ 10 ∷ [] → p ≡ record { end = none_failed; next = 0 } → events ≡ []
+pub reached_first : (cfg : Settings) (core core' : Parts) (front : List ℕ) (p p' : Progress) (events : List Event) (b a : Sinks) → front ≡ header_text cfg ++ 10 ∷ [] → p ≡ record { end = none_failed; next = 0 } → events ≡ []
     → Stands cfg core [] → Stepped core core' Open front b a p p' → Reached cfg core' events b a p'
 reached_first cfg core core' front p p' events b a f e t stands s =
     let x = s.extends cfg [] tt stands in
@@ -374,9 +374,9 @@ was_opened cfg [] n l = absurd (n refl)
 was_opened cfg (s ∷ t) n l = opened cfg s t l
 
 -- what the loop does next, from where it has come to
-module _ (cfg : Settings) (core : View) (p : Progress) (events : List Event) (b m : Sinks) (r : Reached cfg core events b m p) where
+module _ (cfg : Settings) (core : Parts) (p : Progress) (events : List Event) (b m : Sinks) (r : Reached cfg core events b m p) where
   ends_are : core.ends ≡ (state cfg r.trace).ends
-  ends_are = ap (λ (v : View). v.ends) r.stands.0
+  ends_are = ap (λ (v : Parts). v.ends) r.stands.0
 
   abbrev told : Ends
   told = (state cfg r.trace).ends
@@ -398,7 +398,7 @@ module _ (cfg : Settings) (core : View) (p : Progress) (events : List Event) (b 
       ap (λ (y : Ends). may y x) ends_are
       ∙ may_follow told x (received r.trace) (was_opened cfg r.trace r.begun r.lawful) (iface_is cfg r.trace) (engine_is cfg r.trace) (subst (λ (es : List Event). Follows es x) (sym r.received_is) f)
 
-  module _ (core' : View) (front : List ℕ) (p' : Progress) (a : Sinks) (none : front ≡ []) where
+  module _ (core' : Parts) (front : List ℕ) (p' : Progress) (a : Sinks) (none : front ≡ []) where
     pub after_iface_lost : (p.end.output && may core.ends IfaceLost) ≡ true → Stepped core core' IfaceLost front m a p p' → Reached cfg core' events b a p'
     after_iface_lost h s =
         let w = output_owed h in
@@ -433,5 +433,5 @@ module _ (cfg : Settings) (core : View) (p : Progress) (events : List Event) (b 
         log = r.log;
       }
 
-pub step_of : (core core' : View) (front : List ℕ) (p p' : Progress) (b a : Sinks) (e e' : Event) → e ≡ e' → Stepped core core' e front b a p p' → Stepped core core' e' front b a p p'
+pub step_of : (core core' : Parts) (front : List ℕ) (p p' : Progress) (b a : Sinks) (e e' : Event) → e ≡ e' → Stepped core core' e front b a p p' → Stepped core core' e' front b a p p'
 step_of core core' front p p' b a e e' h s = subst (λ (x : Event). Stepped core core' x front b a p p') h s

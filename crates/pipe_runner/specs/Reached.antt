@@ -5,7 +5,7 @@ use Rattle.line_io.specs.Event.{Event}
 use Rattle.line_io.specs.Source.{Received}
 use Rattle.policy_rules.specs.declared.settings.Settings.{Settings}
 use Rattle.adapter_core.specs.Trace.{Step, Lawful, state, iface_text, engine_text}
-use Rattle.adapter_core.specs.View.{View}
+use Rattle.adapter_core.specs.Parts.{Parts}
 use Rattle.adapter_core.specs.Stands.{Stands}
 use Rattle.script_lines.specs.StepLine.{step_number}
 use Rattle.script_lines.specs.StepText.{numbered_marks}
@@ -17,7 +17,7 @@ use Rattle.pipe_runner.specs.Texts.{received, texts}
 use Rattle.pipe_runner.specs.Looped.{OutputFails, EngineFails, OutputLost, EngineLostBehind, LogTook}
 
 -- One step of the core, whose texts were offered to the sinks. In the log this front stands before the step's text.
-pub record Stepped (old new : View) (e : Event) (front : List ℕ) (before after : Sinks) (from to : Progress) : Type 0 where
+pub record Stepped (old new : Parts) (e : Event) (front : List ℕ) (before after : Sinks) (from to : Progress) : Type 0 where
   pub step : Step
   pub event : step.event ≡ e
   pub extends : (s : Settings) (t : List Step) → Lawful s t → Stands s old t → Lawful s (step ∷ t) × Stands s new (step ∷ t)
@@ -41,7 +41,7 @@ pub record EngineSoFar (trace : List Step) (failed told : Bool) (old new : Recei
   pub count : Tells old.faults new.faults failed
 
 -- The loop has come to a lawful trace.
-pub record Reached (settings : Settings) (core : View) (events : List Event) (before after : Sinks) (at : Progress) : Type 0 where
+pub record Reached (settings : Settings) (core : Parts) (events : List Event) (before after : Sinks) (at : Progress) : Type 0 where
   pub trace : List Step
   pub lawful : Lawful settings trace
   pub stands : Stands settings core trace

@@ -117,7 +117,8 @@ fn run_both<
             requires { IsFreshSender iface.now peers.Iface }
         { read_pipe(rt, alloc, input, iface) },
         &mut ||
-            requires { IsSync R.row × Stands core.now.settings core.now [] × (TEXT_ROOM ≤ text.now.room)
+            requires { IsSync R.row × Stands core.now.settings core.now []
+                × (TEXT_ROOM ≤ text.now.room)
                 × IsFreshSender child.now peers.Engine × IsFreshTaker taker.now }
         {
             run_engine(

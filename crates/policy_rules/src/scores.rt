@@ -52,7 +52,8 @@ impl Scores {
     /// A move was shown with this score.
     pub fn shown(&mut self, score: Option<i64>)
         ensures after { self.new ≡ after_shown self.old score }
-        ensures counts { (settings : SomeSettings) (scores : List Score) → self.old ≡ counted settings scores → self.new ≡ counted settings (score ∷ scores) }
+        ensures counts { (settings : SomeSettings) (scores : List Score)
+            → self.old ≡ counted settings scores → self.new ≡ counted settings (score ∷ scores) }
     {
         let bound = -i64::from(self.settings.resign_score);
         self.lost = run_after(is_at_most(bound, score), self.lost);
@@ -62,7 +63,8 @@ impl Scores {
     /// Forgets all scores.
     pub fn clear(&mut self)
         ensures after { self.new ≡ no_scores self.old.settings }
-        ensures counts { (settings : SomeSettings) (scores : List Score) → self.old ≡ counted settings scores → self.new ≡ counted settings [] }
+        ensures counts { (settings : SomeSettings) (scores : List Score)
+            → self.old ≡ counted settings scores → self.new ≡ counted settings [] }
     {
         self.lost = 0;
         self.level = 0;
@@ -71,7 +73,8 @@ impl Scores {
     /// Whether the game is resigned after the move that was shown last.
     pub fn resigns(&self) -> bool
         ensures value { result ≡ resigns_by self.now }
-        ensures exact { (settings : SomeSettings) (scores : List Score) → IsProper settings → self.now ≡ counted settings scores → IsTrue result ↔ Resigns settings scores }
+        ensures exact { (settings : SomeSettings) (scores : List Score) → IsProper settings
+            → self.now ≡ counted settings scores → IsTrue result ↔ Resigns settings scores }
     {
         self.settings.resign && self.lost >= self.settings.resign_moves
     }
@@ -79,7 +82,8 @@ impl Scores {
     /// Whether a draw that the opponent offers is accepted.
     pub fn accepts_draw(&self) -> bool
         ensures value { result ≡ accepts_by self.now }
-        ensures exact { (settings : SomeSettings) (scores : List Score) → IsProper settings → self.now ≡ counted settings scores → IsTrue result ↔ AcceptsDraw settings scores }
+        ensures exact { (settings : SomeSettings) (scores : List Score) → IsProper settings
+            → self.now ≡ counted settings scores → IsTrue result ↔ AcceptsDraw settings scores }
     {
         self.level >= self.settings.resign_moves
     }

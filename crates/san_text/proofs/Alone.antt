@@ -7,7 +7,7 @@ use Rattle.chess_board.specs.declared.board.Kind.{Kind}
 use Rattle.chess_board.specs.declared.board.Kind.TheVariants.{Pawn, Knight, Bishop, Rook, Queen, King}
 use Rattle.chess_board.specs.declared.board.Move.{Move}
 use Rattle.chess_board.specs.Board.{man_at, file_of, rank_of, square_at, is_empty, is_king_kind, is_pawn_kind, some_square}
-use Rattle.chess_board.specs.Placement.{Placement}
+use Rattle.chess_board.specs.Position.{Position}
 use Rattle.chess_board.specs.Rules.{king_home, is_legal}
 use Rattle.chess_board.specs.Laws.{IsLegal, Goes as MayGo, Promotes}
 use Rattle.chess_board.specs.Play.{kind_on}
@@ -29,16 +29,16 @@ equal : (a b : ℕ) → (a == b) ≡ true → a ≡ b
 equal a b = (Decides-eqb a b).0
 
 -- the kind of a man that moves
-kind_of_move : (p : Placement) (from to : ℕ) (promo : Option Kind) (h : IsLegal p from to promo) → kind_at p from ≡ h.piece
+kind_of_move : (p : Position) (from to : ℕ) (promo : Option Kind) (h : IsLegal p from to promo) → kind_at p from ≡ h.piece
 kind_of_move p from to promo h = ap kind_on h.man
 
 -- another man that may go there is a rival
-rival_there : (p : Placement) (m n : Move) → n.from.index ≢ m.from.index → kind_at p n.from.index ≡ kind_at p m.from.index → IsLegal p n.from.index m.to.index m.promo → is_rival p m n.from.index ≡ true
+rival_there : (p : Position) (m n : Move) → n.from.index ≢ m.from.index → kind_at p n.from.index ≡ kind_at p m.from.index → IsLegal p n.from.index m.to.index m.promo → is_rival p m n.from.index ≡ true
 rival_there p m n d k l =
     rw (differs n.from.index m.from.index d, (kinds-Decides (kind_at p n.from.index) (kind_at p m.from.index)).1 k) ((legal-law p n.from.index m.to.index m.promo).1 l)
 
 -- if there is none, the man is this one
-not_there : (p : Placement) (m n : Move) (w : Within) → has_rival p m w ≡ false → is_within w n.from.index m.from.index ≡ true → kind_at p n.from.index ≡ kind_at p m.from.index → IsLegal p n.from.index m.to.index m.promo → n.from.index ≢ m.from.index → ⊥
+not_there : (p : Position) (m n : Move) (w : Within) → has_rival p m w ≡ false → is_within w n.from.index m.from.index ≡ true → kind_at p n.from.index ≡ kind_at p m.from.index → IsLegal p n.from.index m.to.index m.promo → n.from.index ≢ m.from.index → ⊥
 not_there p m n w none within k l d =
     let hit : has_rival p m w ≡ true = some_square-hit (λ s. is_within w s m.from.index && is_rival p m s) n.from.index n.from.on_board (two_hold (is_within w n.from.index m.from.index) (is_rival p m n.from.index) within (rival_there p m n d k l)) in
     cc (none, hit)
@@ -57,20 +57,20 @@ file_by pawn takes b f r file = cond pawn (cond takes (Some file) None) (cond (n
 abbrev pub rank_by : Bool → Bool → Bool → Bool → ℕ → Option ℕ
 rank_by pawn b f r rank = cond pawn None (cond (not b) None (cond (not f) None (Some rank)))
 
-abbrev pub is_pawn_move : Placement → Move → Bool
+abbrev pub is_pawn_move : Position → Move → Bool
 is_pawn_move p m = is_pawn_kind (kind_at p m.from.index)
 
-abbrev pub given_file : Placement → Move → Option ℕ
+abbrev pub given_file : Position → Move → Option ℕ
 given_file p m = file_by (is_pawn_move p m) (is_capture p m) (has_rival p m Board) (has_rival p m File) (has_rival p m Rank) (file_of m.from.index)
 
-abbrev pub given_rank : Placement → Move → Option ℕ
+abbrev pub given_rank : Position → Move → Option ℕ
 given_rank p m = rank_by (is_pawn_move p m) (has_rival p m Board) (has_rival p m File) (has_rival p m Rank) (rank_of m.from.index)
 
 allowed : (k n : ℕ) → allows (Some k) n ≡ true → n ≡ k
 allowed k n e = sym (equal k n e)
 
 -- another officer does not agree with what is given
-officer_alone : (p : Placement) (m n : Move) (takes b f r : Bool) → has_rival p m Board ≡ b → has_rival p m File ≡ f → has_rival p m Rank ≡ r
+officer_alone : (p : Position) (m n : Move) (takes b f r : Bool) → has_rival p m Board ≡ b → has_rival p m File ≡ f → has_rival p m Rank ≡ r
     → allows (file_by false takes b f r (file_of m.from.index)) (file_of n.from.index) ≡ true → allows (rank_by false b f r (rank_of m.from.index)) (rank_of n.from.index) ≡ true
     → kind_at p n.from.index ≡ kind_at p m.from.index → IsLegal p n.from.index m.to.index m.promo → n.from.index ≢ m.from.index → ⊥
 officer_alone p m n takes false f r eb ef er a c k l d = not_there p m n Board eb refl k l d
@@ -81,10 +81,10 @@ officer_alone p m n takes true true false eb ef er a c k l d =
 officer_alone p m n takes true true true eb ef er a c k l d =
     d (same_square n.from.index m.from.index (allowed (file_of m.from.index) (file_of n.from.index) a) (allowed (rank_of m.from.index) (rank_of n.from.index) c))
 
-goes_pawn : (p : Placement) (from to : ℕ) (promo : Option Kind) (h : IsLegal p from to promo) → h.piece ≡ Pawn → MayGo p Pawn from to
+goes_pawn : (p : Position) (from to : ℕ) (promo : Option Kind) (h : IsLegal p from to promo) → h.piece ≡ Pawn → MayGo p Pawn from to
 goes_pawn p from to promo h e = subst (λ (k : Kind). MayGo p k from to) e h.way
 
-man_pawn : (p : Placement) (from to : ℕ) (promo : Option Kind) (h : IsLegal p from to promo) → h.piece ≡ Pawn → man_at p.men from ≡ Some (p.side, Pawn)
+man_pawn : (p : Position) (from to : ℕ) (promo : Option Kind) (h : IsLegal p from to promo) → h.piece ≡ Pawn → man_at p.men from ≡ Some (p.side, Pawn)
 man_pawn p from to promo h e = h.man ∙ ap (λ k. Some (p.side, k)) e
 
 -- whether a pawn leaves its file
@@ -102,7 +102,7 @@ differs_of : (a b : ℕ) → (a == b) ≡ false → a ≢ b
 differs_of a b e f = let t = (Decides-eqb a b).1 f in cc (e, t)
 
 -- a pawn that captures leaves its file
-capturing_leaves : (p : Placement) (m : Move) (h : IsLegal p m.from.index m.to.index m.promo) → h.piece ≡ Pawn → is_capture p m ≡ true → file_of m.from.index ≢ file_of m.to.index
+capturing_leaves : (p : Position) (m : Move) (h : IsLegal p m.from.index m.to.index m.promo) → h.piece ≡ Pawn → is_capture p m ≡ true → file_of m.from.index ≢ file_of m.to.index
 capturing_leaves p m h e t f =
     let pawn : kind_at p m.from.index ≡ Pawn = kind_of_move p m.from.index m.to.index m.promo h ∙ e in
     let test = ap (λ k. not (is_empty (man_at p.men m.to.index)) || (is_pawn_kind k && not (file_of m.from.index == file_of m.to.index))) (sym pawn) ∙ t in
@@ -111,13 +111,13 @@ capturing_leaves p m h e t f =
       | inr out ↦ differs_of (file_of m.from.index) (file_of m.to.index) out f
     ]
 
-quiet_stays : (p : Placement) (m : Move) (h : IsLegal p m.from.index m.to.index m.promo) → h.piece ≡ Pawn → is_capture p m ≡ false → file_of m.from.index ≡ file_of m.to.index
+quiet_stays : (p : Position) (m : Move) (h : IsLegal p m.from.index m.to.index m.promo) → h.piece ≡ Pawn → is_capture p m ≡ false → file_of m.from.index ≡ file_of m.to.index
 quiet_stays p m h e t =
     let pawn : kind_at p m.from.index ≡ Pawn = kind_of_move p m.from.index m.to.index m.promo h ∙ e in
     let test = ap (λ k. not (is_empty (man_at p.men m.to.index)) || (is_pawn_kind k && not (file_of m.from.index == file_of m.to.index))) (sym pawn) ∙ t in
     equal (file_of m.from.index) (file_of m.to.index) (takes_by (is_empty (man_at p.men m.to.index)) (file_of m.from.index == file_of m.to.index) test).1
 
-pawn_alone : (p : Placement) (m n : Move) (takes : Bool) → is_capture p m ≡ takes → (h : IsLegal p m.from.index m.to.index m.promo) → h.piece ≡ Pawn → (i : IsLegal p n.from.index m.to.index m.promo) → i.piece ≡ Pawn
+pawn_alone : (p : Position) (m n : Move) (takes : Bool) → is_capture p m ≡ takes → (h : IsLegal p m.from.index m.to.index m.promo) → h.piece ≡ Pawn → (i : IsLegal p n.from.index m.to.index m.promo) → i.piece ≡ Pawn
     → allows (cond takes (Some (file_of m.from.index)) None) (file_of n.from.index) ≡ true → n.from.index ≡ m.from.index
 pawn_alone p m n true t h e i f a =
     sym (strikes_alone p m.from.index n.from.index m.to.index (goes_pawn p m.from.index m.to.index m.promo h e) (goes_pawn p n.from.index m.to.index m.promo i f) (capturing_leaves p m h e t) (allowed (file_of m.from.index) (file_of n.from.index) a))
@@ -125,7 +125,7 @@ pawn_alone p m n false t h e i f a =
     sym (forward_alone p m.from.index n.from.index m.to.index (man_pawn p m.from.index m.to.index m.promo h e) (man_pawn p n.from.index m.to.index m.promo i f) (goes_pawn p m.from.index m.to.index m.promo h e) (goes_pawn p n.from.index m.to.index m.promo i f) (quiet_stays p m h e t))
 
 -- two moves of one kind to one square, of which the second agrees with what is given of the first
-from_alone : (p : Placement) (m n : Move) (pawn : Bool) → is_pawn_move p m ≡ pawn → IsLegal p m.from.index m.to.index m.promo → IsLegal p n.from.index m.to.index m.promo → kind_at p n.from.index ≡ kind_at p m.from.index
+from_alone : (p : Position) (m n : Move) (pawn : Bool) → is_pawn_move p m ≡ pawn → IsLegal p m.from.index m.to.index m.promo → IsLegal p n.from.index m.to.index m.promo → kind_at p n.from.index ≡ kind_at p m.from.index
     → allows (file_by pawn (is_capture p m) (has_rival p m Board) (has_rival p m File) (has_rival p m Rank) (file_of m.from.index)) (file_of n.from.index) ≡ true
     → allows (rank_by pawn (has_rival p m Board) (has_rival p m File) (has_rival p m Rank) (rank_of m.from.index)) (rank_of n.from.index) ≡ true
     → n.from.index ≡ m.from.index
@@ -145,17 +145,17 @@ promo-refl : (a : Option Kind) → option_eq same_kind a a ≡ true
 promo-refl None = refl
 promo-refl (Some a) = (kinds-Decides a a).1 refl
 
-abbrev pub spelling_of : Placement → Move → Spelling
+abbrev pub spelling_of : Position → Move → Spelling
 spelling_of p m =
     cond (castles_short p m) Short (cond (castles_long p m) Long (Goes (kind_at p m.from.index) (given_file p m) (given_rank p m) (record { to = m.to.index; promo = m.promo })))
 
 -- both castle
-king_promo : (p : Placement) (m : Move) (h : IsLegal p m.from.index m.to.index m.promo) → is_king_kind (kind_at p m.from.index) ≡ true → m.promo ≡ None
+king_promo : (p : Position) (m : Move) (h : IsLegal p m.from.index m.to.index m.promo) → is_king_kind (kind_at p m.from.index) ≡ true → m.promo ≡ None
 king_promo p m h e =
     let king : h.piece ≡ King = sym (kind_of_move p m.from.index m.to.index m.promo h) ∙ king_kind (kind_at p m.from.index) e in
     subst (λ (k : Kind). Promotes p.side k m.to.index m.promo) king h.promoted
 
-short_alone : (p : Placement) (m n : Move) → IsLegal p m.from.index m.to.index m.promo → IsLegal p n.from.index n.to.index n.promo → castles_short p m ≡ true → castles_short p n ≡ true → n ≡ m
+short_alone : (p : Position) (m n : Move) → IsLegal p m.from.index m.to.index m.promo → IsLegal p n.from.index n.to.index n.promo → castles_short p m ≡ true → castles_short p n ≡ true → n ≡ m
 short_alone p m n h i a c =
     let x = both (is_king_kind (kind_at p m.from.index)) ((m.from.index == king_home p.side) && (m.to.index == king_home p.side + 2)) a in
     let y = both (is_king_kind (kind_at p n.from.index)) ((n.from.index == king_home p.side) && (n.to.index == king_home p.side + 2)) c in
@@ -163,7 +163,7 @@ short_alone p m n h i a c =
     let ys = both (n.from.index == king_home p.side) (n.to.index == king_home p.side + 2) y.1 in
     move_same n m (equal _ _ ys.0 ∙ sym (equal _ _ xs.0)) (equal _ _ ys.1 ∙ sym (equal _ _ xs.1)) (king_promo p n i y.0 ∙ sym (king_promo p m h x.0))
 
-long_alone : (p : Placement) (m n : Move) → IsLegal p m.from.index m.to.index m.promo → IsLegal p n.from.index n.to.index n.promo → castles_long p m ≡ true → castles_long p n ≡ true → n ≡ m
+long_alone : (p : Position) (m n : Move) → IsLegal p m.from.index m.to.index m.promo → IsLegal p n.from.index n.to.index n.promo → castles_long p m ≡ true → castles_long p n ≡ true → n ≡ m
 long_alone p m n h i a c =
     let x = both (is_king_kind (kind_at p m.from.index)) ((m.from.index == king_home p.side) && (m.to.index + 2 == king_home p.side)) a in
     let y = both (is_king_kind (kind_at p n.from.index)) ((n.from.index == king_home p.side) && (n.to.index + 2 == king_home p.side)) c in
@@ -172,7 +172,7 @@ long_alone p m n h i a c =
     let to = equal _ _ ys.1 ∙ sym (equal _ _ xs.1) in
     move_same n m (equal _ _ ys.0 ∙ sym (equal _ _ xs.0)) (omega (arith, to)) (king_promo p n i y.0 ∙ sym (king_promo p m h x.0))
 
-goes_alone : (p : Placement) (m n : Move) → IsLegal p m.from.index m.to.index m.promo → IsLegal p n.from.index n.to.index n.promo
+goes_alone : (p : Position) (m n : Move) → IsLegal p m.from.index m.to.index m.promo → IsLegal p n.from.index n.to.index n.promo
     → agrees p (Goes (kind_at p m.from.index) (given_file p m) (given_rank p m) (record { to = m.to.index; promo = m.promo })) n ≡ true → n ≡ m
 goes_alone p m n h i a =
     let file = allows (given_file p m) (file_of n.from.index) in
@@ -190,14 +190,14 @@ goes_alone p m n h i a =
     let legal : IsLegal p n.from.index m.to.index m.promo = subst (λ (t : ℕ). IsLegal p n.from.index t m.promo) there (subst (λ (k : Option Kind). IsLegal p n.from.index n.to.index k) becomes i) in
     move_same n m (from_alone p m n (is_pawn_move p m) refl h legal same origin.0 origin.1) there becomes
 
-alone_by : (short long : Bool) (p : Placement) (m n : Move) → castles_short p m ≡ short → castles_long p m ≡ long → IsLegal p m.from.index m.to.index m.promo → IsLegal p n.from.index n.to.index n.promo
+alone_by : (short long : Bool) (p : Position) (m n : Move) → castles_short p m ≡ short → castles_long p m ≡ long → IsLegal p m.from.index m.to.index m.promo → IsLegal p n.from.index n.to.index n.promo
     → agrees p (cond short Short (cond long Long (Goes (kind_at p m.from.index) (given_file p m) (given_rank p m) (record { to = m.to.index; promo = m.promo })))) n ≡ true → n ≡ m
 alone_by true long p m n s l h i a = short_alone p m n h i s a
 alone_by false true p m n s l h i a = long_alone p m n h i l a
 alone_by false false p m n s l h i a = goes_alone p m n h i a
 
 -- no other legal move agrees with what a move is written as
-pub alone : (p : Placement) (m n : Move) → IsLegal p m.from.index m.to.index m.promo → IsLegal p n.from.index n.to.index n.promo → agrees p (spelling_of p m) n ≡ true → n ≡ m
+pub alone : (p : Position) (m n : Move) → IsLegal p m.from.index m.to.index m.promo → IsLegal p n.from.index n.to.index n.promo → agrees p (spelling_of p m) n ≡ true → n ≡ m
 alone p m n h i a = alone_by (castles_short p m) (castles_long p m) p m n refl refl h i a
 
 allows_given : (pawn takes b f r : Bool) (n : ℕ) → allows (file_by pawn takes b f r n) n ≡ true
@@ -214,7 +214,7 @@ allows_rank false false f r n = refl
 allows_rank false true false r n = refl
 allows_rank false true true r n = (Decides-eqb n n).1 refl
 
-self_by : (short long : Bool) (p : Placement) (m : Move) → castles_short p m ≡ short → castles_long p m ≡ long
+self_by : (short long : Bool) (p : Position) (m : Move) → castles_short p m ≡ short → castles_long p m ≡ long
     → agrees p (cond short Short (cond long Long (Goes (kind_at p m.from.index) (given_file p m) (given_rank p m) (record { to = m.to.index; promo = m.promo })))) m ≡ true
 self_by true long p m s l = s
 self_by false true p m s l = l
@@ -226,5 +226,5 @@ self_by false false p m s l =
     (two_hold _ _ (two_hold _ _ file rank) (two_hold _ _ ((Decides-eqb m.to.index m.to.index).1 refl) (promo-refl m.promo)))
 
 -- the move agrees with what it is written as
-pub agrees_self : (p : Placement) (m : Move) → agrees p (spelling_of p m) m ≡ true
+pub agrees_self : (p : Position) (m : Move) → agrees p (spelling_of p m) m ≡ true
 agrees_self p m = self_by (castles_short p m) (castles_long p m) p m refl refl

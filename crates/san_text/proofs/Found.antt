@@ -10,7 +10,7 @@ use Rattle.std.proofs.lemmas.Slice.Eq.{bytes_eq-Decides}
 use Rattle.std.specs.Option.{is_some, ok_or}
 use Rattle.std.specs.Ordering.{is_eq}
 use Rattle.chess_board.specs.Laws.{IsLegal}
-use Rattle.chess_board.specs.Placement.{Placement}
+use Rattle.chess_board.specs.Position.{Position}
 use Rattle.chess_board.specs.Text.{ComesBefore, text_of}
 use Rattle.san_text.specs.Fit.{agrees, AgreesText, IsRead, IsSpelled}
 use Rattle.san_text.specs.Spelling.{Spelling, spelled}
@@ -83,7 +83,7 @@ pub all_found : (p : Move → Bool) (xs : List Move) (i : ℕ) (found : Option M
 all_found p xs i found l e = ap (λ (ys : List Move). filter p ys) (sym (take_all i xs l)) ∙ e
 
 -- what is read at the end
-pub read_end : (p : Placement) (text : List ℕ) (s : Spelling) (xs : List Move) (found : Option Move) → spelled text ≡ Some s → ((m : Move) → Contains xs m ↔ IsLegal p m.from.index m.to.index m.promo) → filter (agrees p s) xs ≡ found_list found → IsRead p text (ok_or found NoFit)
+pub read_end : (p : Position) (text : List ℕ) (s : Spelling) (xs : List Move) (found : Option Move) → spelled text ≡ Some s → ((m : Move) → Contains xs m ↔ IsLegal p m.from.index m.to.index m.promo) → filter (agrees p s) xs ≡ found_list found → IsRead p text (ok_or found NoFit)
 read_end p text s xs None e each f = (
   subst (λ (o : Option Spelling). IsSpelled o) (sym e) tt,
   λ n h. let c = passes_stay (agrees p s) xs n ((each n).1 h.0) (subst (λ (o : Option Spelling). AgreesText p o n) e h.1) in
@@ -96,7 +96,7 @@ read_end p text s xs (Some a) e each f =
     )
 
 -- two that fit
-pub read_two : (p : Placement) (text : List ℕ) (s : Spelling) (xs : List Move) (i : ℕ) (m : Move) (found : Option Move) → spelled text ≡ Some s → ((m : Move) → Contains xs m ↔ IsLegal p m.from.index m.to.index m.promo) → AllPairs ComesBefore xs
+pub read_two : (p : Position) (text : List ℕ) (s : Spelling) (xs : List Move) (i : ℕ) (m : Move) (found : Option Move) → spelled text ≡ Some s → ((m : Move) → Contains xs m ↔ IsLegal p m.from.index m.to.index m.promo) → AllPairs ComesBefore xs
     → i < length xs → m ≡ get_or xs i m → agrees p s m ≡ true → filter (agrees p s) (take i xs) ≡ found_list found → is_some found ≡ true → IsRead p text (Err Ambiguous)
 read_two p text s xs i m found e each ordered l g t inv some =
     let two = two_found (agrees p s) xs i m found l g t inv some ordered in

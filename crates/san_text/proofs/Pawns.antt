@@ -7,7 +7,7 @@ use Rattle.chess_board.specs.declared.board.Side.TheVariants.{White, Black}
 use Rattle.chess_board.specs.declared.board.Kind.{Kind}
 use Rattle.chess_board.specs.declared.board.Kind.TheVariants.{Pawn}
 use Rattle.chess_board.specs.Board.{Man, Men, man_at, other, file_of, rank_of, square_at, files_apart, gap, toward, on_the_way}
-use Rattle.chess_board.specs.Placement.{Placement}
+use Rattle.chess_board.specs.Position.{Position}
 use Rattle.chess_board.specs.Rules.{second_rank, fifth_rank, beside}
 use Rattle.chess_board.specs.Laws.{IsOf, Ahead, Strikes, Advances, TakesPassant, Goes}
 use Rattle.san_text.proofs.Texts.{square_again}
@@ -74,7 +74,7 @@ own_not_other : (side : Side) (man : Man) → man ≡ Some (side, Pawn) → man 
 own_not_other White man e f = let sides : White ≡ Black = ap side_of (sym e ∙ f) in cc sides
 own_not_other Black man e f = let sides : Black ≡ White = ap side_of (sym e ∙ f) in cc sides
 
-no_passant : (p : Placement) (a b t : ℕ) → man_at p.men a ≡ Some (p.side, Pawn) → TakesPassant p b t
+no_passant : (p : Position) (a b t : ℕ) → man_at p.men a ≡ Some (p.side, Pawn) → TakesPassant p b t
     → (((files_apart a t ≡ 0) × Ahead p.side (rank_of a) (rank_of t) 1) ⊎ ((((files_apart a t ≡ 0) × (rank_of a ≡ second_rank p.side)) × Ahead p.side (rank_of a) (rank_of t) 2) × (man_at p.men (on_the_way a t 1) ≡ None))) → ⊥
 no_passant p a b t ma takes (inl x) =
     let here : beside b t ≡ a = ap (λ r. square_at (file_of t) r) (ahead_same p.side (rank_of b) (rank_of a) (rank_of t) 1 takes.1.0.0.1 x.1) ∙ ap (λ f. square_at f (rank_of a)) (sym (no_gap (file_of a) (file_of t) x.0)) ∙ square_again a in
@@ -85,12 +85,12 @@ strike_file : (side : Side) (a t : ℕ) → Strikes side a t → file_of a ≡ f
 strike_file side a t s e = let g = gap_none (file_of a) (file_of t) e in absurd (cc (s.0, g))
 
 -- a pawn that leaves its file strikes
-leaves : (p : Placement) (a t : ℕ) → Goes p Pawn a t → file_of a ≢ file_of t → Strikes p.side a t
+leaves : (p : Position) (a t : ℕ) → Goes p Pawn a t → file_of a ≢ file_of t → Strikes p.side a t
 leaves p a t (inl advance) h = absurd (elim (advance.1) [ inl x ↦ h (no_gap (file_of a) (file_of t) x.0) | inr x ↦ h (no_gap (file_of a) (file_of t) x.0.0.0) ])
 leaves p a t (inr (inl strike)) h = strike.0
 leaves p a t (inr (inr takes)) h = takes.1.0.0
 
-pub stays : (p : Placement) (a t : ℕ) → Goes p Pawn a t → file_of a ≡ file_of t → Advances p.men p.side a t
+pub stays : (p : Position) (a t : ℕ) → Goes p Pawn a t → file_of a ≡ file_of t → Advances p.men p.side a t
 stays p a t (inl advance) h = advance
 stays p a t (inr (inl strike)) h = absurd (strike_file p.side a t strike.0 h)
 stays p a t (inr (inr takes)) h = absurd (strike_file p.side a t takes.1.0.0 h)
@@ -100,12 +100,12 @@ of_none side None e h = h
 of_none side (Some m) e h = cc e
 
 -- a pawn goes forward to an empty square, and the other goes there too
-pub forward_alone : (p : Placement) (a b t : ℕ) → man_at p.men a ≡ Some (p.side, Pawn) → man_at p.men b ≡ Some (p.side, Pawn) → Goes p Pawn a t → Goes p Pawn b t → file_of a ≡ file_of t → a ≡ b
+pub forward_alone : (p : Position) (a b t : ℕ) → man_at p.men a ≡ Some (p.side, Pawn) → man_at p.men b ≡ Some (p.side, Pawn) → Goes p Pawn a t → Goes p Pawn b t → file_of a ≡ file_of t → a ≡ b
 forward_alone p a b t ma mb ga (inl advance) e = two_steps p.men p.side a b t ma mb (stays p a t ga e).1 advance.1
 forward_alone p a b t ma mb ga (inr (inl strike)) e = absurd (of_none (other p.side) (man_at p.men t) (stays p a t ga e).0 strike.1)
 forward_alone p a b t ma mb ga (inr (inr takes)) e = absurd (no_passant p a b t ma takes (stays p a t ga e).1)
 
 -- two pawns leave one file for one square
-pub strikes_alone : (p : Placement) (a b t : ℕ) → Goes p Pawn a t → Goes p Pawn b t → file_of a ≢ file_of t → file_of b ≡ file_of a → a ≡ b
+pub strikes_alone : (p : Position) (a b t : ℕ) → Goes p Pawn a t → Goes p Pawn b t → file_of a ≢ file_of t → file_of b ≡ file_of a → a ≡ b
 strikes_alone p a b t ga gb h e =
     same_square a b (sym e) (ahead_same p.side (rank_of a) (rank_of b) (rank_of t) 1 (leaves p a t ga h).1 (leaves p b t gb (λ f. h (sym e ∙ f))).1)

@@ -4,7 +4,7 @@ use Rattle.chess_board.specs.declared.board.Kind.{Kind}
 use Rattle.chess_board.specs.declared.board.Kind.TheVariants.{Pawn, Knight, Bishop, Rook, Queen, King}
 use Rattle.chess_board.specs.declared.board.Move.{Move}
 use Rattle.chess_board.specs.Board.{file_of, rank_of, square_at, is_pawn_kind}
-use Rattle.chess_board.specs.Placement.{Placement}
+use Rattle.chess_board.specs.Position.{Position}
 use Rattle.chess_board.specs.Laws.{IsLegal}
 use Rattle.chess_board.specs.Text.{IsOfficer}
 use Rattle.chess_board.proofs.Texts.{legal-written}
@@ -28,7 +28,7 @@ origin_by false takes true false r file rank = refl
 origin_by false takes true true false file rank = refl
 origin_by false takes true true true file rank = refl
 
-origin_is : (p : Placement) (m : Move) → origin p m ≡ place_text (given_file p m) (given_rank p m)
+origin_is : (p : Position) (m : Move) → origin p m ≡ place_text (given_file p m) (given_rank p m)
 origin_is p m = origin_by (is_pawn_move p m) (is_capture p m) (has_rival p m Board) (has_rival p m File) (has_rival p m Rank) (file_of m.from.index) (rank_of m.from.index)
 
 below_file : (pawn takes b f r : Bool) (n : ℕ) → n < 8 → Below (file_by pawn takes b f r n)
@@ -75,16 +75,16 @@ read_man Rook true takes b f r F R g q promo e hF hR hg hq o = cc
 read_man Queen true takes b f r F R g q promo e hF hR hg hq o = cc
 read_man King true takes b f r F R g q promo e hF hR hg hq o = cc
 
-mark_is : (p : Placement) (mark : List ℕ) → IsMark p mark → (mark ≡ []) ⊎ ((c : ℕ) × ((mark ≡ c ∷ []) × (is_mark c ≡ true)))
+mark_is : (p : Position) (mark : List ℕ) → IsMark p mark → (mark ≡ []) ⊎ ((c : ℕ) × ((mark ≡ c ∷ []) × (is_mark c ≡ true)))
 mark_is p mark (inl mate) = inr (35, (mate.0, refl))
 mark_is p mark (inr (inl check)) = inr (43, (check.0, refl))
 mark_is p mark (inr (inr none)) = inl none.0
 
 -- the body of a move that is not castling
-abbrev man_text : Placement → Move → List ℕ
+abbrev man_text : Position → Move → List ℕ
 man_text p m = letter (kind_at p m.from.index) ++ places (given_file p m) (given_rank p m) (is_capture p m) (file_of m.to.index) (rank_of m.to.index) m.promo
 
-body_by : (short long : Bool) (p : Placement) (m : Move) (mark : List ℕ) → castles_short p m ≡ short → castles_long p m ≡ long → IsLegal p m.from.index m.to.index m.promo → (mark ≡ []) ⊎ ((c : ℕ) × ((mark ≡ c ∷ []) × (is_mark c ≡ true)))
+body_by : (short long : Bool) (p : Position) (m : Move) (mark : List ℕ) → castles_short p m ≡ short → castles_long p m ≡ long → IsLegal p m.from.index m.to.index m.promo → (mark ≡ []) ⊎ ((c : ℕ) × ((mark ≡ c ∷ []) × (is_mark c ≡ true)))
     → spelled (cond short (79 ∷ 45 ∷ 79 ∷ []) (cond long (79 ∷ 45 ∷ 79 ∷ 45 ∷ 79 ∷ []) (man_text p m)) ++ mark)
     ≡ Some (cond short Short (cond long Long (Goes (kind_at p m.from.index) (given_file p m) (given_rank p m) (record { to = m.to.index; promo = m.promo }))))
 body_by true long p m mark s l h sign = ap read_unmarked (mark_dropped (79 ∷ 45 ∷ 79 ∷ []) (79 ∷ 45 ∷ [], (79, (refl, refl))) mark sign)
@@ -98,11 +98,11 @@ body_by false false p m mark s l h sign =
     (file_small m.from.index) (rank_small m.from.index m.from.on_board) (file_small m.to.index) small o
     ∙ ap (λ t. Some (Goes (kind_at p m.from.index) (given_file p m) (given_rank p m) (record { to = t; promo = m.promo }))) (square_again m.to.index)
 
-text_is : (p : Placement) (m : Move) → body p m ≡ cond (castles_short p m) (79 ∷ 45 ∷ 79 ∷ []) (cond (castles_long p m) (79 ∷ 45 ∷ 79 ∷ 45 ∷ 79 ∷ []) (man_text p m))
+text_is : (p : Position) (m : Move) → body p m ≡ cond (castles_short p m) (79 ∷ 45 ∷ 79 ∷ []) (cond (castles_long p m) (79 ∷ 45 ∷ 79 ∷ 45 ∷ 79 ∷ []) (man_text p m))
 text_is p m = ap (λ o. cond (castles_short p m) (79 ∷ 45 ∷ 79 ∷ []) (cond (castles_long p m) (79 ∷ 45 ∷ 79 ∷ 45 ∷ 79 ∷ []) (letter (kind_at p m.from.index) ++ (o ++ tail (is_capture p m) (file_of m.to.index) (rank_of m.to.index) m.promo)))) (origin_is p m)
 
 -- what is written is read as the move's spelling
-pub spelled_is : (p : Placement) (m : Move) (text : List ℕ) → IsLegal p m.from.index m.to.index m.promo → IsSan p m text → spelled text ≡ Some (spelling_of p m)
+pub spelled_is : (p : Position) (m : Move) (text : List ℕ) → IsLegal p m.from.index m.to.index m.promo → IsSan p m text → spelled text ≡ Some (spelling_of p m)
 spelled_is p m text h w =
     ap spelled (w.whole ∙ ap (λ b. b ++ w.mark) (text_is p m)) ∙ body_by (castles_short p m) (castles_long p m) p m w.mark refl refl h (mark_is (after p m) w.mark w.fits)
 
@@ -117,7 +117,7 @@ pub texts_differ : TextsDiffer
 texts_differ p a b text h i v w = (read_back p b text i w).1 a (read_back p a text h v).0
 
 -- what a text that was written is read as
-pub read_written : (p : Placement) (m : Move) (text : List ℕ) (result : Result Move SanFault) → IsLegal p m.from.index m.to.index m.promo → IsSan p m text → IsRead p text result → result ≡ Ok m
+pub read_written : (p : Position) (m : Move) (text : List ℕ) (result : Result Move SanFault) → IsLegal p m.from.index m.to.index m.promo → IsSan p m text → IsRead p text result → result ≡ Ok m
 read_written p m text (Ok n) h w r = ap (λ x. Ok x) ((read_back p m text h w).1 n r.0)
 read_written p m text (Err BadSan) h w r = cc (spelled_is p m text h w, r)
 read_written p m text (Err NoFit) h w r = absurd (r.1 m (read_back p m text h w).0)

@@ -4,7 +4,7 @@ use Rattle.std.specs.Option.{option_eq}
 use Rattle.chess_board.specs.declared.board.Kind.{Kind}
 use Rattle.chess_board.specs.declared.board.Move.{Move}
 use Rattle.chess_board.specs.Board.{file_of, rank_of}
-use Rattle.chess_board.specs.Placement.{Placement}
+use Rattle.chess_board.specs.Position.{Position}
 use Rattle.chess_board.specs.Laws.{IsLegal}
 use Rattle.san_text.specs.Writing.{same_kind, kind_at, castles_short, castles_long, IsSan}
 use Rattle.san_text.specs.Spelling.{Spelling, Short, Long, Goes, Target, spelled}
@@ -16,12 +16,12 @@ abbrev pub allows : Option ℕ → ℕ → Bool
 allows None n = true
 allows (Some k) n = k == n
 
-abbrev pub castles : Placement → Move → Bool
+abbrev pub castles : Position → Move → Bool
 castles p m = castles_short p m || castles_long p m
 
 -- Whether a move agrees with a spelling: castling with its spellings alone, another move in its man's kind, in the file
 -- and rank that are given, in the square reached and in the promotion.
-abbrev pub agrees : Placement → Spelling → Move → Bool
+abbrev pub agrees : Position → Spelling → Move → Bool
 agrees p Short m = castles_short p m
 agrees p Long m = castles_long p m
 agrees p (Goes kind file rank target) m =
@@ -29,12 +29,12 @@ agrees p (Goes kind file rank target) m =
     && ((allows file (file_of m.from.index) && allows rank (rank_of m.from.index))
     && ((m.to.index == target.to) && option_eq same_kind m.promo target.promo))
 
-abbrev pub AgreesText : Placement → Option Spelling → Move → Type 0
+abbrev pub AgreesText : Position → Option Spelling → Move → Type 0
 AgreesText p None m = ⊥
 AgreesText p (Some s) m = IsTrue (agrees p s m)
 
 -- a legal move that agrees with what the text spells
-abbrev pub Fits : Placement → List ℕ → Move → Type 0
+abbrev pub Fits : Position → List ℕ → Move → Type 0
 Fits p text m = IsLegal p m.from.index m.to.index m.promo × AgreesText p (spelled text) m
 
 abbrev pub IsSpelled : Option Spelling → Type 0
@@ -42,12 +42,12 @@ IsSpelled None = ⊥
 IsSpelled (Some s) = Unit {0}
 
 -- the text fits this move and no other
-abbrev pub FitsAlone : Placement → List ℕ → Move → Type 0
+abbrev pub FitsAlone : Position → List ℕ → Move → Type 0
 FitsAlone p text m = Fits p text m × ((n : Move) → Fits p text n → n ≡ m)
 
 -- What a text is read as: a move that is the one that fits, or BadSan if the text has no spelling, NoFit if it has
 -- one and no legal move fits, Ambiguous if two or more fit.
-abbrev pub IsRead : Placement → List ℕ → Result Move SanFault → Type 0
+abbrev pub IsRead : Position → List ℕ → Result Move SanFault → Type 0
 IsRead p text (Ok m) = FitsAlone p text m
 IsRead p text (Err BadSan) = spelled text ≡ None
 IsRead p text (Err NoFit) = IsSpelled (spelled text) × ((n : Move) → Fits p text n → ⊥)
@@ -55,10 +55,10 @@ IsRead p text (Err Ambiguous) = (a : Move) × ((b : Move) × (Fits p text a × F
 
 -- what is written of a legal move fits it alone, so reading it gives the move back
 abbrev pub IsReadBack : Type 0
-IsReadBack = (p : Placement) (m : Move) (text : List ℕ) → IsLegal p m.from.index m.to.index m.promo → IsSan p m text → FitsAlone p text m
+IsReadBack = (p : Position) (m : Move) (text : List ℕ) → IsLegal p m.from.index m.to.index m.promo → IsSan p m text → FitsAlone p text m
 
 -- different legal moves of a position have different texts
 abbrev pub TextsDiffer : Type 0
 TextsDiffer =
-    (p : Placement) (a b : Move) (text : List ℕ) → IsLegal p a.from.index a.to.index a.promo → IsLegal p b.from.index b.to.index b.promo
+    (p : Position) (a b : Move) (text : List ℕ) → IsLegal p a.from.index a.to.index a.promo → IsLegal p b.from.index b.to.index b.promo
     → IsSan p a text → IsSan p b text → a ≡ b

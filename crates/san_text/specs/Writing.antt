@@ -7,7 +7,7 @@ use Rattle.chess_board.specs.contracts.board.KindPartialEq.TheImpl as kinds
 use Rattle.san_text.specs.declared.men.Within.{Within}
 use Rattle.san_text.specs.declared.men.Within.TheVariants.{Board, File, Rank}
 use Rattle.chess_board.specs.Board.{man_at, file_of, rank_of, is_empty, is_king_kind, is_pawn_kind, some_square}
-use Rattle.chess_board.specs.Placement.{Placement}
+use Rattle.chess_board.specs.Position.{Position}
 use Rattle.chess_board.specs.Rules.{king_home, is_legal}
 use Rattle.chess_board.specs.Laws.{IsLegal, IsChecked}
 use Rattle.chess_board.specs.Play.{kind_on, position_after, HasLegal}
@@ -16,22 +16,22 @@ use Rattle.chess_board.specs.Play.{kind_on, position_after, HasLegal}
 abbrev pub same_kind : Kind → Kind → Bool
 same_kind = (kinds.eq-value).it
 
-abbrev pub kind_at : Placement → ℕ → Kind
+abbrev pub kind_at : Position → ℕ → Kind
 kind_at p s = kind_on (man_at p.men s)
 
 -- the king goes two squares towards a rook: castling
-abbrev pub castles_short : Placement → Move → Bool
+abbrev pub castles_short : Position → Move → Bool
 castles_short p m = is_king_kind (kind_at p m.from.index) && ((m.from.index == king_home p.side) && (m.to.index == king_home p.side + 2))
 
-abbrev pub castles_long : Placement → Move → Bool
+abbrev pub castles_long : Position → Move → Bool
 castles_long p m = is_king_kind (kind_at p m.from.index) && ((m.from.index == king_home p.side) && (m.to.index + 2 == king_home p.side))
 
 -- a man stands on the square reached, or a pawn leaves its file: also en passant
-abbrev pub is_capture : Placement → Move → Bool
+abbrev pub is_capture : Position → Move → Bool
 is_capture p m = not (is_empty (man_at p.men m.to.index)) || (is_pawn_kind (kind_at p m.from.index) && not (file_of m.from.index == file_of m.to.index))
 
 -- another man of the kind and side may legally go there, from this square
-abbrev pub is_rival : Placement → Move → ℕ → Bool
+abbrev pub is_rival : Position → Move → ℕ → Bool
 is_rival p m s = (not (s == m.from.index) && same_kind (kind_at p s) (kind_at p m.from.index)) && is_legal p s m.to.index m.promo
 
 -- on the same file, on the same rank, or anywhere
@@ -41,7 +41,7 @@ is_within File a b = file_of a == file_of b
 is_within Rank a b = rank_of a == rank_of b
 
 -- a man of the kind and side that may legally go there stands on another square, on the board, or on the man's file or rank
-abbrev pub has_rival : Placement → Move → Within → Bool
+abbrev pub has_rival : Position → Move → Within → Bool
 has_rival p m within = some_square (λ s. is_within within s m.from.index && is_rival p m s)
 
 abbrev pub file_letter : ℕ → ℕ
@@ -51,7 +51,7 @@ abbrev pub rank_digit : ℕ → ℕ
 rank_digit s = 49 + rank_of s
 
 -- nothing, else the file, else the rank, else both: the first that tells the man from the others
-abbrev pub distinction : Placement → Move → List ℕ
+abbrev pub distinction : Position → Move → List ℕ
 distinction p m =
     if not (has_rival p m Board) then []
     else (if not (has_rival p m File) then file_letter m.from.index ∷ []
@@ -68,7 +68,7 @@ letter Queen = codes "Q"
 letter King = codes "K"
 
 -- where the man comes from: a pawn's file if it captures, another man's distinction
-abbrev pub origin : Placement → Move → List ℕ
+abbrev pub origin : Position → Move → List ℕ
 origin p m =
     if is_pawn_kind (kind_at p m.from.index) then (if is_capture p m then file_letter m.from.index ∷ [] else [])
     else distinction p m
@@ -80,28 +80,28 @@ promotion (Some kind) = codes "=" ++ letter kind
 abbrev pub target : Move → List ℕ
 target m = file_letter m.to.index ∷ rank_digit m.to.index ∷ promotion m.promo
 
-abbrev pub taking : Placement → Move → List ℕ
+abbrev pub taking : Position → Move → List ℕ
 taking p m = if is_capture p m then codes "x" else []
 
 -- the text without a sign of check or mate
-abbrev pub body : Placement → Move → List ℕ
+abbrev pub body : Position → Move → List ℕ
 body p m =
     if castles_short p m then codes "O-O"
     else (if castles_long p m then codes "O-O-O"
     else letter (kind_at p m.from.index) ++ (origin p m ++ (taking p m ++ target m)))
 
-abbrev pub after : Placement → Move → Placement
+abbrev pub after : Position → Move → Position
 after p m = position_after p m.from.index m.to.index m.promo
 
 -- `#` if the side on move is mated, else `+` if it is in check, else nothing
-abbrev pub IsMark : Placement → List ℕ → Type 0
+abbrev pub IsMark : Position → List ℕ → Type 0
 IsMark p mark =
     ((mark ≡ codes "#") × (IsChecked p.men p.side × (¬ HasLegal p)))
     ⊎ (((mark ≡ codes "+") × (IsChecked p.men p.side × HasLegal p))
     ⊎ ((mark ≡ []) × (¬ IsChecked p.men p.side)))
 
 -- the text is the move, written
-pub record IsSan (p : Placement) (m : Move) (text : List ℕ) : Type 0 where
+pub record IsSan (p : Position) (m : Move) (text : List ℕ) : Type 0 where
   pub mark : List ℕ
   pub fits : IsMark (after p m) mark
   pub whole : text ≡ body p m ++ mark

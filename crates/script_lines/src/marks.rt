@@ -89,7 +89,8 @@ pub fn write_mark(mark: &Mark, out: &mut Out)
     requires { length out.old.text + length (mark_text (plain mark.now)) ≤ out.old.room }
     ensures written { out.new ≡ with out.old (mark_text (plain mark.now)) }
     // What is written of a mark that some line spells is read again.
-    ensures again { IsSpelled (plain mark.now) → mark_of (mark_text (plain mark.now)) ≡ Some (plain mark.now) }
+    ensures again { IsSpelled (plain mark.now)
+        → mark_of (mark_text (plain mark.now)) ≡ Some (plain mark.now) }
 {
     put_text(mark, out);
 }

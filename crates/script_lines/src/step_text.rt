@@ -73,7 +73,8 @@ pub fn put_step(event: &Event, iface: &[u8], engine: &[u8], out: &mut Out)
     requires iface { length iface.now ≤ 131072 }
     requires engine { length engine.now ≤ 131072 }
     requires room { length out.old.text + STEP_ROOM ≤ out.old.room }
-    ensures written { out.new ≡ with out.old (step_marks (event_of event.now) iface.now engine.now) }
+    ensures written { out.new
+        ≡ with out.old (step_marks (event_of event.now) iface.now engine.now) }
 {
     put_marks(event, iface, engine, out);
 }
@@ -85,7 +86,8 @@ pub fn put_numbered_step(number: u64, event: &Event, iface: &[u8], engine: &[u8]
     requires iface { length iface.now ≤ 131072 }
     requires engine { length engine.now ≤ 131072 }
     requires room { length out.old.text + STEP_ROOM ≤ out.old.room }
-    ensures written { out.new ≡ with out.old (numbered_marks number (event_of event.now) iface.now engine.now) }
+    ensures written { out.new
+        ≡ with out.old (numbered_marks number (event_of event.now) iface.now engine.now) }
 {
     put_step_line(number, out);
     put_marks(event, iface, engine, out);

@@ -12,7 +12,7 @@ use Rattle.line_io.specs.Source.{Supplied}
 use Rattle.line_io.specs.declared.taker.LinesEnd.{LinesEnd}
 use Rattle.line_io.specs.declared.taker.LinesEnd.TheVariants as ends
 use Rattle.scripted_engine.specs.Blocks.{Block}
-use Rattle.scripted_engine.specs.Queues.{Table}
+use Rattle.scripted_engine.specs.Queues.{Scripted}
 use Rattle.scripted_engine.specs.Answers.{Stands, Gives}
 use Rattle.scripted_engine.specs.Ends.{is_quit, until_quit, has_quit, replies_after, replies, HasAnswers, AnswersInTime, Answered, streams}
 use Rattle.line_io.specs.Source.{Received}
@@ -32,7 +32,7 @@ pub on_err : {T E : Type 0} (r : Result T E) (P : Type 0) → OnErr r P → is_e
 on_err (Ok v) P h e = cc
 on_err (Err x) P h e = h
 
-pub heard_first : {O : Type 0} (see : O → Received) (turns : Table) (o : O) → (answers_of see).took turns o [] turns o
+pub heard_first : {O : Type 0} (see : O → Received) (turns : Scripted) (o : O) → (answers_of see).took turns o [] turns o
 heard_first {O} see turns o = λ blocks stands. record {
   told = [];
   took = Appends-nil (see o).taken;
@@ -47,7 +47,7 @@ long_passes [] = refl
 long_passes (TooLong ∷ ps) = long_passes ps
 long_passes (Whole line ∷ ps) = ap (λ l. line ∷ cond (is_quit line) [] l) (long_passes ps)
 
-pub heard_long : (blocks : List Block) (pieces : List Piece) (turns : Table) (output0 output : Received) → Heard blocks pieces turns output0 output → Heard blocks (pieces ++ TooLong ∷ []) turns output0 output
+pub heard_long : (blocks : List Block) (pieces : List Piece) (turns : Scripted) (output0 output : Received) → Heard blocks pieces turns output0 output → Heard blocks (pieces ++ TooLong ∷ []) turns output0 output
 heard_long blocks pieces turns output0 output h =
     let same = long_passes pieces in
     record {
@@ -69,31 +69,31 @@ or_false false = refl
 quits : (ps : List Piece) (line : List ℕ) → has_quit (until_quit ps) ≡ false → has_quit (until_quit (ps ++ Whole line ∷ [])) ≡ is_quit line
 quits ps line e = ap has_quit (line_more ps line e) ∙ has_append (until_quit ps) (line ∷ []) ∙ ap (λ v. v || has_quit (line ∷ [])) e ∙ or_false (is_quit line)
 
-told_line : (blocks : List Block) (turns turns' : Table) (pieces : List Piece) (output0 output : Received) (line text : List ℕ) → Gives turns turns' line text → (h : Heard blocks pieces turns output0 output)
+reply_line : (blocks : List Block) (turns turns' : Scripted) (pieces : List Piece) (output0 output : Received) (line text : List ℕ) → Gives turns turns' line text → (h : Heard blocks pieces turns output0 output)
     → h.told ++ text ≡ replies blocks (pieces ++ Whole line ∷ [])
-told_line blocks turns turns' pieces output0 output line text gives h =
+reply_line blocks turns turns' pieces output0 output line text gives h =
     ap (λ l. l ++ text) h.answered ∙ ap (λ l. replies blocks pieces ++ l) (gives blocks (until_quit pieces) h.stands).0 ∙ sym (replies_last blocks pieces [] line h.no_quit (none_behind line))
 
-pub heard_line : (blocks : List Block) (turns turns' : Table) (pieces : List Piece) (output0 output output' : Received) (line text : List ℕ) → is_quit line ≡ false → output.faults ≤ output'.faults → Appends output.taken output'.taken text → Gives turns turns' line text
+pub heard_line : (blocks : List Block) (turns turns' : Scripted) (pieces : List Piece) (output0 output output' : Received) (line text : List ℕ) → is_quit line ≡ false → output.faults ≤ output'.faults → Appends output.taken output'.taken text → Gives turns turns' line text
     → Heard blocks pieces turns output0 output → Heard blocks (pieces ++ Whole line ∷ []) turns' output0 output'
 heard_line blocks turns turns' pieces output0 output output' line text off later wrote gives h = record {
   told = h.told ++ text;
   took = Appends-trans output0.taken output.taken output'.taken h.told text h.took wrote;
   writes = omega (arith, h.writes);
   stands = subst (λ (ls : List (List ℕ)). Stands turns' blocks ls) (sym (line_more pieces line h.no_quit)) (gives blocks (until_quit pieces) h.stands).1;
-  answered = told_line blocks turns turns' pieces output0 output line text gives h;
+  answered = reply_line blocks turns turns' pieces output0 output line text gives h;
   no_quit = quits pieces line h.no_quit ∙ off;
 }
 
-pub halted_quit : (blocks : List Block) (turns turns' : Table) (pieces : List Piece) (output0 output output' : Received) (line text : List ℕ) → is_quit line ≡ true → Appends output.taken output'.taken text → Gives turns turns' line text
+pub halted_quit : (blocks : List Block) (turns turns' : Scripted) (pieces : List Piece) (output0 output output' : Received) (line text : List ℕ) → is_quit line ≡ true → Appends output.taken output'.taken text → Gives turns turns' line text
     → Heard blocks pieces turns output0 output → Halted stops.Quit blocks (pieces ++ Whole line ∷ []) output0 output'
 halted_quit blocks turns turns' pieces output0 output output' line text quit wrote gives h = record {
   told = h.told ++ text;
   took = Appends-trans output0.taken output.taken output'.taken h.told text h.took wrote;
-  stops = (told_line blocks turns turns' pieces output0 output line text gives h, quits pieces line h.no_quit ∙ quit);
+  stops = (reply_line blocks turns turns' pieces output0 output line text gives h, quits pieces line h.no_quit ∙ quit);
 }
 
-pub halted_write : (blocks : List Block) (turns turns' : Table) (pieces : List Piece) (output0 output output' : Received) (line text : List ℕ) → Rose output.faults output'.faults → TakesPrefix output.taken output'.taken text → Gives turns turns' line text
+pub halted_write : (blocks : List Block) (turns turns' : Scripted) (pieces : List Piece) (output0 output output' : Received) (line text : List ℕ) → Rose output.faults output'.faults → TakesPrefix output.taken output'.taken text → Gives turns turns' line text
     → Heard blocks pieces turns output0 output → Halted stops.WriteFailed blocks (pieces ++ Whole line ∷ []) output0 output'
 halted_write blocks turns turns' pieces output0 output output' line text rose wrote gives h = record {
   told = h.told ++ take wrote.0 text;
@@ -102,7 +102,7 @@ halted_write blocks turns turns' pieces output0 output output' line text rose wr
     rose_later output0.faults output.faults output'.faults h.writes rose,
     (
       drop wrote.0 text,
-      append_assoc h.told (take wrote.0 text) (drop wrote.0 text) ∙ ap (λ l. h.told ++ l) (take-append-drop wrote.0 text) ∙ told_line blocks turns turns' pieces output0 output line text gives h,
+      append_assoc h.told (take wrote.0 text) (drop wrote.0 text) ∙ ap (λ l. h.told ++ l) (take-append-drop wrote.0 text) ∙ reply_line blocks turns turns' pieces output0 output line text gives h,
     ),
   );
 }
@@ -127,11 +127,11 @@ replies_more blocks ps qs = more_by blocks ps qs (has_quit (until_quit ps)) refl
 no_more : (limit : ℕ) (bytes left : List ℕ) → left ≡ [] → items limit bytes ≡ items limit (bytes ++ left)
 no_more limit bytes left e = ap (items limit) (sym (append-nil bytes) ∙ ap (λ l. bytes ++ l) (sym e))
 
-in_time_by : {O : Type 0} (see : O → Received) (old new : Place Table O) (blocks : List Block) → Stands old.taker blocks [] → (ending : LinesEnd Stop) → (t : Taken (answers_of see) 65536 ending old new) → AnswersInTime blocks (see old.output) t.given
+in_time_by : {O : Type 0} (see : O → Received) (old new : Place Scripted O) (blocks : List Block) → Stands old.taker blocks [] → (ending : LinesEnd Stop) → (t : Taken (answers_of see) 65536 ending old new) → AnswersInTime blocks (see old.output) t.given
 in_time_by see old new blocks stands ending t = (t.pieces, in_time_as 65536 _ (HasAnswers blocks (see old.output)) (λ pieces w. let h = w.2 blocks stands in (see w.1, subst (λ (l : List ℕ). Appends (see old.output).taken (see w.1).taken l) h.answered h.took)) t.given t.pieces t.in_time)
 
 -- how the answers end
-pub answered_by : {O : Type 0} (see : O → Received) (ending : LinesEnd Stop) (old new : Place Table O) (blocks : List Block) (file file' : Supplied) → Stands old.taker blocks []
+pub answered_by : {O : Type 0} (see : O → Received) (ending : LinesEnd Stop) (old new : Place Scripted O) (blocks : List Block) (file file' : Supplied) → Stands old.taker blocks []
     → Taken (answers_of see) 65536 ending old new → Answered (ending_of ending) blocks (streams file old.input (see old.output)) (streams file' new.input (see new.output))
 answered_by {O} see (ends.Stopped stops.Quit) old new blocks file file' stands t =
     let h = t.ends.stopped blocks stands in

@@ -8,7 +8,7 @@ use Rattle.line_io.specs.Takers.{Meaning}
 use Rattle.line_io.specs.declared.taker.LinesEnd.{LinesEnd}
 use Rattle.line_io.specs.declared.taker.LinesEnd.TheVariants as ends
 use Rattle.scripted_engine.specs.Blocks.{Block}
-use Rattle.scripted_engine.specs.Queues.{Table}
+use Rattle.scripted_engine.specs.Queues.{Scripted}
 use Rattle.scripted_engine.specs.Answers.{Stands}
 use Rattle.scripted_engine.specs.Ends.{until_quit, has_quit, replies}
 use Rattle.scripted_engine.specs.declared.answering.Stop.{Stop}
@@ -24,7 +24,7 @@ ending_of ends.ReadFailed = endings.ReadFailed
 ending_of ends.Endless = endings.Endless
 
 -- these lines were answered, and none of them begins with `quit`
-pub record Heard (blocks : List Block) (pieces : List Piece) (table : Table) (output0 output : Received) : Type 0 where
+pub record Heard (blocks : List Block) (pieces : List Piece) (table : Scripted) (output0 output : Received) : Type 0 where
   pub told : List ℕ
   pub took : Appends output0.taken output.taken told
   pub writes : output0.faults ≤ output.faults
@@ -43,7 +43,7 @@ pub record Halted (stop : Stop) (blocks : List Block) (pieces : List Piece) (out
   pub stops : StopsBy stop blocks pieces told output0 output
 
 -- what answers to lines are
-abbrev pub answers_of : {O : Type 0} → (O → Received) → Meaning Table O Stop
+abbrev pub answers_of : {O : Type 0} → (O → Received) → Meaning Scripted O Stop
 answers_of {O} see = record {
   took = λ table0 output0 pieces table output. (blocks : List Block) → Stands table0 blocks [] → Heard blocks pieces table (see output0) (see output);
   stopped = λ table0 output0 pieces stop table output. (blocks : List Block) → Stands table0 blocks [] → Halted stop blocks pieces (see output0) (see output);

@@ -25,7 +25,7 @@ abbrev pub text_at : Queue → ℕ → List ℕ
 text_at q at = option_map_or (λ t. t) (slice_get q.answers at) []
 
 -- the words, and of each its answers
-pub record Table : Type 0 where
+pub record Scripted : Type 0 where
   pub words : List (List ℕ)
   pub queues : List Queue
 

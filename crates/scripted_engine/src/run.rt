@@ -110,14 +110,17 @@ pub fn scripted_main<F: Source, I: Source, O: Sink>(
     ensures usage { (result.code ≡ 2) ↔ (length words.now ≡ 1 → ⊥) }
     ensures untouched { result.code ≡ 2
         → (file.new ≡ file.old) × (input.new ≡ input.old) × (output.new ≡ output.old) }
-    ensures session { let old = streams (F.state file.old) (I.state input.old) (O.state output.old) in
+    ensures session { let old = streams (F.state file.old) (I.state input.old)
+        (O.state output.old) in
         let new = streams (F.state file.new) (I.state input.new) (O.state output.new) in
         length words.now ≡ 1
         → (ending : Ending) × (result.code ≡ code_of ending) × Session ending old new }
-    ensures answers { let old = streams (F.state file.old) (I.state input.old) (O.state output.old) in
+    ensures answers { let old = streams (F.state file.old) (I.state input.old)
+        (O.state output.old) in
         let new = streams (F.state file.new) (I.state input.new) (O.state output.new) in
         length words.now ≡ 1 → AnswersInput result.code old new }
-    ensures complete { let old = streams (F.state file.old) (I.state input.old) (O.state output.old) in
+    ensures complete { let old = streams (F.state file.old) (I.state input.old)
+        (O.state output.old) in
         let new = streams (F.state file.new) (I.state input.new) (O.state output.new) in
         length words.now ≡ 1 → Completes result.code old new }
 {

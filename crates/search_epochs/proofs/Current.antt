@@ -9,8 +9,8 @@ use Rattle.search_epochs.specs.declared.words.Call.TheVariants as calls
 use Rattle.search_epochs.specs.declared.words.Said.TheVariants as said
 use Rattle.search_epochs.specs.declared.words.Orders.{Orders}
 use Rattle.search_epochs.specs.declared.words.Orders.TheVariants as orders
-use Rattle.search_epochs.specs.Talk.{Engine, Boot, Getting, Idle, Search, Gone, What, Says, Plays, Hurries, Quiet, Talk, Turn, TicketWithin, LastWithin, turned, is_move, is_nothing, kind_of}
-use Rattle.search_epochs.specs.View.{View, forget, stale_state, settled_state, choose, choose_search, after_what, mid_view, kept}
+use Rattle.search_epochs.specs.Tickets.{Engine, Boot, Getting, Idle, Search, Gone, What, Says, Plays, Hurries, Quiet, Ticketed, Turn, TicketWithin, LastWithin, turned, is_move, is_nothing, kind_of}
+use Rattle.search_epochs.specs.Dialogue.{Dialogue, forget, stale_state, settled_state, choose, choose_search, after_what, mid_dialogue, kept}
 use Rattle.search_epochs.specs.History.{answers, answers_at, is_end}
 use Rattle.search_epochs.proofs.Turns.{twice}
 use Rattle.search_epochs.proofs.Whole.{mid_kept}
@@ -36,7 +36,7 @@ answers_kept (Says said.Best) (states.Search kinds.Move stale s) = not stale
 answers_kept w e = false
 
 -- in a step without a new epoch the call of an open current search stays
-heard_current : (P : GoKind → Call → Type 0) (v : View) (w : What) (call call' : Call) → call' ≡ cond (answers_kept w v.state || is_end w) calls.Nothing call
+heard_current : (P : GoKind → Call → Type 0) (v : Dialogue) (w : What) (call call' : Call) → call' ≡ cond (answers_kept w v.state || is_end w) calls.Nothing call
     → IfCurrent v.state (λ k. P k call) → IfCurrent (after_what v w).state (λ k. P k call')
 heard_current P v w call call' e h = by_state v.state w e h where
   by_state : (x : EngineState) (w : What) → call' ≡ cond (answers_kept w x || is_end w) calls.Nothing call → IfCurrent x (λ k. P k call)
@@ -78,9 +78,9 @@ heard_current P v w call call' e h = by_state v.state w e h where
   by_state (states.Search k stale s) Quiet e h = moved P k stale s call call' e h
 
 -- what holds of the kind and the call of an open current search goes on to the middle of a step
-pub mid_current : (P : GoKind → Call → Type 0) (v : View) (w : What) (rises : Bool) (call call' : Call)
-    → (rises ≡ false → call' ≡ cond (answers_kept w v.state || is_end w) calls.Nothing call)
-    → IfCurrent v.state (λ k. P k call) → IfCurrent (mid_view v w rises).state (λ k. P k call')
+pub mid_current : (P : GoKind → Call → Type 0) (v : Dialogue) (w : What) (begins_epoch : Bool) (call call' : Call)
+    → (begins_epoch ≡ false → call' ≡ cond (answers_kept w v.state || is_end w) calls.Nothing call)
+    → IfCurrent v.state (λ k. P k call) → IfCurrent (mid_dialogue v w begins_epoch).state (λ k. P k call')
 mid_current P v w true call call' stays h = none_if_stale (λ k. P k call') (after_what v w).state
 mid_current P v w false call call' stays h = heard_current P v w call call' (stays refl) h
 
@@ -100,12 +100,12 @@ answers_forgotten epoch e Hurries = refl
 answers_forgotten epoch e Quiet = refl
 
 -- the same of a dialogue
-pub turned_current : (P : GoKind → Call → Type 0) (t : Talk) (u : Turn) (call : Call) → TicketWithin t.epoch t.engine → LastWithin t.epoch t.last
-    → (u.rises ≡ false → u.call ≡ cond (answers t u.what || is_end u.what) calls.Nothing call)
+pub turned_current : (P : GoKind → Call → Type 0) (t : Ticketed) (u : Turn) (call : Call) → TicketWithin t.epoch t.engine → LastWithin t.epoch t.last
+    → (u.begins_epoch ≡ false → u.call ≡ cond (answers t u.what || is_end u.what) calls.Nothing call)
     → IfCurrent (forget t.epoch t.engine) (λ k. P k call) → IfCurrent (forget (turned t u).epoch (turned t u).engine) (λ k. P k u.call)
 turned_current P t u call w l stays h =
-    subst (λ (v : View). IfCurrent v.state (λ k. P k u.call)) (mid_kept t u.hint u w l)
-    (mid_current P (kept t u.hint) u.what u.rises call u.call
+    subst (λ (v : Dialogue). IfCurrent v.state (λ k. P k u.call)) (mid_kept t u.hint u w l)
+    (mid_current P (kept t u.hint) u.what u.begins_epoch call u.call
     (λ r. stays r ∙ ap (λ b. cond (b || is_end u.what) calls.Nothing call) (sym (answers_forgotten t.epoch t.engine u.what))) h)
 
 module _ (P : Orders → GoKind → Type 0) where

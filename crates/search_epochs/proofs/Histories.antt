@@ -6,10 +6,10 @@ use Rattle.search_epochs.specs.declared.words.Call.TheVariants as calls
 use Rattle.search_epochs.specs.declared.words.Said.TheVariants as said
 use Rattle.search_epochs.specs.declared.words.Orders.{Orders}
 use Rattle.search_epochs.specs.declared.words.Orders.TheVariants as orders
-use Rattle.search_epochs.specs.Talk.{Engine, Boot, Getting, Idle, Search, Gone, What, Says, Talk, Word, Quit, TicketWithin, LastWithin, AllSetup, Settled, sent, sent_all, spent, owed, turned, after, ponders, is_due, is_hit, is_hurry, is_empty, is_gone, leaves_boot}
-use Rattle.search_epochs.specs.View.{View, forget, kept, kept_mid, words, settle, settled_by, after_settled, played_of, boots}
-use Rattle.search_epochs.specs.History.{Exchange, MayCome, AreLawful, IsSteady, Steady, Chosen, Lawful, talk, view, last_hint, last_call, is_closed, heard_in, choice, orders_of, last_orders, is_gone_state, asked}
-use Rattle.search_epochs.specs.Laws.{ChosenIsLawful, LawfulIsChosen, ViewIsKept, DialogueIsUnique}
+use Rattle.search_epochs.specs.Tickets.{Engine, Boot, Getting, Idle, Search, Gone, What, Says, Ticketed, Word, Quit, TicketWithin, LastWithin, AllSetup, Settled, sent, sent_all, spent, owed, turned, after, ponders, is_due, is_hit, is_hurry, is_empty, is_gone, leaves_boot}
+use Rattle.search_epochs.specs.Dialogue.{Dialogue, forget, kept, kept_mid, words, settle, settled_by, after_settled, played_of, boots}
+use Rattle.search_epochs.specs.History.{Exchange, MayCome, AreLawful, IsSteady, Steady, Chosen, Lawful, dialogue, view, last_hint, last_call, is_closed, heard_in, choice, orders_of, last_orders, is_gone_state, asked}
+use Rattle.search_epochs.specs.Laws.{ChosenIsLawful, LawfulIsChosen, DialogueIsKept, DialogueIsUnique}
 use Rattle.search_epochs.proofs.Whole.{triple, mid_kept, whole_mid, ponders_before}
 use Rattle.search_epochs.proofs.Rests.{rested}
 use Rattle.search_epochs.proofs.Same.{same}
@@ -35,24 +35,24 @@ quit_sent epoch Idle = refl
 quit_sent epoch (Search k t s) = refl
 quit_sent epoch Gone = refl
 
-pub none_sent : (m : Talk) (closed gone : Bool) → sent_all m.epoch m.engine (last_orders closed gone) ≡ m.engine
+pub none_sent : (m : Ticketed) (closed gone : Bool) → sent_all m.epoch m.engine (last_orders closed gone) ≡ m.engine
 none_sent m true gone = refl
 none_sent m false true = refl
 none_sent m false false = quit_sent m.epoch m.engine
 
 -- the last orders leave everything as it is
-pub closing_after : (m : Talk) (closed gone : Bool) → after m (last_orders closed gone) ≡ m
-closing_after m closed gone = ap (λ (e : Engine). let t : Talk = record { engine = e; epoch = m.epoch; last = m.last } in t) (none_sent m closed gone)
+pub closing_after : (m : Ticketed) (closed gone : Bool) → after m (last_orders closed gone) ≡ m
+closing_after m closed gone = ap (λ (e : Engine). let t : Ticketed = record { engine = e; epoch = m.epoch; last = m.last } in t) (none_sent m closed gone)
 
 -- what goes on in an exchange if the code stands for the dialogue before
-module _ (t : Talk) (x : Exchange) (w : TicketWithin t.epoch t.engine) (l : LastWithin t.epoch t.last) where
+module _ (t : Ticketed) (x : Exchange) (w : TicketWithin t.epoch t.engine) (l : LastWithin t.epoch t.last) where
   heard_kept : heard_in (kept t x.turn.hint) x ≡ kept_mid t x.turn
   heard_kept = mid_kept t x.turn.hint x.turn w l
 
   choice_open : x.closed ≡ false → choice (kept t x.turn.hint) x ≡ settled_by t x.turn
   choice_open e =
       ap (λ b. cond b orders.None (settle (heard_in (kept t x.turn.hint) x) x.turn.call (boots (forget t.epoch t.engine) x.turn.what || not (is_empty x.turn.waiting)) (played_of x.turn.what) (is_hurry x.turn.what))) e
-      ∙ ap (λ (m : View). settle m x.turn.call (boots (forget t.epoch t.engine) x.turn.what || not (is_empty x.turn.waiting)) (played_of x.turn.what) (is_hurry x.turn.what)) heard_kept
+      ∙ ap (λ (m : Dialogue). settle m x.turn.call (boots (forget t.epoch t.engine) x.turn.what || not (is_empty x.turn.waiting)) (played_of x.turn.what) (is_hurry x.turn.what)) heard_kept
       ∙ ap (λ b. settle (kept_mid t x.turn) x.turn.call (b || not (is_empty x.turn.waiting)) (played_of x.turn.what) (is_hurry x.turn.what)) (boots_kept t.epoch t.engine x.turn.what)
 
   orders_open : (closed : Bool) → x.closed ≡ false → orders_of (kept t x.turn.hint) closed x ≡ words x.turn.waiting (settled_by t x.turn)
@@ -63,11 +63,11 @@ module _ (t : Talk) (x : Exchange) (w : TicketWithin t.epoch t.engine) (l : Last
   orders_closed : (closed : Bool) → x.closed ≡ true → orders_of (kept t x.turn.hint) closed x ≡ last_orders closed (is_gone (turned t x.turn).engine)
   orders_closed closed e =
       ap (λ b. cond b (last_orders closed (is_gone_state (heard_in (kept t x.turn.hint) x).state)) (words x.turn.waiting (choice (kept t x.turn.hint) x))) e
-      ∙ ap (λ (m : View). last_orders closed (is_gone_state m.state)) heard_kept
+      ∙ ap (λ (m : Dialogue). last_orders closed (is_gone_state m.state)) heard_kept
       ∙ ap (last_orders closed) (gone_kept (turned t x.turn).epoch (turned t x.turn).engine)
 
   module _ (call : Call) (hint : Option Move) (steady : IsSteady t call hint x) where
-    hint_kept : x.turn.rises ≡ false → x.hint ≡ x.turn.hint
+    hint_kept : x.turn.begins_epoch ≡ false → x.hint ≡ x.turn.hint
     hint_kept r = steady.hint_stays r ∙ sym steady.hint_before
 
     hint_named : (h : Move) → owed (turned t x.turn) x.turn.call ≡ calls.Ponder h → x.hint ≡ Some h
@@ -84,7 +84,7 @@ module _ (t : Talk) (x : Exchange) (w : TicketWithin t.epoch t.engine) (l : Last
     pub kept_open : AllSetup x.turn.waiting → x.closed ≡ false
         → after_settled (heard_in (kept t x.turn.hint) x) (choice (kept t x.turn.hint) x) ≡ kept (after (turned t x.turn) (words x.turn.waiting (settled_by t x.turn))) x.hint
     kept_open a e =
-        ap (λ (m : View). after_settled m (choice (kept t x.turn.hint) x)) heard_kept
+        ap (λ (m : Dialogue). after_settled m (choice (kept t x.turn.hint) x)) heard_kept
         ∙ ap (λ (o : Orders). after_settled (kept_mid t x.turn) o) (choice_open e)
         ∙ (whole_mid t x.turn x.hint w a hint_kept hint_named).1
 
@@ -99,9 +99,9 @@ module _ (t : Talk) (x : Exchange) (w : TicketWithin t.epoch t.engine) (l : Last
         → after_settled (heard_in (kept t x.turn.hint) x) (choice (kept t x.turn.hint) x) ≡ kept (after (turned t x.turn) (last_orders closed (is_gone (turned t x.turn).engine))) x.hint
     kept_closed closed e =
         ap (λ b. after_settled (heard_in (kept t x.turn.hint) x) (cond b orders.None (settle (heard_in (kept t x.turn.hint) x) x.turn.call (boots (forget t.epoch t.engine) x.turn.what || not (is_empty x.turn.waiting)) (played_of x.turn.what) (is_hurry x.turn.what)))) e
-        ∙ ap (λ (m : View). after_settled m orders.None) heard_kept
+        ∙ ap (λ (m : Dialogue). after_settled m orders.None) heard_kept
         ∙ rests
-        ∙ ap (λ (m : Talk). kept m x.hint) (sym (closing_after (turned t x.turn) closed (is_gone (turned t x.turn).engine)))
+        ∙ ap (λ (m : Ticketed). kept m x.hint) (sym (closing_after (turned t x.turn) closed (is_gone (turned t x.turn).engine)))
 
     -- orders that were chosen are lawful, and the other way round
     pub are_lawful : (closed : Bool) → MayCome closed x → x.orders ≡ orders_of (kept t x.turn.hint) closed x → AreLawful t closed x
@@ -126,24 +126,24 @@ module _ (t : Talk) (x : Exchange) (w : TicketWithin t.epoch t.engine) (l : Last
       by_closed false e = kept_open m.waiting e ∙ ap (λ (ws : List Word). kept (after (turned t x.turn) ws) x.hint) (sym (o ∙ orders_open closed e))
 
 -- a dialogue whose orders the code chose is lawful, and what it keeps goes with the tickets
-pub chosen_all : (xs : List Exchange) → Steady xs → Chosen xs → Lawful xs × (view xs ≡ kept (talk xs) (last_hint xs))
+pub chosen_all : (xs : List Exchange) → Steady xs → Chosen xs → Lawful xs × (view xs ≡ kept (dialogue xs) (last_hint xs))
 chosen_all [] s c = (tt, refl)
 chosen_all (x ∷ xs) s c =
     let before = chosen_all xs s.0 c.0 in
     let bound = within xs in
-    let v : view xs ≡ kept (talk xs) x.turn.hint = before.1 ∙ ap (kept (talk xs)) (sym s.1.hint_before) in
-    let o : x.orders ≡ orders_of (kept (talk xs) x.turn.hint) (is_closed xs) x = c.2 ∙ ap (λ (v : View). orders_of v (is_closed xs) x) v in
-    ((before.0, c.1, are_lawful (talk xs) x bound.0 bound.1 (last_call xs) (last_hint xs) s.1 (is_closed xs) c.1 o), ap (λ (v : View). after_settled (heard_in v x) (choice v x)) v ∙ goes_on (talk xs) x bound.0 bound.1 (last_call xs) (last_hint xs) s.1 (is_closed xs) c.1 o)
+    let v : view xs ≡ kept (dialogue xs) x.turn.hint = before.1 ∙ ap (kept (dialogue xs)) (sym s.1.hint_before) in
+    let o : x.orders ≡ orders_of (kept (dialogue xs) x.turn.hint) (is_closed xs) x = c.2 ∙ ap (λ (v : Dialogue). orders_of v (is_closed xs) x) v in
+    ((before.0, c.1, are_lawful (dialogue xs) x bound.0 bound.1 (last_call xs) (last_hint xs) s.1 (is_closed xs) c.1 o), ap (λ (v : Dialogue). after_settled (heard_in v x) (choice v x)) v ∙ goes_on (dialogue xs) x bound.0 bound.1 (last_call xs) (last_hint xs) s.1 (is_closed xs) c.1 o)
 
 -- a lawful dialogue is one whose orders the code chose
-pub lawful_all : (xs : List Exchange) → Steady xs → Lawful xs → Chosen xs × (view xs ≡ kept (talk xs) (last_hint xs))
+pub lawful_all : (xs : List Exchange) → Steady xs → Lawful xs → Chosen xs × (view xs ≡ kept (dialogue xs) (last_hint xs))
 lawful_all [] s l = (tt, refl)
 lawful_all (x ∷ xs) s l =
     let before = lawful_all xs s.0 l.0 in
     let bound = within xs in
-    let v : view xs ≡ kept (talk xs) x.turn.hint = before.1 ∙ ap (kept (talk xs)) (sym s.1.hint_before) in
-    let o : x.orders ≡ orders_of (kept (talk xs) x.turn.hint) (is_closed xs) x = are_chosen (talk xs) x bound.0 bound.1 (last_call xs) (last_hint xs) s.1 (is_closed xs) l.1 l.2 in
-    ((before.0, l.1, o ∙ ap (λ (v : View). orders_of v (is_closed xs) x) (sym v)), ap (λ (v : View). after_settled (heard_in v x) (choice v x)) v ∙ goes_on (talk xs) x bound.0 bound.1 (last_call xs) (last_hint xs) s.1 (is_closed xs) l.1 o)
+    let v : view xs ≡ kept (dialogue xs) x.turn.hint = before.1 ∙ ap (kept (dialogue xs)) (sym s.1.hint_before) in
+    let o : x.orders ≡ orders_of (kept (dialogue xs) x.turn.hint) (is_closed xs) x = are_chosen (dialogue xs) x bound.0 bound.1 (last_call xs) (last_hint xs) s.1 (is_closed xs) l.1 l.2 in
+    ((before.0, l.1, o ∙ ap (λ (v : Dialogue). orders_of v (is_closed xs) x) (sym v)), ap (λ (v : Dialogue). after_settled (heard_in v x) (choice v x)) v ∙ goes_on (dialogue xs) x bound.0 bound.1 (last_call xs) (last_hint xs) s.1 (is_closed xs) l.1 o)
 
 pub lawful : ChosenIsLawful
 lawful xs s c = (chosen_all xs s c).0
@@ -151,17 +151,17 @@ lawful xs s c = (chosen_all xs s c).0
 pub chosen : LawfulIsChosen
 chosen xs s l = (lawful_all xs s l).0
 
-pub view_kept : ViewIsKept
+pub view_kept : DialogueIsKept
 view_kept xs s l = (lawful_all xs s l).1
 
 -- the orders of an exchange are determined by what is asked
-same_orders : (t : Talk) (closed : Bool) (x : Exchange) (ws : List Word) → AreLawful t closed x → AreLawful t closed (record x { orders = ws }) → x.orders ≡ ws
+same_orders : (t : Ticketed) (closed : Bool) (x : Exchange) (ws : List Word) → AreLawful t closed x → AreLawful t closed (record x { orders = ws }) → x.orders ≡ ws
 same_orders t closed x ws a b = by_closed x.closed refl where
   by_closed : (c : Bool) → x.closed ≡ c → x.orders ≡ ws
   by_closed true e = a.closing e ∙ sym (b.closing e)
   by_closed false e = same _ _ _ _ _ _ _ _ _ (a.settled e) (b.settled e)
 
-same_exchange : (t : Talk) (closed : Bool) (x y : Exchange) → asked x ≡ asked y → AreLawful t closed x → AreLawful t closed y → x ≡ y
+same_exchange : (t : Ticketed) (closed : Bool) (x y : Exchange) → asked x ≡ asked y → AreLawful t closed x → AreLawful t closed y → x ≡ y
 same_exchange t closed x y e a b =
     let other : record x { orders = y.orders } ≡ y = ap (λ (z : Exchange). record z { orders = y.orders }) e in
     let b' : AreLawful t closed (record x { orders = y.orders }) = subst (AreLawful t closed) (sym other) b in
@@ -175,5 +175,5 @@ unique (x ∷ xs) (y ∷ ys) a b e =
     let head : asked x ≡ asked y = cc in
     let tail : map asked xs ≡ map asked ys = cc in
     let rest = unique xs ys a.0 b.0 tail in
-    let b' : AreLawful (talk xs) (is_closed xs) y = subst (λ (zs : List Exchange). AreLawful (talk zs) (is_closed zs) y) (sym rest) b.2 in
-    ap (λ (z : Exchange). z ∷ xs) (same_exchange (talk xs) (is_closed xs) x y head a.2 b') ∙ ap (λ (zs : List Exchange). y ∷ zs) rest
+    let b' : AreLawful (dialogue xs) (is_closed xs) y = subst (λ (zs : List Exchange). AreLawful (dialogue zs) (is_closed zs) y) (sym rest) b.2 in
+    ap (λ (z : Exchange). z ∷ xs) (same_exchange (dialogue xs) (is_closed xs) x y head a.2 b') ∙ ap (λ (zs : List Exchange). y ∷ zs) rest

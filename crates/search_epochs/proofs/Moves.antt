@@ -5,7 +5,7 @@ use denote.Enum.Bare.{sameb}
 use Rattle.chess_board.specs.contracts.board.Kind.{the_type}
 use Rattle.chess_board.specs.declared.board.Kind.{Kind}
 use Rattle.chess_board.specs.declared.board.Kind.TheVariants.{Pawn, Knight, Bishop, Rook, Queen, King}
-use Rattle.search_epochs.specs.Talk.{same_kind}
+use Rattle.search_epochs.specs.Tickets.{same_kind}
 
 -- what `==` answers at kinds of men
 kinds_compared : (a b : Kind) → sameb the_type a b ≡ same_kind a b

@@ -9,12 +9,12 @@ use Rattle.search_epochs.specs.declared.words.Heard.TheVariants as hears
 use Rattle.search_epochs.specs.declared.words.Call.{Call}
 use Rattle.search_epochs.specs.declared.words.Call.TheVariants as calls
 use Rattle.search_epochs.specs.declared.words.Orders.{Orders}
-use Rattle.search_epochs.specs.Talk.{Talk, Word, TicketWithin, LastWithin, AllSetup, Settled, sent_all, hear, rise, spent, owed, after, is_empty, is_idle, is_move}
-use Rattle.search_epochs.specs.View.{View, StandsFor, forget, meaning, heard_state, heard_spent, stale_state, settled_state, after_said, after_epoch, settle, choose, hits, is_pondered, words}
+use Rattle.search_epochs.specs.Tickets.{Ticketed, Word, TicketWithin, LastWithin, AllSetup, Settled, sent_all, hear, rise, spent, owed, after, is_empty, is_idle, is_move}
+use Rattle.search_epochs.specs.Dialogue.{Dialogue, StandsFor, forget, meaning, heard_state, heard_spent, stale_state, settled_state, after_said, after_epoch, settle, choose, hits, is_pondered, words}
 use Rattle.search_epochs.proofs.Settles.{chosen}
 use Rattle.search_epochs.proofs.Turns.{heard_both, spent_both, risen, risen_spent, ordered}
 
-pub heard_stands : (v : View) (t : Talk) (s : Said) → StandsFor v t → StandsFor (after_said v s) (hear t s)
+pub heard_stands : (v : Dialogue) (t : Ticketed) (s : Said) → StandsFor v t → StandsFor (after_said v s) (hear t s)
 heard_stands v t s h = record {
   same_state = ap (λ (e : EngineState). heard_state e s) h.same_state ∙ heard_both t.epoch t.engine s;
   same_spent =
@@ -23,14 +23,14 @@ heard_stands v t s h = record {
       ∙ spent_both t.epoch t.engine s t.last;
 }
 
-pub risen_stands : (v : View) (t : Talk) → TicketWithin t.epoch t.engine → LastWithin t.epoch t.last → StandsFor v t → StandsFor (after_epoch v) (rise t)
+pub risen_stands : (v : Dialogue) (t : Ticketed) → TicketWithin t.epoch t.engine → LastWithin t.epoch t.last → StandsFor v t → StandsFor (after_epoch v) (rise t)
 risen_stands v t w l h = record {
   same_state = ap stale_state h.same_state ∙ sym (risen t.epoch t.engine w);
   same_spent = sym (risen_spent t.epoch t.last l);
 }
 
 -- The orders o are what is chosen by what is kept.
-module _ (v : View) (t : Talk) (call : Call) (unsent : Bool) (played : Option Move) (hurry : Bool) (waiting : List Word) (o : Orders) (is : o ≡ settle v call unsent played hurry) (h : StandsFor v t) (a : AllSetup waiting) where
+module _ (v : Dialogue) (t : Ticketed) (call : Call) (unsent : Bool) (played : Option Move) (hurry : Bool) (waiting : List Word) (o : Orders) (is : o ≡ settle v call unsent played hurry) (h : StandsFor v t) (a : AllSetup waiting) where
   -- the same is chosen by the dialogue
   chosen_by : o ≡ choose (forget t.epoch t.engine) (owed t call) unsent (is_pondered v.pondered played) hurry
   chosen_by =
@@ -44,7 +44,7 @@ module _ (v : View) (t : Talk) (call : Call) (unsent : Bool) (played : Option Mo
       subst (λ (x : Orders). Settled t.engine t.epoch (owed t call) waiting (is_idle t.engine && unsent) (hits t.engine (is_pondered v.pondered played) (is_move (owed t call))) hurry (words waiting x)) (sym chosen_by)
       (chosen t.engine t.epoch (owed t call) waiting unsent (is_pondered v.pondered played) hurry a w)
 
-  pub settled_stands : (v' : View) → v'.state ≡ settled_state v.state o → v'.spent ≡ v.spent → StandsFor v' (after t (words waiting o))
+  pub settled_stands : (v' : Dialogue) → v'.state ≡ settled_state v.state o → v'.spent ≡ v.spent → StandsFor v' (after t (words waiting o))
   settled_stands v' state spent = record {
     same_state =
         state ∙ ap (λ (e : EngineState). settled_state e o) h.same_state

@@ -1,8 +1,8 @@
 -- At most one `stop` in a search.
 use Rattle.std.proofs.Common.{◌≡◌, ℕ, ◌+◌, ◌≤◌, List, [], ◌∷◌, Bool, true, false, refl, sym, ap, subst, arith}
 use Rattle.peer_words.specs.declared.kinds.GoKind.TheVariants as kinds
-use Rattle.search_epochs.specs.Talk.{Engine, Boot, Getting, Idle, Search, Gone, Word, Uci, Setup, IsReady, Position, Go, Stop, PonderHit, Quit, MaySendAll, Talk, turned, sent, sent_all, is_gone}
-use Rattle.search_epochs.specs.History.{Exchange, AreLawful, Lawful, talk, is_closed, last_orders, stops_after, stops_since_go}
+use Rattle.search_epochs.specs.Tickets.{Engine, Boot, Getting, Idle, Search, Gone, Word, Uci, Setup, IsReady, Position, Go, Stop, PonderHit, Quit, MaySendAll, Ticketed, turned, sent, sent_all, is_gone}
+use Rattle.search_epochs.specs.History.{Exchange, AreLawful, Lawful, dialogue, is_closed, last_orders, stops_after, stops_since_go}
 use Rattle.search_epochs.specs.Laws.{StopsOnce}
 use Rattle.search_epochs.proofs.Turns.{heard_goes}
 
@@ -51,25 +51,25 @@ stops_sent epoch Gone (Quit ∷ ws) n m h = stops_sent epoch Gone ws n m.1 h
 stops_sent epoch (Search k t s) (Quit ∷ ws) n m h = stops_sent epoch (Search k t s) ws n m.1 h
 
 -- each of the orders of a lawful exchange may be written at its place
-closing_may : (m : Talk) (closed : Bool) (gone : Bool) → is_gone m.engine ≡ gone → MaySendAll m.epoch m.engine (last_orders closed gone)
+closing_may : (m : Ticketed) (closed : Bool) (gone : Bool) → is_gone m.engine ≡ gone → MaySendAll m.epoch m.engine (last_orders closed gone)
 closing_may m true gone e = tt
 closing_may m false true e = tt
 closing_may m false false e = (λ g. (let h = ap is_gone g in cc), tt)
 
-pub may_all : (t : Talk) (closed : Bool) (x : Exchange) → AreLawful t closed x → MaySendAll (turned t x.turn).epoch (turned t x.turn).engine x.orders
+pub may_all : (t : Ticketed) (closed : Bool) (x : Exchange) → AreLawful t closed x → MaySendAll (turned t x.turn).epoch (turned t x.turn).engine x.orders
 may_all t closed x a = by_closed x.closed refl where
   by_closed : (c : Bool) → x.closed ≡ c → MaySendAll (turned t x.turn).epoch (turned t x.turn).engine x.orders
   by_closed false e = (a.settled e).may_send
   by_closed true e = subst (MaySendAll (turned t x.turn).epoch (turned t x.turn).engine) (sym (a.closing e)) (closing_may (turned t x.turn) closed (is_gone (turned t x.turn).engine) refl)
 
-stops_are : (xs : List Exchange) → Lawful xs → AreStops (stops_since_go xs) (talk xs).engine
+stops_are : (xs : List Exchange) → Lawful xs → AreStops (stops_since_go xs) (dialogue xs).engine
 stops_are [] l = omega arith
 stops_are (x ∷ xs) l =
     let before = stops_are xs l.0 in
     let n = stops_since_go xs in
-    let m = turned (talk xs) x.turn in
-    let mid : AreStops n m.engine = heard_goes (λ e last. AreStops n e) (λ last. few n (talk xs).engine before) (λ last. few n (talk xs).engine before) (talk xs).engine x.turn.what (talk xs).last before in
-    stops_sent m.epoch m.engine x.orders n (may_all (talk xs) (is_closed xs) x l.2) mid
+    let m = turned (dialogue xs) x.turn in
+    let mid : AreStops n m.engine = heard_goes (λ e last. AreStops n e) (λ last. few n (dialogue xs).engine before) (λ last. few n (dialogue xs).engine before) (dialogue xs).engine x.turn.what (dialogue xs).last before in
+    stops_sent m.epoch m.engine x.orders n (may_all (dialogue xs) (is_closed xs) x l.2) mid
 
 pub stops_once : StopsOnce
-stops_once xs l = few (stops_since_go xs) (talk xs).engine (stops_are xs l)
+stops_once xs l = few (stops_since_go xs) (dialogue xs).engine (stops_are xs l)

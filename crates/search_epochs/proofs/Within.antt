@@ -1,8 +1,8 @@
 -- No ticket is ever above the epoch.
 use Rattle.std.proofs.Common.{ℕ, ◌+◌, List, [], ◌∷◌, Bool, true, false, cond, Option, Some, None, arith}
 use Rattle.peer_words.specs.declared.kinds.GoKind.TheVariants as kinds
-use Rattle.search_epochs.specs.Talk.{Engine, Boot, Getting, Idle, Search, Gone, Word, Uci, IsReady, Go, PonderHit, Talk, TicketWithin, LastWithin, Turn, heard, said_of, closed_ticket, sent, sent_all, turned}
-use Rattle.search_epochs.specs.History.{talk}
+use Rattle.search_epochs.specs.Tickets.{Engine, Boot, Getting, Idle, Search, Gone, Word, Uci, IsReady, Go, PonderHit, Ticketed, TicketWithin, LastWithin, Turn, heard, said_of, closed_ticket, sent, sent_all, turned}
+use Rattle.search_epochs.specs.History.{dialogue}
 use Rattle.search_epochs.specs.Laws.{TicketsAreWithin}
 use Rattle.search_epochs.proofs.Whole.{heard_within, last_within}
 
@@ -42,16 +42,16 @@ risen_last epoch (Some n) true l = omega arith
 risen_last epoch (Some n) false l = l
 
 -- after the event and the rise of the epoch
-pub turned_within : (t : Talk) (u : Turn) → TicketWithin t.epoch t.engine → TicketWithin (turned t u).epoch (turned t u).engine
-turned_within t u w = risen_within t.epoch (heard t.engine (said_of u.what)) u.rises (heard_within t.epoch t.engine (said_of u.what) w)
+pub turned_within : (t : Ticketed) (u : Turn) → TicketWithin t.epoch t.engine → TicketWithin (turned t u).epoch (turned t u).engine
+turned_within t u w = risen_within t.epoch (heard t.engine (said_of u.what)) u.begins_epoch (heard_within t.epoch t.engine (said_of u.what) w)
 
-pub turned_last : (t : Talk) (u : Turn) → TicketWithin t.epoch t.engine → LastWithin t.epoch t.last → LastWithin (turned t u).epoch (turned t u).last
-turned_last t u w l = risen_last t.epoch (closed_ticket t.engine (said_of u.what) t.last) u.rises (last_within t.epoch t.engine (said_of u.what) t.last w l)
+pub turned_last : (t : Ticketed) (u : Turn) → TicketWithin t.epoch t.engine → LastWithin t.epoch t.last → LastWithin (turned t u).epoch (turned t u).last
+turned_last t u w l = risen_last t.epoch (closed_ticket t.engine (said_of u.what) t.last) u.begins_epoch (last_within t.epoch t.engine (said_of u.what) t.last w l)
 
 -- after all exchanges
 pub within : TicketsAreWithin
 within [] = (tt, tt)
 within (x ∷ xs) =
     let before = within xs in
-    let m = turned (talk xs) x.turn in
-    (all_within m.epoch m.engine x.orders (turned_within (talk xs) x.turn before.0), turned_last (talk xs) x.turn before.0 before.1)
+    let m = turned (dialogue xs) x.turn in
+    (all_within m.epoch m.engine x.orders (turned_within (dialogue xs) x.turn before.0), turned_last (dialogue xs) x.turn before.0 before.1)

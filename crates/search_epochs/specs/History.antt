@@ -9,8 +9,8 @@ use Rattle.search_epochs.specs.declared.words.Call.TheVariants as calls
 use Rattle.search_epochs.specs.declared.words.Said.TheVariants as said
 use Rattle.search_epochs.specs.declared.words.Orders.{Orders}
 use Rattle.search_epochs.specs.declared.words.Orders.TheVariants as orders
-use Rattle.search_epochs.specs.Talk.{Engine, Search, Word, Go, Stop, Quit, What, Says, Quiet, Talk, Turn, Settled, AllSetup, first_talk, turned, after, owed, is_due, is_hit, is_hurry, is_empty, is_gone, has_go, has_hit}
-use Rattle.search_epochs.specs.View.{View, opening, mid_view, after_settled, settle, words, played_of, boots}
+use Rattle.search_epochs.specs.Tickets.{Engine, Search, Word, Go, Stop, Quit, What, Says, Quiet, Ticketed, Turn, Settled, AllSetup, first_dialogue, turned, after, owed, is_due, is_hit, is_hurry, is_empty, is_gone, has_go, has_hit}
+use Rattle.search_epochs.specs.Dialogue.{Dialogue, opening, mid_dialogue, after_settled, settle, words, played_of, boots}
 
 -- one exchange: a turn, the desk's hint after it, whether the session is closed after it, and the orders that are written
 pub record Exchange : Type 0 where
@@ -20,9 +20,9 @@ pub record Exchange : Type 0 where
   pub orders : List Word
 
 -- what was heard and written in all exchanges
-abbrev pub talk : List Exchange → Talk
-talk [] = first_talk
-talk (x ∷ xs) = after (turned (talk xs) x.turn) x.orders
+abbrev pub dialogue : List Exchange → Ticketed
+dialogue [] = first_dialogue
+dialogue (x ∷ xs) = after (turned (dialogue xs) x.turn) x.orders
 
 abbrev pub is_closed : List Exchange → Bool
 is_closed [] = false
@@ -50,7 +50,7 @@ IsDeaf w = ⊥
 pub record MayCome (closed : Bool) (x : Exchange) : Type 0 where
   pub waiting : AllSetup x.turn.waiting
   pub stays_closed : closed ≡ true → x.closed ≡ true
-  pub no_epoch : x.closed ≡ true → x.turn.rises ≡ false
+  pub no_epoch : x.closed ≡ true → x.turn.begins_epoch ≡ false
   pub deaf : x.closed ≡ true → IsDeaf x.turn.what
 
 -- the orders of a step after which the session is closed: `quit` if it closes it, unless the engine is gone
@@ -58,14 +58,14 @@ abbrev pub last_orders : Bool → Bool → List Word
 last_orders closed gone = if closed || gone then [] else Quit ∷ []
 
 -- its orders are those that are settled
-pub record AreLawful (t : Talk) (closed : Bool) (x : Exchange) : Type 0 where
+pub record AreLawful (t : Ticketed) (closed : Bool) (x : Exchange) : Type 0 where
   pub settled : x.closed ≡ false → Settled (turned t x.turn).engine (turned t x.turn).epoch (owed (turned t x.turn) x.turn.call)
       x.turn.waiting (is_due t x.turn) (is_hit t x.turn) (is_hurry x.turn.what) x.orders
   pub closing : x.closed ≡ true → x.orders ≡ last_orders closed (is_gone (turned t x.turn).engine)
 
 abbrev pub Lawful : List Exchange → Type 0
 Lawful [] = Unit {0}
-Lawful (x ∷ xs) = Lawful xs × MayCome (is_closed xs) x × AreLawful (talk xs) (is_closed xs) x
+Lawful (x ∷ xs) = Lawful xs × MayCome (is_closed xs) x × AreLawful (dialogue xs) (is_closed xs) x
 
 -- how the desk's call and hint go on
 
@@ -74,7 +74,7 @@ abbrev pub answers_at : What → ℕ → Engine → Bool
 answers_at (Says said.Best) epoch (Search kinds.Move ticket s) = ticket == epoch
 answers_at w epoch e = false
 
-abbrev pub answers : Talk → What → Bool
+abbrev pub answers : Ticketed → What → Bool
 answers t w = answers_at w t.epoch t.engine
 
 abbrev pub is_end : What → Bool
@@ -82,26 +82,26 @@ is_end (Says said.Ended) = true
 is_end w = false
 
 -- Nothing is called for afterwards, unless an epoch begins: an answer that shows no move, the engine's end, the session's end.
-abbrev pub ends_call : Talk → Exchange → Bool
+abbrev pub ends_call : Ticketed → Exchange → Bool
 ends_call t x = x.closed || (answers t x.turn.what || is_end x.turn.what)
 
 -- The call and the hint change only with the epoch, save that such a step ends the call. A call to ponder names the hint.
-pub record IsSteady (t : Talk) (call : Call) (hint : Option Move) (x : Exchange) : Type 0 where
-  pub call_stays : x.turn.rises ≡ false → x.turn.call ≡ (if ends_call t x then calls.Nothing else call)
+pub record IsSteady (t : Ticketed) (call : Call) (hint : Option Move) (x : Exchange) : Type 0 where
+  pub call_stays : x.turn.begins_epoch ≡ false → x.turn.call ≡ (if ends_call t x then calls.Nothing else call)
   pub hint_before : x.turn.hint ≡ hint
-  pub hint_stays : x.turn.rises ≡ false → x.hint ≡ hint
+  pub hint_stays : x.turn.begins_epoch ≡ false → x.hint ≡ hint
   pub hint_called : (h : Move) → x.turn.call ≡ calls.Ponder h → x.hint ≡ Some h
 
 abbrev pub Steady : List Exchange → Type 0
 Steady [] = Unit {0}
-Steady (x ∷ xs) = Steady xs × IsSteady (talk xs) (last_call xs) (last_hint xs) x
+Steady (x ∷ xs) = Steady xs × IsSteady (dialogue xs) (last_call xs) (last_hint xs) x
 
 -- what the code does in an exchange: it hears, begins the epoch, and settles; after the session's end it rests
 
-abbrev pub heard_in : View → Exchange → View
-heard_in v x = mid_view v x.turn.what x.turn.rises
+abbrev pub heard_in : Dialogue → Exchange → Dialogue
+heard_in v x = mid_dialogue v x.turn.what x.turn.begins_epoch
 
-abbrev pub choice : View → Exchange → Orders
+abbrev pub choice : Dialogue → Exchange → Orders
 choice v x =
     if x.closed then orders.None
     else settle (heard_in v x) x.turn.call (boots v.state x.turn.what || not (is_empty x.turn.waiting)) (played_of x.turn.what) (is_hurry x.turn.what)
@@ -110,11 +110,11 @@ abbrev pub is_gone_state : EngineState → Bool
 is_gone_state states.Gone = true
 is_gone_state e = false
 
-abbrev pub orders_of : View → Bool → Exchange → List Word
+abbrev pub orders_of : Dialogue → Bool → Exchange → List Word
 orders_of v closed x = if x.closed then last_orders closed (is_gone_state (heard_in v x).state) else words x.turn.waiting (choice v x)
 
 -- what it keeps after all exchanges
-abbrev pub view : List Exchange → View
+abbrev pub view : List Exchange → Dialogue
 view [] = opening
 view (x ∷ xs) = after_settled (heard_in (view xs) x) (choice (view xs) x)
 
@@ -143,7 +143,7 @@ stops_since_go (x ∷ xs) = stops_after (stops_since_go xs) x.orders
 
 -- the engine at the place of an order, with these of the exchange's orders before it
 abbrev pub engine_at : List Exchange → Exchange → List Word → Engine
-engine_at xs x before = (after (turned (talk xs) x.turn) before).engine
+engine_at xs x before = (after (turned (dialogue xs) x.turn) before).engine
 
 -- an exchange without its orders
 abbrev pub asked : Exchange → Exchange

@@ -5,30 +5,30 @@ use Rattle.peer_words.specs.declared.kinds.GoKind.{GoKind}
 use Rattle.peer_words.specs.declared.kinds.GoKind.TheVariants as kinds
 use Rattle.search_epochs.specs.declared.words.Call.{Call}
 use Rattle.search_epochs.specs.declared.words.Call.TheVariants as calls
-use Rattle.search_epochs.specs.Talk.{Engine, Idle, Search, Gone, Word, Setup, IsReady, Position, Go, Stop, PonderHit, Quit, Talk, Turn, TicketWithin, LastWithin, AllSetup, Settled, IsLiveOnlyAt, Serves, Paired, turned, after, owed, spent, is_due, is_hit, is_hurry, is_move, is_idle, is_empty, is_nothing, has_quit, only}
-use Rattle.search_epochs.specs.View.{kept, kept_mid, mid_view, settled_by, after_settled, words}
-use Rattle.search_epochs.specs.History.{Exchange, Steady, Chosen, Lawful, talk, view, last_hint, last_call, is_closed, began, stops_since_go, engine_at, asked}
+use Rattle.search_epochs.specs.Tickets.{Engine, Idle, Search, Gone, Word, Setup, IsReady, Position, Go, Stop, PonderHit, Quit, Ticketed, Turn, TicketWithin, LastWithin, AllSetup, Settled, IsLiveOnlyAt, Serves, Paired, turned, after, owed, spent, is_due, is_hit, is_hurry, is_move, is_idle, is_empty, is_nothing, has_quit, only}
+use Rattle.search_epochs.specs.Dialogue.{kept, kept_mid, mid_dialogue, settled_by, after_settled, words}
+use Rattle.search_epochs.specs.History.{Exchange, Steady, Chosen, Lawful, dialogue, view, last_hint, last_call, is_closed, began, stops_since_go, engine_at, asked}
 
 -- one turn
 
 -- the code keeps the right thing after the event: without the epoch's number it knows what is stale and what is spent
 abbrev pub MidIsKept : Type 0
 MidIsKept =
-    (t : Talk) (u : Turn) → TicketWithin t.epoch t.engine → LastWithin t.epoch t.last
-    → mid_view (kept t u.hint) u.what u.rises ≡ kept_mid t u
+    (t : Ticketed) (u : Turn) → TicketWithin t.epoch t.engine → LastWithin t.epoch t.last
+    → mid_dialogue (kept t u.hint) u.what u.begins_epoch ≡ kept_mid t u
 
 -- the orders that are chosen are settled
 abbrev pub TurnIsSettled : Type 0
 TurnIsSettled =
-    (t : Talk) (u : Turn) → AllSetup u.waiting
+    (t : Ticketed) (u : Turn) → AllSetup u.waiting
     → Settled (turned t u).engine (turned t u).epoch (owed (turned t u) u.call) u.waiting (is_due t u) (is_hit t u) (is_hurry u.what) (words u.waiting (settled_by t u))
 
 -- and what is kept goes on with the tickets, if the hint afterwards is the one before, unless an epoch begins, and is named by a
 -- call to ponder that is owed
 abbrev pub TurnIsKept : Type 0
 TurnIsKept =
-    (t : Talk) (u : Turn) (hint : Option Move) → TicketWithin t.epoch t.engine → AllSetup u.waiting
-    → (u.rises ≡ false → hint ≡ u.hint) → ((h : Move) → owed (turned t u) u.call ≡ calls.Ponder h → hint ≡ Some h)
+    (t : Ticketed) (u : Turn) (hint : Option Move) → TicketWithin t.epoch t.engine → AllSetup u.waiting
+    → (u.begins_epoch ≡ false → hint ≡ u.hint) → ((h : Move) → owed (turned t u) u.call ≡ calls.Ponder h → hint ≡ Some h)
     → after_settled (kept_mid t u) (settled_by t u) ≡ kept (after (turned t u) (words u.waiting (settled_by t u))) hint
 
 -- what is settled is one list of orders
@@ -54,8 +54,8 @@ abbrev pub LawfulIsChosen : Type 0
 LawfulIsChosen = (xs : List Exchange) → Steady xs → Lawful xs → Chosen xs
 
 -- in each, what the code keeps goes with the tickets
-abbrev pub ViewIsKept : Type 0
-ViewIsKept = (xs : List Exchange) → Steady xs → Lawful xs → view xs ≡ kept (talk xs) (last_hint xs)
+abbrev pub DialogueIsKept : Type 0
+DialogueIsKept = (xs : List Exchange) → Steady xs → Lawful xs → view xs ≡ kept (dialogue xs) (last_hint xs)
 
 -- two lawful dialogues in which the same is asked are the same
 abbrev pub DialogueIsUnique : Type 0
@@ -63,21 +63,21 @@ DialogueIsUnique = (xs ys : List Exchange) → Lawful xs → Lawful ys → map a
 
 -- no ticket is ever above the epoch
 abbrev pub TicketsAreWithin : Type 0
-TicketsAreWithin = (xs : List Exchange) → TicketWithin (talk xs).epoch (talk xs).engine × LastWithin (talk xs).epoch (talk xs).last
+TicketsAreWithin = (xs : List Exchange) → TicketWithin (dialogue xs).epoch (dialogue xs).engine × LastWithin (dialogue xs).epoch (dialogue xs).last
 
 -- searches
 
 -- an open search that is not stopped is current
 abbrev pub LiveIsCurrent : Type 0
-LiveIsCurrent = (xs : List Exchange) → Lawful xs → IsLiveOnlyAt (talk xs).epoch (talk xs).engine
+LiveIsCurrent = (xs : List Exchange) → Lawful xs → IsLiveOnlyAt (dialogue xs).epoch (dialogue xs).engine
 
 -- a current search that is stopped is for a Move
 abbrev pub StoppedIsForMove : Type 0
-StoppedIsForMove = (xs : List Exchange) (k : GoKind) → Lawful xs → (talk xs).engine ≡ Search k (talk xs).epoch true → k ≡ kinds.Move
+StoppedIsForMove = (xs : List Exchange) (k : GoKind) → Lawful xs → (dialogue xs).engine ≡ Search k (dialogue xs).epoch true → k ≡ kinds.Move
 
 -- no open current search stands beside spent
 abbrev pub CurrentIsUnspent : Type 0
-CurrentIsUnspent = (xs : List Exchange) (k : GoKind) (stopped : Bool) → Lawful xs → (talk xs).engine ≡ Search k (talk xs).epoch stopped → spent (talk xs) ≡ false
+CurrentIsUnspent = (xs : List Exchange) (k : GoKind) (stopped : Bool) → Lawful xs → (dialogue xs).engine ≡ Search k (dialogue xs).epoch stopped → spent (dialogue xs) ≡ false
 
 -- at most one `stop` is written from a `go` to the next, so in a search, which ends with its answer and goes on after a `ponderhit`
 abbrev pub StopsOnce : Type 0
@@ -86,8 +86,8 @@ StopsOnce = (xs : List Exchange) → Lawful xs → stops_since_go xs ≤ 1
 -- an idle engine is left idle only if nothing is owed and nothing waits
 abbrev pub NothingIsLeft : Type 0
 NothingIsLeft =
-    (x : Exchange) (xs : List Exchange) → Lawful (x ∷ xs) → x.closed ≡ false → is_idle (talk (x ∷ xs)).engine ≡ true
-    → (is_empty x.turn.waiting ≡ true) × (is_nothing (owed (talk (x ∷ xs)) x.turn.call) ≡ true)
+    (x : Exchange) (xs : List Exchange) → Lawful (x ∷ xs) → x.closed ≡ false → is_idle (dialogue (x ∷ xs)).engine ≡ true
+    → (is_empty x.turn.waiting ≡ true) × (is_nothing (owed (dialogue (x ∷ xs)) x.turn.call) ≡ true)
 
 -- calls
 
@@ -95,11 +95,11 @@ NothingIsLeft =
 abbrev pub CurrentServes : Type 0
 CurrentServes =
     (xs : List Exchange) (k : GoKind) (stopped : Bool) → Steady xs → Lawful xs → is_closed xs ≡ false
-    → (talk xs).engine ≡ Search k (talk xs).epoch stopped → Serves k (last_call xs) × (began xs ≡ last_call xs)
+    → (dialogue xs).engine ≡ Search k (dialogue xs).epoch stopped → Serves k (last_call xs) × (began xs ≡ last_call xs)
 
 -- a call for a Move is never spent: a Move is owed if and only if it is called for
 abbrev pub MoveIsOwed : Type 0
-MoveIsOwed = (xs : List Exchange) → Steady xs → Lawful xs → is_move (owed (talk xs) (last_call xs)) ≡ is_move (last_call xs)
+MoveIsOwed = (xs : List Exchange) → Steady xs → Lawful xs → is_move (owed (dialogue xs) (last_call xs)) ≡ is_move (last_call xs)
 
 -- where orders stand
 

@@ -3,7 +3,7 @@ ghost use Rattle.search_epochs.specs.Laws.{ChosenIsLawful, CurrentIsUnspent, Cur
 ghost use Rattle.search_epochs.specs.Laws.{GoFollowsPosition, GoneGetsNothing, IdleGetsThem, LawfulIsChosen};
 ghost use Rattle.search_epochs.specs.Laws.{LiveIsCurrent, MidIsKept, MoveIsOwed, NothingIsLeft, PonderGetsHit};
 ghost use Rattle.search_epochs.specs.Laws.{QuitIsLast, SearchGetsStop, SettledIsOnly, SettledIsUnique, StoppedIsForMove};
-ghost use Rattle.search_epochs.specs.Laws.{StopsOnce, TicketsAreWithin, TurnIsKept, TurnIsSettled, ViewIsKept};
+ghost use Rattle.search_epochs.specs.Laws.{StopsOnce, TicketsAreWithin, TurnIsKept, TurnIsSettled, DialogueIsKept};
 
 /// One turn: what is kept after the event, and what is chosen then.
 pub fn whole_turn()
@@ -18,7 +18,7 @@ pub fn whole_turn()
 pub fn whole_dialogue()
     ensures lawful { ChosenIsLawful }
     ensures chosen { LawfulIsChosen }
-    ensures kept { ViewIsKept }
+    ensures kept { DialogueIsKept }
     ensures unique { DialogueIsUnique }
     ensures within { TicketsAreWithin }
 {}

@@ -2,7 +2,7 @@
 use Rattle.std.proofs.Common.{◌≡◌, Bool, true, false, cond, refl}
 use Rattle.std.specs.Prelude.{◌↔◌, IsTrue, IfSome, Option, Some, None}
 use Rattle.chess_board.specs.declared.board.Move.{Move}
-use Rattle.chess_board.specs.Placement.{Placement}
+use Rattle.chess_board.specs.Position.{Position}
 use Rattle.chess_board.specs.Laws.{IsLegal}
 use Rattle.chess_board.specs.Place.{legal}
 use Rattle.chess_board.proofs.Legal.{legal-law}
@@ -16,20 +16,20 @@ same_truth true false P f g = let e : false ≡ true = g.1 (f.0 refl) in absurd 
 same_truth false true P f g = let e : false ≡ true = f.1 (g.0 refl) in absurd (cc)
 same_truth false false P f g = refl
 
-pub legal_test : (p : Placement) (m : Move) (b : Bool) → (IsTrue b ↔ IsLegal p m.from.index m.to.index m.promo) → b ≡ legal p m
+pub legal_test : (p : Position) (m : Move) (b : Bool) → (IsTrue b ↔ IsLegal p m.from.index m.to.index m.promo) → b ≡ legal p m
 legal_test p m b f = same_truth b (legal p m) (IsLegal p m.from.index m.to.index m.promo) f (legal-law p m.from.index m.to.index m.promo)
 
-pub is_legal : (p : Placement) (m : Move) → legal p m ≡ true → IsLegal p m.from.index m.to.index m.promo
+pub is_legal : (p : Position) (m : Move) → legal p m ≡ true → IsLegal p m.from.index m.to.index m.promo
 is_legal p m e = (legal-law p m.from.index m.to.index m.promo).0 e
 
-pub legal_writable : (p : Placement) (m : Move) → legal p m ≡ true → IsWritable m
+pub legal_writable : (p : Position) (m : Move) → legal p m ≡ true → IsWritable m
 legal_writable p m e = legal-written p m (is_legal p m e)
 
-newer_step : (p : Placement) (m : Move) (b : Bool) (old : Option Move) → legal p m ≡ b → IfSome old IsWritable → IfSome (cond b (Some m) old) IsWritable
+newer_step : (p : Position) (m : Move) (b : Bool) (old : Option Move) → legal p m ≡ b → IfSome old IsWritable → IfSome (cond b (Some m) old) IsWritable
 newer_step p m true old e h = legal_writable p m e
 newer_step p m false old e h = h
 
-newer_writable : (p : Placement) (new old : Option Move) → IfSome old IsWritable → IfSome (newer_move p new old) IsWritable
+newer_writable : (p : Position) (new old : Option Move) → IfSome old IsWritable → IfSome (newer_move p new old) IsWritable
 newer_writable p None old h = h
 newer_writable p (Some m) old h = newer_step p m (legal p m) old refl h
 

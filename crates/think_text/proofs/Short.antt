@@ -8,18 +8,19 @@ use Rattle.std.specs.Option.{unwrap_or}
 use mir.Syntax.{w64}
 use Rattle.chess_board.specs.declared.board.Move.{Move}
 use Rattle.chess_board.specs.declared.board.Kind.{Kind}
-use Rattle.chess_board.specs.Placement.{Placement}
+use Rattle.chess_board.specs.Position.{Position}
 use Rattle.chess_board.specs.Place.{legal, legal_at, legal_count, count_below}
 use Rattle.chess_board.specs.Text.{Spells, text_of, promotion_text}
 use Rattle.chess_board.proofs.Count.{count_below-le}
 use Rattle.peer_words.specs.Tokens.{is_white, tokens}
 use Rattle.peer_words.proofs.Sizes.{digits_small}
-use Rattle.cecp_lines.specs.Replies.{Told, Thinking, told_text, IsWritable, HasWritableMoves}
+use Rattle.cecp_lines.specs.Replies.{Reply, Thinking, reply_text, IsWritable, HasWritableMoves}
 use Rattle.cecp_lines.proofs.Lengths.{move_short, told_short}
-use Rattle.uci_lines.specs.declared.says.Score.{Score}
-use Rattle.uci_lines.specs.declared.says.Score.TheVariants.{Cp, Mate}
+use Rattle.uci_lines.specs.declared.messages.Score.{Score}
+use Rattle.uci_lines.specs.declared.messages.Score.TheVariants.{Cp, Mate}
 use Rattle.uci_lines.specs.Infos.{no_facts}
-use Rattle.uci_lines.specs.Says.{Facts, Info}
+use Rattle.uci_lines.specs.Info.{Info as AnyInfo}
+use Rattle.uci_lines.specs.Messages.{Info}
 use Rattle.uci_lines.specs.Spells.{IsRun, Takes, Tells, HasForm}
 use Rattle.uci_lines.specs.Engine.{engine_message}
 use Rattle.uci_lines.specs.Scores.{IsCentis}
@@ -83,7 +84,7 @@ legal_step : (w : Bool) (m : Move) (legals moves : List Move) → length (spaced
 legal_step true m legals moves h = omega (arith, h, length-append (32 ∷ text_of m) (spaced legals), length-append (32 ∷ text_of m) (spaced moves))
 legal_step false m legals moves h = omega arith
 
-legal_size : (p : Placement) (moves : List Move) → length (spaced (legal_run p moves)) ≤ length (spaced moves)
+legal_size : (p : Position) (moves : List Move) → length (spaced (legal_run p moves)) ≤ length (spaced moves)
 legal_size p [] = omega arith
 legal_size p (m ∷ moves) = legal_step (legal p m) m (legal_run (played p m) moves) moves (legal_size (played p m) moves)
 
@@ -94,14 +95,14 @@ abbrev IsCount : ℕ → Type 0
 IsCount n = n < 10 ^ 18
 
 -- the numbers are counts, and the moves have at most so many bytes, with a blank before each
-record IsWithin (most : ℕ) (f : Facts) : Type 0 where
+record IsWithin (most : ℕ) (f : AnyInfo) : Type 0 where
   pub depth : IfSome f.depth IsCount
   pub time : IfSome f.time IsCount
   pub nodes : IfSome f.nodes IsCount
   pub number : IfSome f.number IsCount
   pub moves : length (spaced f.pv) ≤ most
 
-takes_within : (most : ℕ) (f : Facts) (ts : List (List ℕ)) (g : Facts) (others : List (List ℕ)) → Takes f ts g others → size ts ≤ most → IsWithin most f → IsWithin most g
+takes_within : (most : ℕ) (f : AnyInfo) (ts : List (List ℕ)) (g : AnyInfo) (others : List (List ℕ)) → Takes f ts g others → size ts ≤ most → IsWithin most f → IsWithin most g
 takes_within most f _ _ _ (Takes.Depth {t = t} {n = n} e) l w = record { depth = digits_small 18 t n e; time = w.time; nodes = w.nodes; number = w.number; moves = w.moves }
 takes_within most f _ _ _ (Takes.Time {t = t} {n = n} e) l w = record { depth = w.depth; time = digits_small 18 t n e; nodes = w.nodes; number = w.number; moves = w.moves }
 takes_within most f _ _ _ (Takes.Nodes {t = t} {n = n} e) l w = record { depth = w.depth; time = w.time; nodes = digits_small 18 t n e; number = w.number; moves = w.moves }
@@ -114,7 +115,7 @@ takes_within most f _ _ _ Takes.UpperBound l w = record { depth = w.depth; time 
 takes_within most f _ _ _ (Takes.Current s) l w = record { depth = w.depth; time = w.time; nodes = w.nodes; number = w.number; moves = w.moves }
 takes_within most f _ _ _ (Takes.Pv {ts = ts} {others = others} {m = m} {moves = moves} r) l w = record { depth = w.depth; time = w.time; nodes = w.nodes; number = w.number; moves = omega (arith, l, run_size ts (m ∷ moves) others r) }
 
-takes_fewer : (f : Facts) (ts : List (List ℕ)) (g : Facts) (others : List (List ℕ)) → Takes f ts g others → size others ≤ size ts
+takes_fewer : (f : AnyInfo) (ts : List (List ℕ)) (g : AnyInfo) (others : List (List ℕ)) → Takes f ts g others → size others ≤ size ts
 takes_fewer f _ _ _ (Takes.Depth e) = omega arith
 takes_fewer f _ _ _ (Takes.Time e) = omega arith
 takes_fewer f _ _ _ (Takes.Nodes e) = omega arith
@@ -127,14 +128,14 @@ takes_fewer f _ _ _ Takes.UpperBound = omega arith
 takes_fewer f _ _ _ (Takes.Current s) = omega arith
 takes_fewer f _ _ _ (Takes.Pv {ts = ts} {others = others} {m = m} {moves = moves} r) = omega (arith, run_size ts (m ∷ moves) others r)
 
-tells_within : (most : ℕ) (f : Facts) (ts : List (List ℕ)) (h : Facts) → Tells f ts h → size ts ≤ most → IsWithin most f → IsWithin most h
+tells_within : (most : ℕ) (f : AnyInfo) (ts : List (List ℕ)) (h : AnyInfo) → Tells f ts h → size ts ≤ most → IsWithin most f → IsWithin most h
 tells_within most f _ _ Tells.End l w = w
 tells_within most f _ _ Tells.Rest l w = w
 tells_within most f ts h (Tells.Taken {g = g} {others = others} k r) l w =
     tells_within most g others h r (omega (arith, l, takes_fewer f ts g others k)) (takes_within most f ts g others k l w)
 tells_within most f _ h (Tells.Skipped {t = t} {ts = ts} n s r) l w = tells_within most f ts h r (omega (arith, l)) w
 
-told_within : (line : List ℕ) (f : Facts) → engine_message line ≡ Info f → IsWithin (length line + 1) f
+told_within : (line : List ℕ) (f : AnyInfo) → engine_message line ≡ Info f → IsWithin (length line + 1) f
 told_within line f e =
     let form : HasForm line (Info f) = read_spells line (Info f) e in
     let part = form.1.0 in
@@ -160,13 +161,13 @@ or_zero : (o : Option ℕ) → IfSome o IsCount → unwrap_or o 0 < 10 ^ 18
 or_zero None h = omega arith
 or_zero (Some n) h = h
 
-same_told : (a b : Told) (most : ℕ) → Some a ≡ Some b → length (told_text a) ≤ most → length (told_text b) ≤ most
-same_told a b most e h = let same : a ≡ b = cc in subst (λ (t : Told). length (told_text t) ≤ most) same h
+same_told : (a b : Reply) (most : ℕ) → Some a ≡ Some b → length (reply_text a) ≤ most → length (reply_text b) ≤ most
+same_told a b most e h = let same : a ≡ b = cc in subst (λ (t : Reply). length (reply_text t) ≤ most) same h
 
-line_short : (d : Option ℕ) (s : Option Score) (moves : List Move) (f : Facts) (hint : Option Move) (t : Told) (n : ℕ) →
-    IfSome d IsCount → IfSome s IsCentis → IsWithin (n + 1) f → length (spaced moves) ≤ n + 1 → line_with d s moves f hint ≡ Some t → length (told_text t) ≤ 128 + n
+line_short : (d : Option ℕ) (s : Option Score) (moves : List Move) (f : AnyInfo) (hint : Option Move) (t : Reply) (n : ℕ) →
+    IfSome d IsCount → IfSome s IsCentis → IsWithin (n + 1) f → length (spaced moves) ≤ n + 1 → line_with d s moves f hint ≡ Some t → length (reply_text t) ≤ 128 + n
 line_short (Some depth) (Some score) (m ∷ moves) f hint t n h k w l e =
-    let told : Told = Thinking depth (value_of score) (unwrap_or f.time 0 / 10) (unwrap_or f.nodes 0) hint (moves_text (m ∷ moves)) in
+    let told : Reply = Thinking depth (value_of score) (unwrap_or f.time 0 / 10) (unwrap_or f.nodes 0) hint (moves_text (m ∷ moves)) in
     let time = or_zero f.time w.time in
     let nodes = or_zero f.nodes w.nodes in
     let short = told_short told ((omega arith), value_fits score k, (omega arith), (omega arith)) in
@@ -182,10 +183,10 @@ lines_short line f p hint t e h =
     let moves : length (spaced (legal_run p f.pv)) ≤ length line + 1 = omega (arith, legal_size p f.pv, w.moves) in
     line_short f.depth f.score (legal_run p f.pv) f hint t (length line) w.depth (scores_are_centis line f e) w moves h
 
-writable_by : (d : Option ℕ) (s : Option Score) (moves : List Move) (f : Facts) (hint : Option Move) (t : Told) → IfSome hint IsWritable → line_with d s moves f hint ≡ Some t → HasWritableMoves t
+writable_by : (d : Option ℕ) (s : Option Score) (moves : List Move) (f : AnyInfo) (hint : Option Move) (t : Reply) → IfSome hint IsWritable → line_with d s moves f hint ≡ Some t → HasWritableMoves t
 writable_by (Some depth) (Some score) (m ∷ moves) f hint t h e =
     let same : Thinking depth (value_of score) (unwrap_or f.time 0 / 10) (unwrap_or f.nodes 0) hint (moves_text (m ∷ moves)) ≡ t = cc in
-    subst (λ (x : Told). HasWritableMoves x) same h
+    subst (λ (x : Reply). HasWritableMoves x) same h
 writable_by (Some depth) (Some score) [] f hint t h e = absurd (cc)
 writable_by (Some depth) None moves f hint t h e = absurd (cc)
 writable_by None s moves f hint t h e = absurd (cc)
@@ -199,7 +200,7 @@ newer_bounded : (o : Option ℕ) (old : ℕ) → IfSome o IsCount → old < 2 ^ 
 newer_bounded None old h k = k
 newer_bounded (Some n) old h k = omega arith
 
-after_bounded : (seen : Seen) (f : Facts) (p : Placement) (most : ℕ) → IsBounded seen → IsWithin most f → IsBounded (after_info seen f p)
+after_bounded : (seen : Seen) (f : AnyInfo) (p : Position) (most : ℕ) → IsBounded seen → IsWithin most f → IsBounded (after_info seen f p)
 after_bounded seen f p most b w = record {
   depth = newer_bounded f.depth seen.depth w.depth b.depth;
   time = newer_bounded f.time seen.time w.time b.time;
@@ -214,11 +215,11 @@ stays_bounded = (
 )
 
 -- there are no more legal moves than pairs of squares and promotions
-counted_below : (p : Placement) (n : ℕ) → n ≡ 20480 → count_below n (legal_at p) ≡ legal_count p
+counted_below : (p : Position) (n : ℕ) → n ≡ 20480 → count_below n (legal_at p) ≡ legal_count p
 unfolding legal_count
 counted_below p n e = ap (λ k. count_below k (legal_at p)) e
 
-few_legal : (p : Placement) (n : ℕ) → n ≡ 20480 → legal_count p ≤ 20480
+few_legal : (p : Position) (n : ℕ) → n ≡ 20480 → legal_count p ≤ 20480
 few_legal p n e = omega (arith, e, counted_below p n e, count_below-le n (legal_at p))
 
 pub stat_short : StatIsShort

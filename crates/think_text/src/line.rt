@@ -5,9 +5,9 @@ ghost use Rattle.line_io.specs.Out.{with};
 ghost use Rattle.peer_words.specs.Tokens.{tokens};
 ghost use Rattle.chess_board.specs.Place.{legal};
 ghost use Rattle.chess_board.specs.Text.{text_of};
-ghost use Rattle.cecp_lines.specs.Replies.{IsWritable, Thinking, told_of, told_text};
+ghost use Rattle.cecp_lines.specs.Replies.{IsWritable, Thinking, reply_of, reply_text};
 ghost use Rattle.uci_lines.specs.Moves.{run};
-ghost use Rattle.uci_lines.specs.Says.{facts_of};
+ghost use Rattle.uci_lines.specs.Info.{info_of};
 ghost use Rattle.uci_lines.specs.Scores.{IsCentis};
 ghost use Rattle.think_text.specs.Line.{IsHeard, HasRoom, legal_run, played, value_of, spaced, thinking_line, with_line};
 
@@ -21,7 +21,9 @@ use uci_lines::{Info, Score, next_move};
 fn next_legal<'a>(moves: &'a [u8], at: &Position) -> Option<(Move, &'a [u8])>
     ensures { MatchOption result
         (legal_run at.now (run (tokens moves.now)) ≡ [])
-        (λ p. (legal at.now p.0 ≡ true) × (legal_run at.now (run (tokens moves.now)) ≡ p.0 ∷ legal_run (played at.now p.0) (run (tokens p.1.now)))) }
+        (λ p. (legal at.now p.0 ≡ true)
+        × (legal_run at.now (run (tokens moves.now))
+        ≡ p.0 ∷ legal_run (played at.now p.0) (run (tokens p.1.now)))) }
 {
     let (m, others) = next_move(moves)?;
     if is_legal(at, m) {
@@ -43,7 +45,8 @@ fn write_spaced(m: Move, out: &mut Out)
 
 /// Writes each move behind a blank, as long as each is legal in its turn.
 fn write_moves(moves: &[u8], at: &Position, out: &mut Out)
-    requires { length out.old.text + length (spaced (legal_run at.now (run (tokens moves.now)))) ≤ out.old.room }
+    requires { length out.old.text + length (spaced (legal_run at.now (run (tokens moves.now))))
+        ≤ out.old.room }
     ensures { out.new ≡ with out.old (spaced (legal_run at.now (run (tokens moves.now)))) }
 {
     let mut position = *at;
@@ -64,7 +67,9 @@ fn front_of<'a>(
     pv: &'a [u8],
 ) -> Reply<'a>
     requires { IsCentis score }
-    ensures { told_of result ≡ Thinking depth (value_of score) (unwrap_or info.now.time 0 / 10) (unwrap_or info.now.nodes 0) hint pv.now }
+    ensures { reply_of result
+        ≡ Thinking depth (value_of score) (unwrap_or info.now.time 0 / 10)
+        (unwrap_or info.now.nodes 0) hint pv.now }
 {
     Reply::Thinking {
         depth,
@@ -82,11 +87,11 @@ fn front_of<'a>(
 /// stands in parentheses before the moves. There is no line, and false is returned, if depth, score or a first
 /// legal move is missing.
 pub fn thinking(info: &Info, at: &Position, hint: Option<Move>, out: &mut Out) -> bool
-    requires heard { IsHeard (facts_of info.now) }
+    requires heard { IsHeard (info_of info.now) }
     requires hint { IfSome hint IsWritable }
-    requires room { HasRoom out.old (thinking_line (facts_of info.now) at.now hint) }
-    ensures there { result ≡ is_some (thinking_line (facts_of info.now) at.now hint) }
-    ensures text { out.new ≡ with_line out.old (thinking_line (facts_of info.now) at.now hint) }
+    requires room { HasRoom out.old (thinking_line (info_of info.now) at.now hint) }
+    ensures there { result ≡ is_some (thinking_line (info_of info.now) at.now hint) }
+    ensures text { out.new ≡ with_line out.old (thinking_line (info_of info.now) at.now hint) }
 {
     let (Some(depth), Some(score)) = (info.depth, info.score) else {
         return false;

@@ -1,8 +1,8 @@
 // What is kept of a search.
 ghost use Rattle.std.specs.Prelude.{◌≡◌, ◌+◌, ◌≤◌, length, IfSome};
 ghost use Rattle.line_io.specs.Out.{with};
-ghost use Rattle.cecp_lines.specs.Replies.{IsWritable, told_text};
-ghost use Rattle.uci_lines.specs.Says.{facts_of};
+ghost use Rattle.cecp_lines.specs.Replies.{IsWritable, reply_text};
+ghost use Rattle.uci_lines.specs.Info.{info_of};
 ghost use Rattle.think_text.specs.Line.{IsHeard};
 ghost use Rattle.think_text.specs.Kept.{nothing_seen, after_info, newer_move, newer_score, is_first, stat01_of};
 
@@ -45,8 +45,8 @@ fn is_first(multipv: Option<u64>) -> bool
 }
 
 fn newer_score(info: &Info, old: Option<i64>) -> Option<i64>
-    requires { IsHeard (facts_of info.now) }
-    ensures { result ≡ newer_score (facts_of info.now) old }
+    requires { IsHeard (info_of info.now) }
+    ensures { result ≡ newer_score (info_of info.now) old }
 {
     match info.score {
         Some(score) if !info.bound && is_first(info.multipv) => Some(value_of(score)),
@@ -71,8 +71,8 @@ impl Seen {
 
     /// Takes in what is reported of a search in a position.
     pub fn hear(&mut self, info: &Info, at: &Position)
-        requires { IsHeard (facts_of info.now) }
-        ensures { self.new ≡ after_info self.old (facts_of info.now) at.now }
+        requires { IsHeard (info_of info.now) }
+        ensures { self.new ≡ after_info self.old (info_of info.now) at.now }
     {
         self.depth = info.depth.unwrap_or(self.depth);
         self.time = info.time.unwrap_or(self.time);
@@ -87,8 +87,9 @@ impl Seen {
 /// Protocol, version 2, section "Analyze Mode").
 pub fn stat01(seen: &Seen, at: &Position, out: &mut Out)
     requires current { IfSome seen.now.current IsWritable }
-    requires room { length out.old.text + length (told_text (stat01_of seen.now at.now)) ≤ out.old.room }
-    ensures { out.new ≡ with out.old (told_text (stat01_of seen.now at.now)) }
+    requires room { length out.old.text + length (reply_text (stat01_of seen.now at.now))
+        ≤ out.old.room }
+    ensures { out.new ≡ with out.old (reply_text (stat01_of seen.now at.now)) }
 {
     let all = at.moves().len() as u64;
     let reply = Reply::Stat01 {

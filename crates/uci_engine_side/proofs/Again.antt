@@ -8,7 +8,7 @@ use Rattle.peer_words.proofs.Trims.{trimmed_again}
 use Rattle.peer_words.proofs.Runs.{token_alone}
 use Rattle.uci_lines.specs.Cuts.{is_word, is_known}
 use Rattle.chess_board.specs.Spelling.{move_of}
-use Rattle.uci_lines.specs.Says.{Name, UciOk, ReadyOk, Best}
+use Rattle.uci_lines.specs.Messages.{Name, UciOk, ReadyOk, Best}
 use Rattle.uci_lines.specs.Spells.{IsFirst, Behind, PerhapsMove, Begins, HasForm}
 use Rattle.uci_engine_side.specs.Said.{spaced, move_text, best_text, said_text}
 use Rattle.uci_lines.specs.Writable.{can_write}

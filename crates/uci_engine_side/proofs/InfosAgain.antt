@@ -10,12 +10,13 @@ use Rattle.chess_board.proofs.Texts.{reads-back}
 use Rattle.peer_words.specs.Tokens.{is_token, tokens}
 use Rattle.peer_words.proofs.Sizes.{digits_small, centis_small}
 use Rattle.peer_words.proofs.Written.{count_decimal, decimal_token, signed_token, centis_decimal_read}
-use Rattle.uci_lines.specs.declared.says.Score.{Score}
-use Rattle.uci_lines.specs.declared.says.Score.TheVariants.{Cp, Mate}
+use Rattle.uci_lines.specs.declared.messages.Score.{Score}
+use Rattle.uci_lines.specs.declared.messages.Score.TheVariants.{Cp, Mate}
 use Rattle.uci_lines.specs.Orders.{optional_number}
 use Rattle.uci_lines.specs.Infos.{no_facts}
 use Rattle.uci_lines.specs.Scores.{IsCentis}
-use Rattle.uci_lines.specs.Says.{Facts, Info}
+use Rattle.uci_lines.specs.Info.{Info as AnyInfo}
+use Rattle.uci_lines.specs.Messages.{Info}
 use Rattle.uci_lines.specs.Spells.{IsRun, Takes, Tells, HasForm}
 use Rattle.uci_engine_side.specs.Said.{score_text, bound_text, move_text, each_move, pv_text, facts_text, said_text}
 use Rattle.uci_lines.specs.Writable.{can_write}
@@ -34,7 +35,7 @@ AllOfficers [] = Unit {0}
 AllOfficers (m ∷ moves) = IsOfficer m.promo × AllOfficers moves
 
 -- the numbers are as short as those that are read, and the moves can be written
-pub record Fits (f : Facts) : Type 0 where
+pub record Fits (f : AnyInfo) : Type 0 where
   pub depth : is_small f.depth
   pub time : is_small f.time
   pub nodes : is_small f.nodes
@@ -48,7 +49,7 @@ run_officers : (ts : List (List ℕ)) (moves : List Move) (others : List (List �
 run_officers ts _ _ (IsRun.Ends h) = tt
 run_officers _ _ others (IsRun.Goes {t = t} {m = m} {ts = ts} {moves = moves} s r) = (spelled_officer t m s, run_officers ts moves others r)
 
-take_fits : (f : Facts) (ts : List (List ℕ)) (g : Facts) (others : List (List ℕ)) → Takes f ts g others → Fits f → Fits g
+take_fits : (f : AnyInfo) (ts : List (List ℕ)) (g : AnyInfo) (others : List (List ℕ)) → Takes f ts g others → Fits f → Fits g
 take_fits f _ _ _ (Takes.Depth {t = t} {n = n} e) h = record { depth = digits_small 18 t n e; time = h.time; nodes = h.nodes; multipv = h.multipv; number = h.number; score = h.score; current = h.current; pv = h.pv }
 take_fits f _ _ _ (Takes.Time {t = t} {n = n} e) h = record { depth = h.depth; time = digits_small 18 t n e; nodes = h.nodes; multipv = h.multipv; number = h.number; score = h.score; current = h.current; pv = h.pv }
 take_fits f _ _ _ (Takes.Nodes {t = t} {n = n} e) h = record { depth = h.depth; time = h.time; nodes = digits_small 18 t n e; multipv = h.multipv; number = h.number; score = h.score; current = h.current; pv = h.pv }
@@ -61,7 +62,7 @@ take_fits f _ _ _ Takes.UpperBound h = record { depth = h.depth; time = h.time; 
 take_fits f _ _ _ (Takes.Current {t = t} {m = m} s) h = record { depth = h.depth; time = h.time; nodes = h.nodes; multipv = h.multipv; number = h.number; score = h.score; current = spelled_officer t m s; pv = h.pv }
 take_fits f _ _ _ (Takes.Pv {ts = ts} {others = others} {m = m} {moves = moves} r) h = record { depth = h.depth; time = h.time; nodes = h.nodes; multipv = h.multipv; number = h.number; score = h.score; current = h.current; pv = run_officers ts (m ∷ moves) others r }
 
-pub tells_fits : (f : Facts) (ts : List (List ℕ)) (h : Facts) → Tells f ts h → Fits f → Fits h
+pub tells_fits : (f : AnyInfo) (ts : List (List ℕ)) (h : AnyInfo) → Tells f ts h → Fits f → Fits h
 tells_fits f _ _ Tells.End k = k
 tells_fits f _ _ Tells.Rest k = k
 tells_fits f ts h (Tells.Taken {g = g} {others = others} t u) k = tells_fits g others h u (take_fits f ts g others t k)
@@ -82,42 +83,42 @@ centis_token : (n : ℤ) → nat_abs n < 10 ^ 9 → is_token (signed_decimal n) 
 centis_token n h = signed_token n (omega (arith, h))
 
 -- a field in front of others
-taken : (f g h : Facts) (more : List ℕ) (ts us : List (List ℕ)) → ts ≡ us → Takes f us g (tokens more) → Tells g (tokens more) h → Tells f ts h
+taken : (f g h : AnyInfo) (more : List ℕ) (ts us : List (List ℕ)) → ts ≡ us → Takes f us g (tokens more) → Tells g (tokens more) h → Tells f ts h
 taken f g h more ts us e t k = Tells.Taken (subst (λ (vs : List (List ℕ)). Takes f vs g (tokens more)) (sym e) t) k
 
-depth_told : (f h : Facts) (n : Option ℕ) (more : List ℕ) → f.depth ≡ None → is_small n → BeginsWhite more → Tells (record f { depth = n }) (tokens more) h → Tells f (tokens (optional_number (codes " depth ") n ++ more)) h
+depth_told : (f h : AnyInfo) (n : Option ℕ) (more : List ℕ) → f.depth ≡ None → is_small n → BeginsWhite more → Tells (record f { depth = n }) (tokens more) h → Tells f (tokens (optional_number (codes " depth ") n ++ more)) h
 depth_told f h None more e s w k = subst (λ (o : Option ℕ). Tells (record f { depth = o }) (tokens more) h) (sym e) k
 depth_told f h (Some n) more e s w k = taken f (record f { depth = Some n }) h more _ _ (two_tokens (codes "depth") (decimal n) more refl (count_token n s) w) (Takes.Depth (count_decimal n s)) k
 
-time_told : (f h : Facts) (n : Option ℕ) (more : List ℕ) → f.time ≡ None → is_small n → BeginsWhite more → Tells (record f { time = n }) (tokens more) h → Tells f (tokens (optional_number (codes " time ") n ++ more)) h
+time_told : (f h : AnyInfo) (n : Option ℕ) (more : List ℕ) → f.time ≡ None → is_small n → BeginsWhite more → Tells (record f { time = n }) (tokens more) h → Tells f (tokens (optional_number (codes " time ") n ++ more)) h
 time_told f h None more e s w k = subst (λ (o : Option ℕ). Tells (record f { time = o }) (tokens more) h) (sym e) k
 time_told f h (Some n) more e s w k = taken f (record f { time = Some n }) h more _ _ (two_tokens (codes "time") (decimal n) more refl (count_token n s) w) (Takes.Time (count_decimal n s)) k
 
-nodes_told : (f h : Facts) (n : Option ℕ) (more : List ℕ) → f.nodes ≡ None → is_small n → BeginsWhite more → Tells (record f { nodes = n }) (tokens more) h → Tells f (tokens (optional_number (codes " nodes ") n ++ more)) h
+nodes_told : (f h : AnyInfo) (n : Option ℕ) (more : List ℕ) → f.nodes ≡ None → is_small n → BeginsWhite more → Tells (record f { nodes = n }) (tokens more) h → Tells f (tokens (optional_number (codes " nodes ") n ++ more)) h
 nodes_told f h None more e s w k = subst (λ (o : Option ℕ). Tells (record f { nodes = o }) (tokens more) h) (sym e) k
 nodes_told f h (Some n) more e s w k = taken f (record f { nodes = Some n }) h more _ _ (two_tokens (codes "nodes") (decimal n) more refl (count_token n s) w) (Takes.Nodes (count_decimal n s)) k
 
-multipv_told : (f h : Facts) (n : Option ℕ) (more : List ℕ) → f.multipv ≡ None → is_small n → BeginsWhite more → Tells (record f { multipv = n }) (tokens more) h → Tells f (tokens (optional_number (codes " multipv ") n ++ more)) h
+multipv_told : (f h : AnyInfo) (n : Option ℕ) (more : List ℕ) → f.multipv ≡ None → is_small n → BeginsWhite more → Tells (record f { multipv = n }) (tokens more) h → Tells f (tokens (optional_number (codes " multipv ") n ++ more)) h
 multipv_told f h None more e s w k = subst (λ (o : Option ℕ). Tells (record f { multipv = o }) (tokens more) h) (sym e) k
 multipv_told f h (Some n) more e s w k = taken f (record f { multipv = Some n }) h more _ _ (two_tokens (codes "multipv") (decimal n) more refl (count_token n s) w) (Takes.MultiPv (count_decimal n s)) k
 
-number_told : (f h : Facts) (n : Option ℕ) (more : List ℕ) → f.number ≡ None → is_small n → BeginsWhite more → Tells (record f { number = n }) (tokens more) h → Tells f (tokens (optional_number (codes " currmovenumber ") n ++ more)) h
+number_told : (f h : AnyInfo) (n : Option ℕ) (more : List ℕ) → f.number ≡ None → is_small n → BeginsWhite more → Tells (record f { number = n }) (tokens more) h → Tells f (tokens (optional_number (codes " currmovenumber ") n ++ more)) h
 number_told f h None more e s w k = subst (λ (o : Option ℕ). Tells (record f { number = o }) (tokens more) h) (sym e) k
 number_told f h (Some n) more e s w k = taken f (record f { number = Some n }) h more _ _ (two_tokens (codes "currmovenumber") (decimal n) more refl (count_token n s) w) (Takes.Number (count_decimal n s)) k
 
 unit_tokens : (unit t more : List ℕ) → is_token unit ≡ true → is_token t ≡ true → BeginsWhite more → tokens (codes " score " ++ (unit ++ (32 ∷ (t ++ more)))) ≡ codes "score" ∷ unit ∷ t ∷ tokens more
 unit_tokens unit t more h k w = tokens_front (codes "score") (32 ∷ (unit ++ (32 ∷ (t ++ more)))) refl refl ∙ ap (λ ts. codes "score" ∷ ts) (two_tokens unit t more h k w)
 
-score_told : (f h : Facts) (s : Option Score) (more : List ℕ) → f.score ≡ None → IfSome s IsCentis → BeginsWhite more → Tells (record f { score = s }) (tokens more) h → Tells f (tokens (score_text s ++ more)) h
+score_told : (f h : AnyInfo) (s : Option Score) (more : List ℕ) → f.score ≡ None → IfSome s IsCentis → BeginsWhite more → Tells (record f { score = s }) (tokens more) h → Tells f (tokens (score_text s ++ more)) h
 score_told f h None more e s w k = subst (λ (o : Option Score). Tells (record f { score = o }) (tokens more) h) (sym e) k
 score_told f h (Some (Cp n)) more e s w k = taken f (record f { score = Some (Cp n) }) h more _ _ (unit_tokens (codes "cp") (signed_decimal n) more refl (centis_token n s) w) (Takes.Centipawns (centis_decimal_read n s)) k
 score_told f h (Some (Mate n)) more e s w k = taken f (record f { score = Some (Mate n) }) h more _ _ (unit_tokens (codes "mate") (signed_decimal n) more refl (centis_token n s) w) (Takes.ToMate (centis_decimal_read n s)) k
 
-bound_told : (f h : Facts) (b : Bool) (more : List ℕ) → f.bound ≡ false → BeginsWhite more → Tells (record f { bound = b }) (tokens more) h → Tells f (tokens (bound_text b ++ more)) h
+bound_told : (f h : AnyInfo) (b : Bool) (more : List ℕ) → f.bound ≡ false → BeginsWhite more → Tells (record f { bound = b }) (tokens more) h → Tells f (tokens (bound_text b ++ more)) h
 bound_told f h false more e w k = subst (λ (b : Bool). Tells (record f { bound = b }) (tokens more) h) (sym e) k
 bound_told f h true more e w k = taken f (record f { bound = true }) h more _ _ (tokens_front (codes "lowerbound") more refl w) Takes.LowerBound k
 
-current_told : (f h : Facts) (m : Option Move) (more : List ℕ) → f.current ≡ None → can_write m → BeginsWhite more → Tells (record f { current = m }) (tokens more) h → Tells f (tokens (move_text (codes " currmove ") m ++ more)) h
+current_told : (f h : AnyInfo) (m : Option Move) (more : List ℕ) → f.current ≡ None → can_write m → BeginsWhite more → Tells (record f { current = m }) (tokens more) h → Tells f (tokens (move_text (codes " currmove ") m ++ more)) h
 current_told f h None more e s w k = subst (λ (o : Option Move). Tells (record f { current = o }) (tokens more) h) (sym e) k
 current_told f h (Some m) more e s w k = taken f (record f { current = Some m }) h more _ _ (two_tokens (codes "currmove") (text_of m) more refl (move_token m) w) (Takes.Current (reads-back m s)) k
 
@@ -131,11 +132,11 @@ run_again (m ∷ moves) h =
     subst (λ (ts : List (List ℕ)). IsRun ts (m ∷ moves) []) (sym (tokens_front (text_of m) (each_move moves) (move_token m) (moves_white moves)))
     (IsRun.Goes (reads-back m h.0) (run_again moves h.1))
 
-pv_told : (f h : Facts) (moves : List Move) → f.pv ≡ [] → AllOfficers moves → record f { pv = moves } ≡ h → Tells f (tokens (pv_text moves)) h
-pv_told f h [] e s k = subst (λ (g : Facts). Tells f [] g) (ap (λ (ms : List Move). record f { pv = ms }) (e) ∙ k) Tells.End
+pv_told : (f h : AnyInfo) (moves : List Move) → f.pv ≡ [] → AllOfficers moves → record f { pv = moves } ≡ h → Tells f (tokens (pv_text moves)) h
+pv_told f h [] e s k = subst (λ (g : AnyInfo). Tells f [] g) (ap (λ (ms : List Move). record f { pv = ms }) (e) ∙ k) Tells.End
 pv_told f h (m ∷ moves) e s k =
     taken f (record f { pv = m ∷ moves }) h [] _ _ (tokens_front (codes "pv") (each_move (m ∷ moves)) refl refl)
-    (Takes.Pv (run_again (m ∷ moves) s)) (subst (λ (g : Facts). Tells (record f { pv = m ∷ moves }) [] g) k Tells.End)
+    (Takes.Pv (run_again (m ∷ moves) s)) (subst (λ (g : AnyInfo). Tells (record f { pv = m ∷ moves }) [] g) k Tells.End)
 
 -- ALL
 
@@ -161,35 +162,35 @@ number_white word None more w = w
 number_white word (Some n) more w = refl
 
 -- what stands behind `info`, field by field
-unfoldable pub behind_counts : Facts → List ℕ
+unfoldable pub behind_counts : AnyInfo → List ℕ
 behind_counts f = score_text f.score ++ (bound_text f.bound ++ (move_text (codes " currmove ") f.current ++ pv_text f.pv))
 
-unfoldable pub behind_info : Facts → List ℕ
+unfoldable pub behind_info : AnyInfo → List ℕ
 behind_info f =
     optional_number (codes " depth ") f.depth ++ (optional_number (codes " time ") f.time ++ (optional_number (codes " nodes ") f.nodes
     ++ (optional_number (codes " multipv ") f.multipv ++ (optional_number (codes " currmovenumber ") f.number ++ behind_counts f))))
 
-pub facts_text_is : (f : Facts) → facts_text f ≡ codes "info" ++ behind_info f
+pub facts_text_is : (f : AnyInfo) → facts_text f ≡ codes "info" ++ behind_info f
 unfolding facts_text behind_info behind_counts
 facts_text_is f = simp append_assoc
 
-counts_white : (f : Facts) → BeginsWhite (behind_counts f)
+counts_white : (f : AnyInfo) → BeginsWhite (behind_counts f)
 unfolding behind_counts
 counts_white f =
     let current = move_white f.current (pv_text f.pv) (pv_white f.pv) in
     score_white f.score _ (bound_white f.bound _ current)
 
-info_white : (f : Facts) → BeginsWhite (behind_info f)
+info_white : (f : AnyInfo) → BeginsWhite (behind_info f)
 unfolding behind_info
 info_white f =
     number_white (codes "depth ") f.depth _ (number_white (codes "time ") f.time _ (number_white (codes "nodes ") f.nodes _
     (number_white (codes "multipv ") f.multipv _ (number_white (codes "currmovenumber ") f.number _ (counts_white f)))))
 
 -- the five counts that are told first
-counted : Facts → Facts
+counted : AnyInfo → AnyInfo
 counted f = record no_facts { depth = f.depth; time = f.time; nodes = f.nodes; multipv = f.multipv; number = f.number }
 
-rest_told : (f : Facts) → Fits f → Tells (counted f) (tokens (behind_counts f)) f
+rest_told : (f : AnyInfo) → Fits f → Tells (counted f) (tokens (behind_counts f)) f
 unfolding behind_counts counted
 rest_told f s =
     let current = move_white f.current (pv_text f.pv) (pv_white f.pv) in
@@ -199,7 +200,7 @@ rest_told f s =
     (current_told (record (counted f) { score = f.score; bound = f.bound }) f f.current _ refl s.current (pv_white f.pv)
     (pv_told (record (counted f) { score = f.score; bound = f.bound; current = f.current }) f f.pv refl s.pv refl)))
 
-told : (f : Facts) → Fits f → Tells no_facts (tokens (behind_info f)) f
+told : (f : AnyInfo) → Fits f → Tells no_facts (tokens (behind_info f)) f
 unfolding behind_info counted
 told f s =
     let number = number_white (codes "currmovenumber ") f.number _ (counts_white f) in
@@ -213,9 +214,9 @@ told f s =
     (number_told (record no_facts { depth = f.depth; time = f.time; nodes = f.nodes; multipv = f.multipv }) f f.number _ refl s.number (counts_white f)
     (rest_told f s)))))
 
-info_by : (f : Facts) → Fits f → HasForm (codes "info" ++ behind_info f) (Info f)
+info_by : (f : AnyInfo) → Fits f → HasForm (codes "info" ++ behind_info f) (Info f)
 info_by f s = (behind_info f, begins_with (codes "info") (behind_info f) refl refl (info_white f), told f s)
 
-pub info_again : (line : List ℕ) (f : Facts) → HasForm line (Info f) → HasForm (said_text (Info f)) (Info f)
+pub info_again : (line : List ℕ) (f : AnyInfo) → HasForm line (Info f) → HasForm (said_text (Info f)) (Info f)
 unfolding said_text
 info_again line f h = subst (λ (t : List ℕ). HasForm t (Info f)) (sym (facts_text_is f)) (info_by f (tells_fits no_facts (tokens h.0) f h.2 none_fits))

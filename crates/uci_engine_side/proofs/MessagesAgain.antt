@@ -1,7 +1,7 @@
 -- What is written of a message that some line spells, spells it.
 use Rattle.std.proofs.Common.{◌≡◌, List, ℕ, refl}
 use Rattle.uci_lines.specs.Engine.{engine_message}
-use Rattle.uci_lines.specs.Says.{Says, Name, UciOk, ReadyOk, Best, OptionLine, Info, Nothing}
+use Rattle.uci_lines.specs.Messages.{EngineMsg, Name, UciOk, ReadyOk, Best, OptionLine, Info, Nothing}
 use Rattle.uci_lines.specs.Spells.{SpellsMessage}
 use Rattle.uci_engine_side.specs.Said.{said_text}
 use Rattle.uci_engine_side.specs.Again.{MessagesReadBack}
@@ -17,7 +17,7 @@ empty = refl
 nothing_again : SpellsMessage (said_text Nothing) Nothing
 nothing_again = read_spells (said_text Nothing) Nothing empty
 
-message_again : (line : List ℕ) (m : Says) → SpellsMessage line m → SpellsMessage (said_text m) m
+message_again : (line : List ℕ) (m : EngineMsg) → SpellsMessage line m → SpellsMessage (said_text m) m
 message_again line Nothing h = nothing_again
 message_again line (Name name) h = name_again line name h
 message_again line UciOk h = uci_ok_again

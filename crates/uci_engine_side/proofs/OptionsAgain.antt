@@ -6,9 +6,9 @@ use Rattle.std.specs.Fmt.{signed_decimal}
 use Rattle.peer_words.specs.Tokens.{is_token, tokens, trimmed, first_token, rest}
 use Rattle.peer_words.proofs.Trims.{trimmed_again}
 use Rattle.peer_words.proofs.TokenLists.{tokens_trimmed, tokens_alone}
-use Rattle.uci_lines.specs.Cuts.{Part, is_word, is_choice}
+use Rattle.uci_lines.specs.Cuts.{Found, is_word, is_choice}
 use Rattle.uci_lines.specs.Options.{shown_text}
-use Rattle.uci_lines.specs.Says.{Shape, Check, Spin, Combo, Button, Text, OptionLine}
+use Rattle.uci_lines.specs.Messages.{OptionKind, Check, Spin, Combo, Button, Text, OptionLine}
 use Rattle.uci_lines.specs.Spells.{ends_white, IsNoneOf, IsFirst, Behind, IsLast, HasValues, HasShape, Declares, HasForm}
 use Rattle.uci_engine_side.specs.Said.{spaced, each_value, switch_text, empty_or, range_text, shape_text, option_text, said_text}
 use Rattle.uci_lines.proofs.Fronts.{BeginsWhite, first_is, rest_is}
@@ -20,21 +20,21 @@ use Rattle.uci_engine_side.proofs.SpinsAgain.{clamped, one_of, signed_small, num
 -- TEXTS OF KINDS
 
 -- the word of a kind, and what stands behind it
-word_of : Shape → List ℕ
+word_of : OptionKind → List ℕ
 word_of (Check on) = codes "check"
 word_of (Spin default min max) = codes "spin"
 word_of (Combo default values) = codes "combo"
 word_of Button = codes "button"
 word_of (Text default) = codes "string"
 
-text_behind : Shape → List ℕ
+text_behind : OptionKind → List ℕ
 text_behind (Check on) = codes " default " ++ switch_text on
 text_behind (Spin default min max) = (codes " default " ++ signed_decimal default) ++ range_text min max
 text_behind (Combo default values) = codes " default" ++ spaced default ++ each_value values
 text_behind Button = []
 text_behind (Text default) = codes " default " ++ empty_or default
 
-kind_text : (shape : Shape) → shape_text shape ≡ codes " type " ++ (word_of shape ++ text_behind shape)
+kind_text : (shape : OptionKind) → shape_text shape ≡ codes " type " ++ (word_of shape ++ text_behind shape)
 unfolding word_of text_behind
 kind_text (Check on) = refl
 kind_text (Spin default min max) = refl
@@ -42,7 +42,7 @@ kind_text (Combo default values) = refl
 kind_text Button = refl
 kind_text (Text default) = refl
 
-word_token : (shape : Shape) → is_token (word_of shape) ≡ true
+word_token : (shape : OptionKind) → is_token (word_of shape) ≡ true
 unfolding word_of
 word_token (Check on) = refl
 word_token (Spin default min max) = refl
@@ -50,7 +50,7 @@ word_token (Combo default values) = refl
 word_token Button = refl
 word_token (Text default) = refl
 
-behind_white : (shape : Shape) → BeginsWhite (text_behind shape)
+behind_white : (shape : OptionKind) → BeginsWhite (text_behind shape)
 unfolding text_behind
 behind_white (Check on) = refl
 behind_white (Spin default min max) = refl
@@ -61,7 +61,7 @@ behind_white (Text default) = refl
 -- SHAPES
 
 -- a kind with all that it is by default, as it is read
-record Stands (shape : Shape) : Type 0 where
+record Stands (shape : OptionKind) : Type 0 where
   solid : Solid (word_of shape ++ text_behind shape)
   shaped : HasShape (word_of shape) (trimmed (text_behind shape)) shape
 
@@ -175,7 +175,7 @@ default_small n a b d hn ha hb e = subst (λ (i : ℤ). nat_abs i < 10 ^ 18) (sy
 default_stays : (n a b d : ℤ) → int_lt b a ≡ false → d ≡ int_max a (int_min n b) → d ≡ int_max a (int_min d b)
 default_stays n a b d l e = e ∙ clamped (int_lt b n) (int_lt (int_min n b) a) n a b refl refl l ∙ ap (λ i. int_max a (int_min i b)) (sym e)
 
-stands : (word text : List ℕ) (shape : Shape) → HasShape word text shape → Stands shape
+stands : (word text : List ℕ) (shape : OptionKind) → HasShape word text shape → Stands shape
 stands word text (Check on) h = check_stands on
 stands word text (Spin d a b) h =
     let hn = signed_small (h.2).digits h.1 (h.2).reads in
@@ -217,7 +217,7 @@ unfolding before_type
 before_trimmed [] t = refl
 before_trimmed (b ∷ bs) t = blank_trimmed (b ∷ bs) t
 
-type_part : List ℕ → List ℕ → Part
+type_part : List ℕ → List ℕ → Found
 type_part name others = record { before = before_type name; word = codes "type"; after = 32 ∷ others }
 
 type_first : (name others : List ℕ) → IsNoneOf (is_word (codes "type")) (tokens name) → IsFirst (is_word (codes "type")) (before_type name ++ (codes "type " ++ others)) (type_part name others)
@@ -233,7 +233,7 @@ type_first name others n = record {
 
 -- ALL
 
-declared : (name : List ℕ) (shape : Shape) → trimmed name ≡ name → IsNoneOf (is_word (codes "type")) (tokens name) → Stands shape → Declares (codes " name" ++ (spaced name ++ (codes " type " ++ (word_of shape ++ text_behind shape)))) name shape
+declared : (name : List ℕ) (shape : OptionKind) → trimmed name ≡ name → IsNoneOf (is_word (codes "type")) (tokens name) → Stands shape → Declares (codes " name" ++ (spaced name ++ (codes " type " ++ (word_of shape ++ text_behind shape)))) name shape
 unfolding type_part
 declared name shape t n s =
     let kind : List ℕ = word_of shape ++ text_behind shape in
@@ -249,10 +249,10 @@ declared name shape t n s =
           (subst (λ (u : List ℕ). HasShape (word_of shape) u shape) (sym others) s.shaped),
     )
 
-option_text_is : (name : List ℕ) (shape : Shape) → option_text name shape ≡ codes "option" ++ (codes " name" ++ (spaced name ++ (codes " type " ++ (word_of shape ++ text_behind shape))))
+option_text_is : (name : List ℕ) (shape : OptionKind) → option_text name shape ≡ codes "option" ++ (codes " name" ++ (spaced name ++ (codes " type " ++ (word_of shape ++ text_behind shape))))
 option_text_is name shape = ap (λ t. codes "option name" ++ (spaced name ++ t)) (kind_text shape)
 
-written : (name : List ℕ) (shape : Shape) → trimmed name ≡ name → IsNoneOf (is_word (codes "type")) (tokens name) → Stands shape → HasForm (codes "option" ++ (codes " name" ++ (spaced name ++ (codes " type " ++ (word_of shape ++ text_behind shape))))) (OptionLine name shape)
+written : (name : List ℕ) (shape : OptionKind) → trimmed name ≡ name → IsNoneOf (is_word (codes "type")) (tokens name) → Stands shape → HasForm (codes "option" ++ (codes " name" ++ (spaced name ++ (codes " type " ++ (word_of shape ++ text_behind shape))))) (OptionLine name shape)
 written name shape t n s =
     let text : List ℕ = codes " name" ++ (spaced name ++ (codes " type " ++ (word_of shape ++ text_behind shape))) in
     (text, begins_with (codes "option") text refl refl refl, declared name shape t n s)
@@ -263,12 +263,12 @@ name_kept text name e n = (
   subst (λ (ts : List (List ℕ)). IsNoneOf (is_word (codes "type")) ts) (sym (ap tokens e ∙ tokens_trimmed text)) n,
 )
 
-again_by : (text name : List ℕ) (shape : Shape) → Declares text name shape → HasForm (said_text (OptionLine name shape)) (OptionLine name shape)
+again_by : (text name : List ℕ) (shape : OptionKind) → Declares text name shape → HasForm (said_text (OptionLine name shape)) (OptionLine name shape)
 unfolding said_text
 again_by text name shape d =
     let k = name_kept (d.1).before name d.3 (d.2).none_before in
     let s = stands (first_token (d.1).after) (rest (d.1).after) shape d.4 in
     subst (λ (t : List ℕ). HasForm t (OptionLine name shape)) (sym (option_text_is name shape)) (written name shape k.0 k.1 s)
 
-pub option_again : (line name : List ℕ) (shape : Shape) → HasForm line (OptionLine name shape) → HasForm (said_text (OptionLine name shape)) (OptionLine name shape)
+pub option_again : (line name : List ℕ) (shape : OptionKind) → HasForm line (OptionLine name shape) → HasForm (said_text (OptionLine name shape)) (OptionLine name shape)
 option_again line name shape h = again_by h.0 name shape h.2

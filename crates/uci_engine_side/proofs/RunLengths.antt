@@ -6,7 +6,7 @@ use Rattle.chess_board.specs.declared.board.Kind.{Kind}
 use Rattle.chess_board.specs.declared.board.Kind.TheVariants.{Pawn, Knight, Bishop, Rook, Queen, King}
 use Rattle.chess_board.specs.Text.{text_of, promotion_text, Spells as MoveSpells}
 use Rattle.peer_words.specs.Tokens.{is_white, tokens}
-use Rattle.uci_lines.specs.Says.{Facts}
+use Rattle.uci_lines.specs.Info.{Info}
 use Rattle.uci_lines.specs.Spells.{IsRun, Takes, Tells}
 use Rattle.uci_engine_side.specs.Said.{each_move}
 
@@ -72,11 +72,11 @@ run_fits _ _ others (IsRun.Goes {t = t} {m = m} {ts = ts} {moves = moves} s r) =
     omega (arith, move_fits t m s, run_fits ts moves others r, length-append (text_of m) (each_move moves))
 
 -- what a field leaves, and the moves that it takes
-record Left (f : Facts) (ts : List (List ℕ)) (g : Facts) (others : List (List ℕ)) (n : ℕ) : Type 0 where
+record Left (f : Info) (ts : List (List ℕ)) (g : Info) (others : List (List ℕ)) (n : ℕ) : Type 0 where
   fewer : total others ≤ total ts
   moves : length (each_move g.pv) ≤ n
 
-taken_left : (n : ℕ) (f : Facts) (ts : List (List ℕ)) (g : Facts) (others : List (List ℕ)) → Takes f ts g others → total ts ≤ n → length (each_move f.pv) ≤ n → Left f ts g others n
+taken_left : (n : ℕ) (f : Info) (ts : List (List ℕ)) (g : Info) (others : List (List ℕ)) → Takes f ts g others → total ts ≤ n → length (each_move f.pv) ≤ n → Left f ts g others n
 taken_left n f _ _ _ (Takes.Depth e) l k = record { fewer = omega arith; moves = k }
 taken_left n f _ _ _ (Takes.Time e) l k = record { fewer = omega arith; moves = k }
 taken_left n f _ _ _ (Takes.Nodes e) l k = record { fewer = omega arith; moves = k }
@@ -91,7 +91,7 @@ taken_left n f _ _ _ (Takes.Pv {ts = ts} {others = others} {m = m} {moves = move
     let h = run_fits ts (m ∷ moves) others r in
     record { fewer = omega (arith, h); moves = omega (arith, h, l) }
 
-pub told_moves : (n : ℕ) (f : Facts) (ts : List (List ℕ)) (h : Facts) → Tells f ts h → total ts ≤ n → length (each_move f.pv) ≤ n → length (each_move h.pv) ≤ n
+pub told_moves : (n : ℕ) (f : Info) (ts : List (List ℕ)) (h : Info) → Tells f ts h → total ts ≤ n → length (each_move f.pv) ≤ n → length (each_move h.pv) ≤ n
 told_moves n f _ _ Tells.End l k = k
 told_moves n f _ _ Tells.Rest l k = k
 told_moves n f ts h (Tells.Taken {g = g} {others = others} t u) l k =

@@ -7,14 +7,15 @@ use Rattle.std.specs.Fmt.{decimal, signed_decimal}
 use Rattle.std.proofs.lemmas.List.{length-drop}
 use Rattle.chess_board.specs.declared.board.Move.{Move}
 use Rattle.peer_words.specs.Tokens.{trim_left, trimmed, token_end, first_token, rest, tokens}
-use Rattle.uci_lines.specs.declared.says.Score.{Score}
-use Rattle.uci_lines.specs.declared.says.Score.TheVariants.{Cp, Mate}
+use Rattle.uci_lines.specs.declared.messages.Score.{Score}
+use Rattle.uci_lines.specs.declared.messages.Score.TheVariants.{Cp, Mate}
 use Rattle.uci_lines.specs.Cuts.{is_word, is_known}
 use Rattle.uci_lines.specs.Orders.{optional_number}
 use Rattle.uci_lines.specs.Infos.{no_facts}
 use Rattle.uci_lines.specs.Options.{shown_text}
 use Rattle.uci_lines.specs.Scores.{IsCentis}
-use Rattle.uci_lines.specs.Says.{Facts, Shape, Check, Spin, Combo, Button, Text, Says, Name, UciOk, ReadyOk, Best, OptionLine, Info, Nothing}
+use Rattle.uci_lines.specs.Info.{Info as AnyInfo}
+use Rattle.uci_lines.specs.Messages.{OptionKind, Check, Spin, Combo, Button, Text, EngineMsg, Name, UciOk, ReadyOk, Best, OptionLine, Info, Nothing}
 use Rattle.uci_lines.specs.Spells.{Behind, HasShape, Declares, Tells, Begins, SpellsMessage}
 use Rattle.uci_engine_side.specs.Said.{spaced, score_text, bound_text, move_text, each_move, pv_text, switch_text, empty_or, shape_text, best_text, said_text}
 use Rattle.uci_engine_side.specs.Again.{TextsFitTheLine}
@@ -79,7 +80,7 @@ behind_length word text others (inr h) = omega (arith, part_length (is_word word
 spin_length : (n a b d : ℤ) → nat_abs n < 10 ^ 18 → nat_abs a < 10 ^ 18 → nat_abs b < 10 ^ 18 → nat_abs d < 10 ^ 18 → length (shape_text (Spin d a b)) ≤ 86
 spin_length n a b d hn ha hb hd = simp length-append (omega (arith, signed_length d hd, signed_length a ha, signed_length b hb))
 
-shape_length : (word text : List ℕ) (shape : Shape) → HasShape word text shape → length (shape_text shape) ≤ length text + 86
+shape_length : (word text : List ℕ) (shape : OptionKind) → HasShape word text shape → length (shape_text shape) ≤ length text + 86
 shape_length word text (Check on) h = omega (arith, switch_length on)
 shape_length word text (Spin d a b) h =
     let hn = signed_small (h.2).digits h.1 (h.2).reads in
@@ -94,7 +95,7 @@ shape_length word text Button h = omega arith
 shape_length word text (Text default) h =
     omega (arith, empty_length default, ap length h.3, shown_length (trimmed h.1), trimmed_length h.1, behind_length (codes "default") text h.1 h.2)
 
-pub declared_length : (text name : List ℕ) (shape : Shape) → Declares text name shape → length (said_text (OptionLine name shape)) ≤ length text + 98
+pub declared_length : (text name : List ℕ) (shape : OptionKind) → Declares text name shape → length (said_text (OptionLine name shape)) ≤ length text + 98
 unfolding said_text
 declared_length text name shape d =
     let part = d.1 in
@@ -123,15 +124,15 @@ pv_length : (moves : List Move) → length (pv_text moves) ≤ length (each_move
 pv_length [] = omega arith
 pv_length (m ∷ moves) = omega arith
 
-counts_length : (f : Facts) → Fits f → length (behind_counts f) ≤ length (each_move f.pv) + 60
+counts_length : (f : AnyInfo) → Fits f → length (behind_counts f) ≤ length (each_move f.pv) + 60
 unfolding behind_counts
 counts_length f s = simp length-append (omega (arith, score_length f.score s.score, bound_length f.bound, current_length f.current, pv_length f.pv))
 
-info_length : (f : Facts) → Fits f → length (behind_info f) ≤ length (each_move f.pv) + 195
+info_length : (f : AnyInfo) → Fits f → length (behind_info f) ≤ length (each_move f.pv) + 195
 unfolding behind_info
 info_length f s = simp length-append (omega (arith, number_length (codes " depth ") f.depth s.depth, number_length (codes " time ") f.time s.time, number_length (codes " nodes ") f.nodes s.nodes, number_length (codes " multipv ") f.multipv s.multipv, number_length (codes " currmovenumber ") f.number s.number, counts_length f s))
 
-pub facts_length : (text : List ℕ) (f : Facts) → Tells no_facts (tokens text) f → length (said_text (Info f)) ≤ length text + 200
+pub facts_length : (text : List ℕ) (f : AnyInfo) → Tells no_facts (tokens text) f → length (said_text (Info f)) ≤ length text + 200
 unfolding said_text
 facts_length text f t =
     let moves = told_moves (length text + 1) no_facts (tokens text) f t (tokens_total text) (omega arith) in
@@ -143,7 +144,7 @@ short : length (said_text UciOk) + length (said_text ReadyOk) + length (said_tex
 unfolding said_text
 short = omega arith
 
-form_length : (line : List ℕ) (m : Says) → SpellsMessage line m → length (said_text m) ≤ length line + 256
+form_length : (line : List ℕ) (m : EngineMsg) → SpellsMessage line m → length (said_text m) ≤ length line + 256
 form_length line Nothing h = omega (arith, short)
 form_length line (Name name) h = omega (arith, name_length name, ap length h.3, rest_length h.0, begun_length line (codes "id") h.0 h.1)
 form_length line UciOk h = omega (arith, short)

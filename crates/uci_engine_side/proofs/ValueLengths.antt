@@ -4,7 +4,7 @@ use Rattle.std.specs.List.{list_all}
 use Rattle.std.proofs.lemmas.List.Folds.{list_all-append}
 use Rattle.peer_words.specs.Tokens.{is_white, is_blank, is_token, tokens, trim_right, trimmed}
 use Rattle.peer_words.proofs.Trims.{and_true}
-use Rattle.uci_lines.specs.Cuts.{Part, cut, is_word, is_choice}
+use Rattle.uci_lines.specs.Cuts.{Found, cut, is_word, is_choice}
 use Rattle.uci_lines.specs.Choices.{before_choice}
 use Rattle.uci_lines.specs.Spells.{begins_white, ends_white, IsNoneOf, IsFirst, Behind, UpToChoice, HasValues}
 use Rattle.uci_engine_side.specs.Said.{spaced, each_value}
@@ -81,10 +81,10 @@ opens_by : (before word after : List ℕ) → is_token word ≡ true → begins_
 opens_by [] word after t h = absurd (token_black word after t h)
 opens_by (b ∷ bs) word after t h = record { some = omega arith; white = h }
 
-opens : (p : List ℕ → Bool) (text : List ℕ) (part : Part) → IsFirst p text part → begins_white text ≡ true → Opens part.before
+opens : (p : List ℕ → Bool) (text : List ℕ) (part : Found) → IsFirst p text part → begins_white text ≡ true → Opens part.before
 opens p text part f h = opens_by part.before part.word part.after f.token (sym (ap begins_white f.whole) ∙ h)
 
-pub part_length : (p : List ℕ → Bool) (text : List ℕ) (part : Part) → IsFirst p text part → length text ≡ length part.before + (length part.word + length part.after)
+pub part_length : (p : List ℕ → Bool) (text : List ℕ) (part : Found) → IsFirst p text part → length text ≡ length part.before + (length part.word + length part.after)
 part_length p text part f = ap length f.whole ∙ length-append part.before (part.word ++ part.after) ∙ ap (λ n. length part.before + n) (length-append part.word part.after)
 
 -- THE FIRST `default` BEHIND A `var`
@@ -110,17 +110,17 @@ none_over before word ts n w k =
     let here : not (is_word (codes "default") word) ≡ true = ap (λ t. not (is_word (codes "default") t)) w in
     list_all-append (λ t. not (is_word (codes "default") t)) (tokens before) (word ∷ ts) ∙ rw (weaker (tokens before) n, here, k) refl
 
-var_tokens : (text : List ℕ) (part : Part) → IsFirst is_choice text part → tokens text ≡ tokens part.before ++ (part.word ∷ tokens part.after)
+var_tokens : (text : List ℕ) (part : Found) → IsFirst is_choice text part → tokens text ≡ tokens part.before ++ (part.word ∷ tokens part.after)
 var_tokens text part f = cut_tokens is_choice text part refl (first_cut is_choice text part refl f)
 
 -- the same first choice, with fewer bytes behind it
-shorter_first : (text others : List ℕ) (part : Part) → IsFirst is_choice text part → begins_white others ≡ true → IsFirst is_choice (part.before ++ (part.word ++ others)) (record { before = part.before; word = part.word; after = others })
+shorter_first : (text others : List ℕ) (part : Found) → IsFirst is_choice text part → begins_white others ≡ true → IsFirst is_choice (part.before ++ (part.word ++ others)) (record { before = part.before; word = part.word; after = others })
 shorter_first text others part f w = record { whole = refl; token = f.token; passes = f.passes; stands_apart = f.stands_apart; ends_there = w; none_before = f.none_before }
 
-later_part : Part → Part → Part
+later_part : Found → Found → Found
 later_part part q = record { before = part.before ++ (part.word ++ q.before); word = q.word; after = q.after }
 
-later_first : (text : List ℕ) (part q : Part) → IsFirst is_choice text part → part.word ≡ codes "var" → IsFirst (is_word (codes "default")) part.after q → IsFirst (is_word (codes "default")) text (later_part part q)
+later_first : (text : List ℕ) (part q : Found) → IsFirst is_choice text part → part.word ≡ codes "var" → IsFirst (is_word (codes "default")) part.after q → IsFirst (is_word (codes "default")) text (later_part part q)
 unfolding later_part
 later_first text part q f w g =
     let o = opens (is_word (codes "default")) part.after q g f.ends_there in
@@ -135,10 +135,10 @@ later_first text part q f w g =
           ∙ none_over part.before part.word (tokens q.before) f.none_before w g.none_before;
     }
 
-default_cut : List ℕ → Option Part
+default_cut : List ℕ → Option Found
 default_cut text = cut (is_word (codes "default")) true text
 
-behind_var_by : (text : List ℕ) (part : Part) (o : Option Part) → IsFirst is_choice text part → part.word ≡ codes "var" → default_cut part.after ≡ o → after_cut (default_cut text) ≡ after_cut o
+behind_var_by : (text : List ℕ) (part : Found) (o : Option Found) → IsFirst is_choice text part → part.word ≡ codes "var" → default_cut part.after ≡ o → after_cut (default_cut text) ≡ after_cut o
 unfolding default_cut later_part
 behind_var_by text part None f w e =
     let none = cut_none (is_word (codes "default")) part.after e in
@@ -146,14 +146,14 @@ behind_var_by text part None f w e =
 behind_var_by text part (Some q) f w e =
     ap after_cut (first_cut (is_word (codes "default")) text (later_part part q) refl (later_first text part q f w (cut_first (is_word (codes "default")) part.after q refl e)))
 
-behind_var : (text others : List ℕ) (part : Part) → IsFirst is_choice text part → part.word ≡ codes "var" → Behind (codes "default") text others → Behind (codes "default") part.after others
+behind_var : (text others : List ℕ) (part : Found) → IsFirst is_choice text part → part.word ≡ codes "var" → Behind (codes "default") text others → Behind (codes "default") part.after others
 unfolding default_cut
 behind_var text others part f w b =
     let same : others ≡ after_cut (default_cut part.after) = behind_cut (codes "default") text others refl b ∙ behind_var_by text part (default_cut part.after) f w refl in
     subst (λ (t : List ℕ). Behind (codes "default") part.after t) (sym same) (cut_behind (codes "default") part.after refl)
 
 -- if the first choice is a `default`
-default_here : (text : List ℕ) (part : Part) → IsFirst is_choice text part → part.word ≡ codes "default" → IsFirst (is_word (codes "default")) text part
+default_here : (text : List ℕ) (part : Found) → IsFirst is_choice text part → part.word ≡ codes "default" → IsFirst (is_word (codes "default")) text part
 default_here text part f w = record {
   whole = f.whole;
   token = f.token;
@@ -163,7 +163,7 @@ default_here text part f w = record {
   none_before = weaker (tokens part.before) f.none_before;
 }
 
-behind_default : (text others : List ℕ) (part : Part) → IsFirst is_choice text part → part.word ≡ codes "default" → Behind (codes "default") text others → others ≡ part.after
+behind_default : (text others : List ℕ) (part : Found) → IsFirst is_choice text part → part.word ≡ codes "default" → Behind (codes "default") text others → others ≡ part.after
 behind_default text others part f w b =
     behind_cut (codes "default") text others refl b ∙ ap after_cut (first_cut (is_word (codes "default")) text part refl (default_here text part f w))
 
@@ -175,13 +175,13 @@ behind_none text others n b = behind_cut (codes "default") text others refl b �
 up_none : (text value : List ℕ) → IsNoneOf is_choice (tokens text) → UpToChoice text value → value ≡ trimmed text
 up_none text value n u = up_to text value u ∙ ap (λ o. trimmed (before_choice o text)) (none_cut is_choice text refl n)
 
-up_part : (text value : List ℕ) (part : Part) → IsFirst is_choice text part → UpToChoice text value → value ≡ trimmed part.before
+up_part : (text value : List ℕ) (part : Found) → IsFirst is_choice text part → UpToChoice text value → value ≡ trimmed part.before
 up_part text value part f u = up_to text value u ∙ ap (λ o. trimmed (before_choice o text)) (first_cut is_choice text part refl f)
 
 up_empty : (value : List ℕ) → UpToChoice [] value → length (spaced value) ≡ 0
 up_empty value u = ap (λ v. length (spaced v)) (up_none [] value refl u)
 
-up_inner : (text value : List ℕ) (part : Part) → IsFirst is_choice text part → begins_white text ≡ true → UpToChoice text value → length (spaced value) < length part.before
+up_inner : (text value : List ℕ) (part : Found) → IsFirst is_choice text part → begins_white text ≡ true → UpToChoice text value → length (spaced value) < length part.before
 up_inner text value part f b u =
     let o = opens is_choice text part f b in
     subst (λ (v : List ℕ). length (spaced v) < length part.before) (sym (up_part text value part f u)) (inner part.before o.some o.white f.stands_apart)
@@ -212,7 +212,7 @@ ended_sums text n = record {
     no_default : (default others : List ℕ) → Behind (codes "default") text others → UpToChoice others default → length (spaced default) ≡ 0
     no_default default others d v = up_empty default (subst (λ (t : List ℕ). UpToChoice t default) (behind_none text others n d) v)
 
-var_sums : (text value : List ℕ) (vs : List (List ℕ)) (part : Part) → IsFirst is_choice text part → part.word ≡ codes "var" → UpToChoice part.after value → Sums part.after vs → Sums text (value ∷ vs)
+var_sums : (text value : List ℕ) (vs : List (List ℕ)) (part : Found) → IsFirst is_choice text part → part.word ≡ codes "var" → UpToChoice part.after value → Sums part.after vs → Sums text (value ∷ vs)
 var_sums text value vs part f w u s =
     let l = part_length is_choice text part f in
     let three : length part.word ≡ 3 = ap length w in
@@ -225,7 +225,7 @@ var_sums text value vs part f w u s =
       whole = λ default others d k. omega (arith, l, three, e, s.both value default others f.ends_there u (behind_var text others part f w d) k);
     }
 
-default_sums : (text : List ℕ) (vs : List (List ℕ)) (part : Part) → IsFirst is_choice text part → part.word ≡ codes "default" → Sums part.after vs → Sums text vs
+default_sums : (text : List ℕ) (vs : List (List ℕ)) (part : Found) → IsFirst is_choice text part → part.word ≡ codes "default" → Sums part.after vs → Sums text vs
 default_sums text vs part f w s =
     let l = part_length is_choice text part f in
     let seven : length part.word ≡ 7 = ap length w in

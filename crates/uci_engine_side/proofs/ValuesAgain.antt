@@ -5,7 +5,7 @@ use Rattle.std.proofs.lemmas.List.{append-nil}
 use Rattle.peer_words.specs.Tokens.{tokens, trimmed}
 use Rattle.peer_words.proofs.Trims.{trimmed_again}
 use Rattle.peer_words.proofs.TokenLists.{tokens_trimmed}
-use Rattle.uci_lines.specs.Cuts.{Part, is_choice}
+use Rattle.uci_lines.specs.Cuts.{Found, is_choice}
 use Rattle.uci_lines.specs.Spells.{begins_white, IsNoneOf, IsFirst, UpToChoice, HasValues}
 use Rattle.uci_engine_side.specs.Said.{spaced, each_value}
 use Rattle.uci_lines.proofs.Fronts.{BeginsWhite}
@@ -40,7 +40,7 @@ none_spaced : (value : List ℕ) → IsClean value → IsNoneOf is_choice (token
 none_spaced value c = subst (λ (ts : List (List ℕ)). IsNoneOf is_choice ts) (sym (ap tokens (append-nil (spaced value)) ∙ spaced_tokens value)) c.none
 
 -- the part with which the next value begins
-next_part : List ℕ → List ℕ → List (List ℕ) → Part
+next_part : List ℕ → List ℕ → List (List ℕ) → Found
 next_part value w vs = record { before = spaced value ++ (32 ∷ []); word = codes "var"; after = spaced w ++ each_value vs }
 
 pub each_white : (vs : List (List ℕ)) → BeginsWhite (each_value vs)

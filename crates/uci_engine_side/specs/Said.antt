@@ -3,10 +3,11 @@ use Rattle.std.specs.Prelude.{ℕ, ℤ, List, [], ◌∷◌, ◌++◌, codes, Bo
 use Rattle.std.specs.Fmt.{signed_decimal}
 use Rattle.chess_board.specs.declared.board.Move.{Move}
 use Rattle.chess_board.specs.Text.{text_of}
-use Rattle.uci_lines.specs.declared.says.Score.{Score}
-use Rattle.uci_lines.specs.declared.says.Score.TheVariants.{Cp, Mate}
+use Rattle.uci_lines.specs.declared.messages.Score.{Score}
+use Rattle.uci_lines.specs.declared.messages.Score.TheVariants.{Cp, Mate}
 use Rattle.uci_lines.specs.Orders.{optional_number}
-use Rattle.uci_lines.specs.Says.{Facts, Shape, Check, Spin, Combo, Button, Text, Says, Name, UciOk, ReadyOk, Best, OptionLine, Info, Nothing}
+use Rattle.uci_lines.specs.Info.{Info as AnyInfo}
+use Rattle.uci_lines.specs.Messages.{OptionKind, Check, Spin, Combo, Button, Text, EngineMsg, Name, UciOk, ReadyOk, Best, OptionLine, Info, Nothing}
 
 -- a text behind a blank, if there is one
 abbrev pub spaced : List ℕ → List ℕ
@@ -36,12 +37,12 @@ abbrev pub pv_text : List Move → List ℕ
 pv_text [] = []
 pv_text (m ∷ moves) = codes " pv" ++ each_move (m ∷ moves)
 
-abbrev pub counts_text : Facts → List ℕ
+abbrev pub counts_text : AnyInfo → List ℕ
 counts_text f =
     optional_number (codes " depth ") f.depth ++ optional_number (codes " time ") f.time ++ optional_number (codes " nodes ") f.nodes
     ++ optional_number (codes " multipv ") f.multipv ++ optional_number (codes " currmovenumber ") f.number
 
-unfoldable pub facts_text : Facts → List ℕ
+unfoldable pub facts_text : AnyInfo → List ℕ
 facts_text f = codes "info" ++ counts_text f ++ score_text f.score ++ bound_text f.bound ++ move_text (codes " currmove ") f.current ++ pv_text f.pv
 
 -- each value behind `var`
@@ -72,21 +73,21 @@ combo_text default values = codes " type combo default" ++ spaced default ++ eac
 abbrev pub string_text : List ℕ → List ℕ
 string_text default = codes " type string default " ++ empty_or default
 
-abbrev pub shape_text : Shape → List ℕ
+abbrev pub shape_text : OptionKind → List ℕ
 shape_text (Check on) = check_text on
 shape_text (Spin default min max) = spin_text default min max
 shape_text (Combo default values) = combo_text default values
 shape_text Button = codes " type button"
 shape_text (Text default) = string_text default
 
-abbrev pub option_text : List ℕ → Shape → List ℕ
+abbrev pub option_text : List ℕ → OptionKind → List ℕ
 option_text name shape = codes "option name" ++ spaced name ++ shape_text shape
 
 abbrev pub best_text : Option Move → List ℕ
 best_text None = codes "0000"
 best_text (Some m) = text_of m
 
-unfoldable pub said_text : Says → List ℕ
+unfoldable pub said_text : EngineMsg → List ℕ
 said_text (Name text) = codes "id name" ++ spaced text
 said_text UciOk = codes "uciok"
 said_text ReadyOk = codes "readyok"

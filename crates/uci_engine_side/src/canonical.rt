@@ -9,7 +9,8 @@ ghost use Rattle.uci_lines.specs.Orders.{optional_number};
 ghost use Rattle.uci_lines.specs.Choices.{values};
 ghost use Rattle.uci_engine_side.specs.Said.{spaced, score_text, bound_text, move_text, each_move, pv_text, counts_text, facts_text, each_value, switch_text, empty_or, check_text, range_text, spin_text, combo_text, string_text, shape_text, option_text, best_text, said_text};
 ghost use Rattle.uci_lines.specs.Writable.{can_write, CanWrite};
-ghost use Rattle.uci_lines.specs.Says.{facts_of, shape_of, says_of};
+ghost use Rattle.uci_lines.specs.Info.{info_of};
+ghost use Rattle.uci_lines.specs.Messages.{option_kind_of, engine_message_of};
 
 use chess_board::{Move, write_move};
 use itoa::Buffer;
@@ -107,8 +108,8 @@ fn put_pv(pv: &[u8], out: &mut Out)
 }
 
 fn put_counts(info: &Info, out: &mut Out)
-    requires { length out.old.text + length (counts_text (facts_of info.now)) ≤ out.old.room }
-    ensures { out.new ≡ with out.old (counts_text (facts_of info.now)) }
+    requires { length out.old.text + length (counts_text (info_of info.now)) ≤ out.old.room }
+    ensures { out.new ≡ with out.old (counts_text (info_of info.now)) }
 {
     put_count(b" depth ", info.depth, out);
     put_count(b" time ", info.time, out);
@@ -120,8 +121,8 @@ fn put_counts(info: &Info, out: &mut Out)
 #[tactic(auto, unfolding(crate::specs::Said::facts_text))]
 fn put_info(info: &Info, out: &mut Out)
     requires officer { can_write info.now.current }
-    requires room { length out.old.text + length (facts_text (facts_of info.now)) ≤ out.old.room }
-    ensures { out.new ≡ with out.old (facts_text (facts_of info.now)) }
+    requires room { length out.old.text + length (facts_text (info_of info.now)) ≤ out.old.room }
+    ensures { out.new ≡ with out.old (facts_text (info_of info.now)) }
 {
     out.put(b"info");
     put_counts(info, out);
@@ -194,7 +195,8 @@ fn put_spin(default: &i64, min: &i64, max: &i64, out: &mut Out)
 }
 
 fn put_combo(default: &[u8], texts: &[u8], out: &mut Out)
-    requires { length out.old.text + length (combo_text default.now (values texts.now)) ≤ out.old.room }
+    requires { length out.old.text + length (combo_text default.now (values texts.now))
+        ≤ out.old.room }
     ensures { out.new ≡ with out.old (combo_text default.now (values texts.now)) }
 {
     out.put(b" type combo default");
@@ -210,8 +212,8 @@ fn put_text(default: &[u8], out: &mut Out)
 }
 
 fn put_kind(kind: &OptionKind, out: &mut Out)
-    requires { length out.old.text + length (shape_text (shape_of kind.now)) ≤ out.old.room }
-    ensures { out.new ≡ with out.old (shape_text (shape_of kind.now)) }
+    requires { length out.old.text + length (shape_text (option_kind_of kind.now)) ≤ out.old.room }
+    ensures { out.new ≡ with out.old (shape_text (option_kind_of kind.now)) }
 {
     match kind {
         OptionKind::Check { on } => put_check(*on, out),
@@ -223,7 +225,8 @@ fn put_kind(kind: &OptionKind, out: &mut Out)
 }
 
 fn put_name(name: &[u8], out: &mut Out)
-    requires { length out.old.text + length (codes "option name" ++ spaced name.now) ≤ out.old.room }
+    requires { length out.old.text + length (codes "option name" ++ spaced name.now)
+        ≤ out.old.room }
     ensures { out.new ≡ with out.old (codes "option name" ++ spaced name.now) }
 {
     out.put(b"option name");
@@ -231,8 +234,10 @@ fn put_name(name: &[u8], out: &mut Out)
 }
 
 fn put_option(option: &OptionMsg, out: &mut Out)
-    requires { length out.old.text + length (option_text option.now.name.now (shape_of option.now.kind)) ≤ out.old.room }
-    ensures { out.new ≡ with out.old (option_text option.now.name.now (shape_of option.now.kind)) }
+    requires { length out.old.text
+        + length (option_text option.now.name.now (option_kind_of option.now.kind)) ≤ out.old.room }
+    ensures { out.new
+        ≡ with out.old (option_text option.now.name.now (option_kind_of option.now.kind)) }
 {
     put_name(option.name, out);
     put_kind(&option.kind, out);
@@ -253,9 +258,10 @@ fn put_best(best: Option<Move>, out: &mut Out)
 /// `read_engine` reads it again, and `written_messages_fit_the_line` how long it is.
 #[tactic(auto, unfolding(crate::specs::Said::said_text))]
 pub fn write_engine(msg: &EngineMsg, out: &mut Out)
-    requires writable { CanWrite (says_of msg.now) }
-    requires room { length out.old.text + length (said_text (says_of msg.now)) ≤ out.old.room }
-    ensures { out.new ≡ with out.old (said_text (says_of msg.now)) }
+    requires writable { CanWrite (engine_message_of msg.now) }
+    requires room { length out.old.text + length (said_text (engine_message_of msg.now))
+        ≤ out.old.room }
+    ensures { out.new ≡ with out.old (said_text (engine_message_of msg.now)) }
 {
     match msg {
         EngineMsg::Name(text) => {

@@ -5,7 +5,7 @@ use Rattle.chess_board.specs.declared.board.Move.{Move}
 use Rattle.peer_words.specs.Tokens.{is_white, trim_left, trimmed, tokens}
 use Rattle.peer_words.proofs.TokenLists.{tokens_some, tokens_white, tokens_trimmed}
 use Rattle.peer_words.proofs.Trims.{and_true}
-use Rattle.uci_lines.specs.Cuts.{Part, onto_part, cut, is_no_move}
+use Rattle.uci_lines.specs.Cuts.{Found, onto_part, cut, is_no_move}
 use Rattle.chess_board.specs.Spelling.{move_of}
 use Rattle.uci_lines.specs.Moves.{add_move, run}
 use Rattle.uci_lines.proofs.Fronts.{front, behind, front-white, behind-white, front-byte, behind-byte}
@@ -21,50 +21,50 @@ tokens_byte b bs e =
 
 -- at a fresh front, and behind a byte of a token
 record Both (p : List ℕ → Bool) (text : List ℕ) : Type 0 where
-  pub fresh : (part : Part) → cut p true text ≡ Some part → tokens text ≡ tokens part.before ++ (part.word ∷ tokens part.after)
-  pub inside : (part : Part) → cut p false text ≡ Some part → tokens (behind text) ≡ tokens (behind part.before) ++ (part.word ∷ tokens part.after)
+  pub fresh : (part : Found) → cut p true text ≡ Some part → tokens text ≡ tokens part.before ++ (part.word ∷ tokens part.after)
+  pub inside : (part : Found) → cut p false text ≡ Some part → tokens (behind text) ≡ tokens (behind part.before) ++ (part.word ∷ tokens part.after)
 
-at_word : (p : List ℕ → Bool) (w : Bool) (b : ℕ) (bs : List ℕ) (part : Part) → p [] ≡ false → is_white b ≡ w → p (front (b ∷ bs)) ≡ true → part_at (b ∷ bs) ≡ part → tokens (b ∷ bs) ≡ tokens part.before ++ (part.word ∷ tokens part.after)
+at_word : (p : List ℕ → Bool) (w : Bool) (b : ℕ) (bs : List ℕ) (part : Found) → p [] ≡ false → is_white b ≡ w → p (front (b ∷ bs)) ≡ true → part_at (b ∷ bs) ≡ part → tokens (b ∷ bs) ≡ tokens part.before ++ (part.word ∷ tokens part.after)
 at_word p true b bs part z e h k = absurd (cc (ap p (front-white b bs e)))
 at_word p false b bs part z e h k =
     tokens_byte b bs e
     ∙ ap (λ t. t ∷ tokens (behind bs)) (sym (front-byte b bs e))
     ∙ ap (λ t. front (b ∷ bs) ∷ tokens t) (sym (behind-byte b bs e))
-    ∙ ap (λ (r : Part). tokens r.before ++ (r.word ∷ tokens r.after)) k
+    ∙ ap (λ (r : Found). tokens r.before ++ (r.word ∷ tokens r.after)) k
 
-fresh_further : (p : List ℕ → Bool) (w : Bool) (b : ℕ) (bs : List ℕ) (o : Option Part) (part : Part) → is_white b ≡ w → Both p bs → cut p w bs ≡ o → option_map (onto_part b) o ≡ Some part → tokens (b ∷ bs) ≡ tokens part.before ++ (part.word ∷ tokens part.after)
+fresh_further : (p : List ℕ → Bool) (w : Bool) (b : ℕ) (bs : List ℕ) (o : Option Found) (part : Found) → is_white b ≡ w → Both p bs → cut p w bs ≡ o → option_map (onto_part b) o ≡ Some part → tokens (b ∷ bs) ≡ tokens part.before ++ (part.word ∷ tokens part.after)
 fresh_further p w b bs None part e i c h = absurd (cc)
 fresh_further p true b bs (Some q) part e i c h =
     let same : onto_part b q ≡ part = cc in
     tokens_white b bs e ∙ i.fresh q c ∙ ap (λ t. t ++ (q.word ∷ tokens q.after)) (sym (tokens_white b q.before e))
-    ∙ ap (λ (r : Part). tokens r.before ++ (r.word ∷ tokens r.after)) same
+    ∙ ap (λ (r : Found). tokens r.before ++ (r.word ∷ tokens r.after)) same
 fresh_further p false b bs (Some q) part e i c h =
     let same : onto_part b q ≡ part = cc in
     tokens_byte b bs e
     ∙ ap (λ t. (b ∷ t) ∷ tokens (behind bs)) (sym (front_kept p bs q c))
     ∙ ap (λ t. (b ∷ front q.before) ∷ t) (i.inside q c)
     ∙ ap (λ t. t ++ (q.word ∷ tokens q.after)) (sym (tokens_byte b q.before e))
-    ∙ ap (λ (r : Part). tokens r.before ++ (r.word ∷ tokens r.after)) same
+    ∙ ap (λ (r : Found). tokens r.before ++ (r.word ∷ tokens r.after)) same
 
-fresh_step : (t : Bool) (p : List ℕ → Bool) (b : ℕ) (bs : List ℕ) (part : Part) → p [] ≡ false → p (front (b ∷ bs)) ≡ t → Both p bs → cut p true (b ∷ bs) ≡ Some part → tokens (b ∷ bs) ≡ tokens part.before ++ (part.word ∷ tokens part.after)
+fresh_step : (t : Bool) (p : List ℕ → Bool) (b : ℕ) (bs : List ℕ) (part : Found) → p [] ≡ false → p (front (b ∷ bs)) ≡ t → Both p bs → cut p true (b ∷ bs) ≡ Some part → tokens (b ∷ bs) ≡ tokens part.before ++ (part.word ∷ tokens part.after)
 fresh_step true p b bs part z e i h =
     let some : Some (part_at (b ∷ bs)) ≡ Some part = sym (here p b bs e) ∙ h in
     let same : part_at (b ∷ bs) ≡ part = cc in
     at_word p (is_white b) b bs part z refl e same
 fresh_step false p b bs part z e i h = fresh_further p (is_white b) b bs (cut p (is_white b) bs) part refl i refl (sym (step p true b bs e) ∙ h)
 
-inside_further : (p : List ℕ → Bool) (w : Bool) (b : ℕ) (bs : List ℕ) (o : Option Part) (part : Part) → is_white b ≡ w → Both p bs → cut p w bs ≡ o → option_map (onto_part b) o ≡ Some part → tokens (behind (b ∷ bs)) ≡ tokens (behind part.before) ++ (part.word ∷ tokens part.after)
+inside_further : (p : List ℕ → Bool) (w : Bool) (b : ℕ) (bs : List ℕ) (o : Option Found) (part : Found) → is_white b ≡ w → Both p bs → cut p w bs ≡ o → option_map (onto_part b) o ≡ Some part → tokens (behind (b ∷ bs)) ≡ tokens (behind part.before) ++ (part.word ∷ tokens part.after)
 inside_further p w b bs None part e i c h = absurd (cc)
 inside_further p true b bs (Some q) part e i c h =
     let same : onto_part b q ≡ part = cc in
     ap tokens (behind-white b bs e) ∙ tokens_white b bs e ∙ i.fresh q c
     ∙ ap (λ t. t ++ (q.word ∷ tokens q.after)) (sym (ap tokens (behind-white b q.before e) ∙ tokens_white b q.before e))
-    ∙ ap (λ (r : Part). tokens (behind r.before) ++ (r.word ∷ tokens r.after)) same
+    ∙ ap (λ (r : Found). tokens (behind r.before) ++ (r.word ∷ tokens r.after)) same
 inside_further p false b bs (Some q) part e i c h =
     let same : onto_part b q ≡ part = cc in
     ap tokens (behind-byte b bs e) ∙ i.inside q c
     ∙ ap (λ t. tokens t ++ (q.word ∷ tokens q.after)) (sym (behind-byte b q.before e))
-    ∙ ap (λ (r : Part). tokens (behind r.before) ++ (r.word ∷ tokens r.after)) same
+    ∙ ap (λ (r : Found). tokens (behind r.before) ++ (r.word ∷ tokens r.after)) same
 
 both : (p : List ℕ → Bool) (text : List ℕ) → p [] ≡ false → Both p text
 both p [] z = record { fresh = λ part h. absurd (cc h); inside = λ part h. absurd (cc h) }
@@ -75,7 +75,7 @@ both p (b ∷ bs) z =
       inside = λ part h. inside_further p (is_white b) b bs (cut p (is_white b) bs) part refl i refl h;
     }
 
-pub cut_tokens : (p : List ℕ → Bool) (text : List ℕ) (part : Part) → p [] ≡ false → cut p true text ≡ Some part → tokens text ≡ tokens part.before ++ (part.word ∷ tokens part.after)
+pub cut_tokens : (p : List ℕ → Bool) (text : List ℕ) (part : Found) → p [] ≡ false → cut p true text ≡ Some part → tokens text ≡ tokens part.before ++ (part.word ∷ tokens part.after)
 cut_tokens p text part z h = (both p text z).fresh part h
 
 -- a run of moves ends at a token that is none
@@ -87,7 +87,7 @@ none_is : (m : Option Move) → is_none m ≡ true → m ≡ None
 none_is None h = refl
 none_is (Some m) h = absurd (cc)
 
-pub run_before : (text : List ℕ) (part : Part) → cut is_no_move true text ≡ Some part → run (tokens text) ≡ run (tokens part.before)
+pub run_before : (text : List ℕ) (part : Found) → cut is_no_move true text ≡ Some part → run (tokens text) ≡ run (tokens part.before)
 run_before text part h =
     let passes = (cut_is is_no_move true text part h).passes in
     let none = none_is (move_of part.word) (and_true (ltb 0 (length part.word)) (is_none (move_of part.word)) passes).1 in

@@ -6,17 +6,17 @@ use Rattle.std.specs.List.{before_first, list_all}
 use Rattle.std.specs.Option.{option_map}
 use Rattle.peer_words.specs.Tokens.{is_white, is_token, trim_left, token_end, first_token}
 use Rattle.uci_lines.proofs.Fronts.{BeginsWhite, joined, front_black, begins, front-white, front-byte, front_is, behind_is, bytes_of}
-use Rattle.uci_lines.specs.Cuts.{Part, onto_part, cut}
+use Rattle.uci_lines.specs.Cuts.{Found, onto_part, cut}
 
 -- a part of what stands behind some bytes, as a part of all
-abbrev pub further : List ℕ → Part → Part
+abbrev pub further : List ℕ → Found → Found
 further bytes part = record { before = bytes ++ part.before; word = part.word; after = part.after }
 
-abbrev pub shifted : List ℕ → Option Part → Option Part
+abbrev pub shifted : List ℕ → Option Found → Option Found
 shifted bytes found = option_map (further bytes) found
 
 -- the part that begins with a token
-abbrev pub part_at : List ℕ → Part
+abbrev pub part_at : List ℕ → Found
 part_at bytes = record { before = []; word = before_first is_white bytes; after = drop (token_end bytes) bytes }
 
 pub step : (p : List ℕ → Bool) (fresh : Bool) (b : ℕ) (bs : List ℕ) → (fresh && p (before_first is_white (b ∷ bs))) ≡ false → cut p fresh (b ∷ bs) ≡ option_map (onto_part b) (cut p (is_white b) bs)
@@ -25,14 +25,14 @@ step p fresh b bs e = rw e refl
 pub here : (p : List ℕ → Bool) (b : ℕ) (bs : List ℕ) → p (before_first is_white (b ∷ bs)) ≡ true → cut p true (b ∷ bs) ≡ Some (part_at (b ∷ bs))
 here p b bs e = rw e refl
 
-onto_shifted : (bytes : List ℕ) (b : ℕ) (found : Option Part) → shifted bytes (option_map (onto_part b) found) ≡ shifted (bytes ++ (b ∷ [])) found
+onto_shifted : (bytes : List ℕ) (b : ℕ) (found : Option Found) → shifted bytes (option_map (onto_part b) found) ≡ shifted (bytes ++ (b ∷ [])) found
 onto_shifted bytes b None = refl
 onto_shifted bytes b (Some part) = rw append_assoc refl
 
 from : (text : List ℕ) (i : ℕ) → i < length text → drop i text ≡ get_or text i 0 ∷ drop (i + 1) text
 from text i h = rw add-one (drop-cons text i 0 h)
 
-passed_at : (p : List ℕ → Bool) (fresh : Bool) (bytes rest more : List ℕ) (b : ℕ) (all : Option Part) → rest ≡ b ∷ more → (fresh && p (before_first is_white rest)) ≡ false → all ≡ shifted bytes (cut p fresh rest) → all ≡ shifted (bytes ++ (b ∷ [])) (cut p (is_white b) more)
+passed_at : (p : List ℕ → Bool) (fresh : Bool) (bytes rest more : List ℕ) (b : ℕ) (all : Option Found) → rest ≡ b ∷ more → (fresh && p (before_first is_white rest)) ≡ false → all ≡ shifted bytes (cut p fresh rest) → all ≡ shifted (bytes ++ (b ∷ [])) (cut p (is_white b) more)
 passed_at p fresh bytes [] more b all e h k = absurd (cc)
 passed_at p fresh bytes (c ∷ cs) more b all e h k =
     let same : c ≡ b = cc in
@@ -40,23 +40,23 @@ passed_at p fresh bytes (c ∷ cs) more b all e h k =
     k ∙ ap (shifted bytes) (step p fresh c cs h) ∙ onto_shifted bytes c (cut p (is_white c) cs) ∙ rw (same, others) refl
 
 -- a byte at which no token begins that passes
-pub passed : (p : List ℕ → Bool) (text : List ℕ) (i : ℕ) (fresh : Bool) (all : Option Part) → i < length text → (fresh && p (before_first is_white (drop i text))) ≡ false → all ≡ shifted (take i text) (cut p fresh (drop i text)) → all ≡ shifted (take (i + 1) text) (cut p (is_white (get_or text i 0)) (drop (i + 1) text))
+pub passed : (p : List ℕ → Bool) (text : List ℕ) (i : ℕ) (fresh : Bool) (all : Option Found) → i < length text → (fresh && p (before_first is_white (drop i text))) ≡ false → all ≡ shifted (take i text) (cut p fresh (drop i text)) → all ≡ shifted (take (i + 1) text) (cut p (is_white (get_or text i 0)) (drop (i + 1) text))
 passed p text i fresh all l e h =
     passed_at p fresh (take i text) (drop i text) (drop (i + 1) text) (get_or text i 0) all (from text i l) e h
     ∙ ap (λ t. shifted t (cut p (is_white (get_or text i 0)) (drop (i + 1) text))) (sym (take_more text i 0 l))
 
-found_at : (p : List ℕ → Bool) (bytes rest more : List ℕ) (b : ℕ) (all : Option Part) → rest ≡ b ∷ more → p (before_first is_white rest) ≡ true → all ≡ shifted bytes (cut p true rest) → all ≡ Some (further bytes (part_at rest))
+found_at : (p : List ℕ → Bool) (bytes rest more : List ℕ) (b : ℕ) (all : Option Found) → rest ≡ b ∷ more → p (before_first is_white rest) ≡ true → all ≡ shifted bytes (cut p true rest) → all ≡ Some (further bytes (part_at rest))
 found_at p bytes [] more b all e h k = absurd (cc)
 found_at p bytes (c ∷ cs) more b all e h k = k ∙ ap (shifted bytes) (here p c cs h)
 
 -- one at which a token begins that passes
-pub found : (p : List ℕ → Bool) (text : List ℕ) (i : ℕ) (all : Option Part) → i < length text → p (before_first is_white (drop i text)) ≡ true → all ≡ shifted (take i text) (cut p true (drop i text)) → all ≡ Some (record { before = take i text; word = before_first is_white (drop i text); after = drop (token_end (drop i text)) (drop i text) })
+pub found : (p : List ℕ → Bool) (text : List ℕ) (i : ℕ) (all : Option Found) → i < length text → p (before_first is_white (drop i text)) ≡ true → all ≡ shifted (take i text) (cut p true (drop i text)) → all ≡ Some (record { before = take i text; word = before_first is_white (drop i text); after = drop (token_end (drop i text)) (drop i text) })
 found p text i all l e h =
     found_at p (take i text) (drop i text) (drop (i + 1) text) (get_or text i 0) all (from text i l) e h
     ∙ ap (λ t. Some (record { before = t; word = before_first is_white (drop i text); after = drop (token_end (drop i text)) (drop i text) })) (append-nil (take i text))
 
 -- What a cut is: the text in three, a token in the middle that passes.
-pub record Cuts (p : List ℕ → Bool) (text : List ℕ) (part : Part) : Type 0 where
+pub record Cuts (p : List ℕ → Bool) (text : List ℕ) (part : Found) : Type 0 where
   pub whole : text ≡ part.before ++ (part.word ++ part.after)
   pub passes : p part.word ≡ true
   pub black : list_all (λ c. not (is_white c)) part.word ≡ true
@@ -66,26 +66,26 @@ pub second : (a b : Bool) → (a && b) ≡ true → b ≡ true
 second true b h = h
 second false b h = absurd (cc)
 
-further_is : (p : List ℕ → Bool) (b : ℕ) (bs : List ℕ) (found : Option Part) (part : Part) → ((q : Part) → found ≡ Some q → Cuts p bs q) → option_map (onto_part b) found ≡ Some part → Cuts p (b ∷ bs) part
+further_is : (p : List ℕ → Bool) (b : ℕ) (bs : List ℕ) (found : Option Found) (part : Found) → ((q : Found) → found ≡ Some q → Cuts p bs q) → option_map (onto_part b) found ≡ Some part → Cuts p (b ∷ bs) part
 further_is p b bs None part h e = absurd (cc)
 further_is p b bs (Some q) part h e =
     let k = h q refl in
     let same : onto_part b q ≡ part = cc in
-    subst (λ (r : Part). Cuts p (b ∷ bs) r) same (record { whole = ap (λ t. b ∷ t) k.whole; passes = k.passes; black = k.black; begins_white = k.begins_white })
+    subst (λ (r : Found). Cuts p (b ∷ bs) r) same (record { whole = ap (λ t. b ∷ t) k.whole; passes = k.passes; black = k.black; begins_white = k.begins_white })
 
-cut_step : (t : Bool) (p : List ℕ → Bool) (fresh : Bool) (b : ℕ) (bs : List ℕ) (part : Part) → (fresh && p (before_first is_white (b ∷ bs))) ≡ t → ((q : Part) → cut p (is_white b) bs ≡ Some q → Cuts p bs q) → cut p fresh (b ∷ bs) ≡ Some part → Cuts p (b ∷ bs) part
+cut_step : (t : Bool) (p : List ℕ → Bool) (fresh : Bool) (b : ℕ) (bs : List ℕ) (part : Found) → (fresh && p (before_first is_white (b ∷ bs))) ≡ t → ((q : Found) → cut p (is_white b) bs ≡ Some q → Cuts p bs q) → cut p fresh (b ∷ bs) ≡ Some part → Cuts p (b ∷ bs) part
 cut_step true p fresh b bs part e h k =
     let same : Some (part_at (b ∷ bs)) ≡ Some part = sym (rw e refl) ∙ k in
     let is : part_at (b ∷ bs) ≡ part = cc in
-    subst (λ (r : Part). Cuts p (b ∷ bs) r) is (record { whole = sym (joined (b ∷ bs)); passes = second fresh (p (before_first is_white (b ∷ bs))) e; black = front_black (b ∷ bs); begins_white = begins (b ∷ bs) })
+    subst (λ (r : Found). Cuts p (b ∷ bs) r) is (record { whole = sym (joined (b ∷ bs)); passes = second fresh (p (before_first is_white (b ∷ bs))) e; black = front_black (b ∷ bs); begins_white = begins (b ∷ bs) })
 cut_step false p fresh b bs part e h k =
     further_is p b bs (cut p (is_white b) bs) part h (sym (step p fresh b bs e) ∙ k)
 
-pub cut_is : (p : List ℕ → Bool) (fresh : Bool) (text : List ℕ) (part : Part) → cut p fresh text ≡ Some part → Cuts p text part
+pub cut_is : (p : List ℕ → Bool) (fresh : Bool) (text : List ℕ) (part : Found) → cut p fresh text ≡ Some part → Cuts p text part
 cut_is p fresh [] part h = absurd (cc)
 cut_is p fresh (b ∷ bs) part h = cut_step (fresh && p (before_first is_white (b ∷ bs))) p fresh b bs part refl (λ q k. cut_is p (is_white b) bs q k) h
 
-pub before_fits : (p : List ℕ → Bool) (text : List ℕ) (part : Part) → cut p true text ≡ Some part → length part.before ≤ length text
+pub before_fits : (p : List ℕ → Bool) (text : List ℕ) (part : Found) → cut p true text ≡ Some part → length part.before ≤ length text
 before_fits p text part h =
     let e = ap length (cut_is p true text part h).whole in
     omega (arith, length-append part.before (part.word ++ part.after))
@@ -100,45 +100,45 @@ black_first b bs e = ap (before_first is_white) (left b bs e) ∙ front-byte b b
     left : (c : ℕ) (cs : List ℕ) → is_white c ≡ false → trim_left (c ∷ cs) ≡ c ∷ cs
     left c cs h = rw h refl
 
-front_kept_step : (w : Bool) (p : List ℕ → Bool) (b : ℕ) (bs : List ℕ) (o : Option Part) (part : Part) → is_white b ≡ w → option_map (onto_part b) o ≡ Some part → ((q : Part) → w ≡ false → o ≡ Some q → before_first is_white q.before ≡ before_first is_white bs) → before_first is_white part.before ≡ before_first is_white (b ∷ bs)
+front_kept_step : (w : Bool) (p : List ℕ → Bool) (b : ℕ) (bs : List ℕ) (o : Option Found) (part : Found) → is_white b ≡ w → option_map (onto_part b) o ≡ Some part → ((q : Found) → w ≡ false → o ≡ Some q → before_first is_white q.before ≡ before_first is_white bs) → before_first is_white part.before ≡ before_first is_white (b ∷ bs)
 front_kept_step w p b bs None part e h k = absurd (cc)
 front_kept_step true p b bs (Some q) part e h k =
     let same : onto_part b q ≡ part = cc in
-    sym (ap (λ (r : Part). before_first is_white r.before) same) ∙ front-white b q.before e ∙ sym (front-white b bs e)
+    sym (ap (λ (r : Found). before_first is_white r.before) same) ∙ front-white b q.before e ∙ sym (front-white b bs e)
 front_kept_step false p b bs (Some q) part e h k =
     let same : onto_part b q ≡ part = cc in
-    sym (ap (λ (r : Part). before_first is_white r.before) same) ∙ front-byte b q.before e ∙ ap (λ t. b ∷ t) (k q refl refl) ∙ sym (front-byte b bs e)
+    sym (ap (λ (r : Found). before_first is_white r.before) same) ∙ front-byte b q.before e ∙ ap (λ t. b ∷ t) (k q refl refl) ∙ sym (front-byte b bs e)
 
-along : (p : List ℕ → Bool) (w : Bool) (bs : List ℕ) (q : Part) → w ≡ false → cut p w bs ≡ Some q → cut p false bs ≡ Some q
+along : (p : List ℕ → Bool) (w : Bool) (bs : List ℕ) (q : Found) → w ≡ false → cut p w bs ≡ Some q → cut p false bs ≡ Some q
 along p true bs q e h = absurd (cc)
 along p false bs q e h = h
 
-pub front_kept : (p : List ℕ → Bool) (bs : List ℕ) (part : Part) → cut p false bs ≡ Some part → before_first is_white part.before ≡ before_first is_white bs
+pub front_kept : (p : List ℕ → Bool) (bs : List ℕ) (part : Found) → cut p false bs ≡ Some part → before_first is_white part.before ≡ before_first is_white bs
 front_kept p [] part h = absurd (cc)
 front_kept p (b ∷ bs) part h = front_kept_step (is_white b) p b bs (cut p (is_white b) bs) part refl h (λ q e k. front_kept p bs q (along p (is_white b) bs q e k))
 
-first_further : (p : List ℕ → Bool) (w : Bool) (b : ℕ) (bs : List ℕ) (o : Option Part) (part : Part) → is_white b ≡ w → p (before_first is_white (b ∷ bs)) ≡ false → option_map (onto_part b) o ≡ Some part → cut p w bs ≡ o → ((q : Part) → cut p true bs ≡ Some q → p (first_token q.before) ≡ false) → p (first_token part.before) ≡ false
+first_further : (p : List ℕ → Bool) (w : Bool) (b : ℕ) (bs : List ℕ) (o : Option Found) (part : Found) → is_white b ≡ w → p (before_first is_white (b ∷ bs)) ≡ false → option_map (onto_part b) o ≡ Some part → cut p w bs ≡ o → ((q : Found) → cut p true bs ≡ Some q → p (first_token q.before) ≡ false) → p (first_token part.before) ≡ false
 first_further p w b bs None part e n h c k = absurd (cc)
 first_further p true b bs (Some q) part e n h c k =
     let same : onto_part b q ≡ part = cc in
-    sym (ap (λ (r : Part). p (first_token r.before)) same) ∙ ap p (white_first b q.before e) ∙ k q c
+    sym (ap (λ (r : Found). p (first_token r.before)) same) ∙ ap p (white_first b q.before e) ∙ k q c
 first_further p false b bs (Some q) part e n h c k =
     let same : onto_part b q ≡ part = cc in
-    sym (ap (λ (r : Part). p (first_token r.before)) same) ∙ ap p (black_first b q.before e ∙ ap (λ t. b ∷ t) (front_kept p bs q c) ∙ sym (front-byte b bs e)) ∙ n
+    sym (ap (λ (r : Found). p (first_token r.before)) same) ∙ ap p (black_first b q.before e ∙ ap (λ t. b ∷ t) (front_kept p bs q c) ∙ sym (front-byte b bs e)) ∙ n
 
-first_step : (t : Bool) (p : List ℕ → Bool) (b : ℕ) (bs : List ℕ) (part : Part) → p [] ≡ false → p (before_first is_white (b ∷ bs)) ≡ t → cut p true (b ∷ bs) ≡ Some part → ((q : Part) → cut p true bs ≡ Some q → p (first_token q.before) ≡ false) → p (first_token part.before) ≡ false
+first_step : (t : Bool) (p : List ℕ → Bool) (b : ℕ) (bs : List ℕ) (part : Found) → p [] ≡ false → p (before_first is_white (b ∷ bs)) ≡ t → cut p true (b ∷ bs) ≡ Some part → ((q : Found) → cut p true bs ≡ Some q → p (first_token q.before) ≡ false) → p (first_token part.before) ≡ false
 first_step true p b bs part z e h k =
     let same : Some (part_at (b ∷ bs)) ≡ Some part = sym (here p b bs e) ∙ h in
     let is : part_at (b ∷ bs) ≡ part = cc in
-    sym (ap (λ (r : Part). p (first_token r.before)) is) ∙ z
+    sym (ap (λ (r : Found). p (first_token r.before)) is) ∙ z
 first_step false p b bs part z e h k =
     first_further p (is_white b) b bs (cut p (is_white b) bs) part refl e (sym (step p true b bs e) ∙ h) refl k
 
-pub first_before : (p : List ℕ → Bool) (text : List ℕ) (part : Part) → p [] ≡ false → cut p true text ≡ Some part → p (first_token part.before) ≡ false
+pub first_before : (p : List ℕ → Bool) (text : List ℕ) (part : Found) → p [] ≡ false → cut p true text ≡ Some part → p (first_token part.before) ≡ false
 first_before p [] part z h = absurd (cc)
 first_before p (b ∷ bs) part z h = first_step (p (before_first is_white (b ∷ bs))) p b bs part z refl h (λ q k. first_before p bs q z k)
 
-no_further : (b : ℕ) (o : Option Part) → option_map (onto_part b) o ≡ None → o ≡ None
+no_further : (b : ℕ) (o : Option Found) → option_map (onto_part b) o ≡ None → o ≡ None
 no_further b None k = refl
 no_further b (Some part) k = absurd (cc)
 

@@ -6,7 +6,7 @@ use Rattle.std.specs.Option.{option_map}
 use Rattle.peer_words.specs.Tokens.{is_white, is_token, tokens}
 use Rattle.peer_words.proofs.TokenLists.{tokens_white}
 use Rattle.peer_words.proofs.Trims.{and_true}
-use Rattle.uci_lines.specs.Cuts.{Part, onto_part, cut}
+use Rattle.uci_lines.specs.Cuts.{Found, onto_part, cut}
 use Rattle.uci_lines.specs.Spells.{begins_white, ends_white, IsNoneOf, IsFirst}
 use Rattle.uci_lines.proofs.Fronts.{BeginsWhite, front, behind, front-white, behind-white, front-byte, behind-byte, front_is, behind_is, bytes_of}
 use Rattle.uci_lines.proofs.Cutting.{part_at, step, here, cut_is, front_kept}
@@ -80,7 +80,7 @@ cut_from p fresh (b ∷ bs) word ys z e n h k w =
     let on = moved_on p (is_white b) fresh b bs (word ++ ys) z refl e n in
     step p fresh b (bs ++ (word ++ ys)) on.0 ∙ ap (option_map (onto_part b)) (cut_from p (is_white b) bs word ys z e on.1 h k w)
 
-pub first_cut : (p : List ℕ → Bool) (text : List ℕ) (part : Part) → p [] ≡ false → IsFirst p text part → cut p true text ≡ Some part
+pub first_cut : (p : List ℕ → Bool) (text : List ℕ) (part : Found) → p [] ≡ false → IsFirst p text part → cut p true text ≡ Some part
 first_cut p text part z f = ap (cut p true) f.whole ∙ cut_from p true part.before part.word part.after z f.stands_apart f.none_before f.token f.passes (white_as part.after f.ends_there)
 
 none_step : (p : List ℕ → Bool) (w fresh : Bool) (b : ℕ) (bs : List ℕ) → p [] ≡ false → is_white b ≡ w → IsNoneOf p (since fresh (b ∷ bs)) → ((fresh && p (front (b ∷ bs))) ≡ false) × IsNoneOf p (since w bs)
@@ -111,7 +111,7 @@ none_onto p false true b bs e h n =
     ap (list_all (λ t. not (p t))) (tokens_byte b bs e) ∙ rw word n
 none_onto p false false b bs e h n = ap (λ t. list_all (λ s. not (p s)) (tokens t)) (behind-byte b bs e) ∙ n
 
-map_none : (b : ℕ) (o : Option Part) → option_map (onto_part b) o ≡ None → o ≡ None
+map_none : (b : ℕ) (o : Option Found) → option_map (onto_part b) o ≡ None → o ≡ None
 map_none b None h = refl
 map_none b (Some q) h = absurd (cc)
 
@@ -140,28 +140,28 @@ nothing_before p true q h = record { ends = refl; none = refl }
 nothing_before p false q h = absurd (cc)
 
 -- the front of what stands before a cut is that of the text
-same_front : (w : Bool) (p : List ℕ → Bool) (b : ℕ) (bs : List ℕ) (q : Part) → is_white b ≡ w → cut p w bs ≡ Some q → front (b ∷ q.before) ≡ front (b ∷ bs)
+same_front : (w : Bool) (p : List ℕ → Bool) (b : ℕ) (bs : List ℕ) (q : Found) → is_white b ≡ w → cut p w bs ≡ Some q → front (b ∷ q.before) ≡ front (b ∷ bs)
 same_front true p b bs q e h = front-white b q.before e ∙ sym (front-white b bs e)
 same_front false p b bs q e h = front-byte b q.before e ∙ ap (λ t. b ∷ t) (front_kept p bs q h) ∙ sym (front-byte b bs e)
 
-before_onto : (p : List ℕ → Bool) (fresh : Bool) (b : ℕ) (bs : List ℕ) (o : Option Part) (part : Part) → (fresh && p (front (b ∷ bs))) ≡ false → cut p (is_white b) bs ≡ o → ((q : Part) → o ≡ Some q → Before p (is_white b) q.before) → option_map (onto_part b) o ≡ Some part → Before p fresh part.before
+before_onto : (p : List ℕ → Bool) (fresh : Bool) (b : ℕ) (bs : List ℕ) (o : Option Found) (part : Found) → (fresh && p (front (b ∷ bs))) ≡ false → cut p (is_white b) bs ≡ o → ((q : Found) → o ≡ Some q → Before p (is_white b) q.before) → option_map (onto_part b) o ≡ Some part → Before p fresh part.before
 before_onto p fresh b bs None part e c i h = absurd (cc)
 before_onto p fresh b bs (Some q) part e c i h =
     let same : onto_part b q ≡ part = cc in
     let k = i q refl in
-    subst (λ (r : Part). Before p fresh r.before) same (record {
+    subst (λ (r : Found). Before p fresh r.before) same (record {
       ends = k.ends;
       none = none_onto p (is_white b) fresh b q.before refl (ap (λ t. fresh && p t) (same_front (is_white b) p b bs q refl c) ∙ e) k.none;
     })
 
-before_step : (t : Bool) (p : List ℕ → Bool) (fresh : Bool) (b : ℕ) (bs : List ℕ) (part : Part) → (fresh && p (front (b ∷ bs))) ≡ t → ((q : Part) → cut p (is_white b) bs ≡ Some q → Before p (is_white b) q.before) → cut p fresh (b ∷ bs) ≡ Some part → Before p fresh part.before
+before_step : (t : Bool) (p : List ℕ → Bool) (fresh : Bool) (b : ℕ) (bs : List ℕ) (part : Found) → (fresh && p (front (b ∷ bs))) ≡ t → ((q : Found) → cut p (is_white b) bs ≡ Some q → Before p (is_white b) q.before) → cut p fresh (b ∷ bs) ≡ Some part → Before p fresh part.before
 before_step true p fresh b bs part e i h =
     let some : Some (part_at (b ∷ bs)) ≡ Some part = sym (rw e refl) ∙ h in
     let same : part_at (b ∷ bs) ≡ part = cc in
-    subst (λ (r : Part). Before p fresh r.before) same (nothing_before p fresh (p (front (b ∷ bs))) e)
+    subst (λ (r : Found). Before p fresh r.before) same (nothing_before p fresh (p (front (b ∷ bs))) e)
 before_step false p fresh b bs part e i h = before_onto p fresh b bs (cut p (is_white b) bs) part e refl i (sym (step p fresh b bs e) ∙ h)
 
-before_is : (p : List ℕ → Bool) (fresh : Bool) (text : List ℕ) (part : Part) → cut p fresh text ≡ Some part → Before p fresh part.before
+before_is : (p : List ℕ → Bool) (fresh : Bool) (text : List ℕ) (part : Found) → cut p fresh text ≡ Some part → Before p fresh part.before
 before_is p fresh [] part h = absurd (cc)
 before_is p fresh (b ∷ bs) part h = before_step (fresh && p (front (b ∷ bs))) p fresh b bs part refl (before_is p (is_white b) bs) h
 
@@ -172,7 +172,7 @@ token_if p (b ∷ bs) e f g = rw (above (length bs), g) refl
     above : (n : ℕ) → ltb 0 (suc n) ≡ true
     above n = grind (arith, nat_tests)
 
-pub cut_first : (p : List ℕ → Bool) (text : List ℕ) (part : Part) → p [] ≡ false → cut p true text ≡ Some part → IsFirst p text part
+pub cut_first : (p : List ℕ → Bool) (text : List ℕ) (part : Found) → p [] ≡ false → cut p true text ≡ Some part → IsFirst p text part
 cut_first p text part z h =
     let c = cut_is p true text part h in
     let k = before_is p true text part h in

@@ -3,7 +3,7 @@ use Rattle.std.proofs.Common.{◌≡◌, ℕ, zero, suc, ◌<◌, arith, length-
 use Rattle.std.proofs.Math.Seq.{drop-append_seam}
 use Rattle.chess_board.specs.declared.board.Move.{Move}
 use Rattle.peer_words.specs.Tokens.{is_token, trimmed}
-use Rattle.uci_lines.specs.Cuts.{Part, cut, is_word, is_choice}
+use Rattle.uci_lines.specs.Cuts.{Found, cut, is_word, is_choice}
 use Rattle.uci_lines.specs.Choices.{values, before_choice, from_choice}
 use Rattle.chess_board.specs.Spelling.{move_of}
 use Rattle.uci_lines.specs.Spells.{IsFirst, Behind, PerhapsMove, UpToChoice, HasValues}
@@ -14,7 +14,7 @@ use Rattle.uci_lines.proofs.Pieces.{values_none, values_some}
 use Rattle.chess_board.proofs.Spelled.{move_spells, spells_move, read_is}
 
 -- what stands behind a cut
-abbrev pub after_cut : Option Part → List ℕ
+abbrev pub after_cut : Option Found → List ℕ
 after_cut None = []
 after_cut (Some part) = part.after
 
@@ -22,7 +22,7 @@ pub behind_cut : (word text others : List ℕ) → is_word word [] ≡ false →
 behind_cut word text others z (inl h) = h.1 ∙ ap after_cut (sym (none_cut (is_word word) text z h.0))
 behind_cut word text others z (inr h) = h.2 ∙ ap after_cut (sym (first_cut (is_word word) text h.0 z h.1))
 
-behind_by : (word text : List ℕ) (o : Option Part) → is_word word [] ≡ false → cut (is_word word) true text ≡ o → Behind word text (after_cut o)
+behind_by : (word text : List ℕ) (o : Option Found) → is_word word [] ≡ false → cut (is_word word) true text ≡ o → Behind word text (after_cut o)
 behind_by word text None z e = inl (cut_none (is_word word) text e, refl)
 behind_by word text (Some part) z e = inr (part, cut_first (is_word word) text part z e, refl)
 
@@ -49,7 +49,7 @@ pub up_to : (text value : List ℕ) → UpToChoice text value → value ≡ trim
 up_to text value (inl h) = h.1 ∙ ap (λ o. trimmed (before_choice o text)) (sym (none_cut is_choice text refl h.0))
 up_to text value (inr h) = h.2 ∙ ap (λ o. trimmed (before_choice o text)) (sym (first_cut is_choice text h.0 refl h.1))
 
-up_by : (text : List ℕ) (o : Option Part) → cut is_choice true text ≡ o → UpToChoice text (trimmed (before_choice o text))
+up_by : (text : List ℕ) (o : Option Found) → cut is_choice true text ≡ o → UpToChoice text (trimmed (before_choice o text))
 up_by text None e = inl (cut_none is_choice text e, refl)
 up_by text (Some part) e = inr (part, cut_first is_choice text part refl e, refl)
 
@@ -57,12 +57,12 @@ pub is_up : (text : List ℕ) → UpToChoice text (trimmed (before_choice (cut i
 is_up text = up_by text (cut is_choice true text) refl
 
 -- The values of a text are those from its first choice on.
-from_by : (text : List ℕ) (o : Option Part) → cut is_choice true text ≡ o → values (from_choice o text) ≡ values text
+from_by : (text : List ℕ) (o : Option Found) → cut is_choice true text ≡ o → values (from_choice o text) ≡ values text
 from_by text None e = values_none [] refl ∙ sym (values_none text e)
 from_by text (Some q) e =
     let f = cut_first is_choice text q refl e in
     let word = cut_token is_choice q.word q.after f.token f.passes (white_as q.after f.ends_there) in
-    let part : Part = record { before = []; word = q.word; after = q.after } in
+    let part : Found = record { before = []; word = q.word; after = q.after } in
     ap (λ t. values (drop (length q.before) t)) f.whole
     ∙ ap values (drop-append_seam q.before (q.word ++ q.after))
     ∙ values_some (q.word ++ q.after) part word
@@ -75,7 +75,7 @@ from_all text = from_by text (cut is_choice true text) refl
 one_more : Bool → List ℕ → List (List ℕ) → List (List ℕ)
 one_more b value others = cond b (value ∷ others) others
 
-values_by : (text : List ℕ) (part : Part) → cut is_choice true text ≡ Some part → values text ≡ one_more (is_word (codes "var") part.word) (trimmed (before_choice (cut is_choice true part.after) part.after)) (values part.after)
+values_by : (text : List ℕ) (part : Found) → cut is_choice true text ≡ Some part → values text ≡ one_more (is_word (codes "var") part.word) (trimmed (before_choice (cut is_choice true part.after) part.after)) (values part.after)
 unfolding one_more
 values_by text part e = values_some text part e ∙ ap (one_more (is_word (codes "var") part.word) (trimmed (before_choice (cut is_choice true part.after) part.after))) (from_all part.after)
 
@@ -92,7 +92,7 @@ values_are text _ (HasValues.Default {values = vs} part f w h) =
     ∙ ap (λ t. one_more (is_word (codes "var") t) (trimmed (before_choice (cut is_choice true part.after) part.after)) (values part.after)) w
     ∙ values_are part.after vs h
 
-values_by_word : (b : Bool) (text : List ℕ) (part : Part) (vs : List (List ℕ)) → IsFirst is_choice text part → is_word (codes "var") part.word ≡ b → HasValues part.after vs → HasValues text (one_more b (trimmed (before_choice (cut is_choice true part.after) part.after)) vs)
+values_by_word : (b : Bool) (text : List ℕ) (part : Found) (vs : List (List ℕ)) → IsFirst is_choice text part → is_word (codes "var") part.word ≡ b → HasValues part.after vs → HasValues text (one_more b (trimmed (before_choice (cut is_choice true part.after) part.after)) vs)
 unfolding one_more
 values_by_word true text part vs f e h = HasValues.Var part f (same_text part.word (codes "var") e) (is_up part.after) h
 values_by_word false text part vs f e h = HasValues.Default part f (same_text part.word (codes "default") (either (is_word (codes "default") part.word) (is_word (codes "var") part.word) f.passes e)) h
@@ -103,7 +103,7 @@ values_by_word false text part vs f e h = HasValues.Default part f (same_text pa
     either false false j k = absurd (cc)
 
 -- the text behind a cut is shorter
-shorter : (text : List ℕ) (part : Part) → IsFirst is_choice text part → length part.after < length text
+shorter : (text : List ℕ) (part : Found) → IsFirst is_choice text part → length part.after < length text
 shorter text part f =
     let token : 0 < length part.word = some_bytes part.word f.token in
     let e = ap length f.whole in
@@ -113,7 +113,7 @@ shorter text part f =
     some_bytes [] h = absurd (cc)
     some_bytes (b ∷ bs) h = omega arith
 
-has_by : (text : List ℕ) (o : Option Part) → cut is_choice true text ≡ o → ((us : List ℕ) → length us < length text → HasValues us (values us)) → HasValues text (values text)
+has_by : (text : List ℕ) (o : Option Found) → cut is_choice true text ≡ o → ((us : List ℕ) → length us < length text → HasValues us (values us)) → HasValues text (values text)
 has_by text None e i = subst (λ (vs : List (List ℕ)). HasValues text vs) (sym (values_none text e)) (HasValues.Ended (cut_none is_choice text e))
 has_by text (Some part) e i =
     let f = cut_first is_choice text part refl e in

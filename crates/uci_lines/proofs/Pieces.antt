@@ -5,7 +5,7 @@ use Rattle.std.proofs.lemmas.Bool.Decides.{nat_tests}
 use Rattle.std.specs.List.{onto_first, list_all}
 use Rattle.std.specs.Option.{option_map}
 use Rattle.peer_words.specs.Tokens.{is_white, is_token, trimmed, first_token, rest}
-use Rattle.uci_lines.specs.Cuts.{Part, onto_part, cut, is_word, is_choice}
+use Rattle.uci_lines.specs.Cuts.{Found, onto_part, cut, is_word, is_choice}
 use Rattle.uci_lines.specs.Choices.{pieces, values_among, values, before_choice, from_choice}
 use Rattle.uci_lines.proofs.Fronts.{BeginsWhite, front, behind, front-white, behind-white, front-byte, behind-byte, first_is, rest_is}
 use Rattle.uci_lines.proofs.Cutting.{Cuts, cut_is, part_at, step, second, first_before, first_none, cut_token}
@@ -50,7 +50,7 @@ unfolding join_first
 inside [] = refl
 inside (b ∷ bs) = inside_step (is_white b) b bs refl (inside bs)
 
-no_more : (b : ℕ) (o : Option Part) → option_map (onto_part b) o ≡ None → o ≡ None
+no_more : (b : ℕ) (o : Option Found) → option_map (onto_part b) o ≡ None → o ≡ None
 no_more b None k = refl
 no_more b (Some part) k = absurd (cc)
 
@@ -80,16 +80,16 @@ here_pieces fresh b bs e =
     ∙ joined_again (b ∷ front bs) (front (b ∷ bs)) (behind bs) (behind (b ∷ bs)) (sym (front-byte b bs black)) (sym (behind-byte b bs black)))
 
 -- the pieces that a cut gives
-abbrev given : Part → List (List ℕ)
+abbrev given : Found → List (List ℕ)
 given part = part.before ∷ join_first part.word (pieces true part.after)
 
-further_pieces : (b : ℕ) (bs : List ℕ) (fresh : Bool) (o : Option Part) (part : Part) → option_map (onto_part b) o ≡ Some part → ((q : Part) → o ≡ Some q → pieces fresh bs ≡ given q) → onto_first b (pieces fresh bs) ≡ given part
+further_pieces : (b : ℕ) (bs : List ℕ) (fresh : Bool) (o : Option Found) (part : Found) → option_map (onto_part b) o ≡ Some part → ((q : Found) → o ≡ Some q → pieces fresh bs ≡ given q) → onto_first b (pieces fresh bs) ≡ given part
 further_pieces b bs fresh None part h k = absurd (cc)
 further_pieces b bs fresh (Some q) part h k =
     let same : onto_part b q ≡ part = cc in
     ap (onto_first b) (k q refl) ∙ ap given same
 
-some_step : (t : Bool) (fresh : Bool) (b : ℕ) (bs : List ℕ) (part : Part) → (fresh && is_choice (front (b ∷ bs))) ≡ t → cut is_choice fresh (b ∷ bs) ≡ Some part → ((q : Part) → cut is_choice (is_white b) bs ≡ Some q → pieces (is_white b) bs ≡ given q) → pieces fresh (b ∷ bs) ≡ given part
+some_step : (t : Bool) (fresh : Bool) (b : ℕ) (bs : List ℕ) (part : Found) → (fresh && is_choice (front (b ∷ bs))) ≡ t → cut is_choice fresh (b ∷ bs) ≡ Some part → ((q : Found) → cut is_choice (is_white b) bs ≡ Some q → pieces (is_white b) bs ≡ given q) → pieces fresh (b ∷ bs) ≡ given part
 some_step true fresh b bs part e h k =
     let some : Some (part_at (b ∷ bs)) ≡ Some part = sym (rw e refl) ∙ h in
     let same : part_at (b ∷ bs) ≡ part = cc in
@@ -97,7 +97,7 @@ some_step true fresh b bs part e h k =
 some_step false fresh b bs part e h k =
     pass fresh b bs e ∙ further_pieces b bs (is_white b) (cut is_choice (is_white b) bs) part (sym (step is_choice fresh b bs e) ∙ h) k
 
-pub pieces_some : (fresh : Bool) (text : List ℕ) (part : Part) → cut is_choice fresh text ≡ Some part → pieces fresh text ≡ given part
+pub pieces_some : (fresh : Bool) (text : List ℕ) (part : Found) → cut is_choice fresh text ≡ Some part → pieces fresh text ≡ given part
 pieces_some fresh [] part h = absurd (cc)
 pieces_some fresh (b ∷ bs) part h = some_step (fresh && is_choice (front (b ∷ bs))) fresh b bs part refl h (λ q k. pieces_some (is_white b) bs q k)
 
@@ -117,7 +117,7 @@ values_none text h = ap values_among (pieces_none true text h) ∙ no_value text
 abbrev with_value : Bool → List ℕ → List (List ℕ) → List (List ℕ)
 with_value b value others = cond b (value ∷ others) others
 
-word_is_token : (p : List ℕ → Bool) (text : List ℕ) (part : Part) → p [] ≡ false → Cuts p text part → is_token part.word ≡ true
+word_is_token : (p : List ℕ → Bool) (text : List ℕ) (part : Found) → p [] ≡ false → Cuts p text part → is_token part.word ≡ true
 word_is_token p text part z c = token_if p part.word z c.passes c.black
   where
     token_if : (q : List ℕ → Bool) (w : List ℕ) → q [] ≡ false → q w ≡ true → list_all (λ b. not (is_white b)) w ≡ true → is_token w ≡ true
@@ -135,7 +135,7 @@ white_part (c ∷ cs) b [] e h = absurd (cc)
 white_part (c ∷ cs) b (d ∷ ds) e h = let same : d ≡ c = cc in sym (ap is_white same) ∙ h
 
 -- the values from the next choice on
-from_values : (q : Part) (text : List ℕ) → Cuts is_choice text q → values (drop (length q.before) text) ≡ values_among (join_first q.word (pieces true q.after))
+from_values : (q : Found) (text : List ℕ) → Cuts is_choice text q → values (drop (length q.before) text) ≡ values_among (join_first q.word (pieces true q.after))
 unfolding values
 from_values q text c =
     let token = word_is_token is_choice text q refl c in
@@ -148,7 +148,7 @@ nothing : [] ≡ values []
 unfolding values
 nothing = refl
 
-behind_word : (word after : List ℕ) (o : Option Part) → is_token word ≡ true → BeginsWhite after → cut is_choice true after ≡ o → values_among (join_first word (pieces true after)) ≡ with_value (is_word (codes "var") word) (trimmed (before_choice o after)) (values (from_choice o after))
+behind_word : (word after : List ℕ) (o : Option Found) → is_token word ≡ true → BeginsWhite after → cut is_choice true after ≡ o → values_among (join_first word (pieces true after)) ≡ with_value (is_word (codes "var") word) (trimmed (before_choice o after)) (values (from_choice o after))
 unfolding join_first
 behind_word word after None h w e =
     ap (λ ps. values_among (join_first word ps)) (pieces_none true after e)
@@ -160,7 +160,7 @@ behind_word word after (Some q) h w e =
     ∙ piece_values word q.before (join_first q.word (pieces true q.after)) h (white_part q.before (q.word ++ q.after) after c.whole w)
     ∙ ap (with_value (is_word (codes "var") word) (trimmed q.before)) (sym (from_values q after c))
 
-pub values_some : (text : List ℕ) (part : Part) → cut is_choice true text ≡ Some part → values text ≡ with_value (is_word (codes "var") part.word) (trimmed (before_choice (cut is_choice true part.after) part.after)) (values (from_choice (cut is_choice true part.after) part.after))
+pub values_some : (text : List ℕ) (part : Found) → cut is_choice true text ≡ Some part → values text ≡ with_value (is_word (codes "var") part.word) (trimmed (before_choice (cut is_choice true part.after) part.after)) (values (from_choice (cut is_choice true part.after) part.after))
 unfolding values
 values_some text part h =
     let c = cut_is is_choice true text part h in
@@ -169,15 +169,15 @@ values_some text part h =
     ∙ behind_word part.word part.after (cut is_choice true part.after) (word_is_token is_choice text part refl c) c.begins_white refl
 
 -- as a call that reads a value knows it
-pub value_here : (text : List ℕ) (part : Part) (value others : List ℕ) → Some part ≡ cut is_choice true text → value ≡ trimmed (before_choice (cut is_choice true part.after) part.after) → others ≡ from_choice (cut is_choice true part.after) part.after → is_word (codes "var") part.word ≡ true → values text ≡ value ∷ values others
+pub value_here : (text : List ℕ) (part : Found) (value others : List ℕ) → Some part ≡ cut is_choice true text → value ≡ trimmed (before_choice (cut is_choice true part.after) part.after) → others ≡ from_choice (cut is_choice true part.after) part.after → is_word (codes "var") part.word ≡ true → values text ≡ value ∷ values others
 value_here text part value others e f g h =
     values_some text part (sym e) ∙ rw h (ap (λ t. t ∷ values (from_choice (cut is_choice true part.after) part.after)) (sym f) ∙ ap (λ t. value ∷ values t) (sym g))
 
-pub value_later : (text : List ℕ) (part : Part) (others : List ℕ) → Some part ≡ cut is_choice true text → others ≡ from_choice (cut is_choice true part.after) part.after → is_word (codes "var") part.word ≡ false → values others ≡ values text
+pub value_later : (text : List ℕ) (part : Found) (others : List ℕ) → Some part ≡ cut is_choice true text → others ≡ from_choice (cut is_choice true part.after) part.after → is_word (codes "var") part.word ≡ false → values others ≡ values text
 value_later text part others e g h =
     ap values g ∙ sym (values_some text part (sym e) ∙ rw h refl)
 
-pub after_shorter : (text : List ℕ) (part : Part) (others : List ℕ) → Some part ≡ cut is_choice true text → length others ≤ length part.after → length others < length text
+pub after_shorter : (text : List ℕ) (part : Found) (others : List ℕ) → Some part ≡ cut is_choice true text → length others ≤ length part.after → length others < length text
 after_shorter text part others e h =
     let c = cut_is is_choice true text part (sym e) in
     let token = word_is_token is_choice text part refl c in

@@ -4,11 +4,11 @@ use Rattle.std.proofs.lemmas.List.{append-nil}
 use Rattle.std.specs.List.{join_with_byte, AllByRecursion}
 use Rattle.std.proofs.lemmas.Bool.Decides.{nat_tests}
 use Rattle.peer_words.proofs.Trims.{and_true}
-use Rattle.uci_lines.specs.Orders.{Command, Position, start_text, moves_text}
+use Rattle.uci_lines.specs.Orders.{Order, Position, start_text, moves_text}
 use Rattle.uci_lines.specs.Behind.{after}
 use Rattle.chess_board.specs.Spelling.{move_of}
 use Rattle.std.specs.Str.{bytes_eq}
-use Rattle.chess_board.specs.Placement.{Placement}
+use Rattle.chess_board.specs.Position.{Position as AnyPosition}
 use Rattle.chess_board.specs.Play.{IsPosition}
 use Rattle.fen_text.specs.declared.fault.FenFault.{FenFault}
 use Rattle.fen_text.specs.Fen.{position_of}
@@ -18,7 +18,7 @@ use Rattle.fen_text.proofs.Boards.{word-board}
 use Rattle.fen_text.proofs.Others.{word-side, word-rights, word-passant, word-count}
 use Rattle.fen_text.proofs.Back.{reads_back}
 use Rattle.uci_lines.specs.Written.{is_moves, fen_by, is_fen, fields_before, split_onto}
-use Rattle.uci_lines.specs.Asked.{is_start, is_played, moves_by, moves_in, placed, set_up, fen_in, start_in, position_in}
+use Rattle.uci_lines.specs.OrderReading.{is_start, is_played, moves_by, moves_in, placed, set_up, fen_in, start_in, position_in}
 use Rattle.uci_lines.proofs.Stripped.{word_after}
 use Rattle.uci_lines.proofs.Counts.{same_text, text_same}
 
@@ -67,31 +67,31 @@ moves_takes [] moves h = let same : [] ≡ moves = cc in subst (λ (m : List ℕ
 moves_takes (b ∷ bs) moves h = by_takes (b ∷ bs) (after (codes " moves ") (b ∷ bs)) moves refl h
 
 -- behind `position `, as the text of an order
-abbrev pub PositionIs : List ℕ → Command → Type 0
+abbrev pub PositionIs : List ℕ → Order → Type 0
 PositionIs text c = (fen : Option (List ℕ)) × (moves : List ℕ) × (c ≡ Position fen moves) × (is_start fen ≡ true) × (is_played moves ≡ true) × (text ≡ start_text fen ++ moves_text moves)
 
-placed_takes : (fen : Option (List ℕ)) (text others : List ℕ) (o : Option (List ℕ)) (c : Command) → is_start fen ≡ true → text ≡ start_text fen ++ others → moves_in others ≡ o → placed fen o ≡ Some c → PositionIs text c
+placed_takes : (fen : Option (List ℕ)) (text others : List ℕ) (o : Option (List ℕ)) (c : Order) → is_start fen ≡ true → text ≡ start_text fen ++ others → moves_in others ≡ o → placed fen o ≡ Some c → PositionIs text c
 placed_takes fen text others None c s e f h = absurd (cc)
 placed_takes fen text others (Some moves) c s e f h =
     let m = moves_takes others moves f in
     let same : Position fen moves ≡ c = cc in
     (fen, moves, sym same, s, m.fits, e ∙ ap (λ t. start_text fen ++ t) m.whole)
 
-set_up_takes : (text : List ℕ) (t : Bool) (halves : List ℕ × List ℕ) (c : Command) → is_fen halves.0 ≡ t → text ≡ codes "fen " ++ (halves.0 ++ halves.1) → cond t (placed (Some halves.0) (moves_in halves.1)) None ≡ Some c → PositionIs text c
+set_up_takes : (text : List ℕ) (t : Bool) (halves : List ℕ × List ℕ) (c : Order) → is_fen halves.0 ≡ t → text ≡ codes "fen " ++ (halves.0 ++ halves.1) → cond t (placed (Some halves.0) (moves_in halves.1)) None ≡ Some c → PositionIs text c
 set_up_takes text true halves c e f h = placed_takes (Some halves.0) text halves.1 (moves_in halves.1) c e (f ∙ sym (append_assoc (codes "fen ") halves.0 halves.1)) refl h
 set_up_takes text false halves c e f h = absurd (cc)
 
-fen_takes : (text : List ℕ) (o : Option (List ℕ)) (c : Command) → after (codes "fen ") text ≡ o → fen_in o ≡ Some c → PositionIs text c
+fen_takes : (text : List ℕ) (o : Option (List ℕ)) (c : Order) → after (codes "fen ") text ≡ o → fen_in o ≡ Some c → PositionIs text c
 fen_takes text None c e h = absurd (cc)
 fen_takes text (Some others) c e h =
     let halves = fields_before 5 others in
     set_up_takes text (is_fen halves.0) halves c refl (word_after (codes "fen ") text others e ∙ ap (λ t. codes "fen " ++ t) (sym (halves_are 5 others))) h
 
-start_takes : (text : List ℕ) (o : Option (List ℕ)) (c : Command) → after (codes "startpos") text ≡ o → start_in o text ≡ Some c → PositionIs text c
+start_takes : (text : List ℕ) (o : Option (List ℕ)) (c : Order) → after (codes "startpos") text ≡ o → start_in o text ≡ Some c → PositionIs text c
 start_takes text None c e h = fen_takes text (after (codes "fen ") text) c refl h
 start_takes text (Some others) c e h = placed_takes None text others (moves_in others) c refl (word_after (codes "startpos") text others e) refl h
 
-pub position_takes : (text : List ℕ) (c : Command) → position_in text ≡ Some c → PositionIs text c
+pub position_takes : (text : List ℕ) (c : Order) → position_in text ≡ Some c → PositionIs text c
 position_takes text c h = start_takes text (after (codes "startpos") text) c refl h
 
 -- The other way round: what is written is read.
@@ -140,14 +140,14 @@ words_before (word ∷ next ∷ words) blanks more l w h =
         ∙ word_before (suc n) first (32 ∷ (others ++ rest)) a
         ∙ ap (λ (halves : List ℕ × List ℕ). moved first (split_onto 32 halves)) later
 
-written_halves : (p : Placement) (more : List ℕ) → p.half ≤ 99999 → p.full ≤ 99999 → BeginsBlank more → fields_before 5 (written p ++ more) ≡ (written p, more)
+written_halves : (p : AnyPosition) (more : List ℕ) → p.half ≤ 99999 → p.full ≤ 99999 → BeginsBlank more → fields_before 5 (written p ++ more) ≡ (written p, more)
 unfolding written
 written_halves p more h f w =
     words_before (fields_text p) 5 more refl
     (word-board p.men, (word-side p.side, (word-rights p.rights, (word-passant p.passant, (word-count p.half (omega arith), (word-count p.full (omega arith), tt))))))
     w
 
-fen_halves_by : (text more : List ℕ) (r : Result Placement FenFault) → fen_by r text ≡ true → BeginsBlank more → fields_before 5 (text ++ more) ≡ (text, more)
+fen_halves_by : (text more : List ℕ) (r : Result AnyPosition FenFault) → fen_by r text ≡ true → BeginsBlank more → fields_before 5 (text ++ more) ≡ (text, more)
 fen_halves_by text more (Err fault) h w = absurd (cc)
 fen_halves_by text more (Ok p) h w =
     let full = and_true (bytes_eq (written p) text && leb p.half 99999) (leb p.full 99999) h in
@@ -175,7 +175,7 @@ position_again (Some fen) moves s h =
     ∙ ap (placed (Some fen)) (moves_again moves h)
 
 -- The text of every position may stand in an order.
-pub written_fits : (p : Placement) → IsPosition p → is_fen (written p) ≡ true
+pub written_fits : (p : AnyPosition) → IsPosition p → is_fen (written p) ≡ true
 written_fits p q =
     let half : leb p.half 99999 ≡ true = le-leb p.half 99999 q.half in
     let full : leb p.full 99999 ≡ true = le-leb p.full 99999 q.full.1 in

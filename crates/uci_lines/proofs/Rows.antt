@@ -3,13 +3,13 @@ use Rattle.std.proofs.Common.{◌≡◌, ℕ, ℤ, int_lt, ◌↔◌, List, Bool
 use Rattle.std.specs.Int.{int_min, int_max}
 use Rattle.chess_board.specs.declared.board.Move.{Move}
 use Rattle.peer_words.specs.Tokens.{tokens, trimmed, first_token, rest}
-use Rattle.uci_lines.specs.Cuts.{Part, cut, is_word, is_known, is_choice}
+use Rattle.uci_lines.specs.Cuts.{Found, cut, is_word, is_known, is_choice}
 use Rattle.uci_lines.specs.Choices.{values, before_choice, chosen}
 use Rattle.chess_board.specs.Spelling.{move_of}
 use Rattle.uci_lines.specs.Options.{is_on, range_from, no_range, spin, spin_in, shown_text, text_after, shape_named, option_line, option_with, option_said}
 use Rattle.uci_lines.specs.Infos.{no_facts, facts_in}
 use Rattle.uci_lines.specs.Engine.{name_said, hint_in, best_said, said_after, said_by, engine_message}
-use Rattle.uci_lines.specs.Says.{Shape, Check, Spin, Combo, Button, Text, Says, Name, UciOk, ReadyOk, Best, OptionLine, Info, Nothing}
+use Rattle.uci_lines.specs.Messages.{OptionKind, Check, Spin, Combo, Button, Text, EngineMsg, Name, UciOk, ReadyOk, Best, OptionLine, Info, Nothing}
 use Rattle.uci_lines.specs.Spells.{IsFirst, PerhapsMove, UpToChoice, HasShape, Declares, Begins, HasForm, SpellsMessage, SpellsOneMessage}
 use Rattle.uci_lines.proofs.Counts.{same_text}
 use Rattle.uci_lines.proofs.FirstTokens.{first_cut, cut_first}
@@ -18,28 +18,28 @@ use Rattle.uci_lines.proofs.Ranges.{default_is, min_is, max_is, last_is, is_last
 use Rattle.uci_lines.proofs.Tellings.{tells_is, tells}
 
 -- what is read behind a word, by what stands behind it
-hint_by : (o : Option Part) → hint_in o ≡ move_of (first_token (after_cut o))
+hint_by : (o : Option Found) → hint_in o ≡ move_of (first_token (after_cut o))
 unfolding move_of
 hint_by None = refl
 hint_by (Some part) = refl
 
-on_by : (o : Option Part) → is_on o ≡ is_word (codes "true") (first_token (after_cut o))
+on_by : (o : Option Found) → is_on o ≡ is_word (codes "true") (first_token (after_cut o))
 on_by None = refl
 on_by (Some part) = refl
 
-text_by : (o : Option Part) → text_after o ≡ shown_text (trimmed (after_cut o))
+text_by : (o : Option Found) → text_after o ≡ shown_text (trimmed (after_cut o))
 text_by None = refl
 text_by (Some part) = refl
 
 up_from : List ℕ → List ℕ
 up_from text = trimmed (before_choice (cut is_choice true text) text)
 
-chosen_by : (o : Option Part) → chosen o ≡ up_from (after_cut o)
+chosen_by : (o : Option Found) → chosen o ≡ up_from (after_cut o)
 unfolding up_from
 chosen_by None = refl
 chosen_by (Some part) = refl
 
-default_cut : List ℕ → Option Part
+default_cut : List ℕ → Option Found
 default_cut text = cut (is_word (codes "default")) true text
 
 -- FROM THE RELATION TO WHAT IS READ
@@ -52,7 +52,7 @@ spin_is ts n min max d e f g l k =
     ∙ ap (λ b. cond b None (Some (Spin (int_max min (int_min n max)) min max))) l
     ∙ ap (λ i. Some (Spin i min max)) (sym k)
 
-shape_is : (word text : List ℕ) (shape : Shape) → HasShape word text shape → shape_named word text ≡ Some shape
+shape_is : (word text : List ℕ) (shape : OptionKind) → HasShape word text shape → shape_named word text ≡ Some shape
 unfolding up_from default_cut
 shape_is word text (Check on) h =
     ap (λ w. shape_named w text) h.0
@@ -87,7 +87,7 @@ best_is text others best hint b e h =
     ap (λ m. Best m (hint_in (cut (is_word (codes "ponder")) true (rest text)))) (sym (perhaps_is (first_token text) best b))
     ∙ ap (λ m. Best best m) (hint_by (cut (is_word (codes "ponder")) true (rest text)) ∙ ap (λ t. move_of (first_token t)) (sym e) ∙ sym (perhaps_is (first_token others) hint h))
 
-option_is : (text name : List ℕ) (shape : Shape) → Declares text name shape → option_said text ≡ OptionLine name shape
+option_is : (text name : List ℕ) (shape : OptionKind) → Declares text name shape → option_said text ≡ OptionLine name shape
 unfolding option_said
 option_is text name shape h =
     ap (λ w. cond (is_word (codes "name") w) (option_with (cut (is_word (codes "type")) true (rest text))) Nothing) h.0
@@ -95,7 +95,7 @@ option_is text name shape h =
     ∙ ap (option_line (trimmed (h.1).before)) (shape_is (first_token (h.1).after) (rest (h.1).after) shape h.4)
     ∙ ap (λ n. OptionLine n shape) (sym h.3)
 
-form_is : (line : List ℕ) (m : Says) → HasForm line m → engine_message line ≡ m
+form_is : (line : List ℕ) (m : EngineMsg) → HasForm line m → engine_message line ≡ m
 unfolding facts_in
 form_is line (Name name) h = begun line (codes "id") h.0 h.1 ∙ name_is h.0 name h.2 h.3
 form_is line UciOk h = begun line (codes "uciok") h.0 h.1
@@ -109,7 +109,7 @@ form_is line Nothing h = absurd h
 -- FROM WHAT IS READ TO THE RELATION
 
 -- a shape that is read stands there
-Fits : List ℕ → List ℕ → Option Shape → Type 0
+Fits : List ℕ → List ℕ → Option OptionKind → Type 0
 Fits word text None = Unit {0}
 Fits word text (Some shape) = HasShape word text shape
 
@@ -133,7 +133,7 @@ spin_fits word text (Some n) None c w e f g = tt
 spin_fits word text (Some n) (Some min) None w e f g = tt
 spin_fits word text (Some n) (Some min) (Some max) w e f g = spin_by word text n min max (int_lt max min) w refl e f g
 
-kind_or : (b : Bool) (word w text : List ℕ) (o other : Option Shape) → is_word w word ≡ b → (word ≡ w → Fits word text o) → Fits word text other → Fits word text (cond b o other)
+kind_or : (b : Bool) (word w text : List ℕ) (o other : Option OptionKind) → is_word w word ≡ b → (word ≡ w → Fits word text o) → Fits word text other → Fits word text (cond b o other)
 kind_or true word w text o other e f h = f (same_text word w e)
 kind_or false word w text o other e f h = h
 
@@ -152,7 +152,7 @@ shape_fits word text =
     tt))))
 
 -- a message that is read has its form
-Holds : List ℕ → Says → Type 0
+Holds : List ℕ → EngineMsg → Type 0
 Holds line Nothing = Unit {0}
 Holds line (Name name) = HasForm line (Name name)
 Holds line UciOk = HasForm line UciOk
@@ -178,12 +178,12 @@ best_holds line text b =
       subst (λ (m : Option Move). PerhapsMove (first_token (after_cut o)) m) (sym (hint_by o)) (is_perhaps (first_token (after_cut o))),
     )
 
-shape_holds : (line text : List ℕ) (part : Part) (o : Option Shape) → Begins line (codes "option") text → first_token text ≡ codes "name" → IsFirst (is_word (codes "type")) (rest text) part → Fits (first_token part.after) (rest part.after) o → Holds line (option_line (trimmed part.before) o)
+shape_holds : (line text : List ℕ) (part : Found) (o : Option OptionKind) → Begins line (codes "option") text → first_token text ≡ codes "name" → IsFirst (is_word (codes "type")) (rest text) part → Fits (first_token part.after) (rest part.after) o → Holds line (option_line (trimmed part.before) o)
 unfolding Holds Fits
 shape_holds line text part None b n f s = tt
 shape_holds line text part (Some shape) b n f s = (text, b, (n, part, f, refl, s))
 
-part_holds : (line text : List ℕ) (o : Option Part) → Begins line (codes "option") text → first_token text ≡ codes "name" → cut (is_word (codes "type")) true (rest text) ≡ o → Holds line (option_with o)
+part_holds : (line text : List ℕ) (o : Option Found) → Begins line (codes "option") text → first_token text ≡ codes "name" → cut (is_word (codes "type")) true (rest text) ≡ o → Holds line (option_with o)
 unfolding Holds
 part_holds line text None b n e = tt
 part_holds line text (Some part) b n e =
@@ -202,14 +202,14 @@ info_holds : (line text : List ℕ) → Begins line (codes "info") text → Hold
 unfolding Holds facts_in
 info_holds line text b = (text, b, tells no_facts (tokens text))
 
-word_holds : (b : Bool) (line word w : List ℕ) (m other : Says) → is_word w word ≡ b → (word ≡ w → Holds line m) → (b ≡ false → Holds line other) → Holds line (cond b m other)
+word_holds : (b : Bool) (line word w : List ℕ) (m other : EngineMsg) → is_word w word ≡ b → (word ≡ w → Holds line m) → (b ≡ false → Holds line other) → Holds line (cond b m other)
 word_holds true line word w m other e f h = f (same_text word w e)
 word_holds false line word w m other e f h = h refl
 
 last_or : (a b c d e f : Bool) → a ≡ false → b ≡ false → c ≡ false → d ≡ false → e ≡ false → (a || b || c || d || e || f) ≡ true → f ≡ true
 last_or a b c d e f p q r s t h = sym (rw (p, q, r, s, t) refl) ∙ h
 
-part_message : (line : List ℕ) (part : Part) → IsFirst is_known line part → Holds line (said_after part.word part.after)
+part_message : (line : List ℕ) (part : Found) → IsFirst is_known line part → Holds line (said_after part.word part.after)
 unfolding Holds
 part_message line part f =
     word_holds (is_word (codes "id") part.word) line part.word (codes "id") _ _ refl (λ w. name_holds (is_word (codes "name") (first_token part.after)) line part.after refl (part, f, w, refl)) (λ a.
@@ -219,7 +219,7 @@ part_message line part f =
     word_holds (is_word (codes "info") part.word) line part.word (codes "info") _ _ refl (λ w. info_holds line part.after (part, f, w, refl)) (λ e.
     option_holds line part.after (part, f, same_text part.word (codes "option") (last_or (is_word (codes "id") part.word) (is_word (codes "uciok") part.word) (is_word (codes "readyok") part.word) (is_word (codes "bestmove") part.word) (is_word (codes "info") part.word) (is_word (codes "option") part.word) a b c d e f.passes), refl))))))
 
-message_by : (line : List ℕ) (o : Option Part) → cut is_known true line ≡ o → Holds line (said_by o)
+message_by : (line : List ℕ) (o : Option Found) → cut is_known true line ≡ o → Holds line (said_by o)
 unfolding Holds
 message_by line None e = tt
 message_by line (Some part) e = part_message line part (cut_first is_known line part refl e)
@@ -228,9 +228,9 @@ message_holds : (line : List ℕ) → Holds line (engine_message line)
 unfolding engine_message
 message_holds line = message_by line (cut is_known true line) refl
 
-holds_spells : (line : List ℕ) (m : Says) → engine_message line ≡ m → Holds line m → SpellsMessage line m
+holds_spells : (line : List ℕ) (m : EngineMsg) → engine_message line ≡ m → Holds line m → SpellsMessage line m
 unfolding Holds
-holds_spells line Nothing e h = λ k f. subst (λ (n : Says). HasForm line n) (sym (form_is line k f) ∙ e) f
+holds_spells line Nothing e h = λ k f. subst (λ (n : EngineMsg). HasForm line n) (sym (form_is line k f) ∙ e) f
 holds_spells line (Name name) e h = h
 holds_spells line UciOk e h = h
 holds_spells line ReadyOk e h = h
@@ -238,11 +238,11 @@ holds_spells line (Best best hint) e h = h
 holds_spells line (OptionLine name shape) e h = h
 holds_spells line (Info facts) e h = h
 
-pub read_spells : (line : List ℕ) (m : Says) → engine_message line ≡ m → SpellsMessage line m
-read_spells line m e = holds_spells line m e (subst (λ (k : Says). Holds line k) e (message_holds line))
+pub read_spells : (line : List ℕ) (m : EngineMsg) → engine_message line ≡ m → SpellsMessage line m
+read_spells line m e = holds_spells line m e (subst (λ (k : EngineMsg). Holds line k) e (message_holds line))
 
 -- a line that has no form is read as Nothing
-none_by : (line : List ℕ) (k : Says) → engine_message line ≡ k → Holds line k → ((m : Says) → HasForm line m → ⊥) → k ≡ Nothing
+none_by : (line : List ℕ) (k : EngineMsg) → engine_message line ≡ k → Holds line k → ((m : EngineMsg) → HasForm line m → ⊥) → k ≡ Nothing
 unfolding Holds
 none_by line Nothing e h n = refl
 none_by line (Name name) e h n = absurd (n (Name name) h)
@@ -252,7 +252,7 @@ none_by line (Best best hint) e h n = absurd (n (Best best hint) h)
 none_by line (OptionLine name shape) e h n = absurd (n (OptionLine name shape) h)
 none_by line (Info facts) e h n = absurd (n (Info facts) h)
 
-pub spells_read : (line : List ℕ) (m : Says) → SpellsMessage line m → engine_message line ≡ m
+pub spells_read : (line : List ℕ) (m : EngineMsg) → SpellsMessage line m → engine_message line ≡ m
 spells_read line Nothing h = none_by line (engine_message line) refl (message_holds line) h
 spells_read line (Name name) h = form_is line (Name name) h
 spells_read line UciOk h = form_is line UciOk h
@@ -261,7 +261,7 @@ spells_read line (Best best hint) h = form_is line (Best best hint) h
 spells_read line (OptionLine name shape) h = form_is line (OptionLine name shape) h
 spells_read line (Info facts) h = form_is line (Info facts) h
 
-pub spelled : (line : List ℕ) (k : Says) → k ≡ engine_message line → (m : Says) → (k ≡ m) ↔ SpellsMessage line m
+pub spelled : (line : List ℕ) (k : EngineMsg) → k ≡ engine_message line → (m : EngineMsg) → (k ≡ m) ↔ SpellsMessage line m
 spelled line k e m = (λ h. read_spells line m (sym e ∙ h), λ s. e ∙ spells_read line m s)
 
 pub one_message : SpellsOneMessage

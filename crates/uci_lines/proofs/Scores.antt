@@ -5,19 +5,20 @@ use Rattle.std.specs.Option.{option_or, option_map}
 use Rattle.peer_words.specs.Tokens.{tokens, trimmed, first_token, rest}
 use Rattle.peer_words.specs.Numbers.{centis}
 use Rattle.peer_words.proofs.Sizes.{centis_small}
-use Rattle.uci_lines.specs.declared.says.Score.{Score}
-use Rattle.uci_lines.specs.declared.says.Score.TheVariants.{Cp, Mate}
+use Rattle.uci_lines.specs.declared.messages.Score.{Score}
+use Rattle.uci_lines.specs.declared.messages.Score.TheVariants.{Cp, Mate}
 use Rattle.uci_lines.specs.declared.info.Field.{Field}
 use Rattle.uci_lines.specs.declared.info.Field.TheVariants as fields
-use Rattle.uci_lines.specs.Cuts.{Part, cut, is_word, is_known}
+use Rattle.uci_lines.specs.Cuts.{Found, cut, is_word, is_known}
 use Rattle.uci_lines.specs.Infos.{field_named, first_score, hear, ends_info, facts_from, facts_in, no_facts}
-use Rattle.uci_lines.specs.Says as says
-use Rattle.uci_lines.specs.Says.{Says, Facts}
+use Rattle.uci_lines.specs.Messages as says
+use Rattle.uci_lines.specs.Info.{Info}
+use Rattle.uci_lines.specs.Messages.{EngineMsg}
 use Rattle.uci_lines.specs.Engine.{engine_message, said_by, said_after, name_said, best_said}
 use Rattle.uci_lines.specs.Options.{option_said, option_with, option_line, shape_named}
 use Rattle.uci_lines.specs.Scores.{IsCentis, ScoresAreCentis}
 
-abbrev HasSmall : Facts → Type 0
+abbrev HasSmall : Info → Type 0
 HasSmall f = IfSome f.score IsCentis
 
 mate_small : (d : Option ℤ) → ((z : ℤ) → d ≡ Some z → nat_abs z < 10 ^ 9) → IfSome (option_map (λ n. Mate n) d) IsCentis
@@ -42,7 +43,7 @@ or_small : (a b : Option Score) → IfSome a IsCentis → IfSome b IsCentis → 
 or_small None b f g = g
 or_small (Some s) b f g = f
 
-hear_small : (field : Field) (f : Facts) (ts : List (List ℕ)) → HasSmall f → HasSmall (hear field f ts)
+hear_small : (field : Field) (f : Info) (ts : List (List ℕ)) → HasSmall f → HasSmall (hear field f ts)
 hear_small fields.Score f ts h = or_small (first_score ts) f.score (first_small ts) h
 hear_small fields.Depth f ts h = h
 hear_small fields.Time f ts h = h
@@ -55,14 +56,14 @@ hear_small fields.Pv f ts h = h
 hear_small fields.Text f ts h = h
 hear_small fields.Other f ts h = h
 
-end_small : (b : Bool) (f g : Facts) → HasSmall f → HasSmall g → HasSmall (cond b f g)
+end_small : (b : Bool) (f g : Info) → HasSmall f → HasSmall g → HasSmall (cond b f g)
 end_small true f g h k = h
 end_small false f g h k = k
 
-from_small : (f : Facts) (ts : List (List ℕ)) → HasSmall f → HasSmall (facts_from f ts)
+from_small : (f : Info) (ts : List (List ℕ)) → HasSmall f → HasSmall (facts_from f ts)
 from_small f [] h = h
 from_small f (t ∷ ts) h =
-    let next : Facts = hear (field_named t) f ts in
+    let next : Info = hear (field_named t) f ts in
     end_small (ends_info (field_named t)) f (facts_from next ts) h (from_small next ts (hear_small (field_named t) f ts h))
 
 in_small : (text : List ℕ) → HasSmall (facts_in text)
@@ -70,15 +71,15 @@ unfolding facts_in
 in_small text = from_small no_facts (tokens text) tt
 
 -- what is told of a search, if anything is
-abbrev SaysSmall : Says → Type 0
+abbrev SaysSmall : EngineMsg → Type 0
 SaysSmall (says.Info f) = HasSmall f
 SaysSmall _ = Unit {0}
 
-line_small : (name : List ℕ) (shape : Option says.Shape) → SaysSmall (option_line name shape)
+line_small : (name : List ℕ) (shape : Option says.OptionKind) → SaysSmall (option_line name shape)
 line_small name None = tt
 line_small name (Some shape) = tt
 
-option_small : (b : Bool) (part : Option Part) → SaysSmall (cond b (option_with part) says.Nothing)
+option_small : (b : Bool) (part : Option Found) → SaysSmall (cond b (option_with part) says.Nothing)
 option_small false part = tt
 option_small true None = tt
 option_small true (Some part) = line_small (trimmed part.before) (shape_named (first_token part.after) (rest part.after))
@@ -91,7 +92,7 @@ name_small : (b : Bool) (text : List ℕ) → SaysSmall (cond b (says.Name text)
 name_small true text = tt
 name_small false text = tt
 
-either_small : (b : Bool) (x y : Says) → SaysSmall x → SaysSmall y → SaysSmall (cond b x y)
+either_small : (b : Bool) (x y : EngineMsg) → SaysSmall x → SaysSmall y → SaysSmall (cond b x y)
 either_small true x y h k = h
 either_small false x y h k = k
 
@@ -103,7 +104,7 @@ after_small word text =
     (either_small (is_word (codes "bestmove") word) (best_said text) _ tt
     (either_small (is_word (codes "info") word) (says.Info (facts_in text)) (option_said text) (in_small text) (said_option_small text)))))
 
-by_small : (part : Option Part) → SaysSmall (said_by part)
+by_small : (part : Option Found) → SaysSmall (said_by part)
 by_small None = tt
 by_small (Some part) = after_small part.word part.after
 
@@ -112,4 +113,4 @@ unfolding engine_message
 message_small line = by_small (cut is_known true line)
 
 pub scores_are_centis : ScoresAreCentis
-scores_are_centis line f e = subst (λ (x : Says). SaysSmall x) e (message_small line)
+scores_are_centis line f e = subst (λ (x : EngineMsg). SaysSmall x) e (message_small line)

@@ -5,10 +5,10 @@ use Rattle.std.proofs.lemmas.List.{append-nil}
 use Rattle.peer_words.proofs.Trims.{and_true}
 use Rattle.uci_lines.specs.declared.orders.GoControl.{GoControl}
 use Rattle.uci_lines.specs.declared.orders.GoControl.TheVariants.{Infinite, MoveTime, Clock}
-use Rattle.uci_lines.specs.Orders.{Command, Go, optional_number, ponder_text, control_text}
+use Rattle.uci_lines.specs.Orders.{Order, Go, optional_number, ponder_text, control_text}
 use Rattle.uci_lines.specs.Behind.{after, number_behind, number_or, perhaps_number}
 use Rattle.uci_lines.specs.Written.{is_count, is_positive}
-use Rattle.uci_lines.specs.Asked.{is_positive_or_none, is_none_of, is_search, is_order, where_true, clock_one, clock_two, clock_three, clock_four, clock_in, time_or_clock, infinite_or, control_in, is_nil, search_end, search_with, ponder_or, search_in}
+use Rattle.uci_lines.specs.OrderReading.{is_positive_or_none, is_none_of, is_search, is_order, where_true, clock_one, clock_two, clock_three, clock_four, clock_in, time_or_clock, infinite_or, control_in, is_nil, search_end, search_with, ponder_or, search_in}
 use Rattle.uci_lines.proofs.Fronts.{BeginsWhite}
 use Rattle.uci_lines.proofs.Stripped.{word_after}
 use Rattle.uci_lines.proofs.Counts.{number_takes, number_again, perhaps_takes}
@@ -69,11 +69,11 @@ unfolding control_in
 control_takes text found h = infinite_takes text (after (codes " infinite") text) found refl h
 
 -- What is asked, and that it may be.
-pub record Asks (text : List ℕ) (order : Command) (written : List ℕ) : Type 0 where
+pub record Asks (text : List ℕ) (order : Order) (written : List ℕ) : Type 0 where
   pub fits : is_order order ≡ true
   pub whole : text ≡ written
 
-pub true_where : (t : Bool) (order c : Command) → where_true t order ≡ Some c → (t ≡ true) × (order ≡ c)
+pub true_where : (t : Bool) (order c : Order) → where_true t order ≡ Some c → (t ≡ true) × (order ≡ c)
 true_where true order c h = (refl, cc)
 true_where false order c h = absurd (cc)
 
@@ -82,10 +82,10 @@ nil_is [] h = refl
 nil_is (b ∷ bs) h = absurd (cc)
 
 -- behind the word `go`, as the text of an order
-abbrev pub SearchIs : List ℕ → Command → Type 0
+abbrev pub SearchIs : List ℕ → Order → Type 0
 SearchIs text c = (ponder : Bool) × (control : GoControl) × (depth : Option ℕ) × (c ≡ Go ponder control depth) × (is_search ponder control depth ≡ true) × (text ≡ ponder_text ponder ++ (control_text control ++ optional_number (codes " depth ") depth))
 
-with_takes : (ponder : Bool) (text inner : List ℕ) (o : Option (GoControl × List ℕ)) (c : Command) → text ≡ ponder_text ponder ++ inner → control_in inner ≡ o → search_with ponder o ≡ Some c → SearchIs text c
+with_takes : (ponder : Bool) (text inner : List ℕ) (o : Option (GoControl × List ℕ)) (c : Order) → text ≡ ponder_text ponder ++ inner → control_in inner ≡ o → search_with ponder o ≡ Some c → SearchIs text c
 with_takes ponder text inner None c e f h = absurd (cc)
 with_takes ponder text inner (Some found) c e f h =
     let depth = perhaps_number (codes " depth ") found.1 in
@@ -94,11 +94,11 @@ with_takes ponder text inner (Some found) c e f h =
     let last : found.1 ≡ optional_number (codes " depth ") depth.0 = perhaps_takes (codes " depth ") found.1 ∙ ap (λ t. optional_number (codes " depth ") depth.0 ++ t) (nil_is depth.1 tests.0) ∙ append-nil (optional_number (codes " depth ") depth.0) in
     (ponder, found.0, depth.0, sym both.1, tests.1, e ∙ ap (λ t. ponder_text ponder ++ t) (control_takes inner found f ∙ ap (λ t. control_text found.0 ++ t) last))
 
-ponder_takes : (text : List ℕ) (o : Option (List ℕ)) (c : Command) → after (codes " ponder") text ≡ o → ponder_or o text ≡ Some c → SearchIs text c
+ponder_takes : (text : List ℕ) (o : Option (List ℕ)) (c : Order) → after (codes " ponder") text ≡ o → ponder_or o text ≡ Some c → SearchIs text c
 ponder_takes text None c e h = with_takes false text text (control_in text) c refl refl h
 ponder_takes text (Some others) c e h = with_takes true text others (control_in others) c (word_after (codes " ponder") text others e) refl h
 
-pub search_takes : (text : List ℕ) (c : Command) → search_in text ≡ Some c → SearchIs text c
+pub search_takes : (text : List ℕ) (c : Order) → search_in text ≡ Some c → SearchIs text c
 search_takes text c h = ponder_takes text (after (codes " ponder") text) c refl h
 
 -- The other way round: what is written is read.

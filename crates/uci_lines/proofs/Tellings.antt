@@ -3,13 +3,13 @@ use Rattle.std.proofs.Common.{◌≡◌, ◌≢◌, ℕ, zero, suc, ◌<◌, ◌
 use Rattle.std.specs.Option.{option_or, option_map}
 use Rattle.chess_board.specs.declared.board.Move.{Move}
 use Rattle.peer_words.specs.Numbers.{count, centis}
-use Rattle.uci_lines.specs.declared.says.Score.TheVariants.{Cp, Mate}
+use Rattle.uci_lines.specs.declared.messages.Score.TheVariants.{Cp, Mate}
 use Rattle.uci_lines.specs.declared.info.Field.{Field}
 use Rattle.uci_lines.specs.declared.info.Field.TheVariants as fields
 use Rattle.uci_lines.specs.Cuts.{is_word}
 use Rattle.chess_board.specs.Spelling.{move_of}
 use Rattle.uci_lines.specs.Moves.{add_move, run}
-use Rattle.uci_lines.specs.Says.{Facts}
+use Rattle.uci_lines.specs.Info.{Info}
 use Rattle.uci_lines.specs.Infos.{field_named, first_count, first_score, first_move, newer_run, hear, ends_info, facts_from}
 use Rattle.uci_lines.specs.Spells.{PerhapsMove, NoMoveFirst, IsRun, Takes, Tells}
 use Rattle.uci_lines.proofs.Counts.{same_text, text_same}
@@ -42,7 +42,7 @@ move_plain : (t : List ℕ) (m : Move) → move_of t ≡ Some m → field_named 
 unfolding move_of
 move_plain t m h = plain (λ s. is_some (move_of s)) t (ap (λ o. is_some o) h) refl refl refl refl refl refl refl refl refl refl refl
 
-passed : (f : Facts) (t : List ℕ) (ts : List (List ℕ)) → field_named t ≡ fields.Other → facts_from f (t ∷ ts) ≡ facts_from f ts
+passed : (f : Info) (t : List ℕ) (ts : List (List ℕ)) → field_named t ≡ fields.Other → facts_from f (t ∷ ts) ≡ facts_from f ts
 passed f t ts e = ap (λ k. cond (ends_info k) f (facts_from (hear k f ts) ts)) e
 
 -- RUNS OF MOVES
@@ -55,7 +55,7 @@ run_is : (ts : List (List ℕ)) (moves : List Move) (others : List (List ℕ)) �
 run_is ts _ _ (IsRun.Ends h) = no_run ts h
 run_is _ _ others (IsRun.Goes {t = t} {m = m} {ts = ts} {moves = moves} s r) = ap (λ o. add_move o (run ts)) (spells_move t m s) ∙ ap (λ ms. m ∷ ms) (run_is ts moves others r)
 
-run_passed : (f : Facts) (ts : List (List ℕ)) (moves : List Move) (others : List (List ℕ)) → IsRun ts moves others → facts_from f ts ≡ facts_from f others
+run_passed : (f : Info) (ts : List (List ℕ)) (moves : List Move) (others : List (List ℕ)) → IsRun ts moves others → facts_from f ts ≡ facts_from f others
 run_passed f ts _ _ (IsRun.Ends h) = refl
 run_passed f _ _ others (IsRun.Goes {t = t} {m = m} {ts = ts} {moves = moves} s r) = passed f t ts (move_plain t m (spells_move t m s)) ∙ run_passed f ts moves others r
 
@@ -74,7 +74,7 @@ runs (t ∷ ts) = runs_by t ts (move_of t) refl (runs ts)
 
 -- WHAT A FIELD TAKES
 
-pub takes_is : (f : Facts) (ts : List (List ℕ)) (g : Facts) (others : List (List ℕ)) → Takes f ts g others → facts_from f ts ≡ facts_from g others
+pub takes_is : (f : Info) (ts : List (List ℕ)) (g : Info) (others : List (List ℕ)) → Takes f ts g others → facts_from f ts ≡ facts_from g others
 takes_is f _ _ _ (Takes.Depth {t = t} {ts = ts} {n = n} e) = ap (λ o. facts_from (record f { depth = option_or o f.depth }) (t ∷ ts)) e ∙ passed (record f { depth = Some n }) t ts (count_plain t n e)
 takes_is f _ _ _ (Takes.Time {t = t} {ts = ts} {n = n} e) = ap (λ o. facts_from (record f { time = option_or o f.time }) (t ∷ ts)) e ∙ passed (record f { time = Some n }) t ts (count_plain t n e)
 takes_is f _ _ _ (Takes.Nodes {t = t} {ts = ts} {n = n} e) = ap (λ o. facts_from (record f { nodes = option_or o f.nodes }) (t ∷ ts)) e ∙ passed (record f { nodes = Some n }) t ts (count_plain t n e)
@@ -109,7 +109,7 @@ taking : List (List ℕ) → Bool
 taking [] = false
 taking (t ∷ ts) = taking_by (field_named t) ts
 
-takes_taking : (f : Facts) (ts : List (List ℕ)) (g : Facts) (others : List (List ℕ)) → Takes f ts g others → taking ts ≡ true
+takes_taking : (f : Info) (ts : List (List ℕ)) (g : Info) (others : List (List ℕ)) → Takes f ts g others → taking ts ≡ true
 unfolding taking taking_by some_moves
 takes_taking f _ _ _ (Takes.Depth e) = ap (λ o. is_some o) e
 takes_taking f _ _ _ (Takes.Time e) = ap (λ o. is_some o) e
@@ -156,13 +156,13 @@ named t =
     (pick t (codes "pv") fields.Pv _ (is_word (codes "pv") t) refl (λ e. e)
     (pick t (codes "string") fields.Text fields.Other (is_word (codes "string") t) refl (λ e. e) tt))))))))))
 
-record Take (f : Facts) (ts : List (List ℕ)) : Type 0 where
-  told : Facts
+record Take (f : Info) (ts : List (List ℕ)) : Type 0 where
+  told : Info
   others : List (List ℕ)
   takes : Takes f ts told others
   shorter : length others < length ts
 
-given : (f g : Facts) (t w : List ℕ) (ts others : List (List ℕ)) → t ≡ w → length others ≤ length ts → Takes f (w ∷ ts) g others → Take f (t ∷ ts)
+given : (f g : Info) (t w : List ℕ) (ts others : List (List ℕ)) → t ≡ w → length others ≤ length ts → Takes f (w ∷ ts) g others → Take f (t ∷ ts)
 given f g t w ts others e l k = record {
   told = g;
   others = others;
@@ -184,7 +184,7 @@ some_below : {A B : Type 0} → (g : A → B) (o : Option A) → is_some (option
 some_below g None h = absurd (cc)
 some_below g (Some n) h = (n, refl)
 
-take_score : (f : Facts) (t u v : List ℕ) (us : List (List ℕ)) (a b : Bool) → t ≡ codes "score" → is_word (codes "cp") u ≡ a → is_word (codes "mate") u ≡ b → is_some (cond a (option_map (λ n. Cp n) (centis v)) (cond b (option_map (λ n. Mate n) (centis v)) None)) ≡ true → Take f (t ∷ u ∷ v ∷ us)
+take_score : (f : Info) (t u v : List ℕ) (us : List (List ℕ)) (a b : Bool) → t ≡ codes "score" → is_word (codes "cp") u ≡ a → is_word (codes "mate") u ≡ b → is_some (cond a (option_map (λ n. Cp n) (centis v)) (cond b (option_map (λ n. Mate n) (centis v)) None)) ≡ true → Take f (t ∷ u ∷ v ∷ us)
 take_score f t u v us true b e p q h =
     let s = some_below (λ n. Cp n) (centis v) h in
     given f (record f { score = Some (Cp s.0) }) t (codes "score") (u ∷ v ∷ us) us e (two_less u v us)
@@ -195,16 +195,16 @@ take_score f t u v us false true e p q h =
     (subst (λ (w : List ℕ). Takes f (codes "score" ∷ w ∷ v ∷ us) (record f { score = Some (Mate s.0) }) us) (sym (same_text u (codes "mate") q)) (Takes.ToMate s.1))
 take_score f t u v us false false e p q h = absurd (cc)
 
-take_pv : (f : Facts) (t : List ℕ) (ts : List (List ℕ)) (moves : List Move) → t ≡ codes "pv" → some_moves moves ≡ true → Runs ts moves → Take f (t ∷ ts)
+take_pv : (f : Info) (t : List ℕ) (ts : List (List ℕ)) (moves : List Move) → t ≡ codes "pv" → some_moves moves ≡ true → Runs ts moves → Take f (t ∷ ts)
 unfolding some_moves
 take_pv f t ts [] e h r = absurd (cc)
 take_pv f t ts (m ∷ moves) e h r = given f (record f { pv = m ∷ moves }) t (codes "pv") ts r.others e r.fits (Takes.Pv r.is_run)
 
-take_bound : (f : Facts) (t : List ℕ) (ts : List (List ℕ)) → (t ≡ codes "lowerbound") ⊎ (t ≡ codes "upperbound") → Take f (t ∷ ts)
+take_bound : (f : Info) (t : List ℕ) (ts : List (List ℕ)) → (t ≡ codes "lowerbound") ⊎ (t ≡ codes "upperbound") → Take f (t ∷ ts)
 take_bound f t ts (inl e) = given f (record f { bound = true }) t (codes "lowerbound") ts ts e (omega arith) Takes.LowerBound
 take_bound f t ts (inr e) = given f (record f { bound = true }) t (codes "upperbound") ts ts e (omega arith) Takes.UpperBound
 
-take_by : (k : Field) (f : Facts) (t : List ℕ) (ts : List (List ℕ)) → Named k t → taking_by k ts ≡ true → Take f (t ∷ ts)
+take_by : (k : Field) (f : Info) (t : List ℕ) (ts : List (List ℕ)) → Named k t → taking_by k ts ≡ true → Take f (t ∷ ts)
 unfolding Named taking_by
 take_by fields.Depth f t [] e h = absurd (cc)
 take_by fields.Depth f t (u ∷ us) e h = let s = some_of (count u) h in given f (record f { depth = Some s.0 }) t (codes "depth") (u ∷ us) us e (one_less u us) (Takes.Depth s.1)
@@ -226,7 +226,7 @@ take_by fields.Pv f t ts e h = take_pv f t ts (run ts) e h (runs ts)
 take_by fields.Text f t ts e h = absurd (cc)
 take_by fields.Other f t ts e h = absurd (cc)
 
-take : (f : Facts) (t : List ℕ) (ts : List (List ℕ)) → taking (t ∷ ts) ≡ true → Take f (t ∷ ts)
+take : (f : Info) (t : List ℕ) (ts : List (List ℕ)) → taking (t ∷ ts) ≡ true → Take f (t ∷ ts)
 unfolding taking
 take f t ts h = take_by (field_named t) f t ts (named t) h
 
@@ -241,7 +241,7 @@ unfolding some_moves
 empty_of [] h = refl
 empty_of (m ∷ moves) h = absurd (cc)
 
-unheard : (k : Field) (f : Facts) (ts : List (List ℕ)) → taking_by k ts ≡ false → hear k f ts ≡ f
+unheard : (k : Field) (f : Info) (ts : List (List ℕ)) → taking_by k ts ≡ false → hear k f ts ≡ f
 unfolding taking_by
 unheard fields.Depth f ts h = ap (λ o. record f { depth = option_or o f.depth }) (none_of (first_count ts) h)
 unheard fields.Time f ts h = ap (λ o. record f { time = option_or o f.time }) (none_of (first_count ts) h)
@@ -269,7 +269,7 @@ ends_by fields.Pv t e h = refl
 ends_by fields.Text t e h = absurd (h e)
 ends_by fields.Other t e h = refl
 
-skipped : (f : Facts) (t : List ℕ) (ts : List (List ℕ)) → t ≢ codes "string" → taking (t ∷ ts) ≡ false → facts_from f (t ∷ ts) ≡ facts_from f ts
+skipped : (f : Info) (t : List ℕ) (ts : List (List ℕ)) → t ≢ codes "string" → taking (t ∷ ts) ≡ false → facts_from f (t ∷ ts) ≡ facts_from f ts
 unfolding taking
 skipped f t ts n h =
     ap (λ b. cond b f (facts_from (hear (field_named t) f ts) ts)) (ends_by (field_named t) t (named t) n)
@@ -277,33 +277,33 @@ skipped f t ts n h =
 
 -- BOTH WAYS
 
-skip_by : (b : Bool) (f : Facts) (t : List ℕ) (ts : List (List ℕ)) → taking (t ∷ ts) ≡ b → t ≢ codes "string" → ((g : Facts) (others : List (List ℕ)) → Takes f (t ∷ ts) g others → ⊥) → facts_from f (t ∷ ts) ≡ facts_from f ts
+skip_by : (b : Bool) (f : Info) (t : List ℕ) (ts : List (List ℕ)) → taking (t ∷ ts) ≡ b → t ≢ codes "string" → ((g : Info) (others : List (List ℕ)) → Takes f (t ∷ ts) g others → ⊥) → facts_from f (t ∷ ts) ≡ facts_from f ts
 skip_by true f t ts e n s = let k = take f t ts e in absurd (s k.told k.others k.takes)
 skip_by false f t ts e n s = skipped f t ts n e
 
-pub tells_is : (f : Facts) (ts : List (List ℕ)) (h : Facts) → Tells f ts h → facts_from f ts ≡ h
+pub tells_is : (f : Info) (ts : List (List ℕ)) (h : Info) → Tells f ts h → facts_from f ts ≡ h
 tells_is f _ _ Tells.End = refl
 tells_is f _ _ Tells.Rest = refl
 tells_is f ts h (Tells.Taken {g = g} {others = others} k r) = takes_is f ts g others k ∙ tells_is g others h r
 tells_is f _ h (Tells.Skipped {t = t} {ts = ts} n s r) = skip_by (taking (t ∷ ts)) f t ts refl n s ∙ tells_is f ts h r
 
-string_or : (b : Bool) (f : Facts) (t : List ℕ) (ts : List (List ℕ)) → is_word (codes "string") t ≡ b → taking (t ∷ ts) ≡ false → Tells f ts (facts_from f ts) → Tells f (t ∷ ts) (facts_from f (t ∷ ts))
+string_or : (b : Bool) (f : Info) (t : List ℕ) (ts : List (List ℕ)) → is_word (codes "string") t ≡ b → taking (t ∷ ts) ≡ false → Tells f ts (facts_from f ts) → Tells f (t ∷ ts) (facts_from f (t ∷ ts))
 string_or true f t ts e h r = subst (λ (w : List ℕ). Tells f (w ∷ ts) (facts_from f (w ∷ ts))) (sym (same_text t (codes "string") e)) Tells.Rest
 string_or false f t ts e h r =
     let other : t ≢ codes "string" = λ same. clash (is_word (codes "string") t) (text_same t (codes "string") same) e in
-    subst (λ (g : Facts). Tells f (t ∷ ts) g) (sym (skipped f t ts other h))
+    subst (λ (g : Info). Tells f (t ∷ ts) g) (sym (skipped f t ts other h))
     (Tells.Skipped other (λ g others k. clash (taking (t ∷ ts)) (takes_taking f (t ∷ ts) g others k) h) r)
 
-tells_by : (b : Bool) (f : Facts) (t : List ℕ) (ts : List (List ℕ)) → taking (t ∷ ts) ≡ b → ((g : Facts) (us : List (List ℕ)) → length us < length (t ∷ ts) → Tells g us (facts_from g us)) → Tells f (t ∷ ts) (facts_from f (t ∷ ts))
+tells_by : (b : Bool) (f : Info) (t : List ℕ) (ts : List (List ℕ)) → taking (t ∷ ts) ≡ b → ((g : Info) (us : List (List ℕ)) → length us < length (t ∷ ts) → Tells g us (facts_from g us)) → Tells f (t ∷ ts) (facts_from f (t ∷ ts))
 tells_by true f t ts e i =
     let k = take f t ts e in
-    subst (λ (g : Facts). Tells f (t ∷ ts) g) (sym (takes_is f (t ∷ ts) k.told k.others k.takes)) (Tells.Taken k.takes (i k.told k.others k.shorter))
+    subst (λ (g : Info). Tells f (t ∷ ts) g) (sym (takes_is f (t ∷ ts) k.told k.others k.takes)) (Tells.Taken k.takes (i k.told k.others k.shorter))
 tells_by false f t ts e i = string_or (is_word (codes "string") t) f t ts refl e (i f ts (omega arith))
 
-tells_within : (n : ℕ) (f : Facts) (ts : List (List ℕ)) → length ts < n → Tells f ts (facts_from f ts)
+tells_within : (n : ℕ) (f : Info) (ts : List (List ℕ)) → length ts < n → Tells f ts (facts_from f ts)
 tells_within zero f ts l = absurd (omega (arith, l))
 tells_within (suc n) f [] l = Tells.End
 tells_within (suc n) f (t ∷ ts) l = tells_by (taking (t ∷ ts)) f t ts refl (λ g us k. tells_within n g us (omega (arith, l, k)))
 
-pub tells : (f : Facts) (ts : List (List ℕ)) → Tells f ts (facts_from f ts)
+pub tells : (f : Info) (ts : List (List ℕ)) → Tells f ts (facts_from f ts)
 tells f ts = tells_within (suc (length ts)) f ts (omega arith)

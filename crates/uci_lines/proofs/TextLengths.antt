@@ -6,7 +6,7 @@ use Rattle.uci_lines.specs.declared.orders.GoControl.{GoControl}
 use Rattle.uci_lines.specs.declared.orders.GoControl.TheVariants.{Infinite, MoveTime, Clock}
 use Rattle.uci_lines.specs.Orders.{optional_text, optional_number, set_option_text, start_text, moves_text, position_text, ponder_text, control_text, go_text}
 use Rattle.uci_lines.specs.Written.{is_count, is_positive}
-use Rattle.uci_lines.specs.Asked.{is_positive_or_none, is_search}
+use Rattle.uci_lines.specs.OrderReading.{is_positive_or_none, is_search}
 use Rattle.uci_lines.proofs.Searches.{count_below, positive_below, depth_fits}
 
 pub count_length : (n : ℕ) → n < 10 ^ 18 → length (decimal n) ≤ 18

@@ -2,7 +2,7 @@
 use Rattle.std.specs.Prelude.{ℕ, List, [], ◌∷◌, codes, length, drop, Bool, true, ◌&&◌, if◌then◌else◌, Option, Some, None}
 use Rattle.std.specs.List.{before_first, onto_first}
 use Rattle.peer_words.specs.Tokens.{is_white, trimmed, first_token, rest}
-use Rattle.uci_lines.specs.Cuts.{Part, cut, is_word, is_choice}
+use Rattle.uci_lines.specs.Cuts.{Found, cut, is_word, is_choice}
 
 -- A text, cut before each token that is `default` or `var`. The first piece is what stands before all of
 -- them; each other begins with its word. fresh: as for `cut`.
@@ -24,16 +24,16 @@ unfoldable pub values : List ℕ → List (List ℕ)
 values text = values_among (pieces true text)
 
 -- what stands before the first `default` or `var`, or all
-abbrev pub before_choice : Option Part → List ℕ → List ℕ
+abbrev pub before_choice : Option Found → List ℕ → List ℕ
 before_choice None text = text
 before_choice (Some part) text = part.before
 
 -- what begins with the first `default` or `var`
-abbrev pub from_choice : Option Part → List ℕ → List ℕ
+abbrev pub from_choice : Option Found → List ℕ → List ℕ
 from_choice None text = []
 from_choice (Some part) text = drop (length part.before) text
 
-abbrev pub chosen : Option Part → List ℕ
+abbrev pub chosen : Option Found → List ℕ
 chosen None = []
 chosen (Some part) = trimmed (before_choice (cut is_choice true part.after) part.after)
 

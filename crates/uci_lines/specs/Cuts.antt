@@ -5,22 +5,22 @@ use Rattle.std.specs.Option.{option_map}
 use Rattle.std.specs.Str.{bytes_eq}
 use Rattle.peer_words.specs.Tokens.{is_white, token_end}
 use Rattle.chess_board.specs.Spelling.{move_of}
-use Rattle.uci_lines.specs.declared.cut.Stop.{Stop}
-use Rattle.uci_lines.specs.declared.cut.Stop.TheVariants.{Message, Kind, Default, Choice, Ponder, NoMove}
-use Rattle.uci_lines.specs.declared.cut.Found.{Found}
+use Rattle.uci_lines.specs.declared.cut.Delimiter.{Delimiter}
+use Rattle.uci_lines.specs.declared.cut.Delimiter.TheVariants.{Message, Kind, Default, Choice, Ponder, NoMove}
+use Rattle.uci_lines.specs.declared.cut.Found.{Found as CodeFound}
 
 -- the bytes before a token, the token, and the bytes after it
-pub record Part : Type 0 where
+pub record Found : Type 0 where
   pub before : List ℕ
   pub word : List ℕ
   pub after : List ℕ
 
-abbrev pub onto_part : ℕ → Part → Part
+abbrev pub onto_part : ℕ → Found → Found
 onto_part b part = record { before = b ∷ part.before; word = part.word; after = part.after }
 
 -- Where the first token that passes stands. A token begins at the front only if the front is fresh:
 -- the start of the line, or behind white space.
-abbrev pub cut : (List ℕ → Bool) → Bool → List ℕ → Option Part
+abbrev pub cut : (List ℕ → Bool) → Bool → List ℕ → Option Found
 cut p fresh [] = None
 cut p fresh (b ∷ bs) =
     if fresh && p (before_first is_white (b ∷ bs))
@@ -44,7 +44,7 @@ is_choice token = is_word (codes "default") token || is_word (codes "var") token
 abbrev pub is_no_move : List ℕ → Bool
 is_no_move token = nat_lt 0 (length token) && is_none (move_of token)
 
-abbrev pub stops : Stop → List ℕ → Bool
+abbrev pub stops : Delimiter → List ℕ → Bool
 stops Message token = is_known token
 stops Kind token = is_word (codes "type") token
 stops Default token = is_word (codes "default") token
@@ -52,5 +52,5 @@ stops Choice token = is_choice token
 stops Ponder token = is_word (codes "ponder") token
 stops NoMove token = is_no_move token
 
-abbrev pub part_of : Found → Part
-part_of found = record { before = found.before.now; word = found.word.now; after = found.after.now }
+abbrev pub found_of : CodeFound → Found
+found_of found = record { before = found.before.now; word = found.word.now; after = found.after.now }

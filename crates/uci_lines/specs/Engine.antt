@@ -2,27 +2,27 @@
 use Rattle.std.specs.Prelude.{ℕ, List, codes, true, if◌then◌else◌, Option, Some, None}
 use Rattle.peer_words.specs.Tokens.{first_token, rest}
 use Rattle.chess_board.specs.declared.board.Move.{Move}
-use Rattle.uci_lines.specs.Cuts.{Part, cut, is_word, is_known}
+use Rattle.uci_lines.specs.Cuts.{Found, cut, is_word, is_known}
 use Rattle.chess_board.specs.Spelling.{move_of}
 use Rattle.uci_lines.specs.Options.{option_said}
 use Rattle.uci_lines.specs.Infos.{facts_in}
-use Rattle.uci_lines.specs.Says.{Says, Name, UciOk, ReadyOk, Best, Info, Nothing}
+use Rattle.uci_lines.specs.Messages.{EngineMsg, Name, UciOk, ReadyOk, Best, Info, Nothing}
 
 -- behind `id`
-abbrev pub name_said : List ℕ → Says
+abbrev pub name_said : List ℕ → EngineMsg
 name_said text = if is_word (codes "name") (first_token text) then Name (rest text) else Nothing
 
 -- behind `ponder`
-abbrev pub hint_in : Option Part → Option Move
+abbrev pub hint_in : Option Found → Option Move
 hint_in None = None
 hint_in (Some part) = move_of (first_token part.after)
 
 -- behind `bestmove`
-abbrev pub best_said : List ℕ → Says
+abbrev pub best_said : List ℕ → EngineMsg
 best_said text = Best (move_of (first_token text)) (hint_in (cut (is_word (codes "ponder")) true (rest text)))
 
 -- a known word, with what stands behind it
-abbrev pub said_after : List ℕ → List ℕ → Says
+abbrev pub said_after : List ℕ → List ℕ → EngineMsg
 said_after word text =
     if is_word (codes "id") word then name_said text
     else (if is_word (codes "uciok") word then UciOk
@@ -31,10 +31,10 @@ said_after word text =
     else (if is_word (codes "info") word then Info (facts_in text)
     else option_said text))))
 
-abbrev pub said_by : Option Part → Says
+abbrev pub said_by : Option Found → EngineMsg
 said_by None = Nothing
 said_by (Some part) = said_after part.word part.after
 
 -- what stands before the first known word is ignored
-unfoldable pub engine_message : List ℕ → Says
+unfoldable pub engine_message : List ℕ → EngineMsg
 engine_message line = said_by (cut is_known true line)

@@ -4,14 +4,14 @@ use Rattle.std.specs.Option.{option_or, option_map}
 use Rattle.peer_words.specs.Tokens.{tokens}
 use Rattle.peer_words.specs.Numbers.{count, centis}
 use Rattle.chess_board.specs.declared.board.Move.{Move}
-use Rattle.uci_lines.specs.declared.says.Score.{Score}
-use Rattle.uci_lines.specs.declared.says.Score.TheVariants.{Cp, Mate}
+use Rattle.uci_lines.specs.declared.messages.Score.{Score}
+use Rattle.uci_lines.specs.declared.messages.Score.TheVariants.{Cp, Mate}
 use Rattle.uci_lines.specs.declared.info.Field.{Field}
 use Rattle.uci_lines.specs.declared.info.Field.TheVariants as fields
 use Rattle.uci_lines.specs.Cuts.{is_word}
 use Rattle.chess_board.specs.Spelling.{move_of}
 use Rattle.uci_lines.specs.Moves.{run}
-use Rattle.uci_lines.specs.Says.{Facts}
+use Rattle.uci_lines.specs.Info.{Info}
 
 -- the field that a token names
 abbrev pub field_named : List ℕ → Field
@@ -53,7 +53,7 @@ newer_run [] old = old
 newer_run (m ∷ moves) old = m ∷ moves
 
 -- What a field says, with the tokens behind its word. If what must follow does not, nothing changes.
-abbrev pub hear : Field → Facts → List (List ℕ) → Facts
+abbrev pub hear : Field → Info → List (List ℕ) → Info
 hear fields.Depth f ts = record f { depth = option_or (first_count ts) f.depth }
 hear fields.Time f ts = record f { time = option_or (first_count ts) f.time }
 hear fields.Nodes f ts = record f { nodes = option_or (first_count ts) f.nodes }
@@ -72,11 +72,11 @@ ends_info _ = false
 
 -- The tokens are read from left to right, up to `string`. What a field takes names no field itself, so
 -- it may be ignored like any other token.
-abbrev pub facts_from : Facts → List (List ℕ) → Facts
+abbrev pub facts_from : Info → List (List ℕ) → Info
 facts_from f [] = f
 facts_from f (t ∷ ts) = if ends_info (field_named t) then f else facts_from (hear (field_named t) f ts) ts
 
-abbrev pub no_facts : Facts
+abbrev pub no_facts : Info
 no_facts = record {
   depth = None;
   time = None;
@@ -90,5 +90,5 @@ no_facts = record {
 }
 
 -- what stands behind `info`
-unfoldable pub facts_in : List ℕ → Facts
+unfoldable pub facts_in : List ℕ → Info
 facts_in text = facts_from no_facts (tokens text)

@@ -1,4 +1,5 @@
-pub mod Says
+pub mod Info
+pub mod Messages
 pub mod Cuts
 pub mod Choices
 pub mod Moves
@@ -8,7 +9,7 @@ pub mod Engine
 pub mod Orders
 pub mod Behind
 pub mod Written
-pub mod Asked
+pub mod OrderReading
 pub mod Scores
 pub mod Spells
 pub mod Writable

@@ -5,12 +5,12 @@ use Rattle.std.specs.Option.{option_or}
 use Rattle.peer_words.specs.Tokens.{tokens, trimmed, first_token, rest}
 use Rattle.peer_words.specs.Numbers.{signed}
 use Rattle.uci_lines.specs.declared.range.Range.{Range as Numbers}
-use Rattle.uci_lines.specs.Cuts.{Part, cut, is_word}
+use Rattle.uci_lines.specs.Cuts.{Found, cut, is_word}
 use Rattle.uci_lines.specs.Choices.{values, default_value}
-use Rattle.uci_lines.specs.Says.{Shape, Check, Spin, Combo, Button, Text, Says, OptionLine, Nothing}
+use Rattle.uci_lines.specs.Messages.{OptionKind, Check, Spin, Combo, Button, Text, EngineMsg, OptionLine, Nothing}
 
 -- whether `default` is followed by `true`
-abbrev pub is_on : Option Part → Bool
+abbrev pub is_on : Option Found → Bool
 is_on None = false
 is_on (Some part) = is_word (codes "true") (first_token part.after)
 
@@ -43,23 +43,23 @@ abbrev pub no_range : Range
 no_range = record { default = None; min = None; max = None }
 
 -- The default is moved into the range.
-abbrev pub spin : Option ℤ → Option ℤ → Option ℤ → Option Shape
+abbrev pub spin : Option ℤ → Option ℤ → Option ℤ → Option OptionKind
 spin (Some default) (Some min) (Some max) = if int_lt max min then None else Some (Spin (int_max min (int_min default max)) min max)
 spin _ _ _ = None
 
-abbrev pub spin_in : Range → Option Shape
+abbrev pub spin_in : Range → Option OptionKind
 spin_in r = spin r.default r.min r.max
 
 -- `<empty>` is the empty text
 abbrev pub shown_text : List ℕ → List ℕ
 shown_text text = if is_word (codes "<empty>") text then [] else text
 
-abbrev pub text_after : Option Part → List ℕ
+abbrev pub text_after : Option Found → List ℕ
 text_after None = []
 text_after (Some part) = shown_text (trimmed part.after)
 
 -- the kind of an option by its word, with the rest of the line
-abbrev pub shape_named : List ℕ → List ℕ → Option Shape
+abbrev pub shape_named : List ℕ → List ℕ → Option OptionKind
 shape_named word text =
     if is_word (codes "check") word then Some (Check (is_on (cut (is_word (codes "default")) true text)))
     else (if is_word (codes "spin") word then spin_in (range_from no_range (tokens text))
@@ -68,16 +68,16 @@ shape_named word text =
     else (if is_word (codes "string") word then Some (Text (text_after (cut (is_word (codes "default")) true text)))
     else None))))
 
-abbrev pub option_line : List ℕ → Option Shape → Says
+abbrev pub option_line : List ℕ → Option OptionKind → EngineMsg
 option_line name None = Nothing
 option_line name (Some shape) = OptionLine name shape
 
 -- the name stands before the first `type`
-abbrev pub option_with : Option Part → Says
+abbrev pub option_with : Option Found → EngineMsg
 option_with None = Nothing
 option_with (Some part) = option_line (trimmed part.before) (shape_named (first_token part.after) (rest part.after))
 
 -- what stands behind `option`
-unfoldable pub option_said : List ℕ → Says
+unfoldable pub option_said : List ℕ → EngineMsg
 option_said text =
     if is_word (codes "name") (first_token text) then option_with (cut (is_word (codes "type")) true (rest text)) else Nothing

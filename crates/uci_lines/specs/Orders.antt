@@ -3,19 +3,19 @@ use Rattle.std.specs.Prelude.{ℕ, List, [], ◌∷◌, ◌++◌, codes, decimal
 use Rattle.std.specs.Borrow.{Bor}
 use Rattle.uci_lines.specs.declared.orders.GoControl.{GoControl}
 use Rattle.uci_lines.specs.declared.orders.GoControl.TheVariants.{Infinite, MoveTime, Clock}
-use Rattle.uci_lines.specs.declared.orders.Order.{Order}
+use Rattle.uci_lines.specs.declared.orders.Order.{Order as CodeOrder}
 use Rattle.uci_lines.specs.declared.orders.Order.TheVariants as orders
 
-pub data Command : Type 0 where
-  Uci : Command
-  IsReady : Command
-  NewGame : Command
-  Stop : Command
-  PonderHit : Command
-  Quit : Command
-  SetOption : (name : List ℕ) (value : Option (List ℕ)) → Command
-  Position : (fen : Option (List ℕ)) (moves : List ℕ) → Command
-  Go : (ponder : Bool) (control : GoControl) (depth : Option ℕ) → Command
+pub data Order : Type 0 where
+  Uci : Order
+  IsReady : Order
+  NewGame : Order
+  Stop : Order
+  PonderHit : Order
+  Quit : Order
+  SetOption : (name : List ℕ) (value : Option (List ℕ)) → Order
+  Position : (fen : Option (List ℕ)) (moves : List ℕ) → Order
+  Go : (ponder : Bool) (control : GoControl) (depth : Option ℕ) → Order
 
 -- the text behind a word, if there is one
 abbrev pub optional_text : List ℕ → Option (List ℕ) → List ℕ
@@ -56,28 +56,28 @@ abbrev pub go_text : Bool → GoControl → Option ℕ → List ℕ
 go_text ponder control depth = codes "go" ++ ponder_text ponder ++ control_text control ++ optional_number (codes " depth ") depth
 
 -- the text of an order, without its line feed
-unfoldable pub command_text : Command → List ℕ
-command_text Uci = codes "uci"
-command_text IsReady = codes "isready"
-command_text NewGame = codes "ucinewgame"
-command_text Stop = codes "stop"
-command_text PonderHit = codes "ponderhit"
-command_text Quit = codes "quit"
-command_text (SetOption name value) = set_option_text name value
-command_text (Position fen moves) = position_text fen moves
-command_text (Go ponder control depth) = go_text ponder control depth
+unfoldable pub order_text : Order → List ℕ
+order_text Uci = codes "uci"
+order_text IsReady = codes "isready"
+order_text NewGame = codes "ucinewgame"
+order_text Stop = codes "stop"
+order_text PonderHit = codes "ponderhit"
+order_text Quit = codes "quit"
+order_text (SetOption name value) = set_option_text name value
+order_text (Position fen moves) = position_text fen moves
+order_text (Go ponder control depth) = go_text ponder control depth
 
 abbrev pub optional_now : Option (Bor (List ℕ)) → Option (List ℕ)
 optional_now None = None
 optional_now (Some text) = Some text.now
 
-abbrev pub command_of : Order → Command
-command_of orders.Uci = Uci
-command_of orders.IsReady = IsReady
-command_of orders.NewGame = NewGame
-command_of orders.Stop = Stop
-command_of orders.PonderHit = PonderHit
-command_of orders.Quit = Quit
-command_of (orders.SetOption name value) = SetOption name.now (optional_now value)
-command_of (orders.Position fen moves) = Position (optional_now fen) moves.now
-command_of (orders.Go ponder control depth) = Go ponder control depth
+abbrev pub order_of : CodeOrder → Order
+order_of orders.Uci = Uci
+order_of orders.IsReady = IsReady
+order_of orders.NewGame = NewGame
+order_of orders.Stop = Stop
+order_of orders.PonderHit = PonderHit
+order_of orders.Quit = Quit
+order_of (orders.SetOption name value) = SetOption name.now (optional_now value)
+order_of (orders.Position fen moves) = Position (optional_now fen) moves.now
+order_of (orders.Go ponder control depth) = Go ponder control depth

@@ -1,8 +1,9 @@
 -- How large the scores are that lines report.
 use Rattle.std.specs.Prelude.{◌≡◌, ℕ, ◌^◌, ◌<◌, nat_abs, List, IfSome}
-use Rattle.uci_lines.specs.declared.says.Score.{Score}
-use Rattle.uci_lines.specs.declared.says.Score.TheVariants.{Cp, Mate}
-use Rattle.uci_lines.specs.Says.{Facts, Info}
+use Rattle.uci_lines.specs.declared.messages.Score.{Score}
+use Rattle.uci_lines.specs.declared.messages.Score.TheVariants.{Cp, Mate}
+use Rattle.uci_lines.specs.Info.{Info as AnyInfo}
+use Rattle.uci_lines.specs.Messages.{Info}
 use Rattle.uci_lines.specs.Engine.{engine_message}
 
 -- at most nine digits
@@ -12,4 +13,4 @@ IsCentis (Mate moves) = nat_abs moves < 10 ^ 9
 
 -- The scores that lines report have at most nine digits.
 abbrev pub ScoresAreCentis : Type 0
-ScoresAreCentis = (line : List ℕ) (facts : Facts) → engine_message line ≡ Info facts → IfSome facts.score IsCentis
+ScoresAreCentis = (line : List ℕ) (facts : AnyInfo) → engine_message line ≡ Info facts → IfSome facts.score IsCentis

@@ -6,11 +6,12 @@ use Rattle.peer_words.specs.Tokens.{is_white, is_token, tokens, trimmed, first_t
 use Rattle.peer_words.specs.Numbers.{count, centis, signed}
 use Rattle.chess_board.specs.declared.board.Move.{Move}
 use Rattle.chess_board.specs.Text.{Spells as MoveSpells}
-use Rattle.uci_lines.specs.declared.says.Score.TheVariants.{Cp, Mate}
-use Rattle.uci_lines.specs.Cuts.{Part, is_word, is_known, is_choice}
+use Rattle.uci_lines.specs.declared.messages.Score.TheVariants.{Cp, Mate}
+use Rattle.uci_lines.specs.Cuts.{Found, is_word, is_known, is_choice}
 use Rattle.uci_lines.specs.Options.{shown_text}
 use Rattle.uci_lines.specs.Infos.{no_facts}
-use Rattle.uci_lines.specs.Says.{Facts, Shape, Check, Spin, Combo, Button, Text, Says, Name, UciOk, ReadyOk, Best, OptionLine, Info, Nothing}
+use Rattle.uci_lines.specs.Info.{Info as AnyInfo}
+use Rattle.uci_lines.specs.Messages.{OptionKind, Check, Spin, Combo, Button, Text, EngineMsg, Name, UciOk, ReadyOk, Best, OptionLine, Info, Nothing}
 
 -- WORDS IN A TEXT
 
@@ -28,7 +29,7 @@ abbrev pub IsNoneOf : (List ℕ → Bool) → List (List ℕ) → Type 0
 IsNoneOf p ts = list_all (λ t. not (p t)) ts ≡ true
 
 -- The first token of a text that passes, between the bytes before and behind it.
-pub record IsFirst (p : List ℕ → Bool) (text : List ℕ) (part : Part) : Type 0 where
+pub record IsFirst (p : List ℕ → Bool) (text : List ℕ) (part : Found) : Type 0 where
   pub whole : text ≡ part.before ++ (part.word ++ part.after)
   pub token : is_token part.word ≡ true
   pub passes : p part.word ≡ true
@@ -40,7 +41,7 @@ pub record IsFirst (p : List ℕ → Bool) (text : List ℕ) (part : Part) : Typ
 abbrev pub Behind : List ℕ → List ℕ → List ℕ → Type 0
 Behind word text others =
     (IsNoneOf (is_word word) (tokens text) × (others ≡ []))
-    ⊎ ((part : Part) × IsFirst (is_word word) text part × (others ≡ part.after))
+    ⊎ ((part : Found) × IsFirst (is_word word) text part × (others ≡ part.after))
 
 -- the move that a text spells, or none if it spells none
 abbrev pub PerhapsMove : List ℕ → Option Move → Type 0
@@ -62,20 +63,20 @@ pub record IsLast (word : List ℕ) (ts : List (List ℕ)) (n : ℤ) : Type 0 wh
 abbrev pub UpToChoice : List ℕ → List ℕ → Type 0
 UpToChoice text value =
     (IsNoneOf is_choice (tokens text) × (value ≡ trimmed text))
-    ⊎ ((part : Part) × IsFirst is_choice text part × (value ≡ trimmed part.before))
+    ⊎ ((part : Found) × IsFirst is_choice text part × (value ≡ trimmed part.before))
 
 -- The values of a combo: each `var` takes the bytes up to the next `default` or `var`.
 pub data HasValues : List ℕ → List (List ℕ) → Type 0 where
   Ended : {text : List ℕ} → IsNoneOf is_choice (tokens text) → HasValues text []
-  Var : {text value : List ℕ} → {values : List (List ℕ)} → (part : Part)
+  Var : {text value : List ℕ} → {values : List (List ℕ)} → (part : Found)
       → IsFirst is_choice text part → part.word ≡ codes "var" → UpToChoice part.after value → HasValues part.after values
       → HasValues text (value ∷ values)
-  Default : {text : List ℕ} → {values : List (List ℕ)} → (part : Part)
+  Default : {text : List ℕ} → {values : List (List ℕ)} → (part : Found)
       → IsFirst is_choice text part → part.word ≡ codes "default" → HasValues part.after values
       → HasValues text values
 
 -- the kind of an option, by the word behind `type` and what follows it
-abbrev pub HasShape : List ℕ → List ℕ → Shape → Type 0
+abbrev pub HasShape : List ℕ → List ℕ → OptionKind → Type 0
 HasShape word text (Check on) =
     (word ≡ codes "check") × (others : List ℕ) × Behind (codes "default") text others × (on ≡ is_word (codes "true") (first_token others))
 HasShape word text (Spin default min max) =
@@ -88,10 +89,10 @@ HasShape word text (Text default) =
     (word ≡ codes "string") × (others : List ℕ) × Behind (codes "default") text others × (default ≡ shown_text (trimmed others))
 
 -- what stands behind `option`: `name`, the name up to the first `type`, and the kind
-abbrev pub Declares : List ℕ → List ℕ → Shape → Type 0
+abbrev pub Declares : List ℕ → List ℕ → OptionKind → Type 0
 Declares text name shape =
     (first_token text ≡ codes "name")
-    × (part : Part) × IsFirst (is_word (codes "type")) (rest text) part × (name ≡ trimmed part.before)
+    × (part : Found) × IsFirst (is_word (codes "type")) (rest text) part × (name ≡ trimmed part.before)
     × HasShape (first_token part.after) (rest part.after) shape
 
 -- WHAT IS TOLD OF A SEARCH
@@ -108,7 +109,7 @@ pub data IsRun : List (List ℕ) → List Move → List (List ℕ) → Type 0 wh
       → MoveSpells t m → IsRun ts moves others → IsRun (t ∷ ts) (m ∷ moves) others
 
 -- A field at the front of the tokens takes its value: what is reported then, and the tokens that are left.
-pub data Takes (f : Facts) : List (List ℕ) → Facts → List (List ℕ) → Type 0 where
+pub data Takes (f : AnyInfo) : List (List ℕ) → AnyInfo → List (List ℕ) → Type 0 where
   Depth : {t : List ℕ} → {ts : List (List ℕ)} → {n : ℕ} → count t ≡ Some n → Takes f (codes "depth" ∷ t ∷ ts) (record f { depth = Some n }) ts
   Time : {t : List ℕ} → {ts : List (List ℕ)} → {n : ℕ} → count t ≡ Some n → Takes f (codes "time" ∷ t ∷ ts) (record f { time = Some n }) ts
   Nodes : {t : List ℕ} → {ts : List (List ℕ)} → {n : ℕ} → count t ≡ Some n → Takes f (codes "nodes" ∷ t ∷ ts) (record f { nodes = Some n }) ts
@@ -123,21 +124,21 @@ pub data Takes (f : Facts) : List (List ℕ) → Facts → List (List ℕ) → T
 
 -- What is reported in the end, by the tokens from left to right: a later value replaces an earlier one, and a
 -- token that takes nothing is skipped.
-pub data Tells : Facts → List (List ℕ) → Facts → Type 0 where
-  End : {f : Facts} → Tells f [] f
-  Rest : {f : Facts} → {ts : List (List ℕ)} → Tells f (codes "string" ∷ ts) f
-  Taken : {f g h : Facts} → {ts others : List (List ℕ)} → Takes f ts g others → Tells g others h → Tells f ts h
-  Skipped : {f h : Facts} → {t : List ℕ} → {ts : List (List ℕ)} → t ≢ codes "string" → ((g : Facts) (others : List (List ℕ)) → Takes f (t ∷ ts) g others → ⊥)
+pub data Tells : AnyInfo → List (List ℕ) → AnyInfo → Type 0 where
+  End : {f : AnyInfo} → Tells f [] f
+  Rest : {f : AnyInfo} → {ts : List (List ℕ)} → Tells f (codes "string" ∷ ts) f
+  Taken : {f g h : AnyInfo} → {ts others : List (List ℕ)} → Takes f ts g others → Tells g others h → Tells f ts h
+  Skipped : {f h : AnyInfo} → {t : List ℕ} → {ts : List (List ℕ)} → t ≢ codes "string" → ((g : AnyInfo) (others : List (List ℕ)) → Takes f (t ∷ ts) g others → ⊥)
       → Tells f ts h → Tells f (t ∷ ts) h
 
 -- MESSAGES
 
 -- the first known word of a line, and what stands behind it
 abbrev pub Begins : List ℕ → List ℕ → List ℕ → Type 0
-Begins line word text = (part : Part) × IsFirst is_known line part × (part.word ≡ word) × (part.after ≡ text)
+Begins line word text = (part : Found) × IsFirst is_known line part × (part.word ≡ word) × (part.after ≡ text)
 
 -- a line has the form of a message
-abbrev pub HasForm : List ℕ → Says → Type 0
+abbrev pub HasForm : List ℕ → EngineMsg → Type 0
 HasForm line (Name name) = (text : List ℕ) × Begins line (codes "id") text × (first_token text ≡ codes "name") × (name ≡ rest text)
 HasForm line UciOk = (text : List ℕ) × Begins line (codes "uciok") text
 HasForm line ReadyOk = (text : List ℕ) × Begins line (codes "readyok") text
@@ -149,10 +150,10 @@ HasForm line (Info facts) = (text : List ℕ) × Begins line (codes "info") text
 HasForm line Nothing = ⊥
 
 -- A line spells a message: the one whose form it has, and Nothing if it has none.
-abbrev pub SpellsMessage : List ℕ → Says → Type 0
-SpellsMessage line Nothing = (m : Says) → HasForm line m → ⊥
+abbrev pub SpellsMessage : List ℕ → EngineMsg → Type 0
+SpellsMessage line Nothing = (m : EngineMsg) → HasForm line m → ⊥
 SpellsMessage line m = HasForm line m
 
 -- A line spells exactly one message.
 abbrev pub SpellsOneMessage : Type 0
-SpellsOneMessage = (line : List ℕ) → (m : Says) × SpellsMessage line m × ((k : Says) → SpellsMessage line k → k ≡ m)
+SpellsOneMessage = (line : List ℕ) → (m : EngineMsg) × SpellsMessage line m × ((k : EngineMsg) → SpellsMessage line k → k ≡ m)

@@ -3,12 +3,12 @@ use Rattle.std.specs.Prelude.{Option}
 use Rattle.std.specs.Option.{IfSome}
 use Rattle.chess_board.specs.declared.board.Move.{Move}
 use Rattle.chess_board.specs.Text.{IsOfficer}
-use Rattle.uci_lines.specs.Says.{Says, Best, Info}
+use Rattle.uci_lines.specs.Messages.{EngineMsg, Best, Info}
 
 abbrev pub can_write : Option Move → Type 0
 can_write m = IfSome m (λ k. IsOfficer k.promo)
 
-abbrev pub CanWrite : Says → Type 0
+abbrev pub CanWrite : EngineMsg → Type 0
 CanWrite (Best best hint) = can_write best × can_write hint
 CanWrite (Info facts) = can_write facts.current
 CanWrite _ = Unit {0}

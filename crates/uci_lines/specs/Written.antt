@@ -5,7 +5,7 @@ use Rattle.std.specs.Option.{option_map}
 use Rattle.std.specs.Str.{bytes_eq}
 use Rattle.peer_words.specs.Tokens.{trimmed}
 use Rattle.chess_board.specs.declared.board.Move.{Move}
-use Rattle.chess_board.specs.Placement.{Placement}
+use Rattle.chess_board.specs.Position.{Position}
 use Rattle.chess_board.specs.Text.{text_of}
 use Rattle.fen_text.specs.declared.fault.FenFault.{FenFault}
 use Rattle.fen_text.specs.Fen.{position_of}
@@ -47,7 +47,7 @@ is_blank_byte b = b == 32
 abbrev pub is_moves : List ℕ → Bool
 is_moves text = list_all is_written_move (slice_split is_blank_byte text)
 
-abbrev pub fen_by : Result Placement FenFault → List ℕ → Bool
+abbrev pub fen_by : Result Position FenFault → List ℕ → Bool
 fen_by (Ok p) text = bytes_eq (written p) text && nat_le p.half 99999 && nat_le p.full 99999
 fen_by (Err fault) text = false
 

@@ -3,14 +3,14 @@ ghost use Rattle.std.specs.Prelude.{◌≡◌, true, drop, position};
 ghost use Rattle.std.specs.List.{before_first};
 ghost use Rattle.peer_words.specs.Tokens.{is_white, token_end};
 ghost use Rattle.std.specs.Option.{option_map};
-ghost use Rattle.uci_lines.specs.Cuts.{cut, stops, part_of};
+ghost use Rattle.uci_lines.specs.Cuts.{cut, stops, found_of};
 
 use chess_board::read_move;
 use peer_words::is_white;
 
 /// The tokens at which a line is cut.
 #[derive(Clone, Copy)]
-pub(crate) enum Stop {
+pub(crate) enum Delimiter {
     /// One with which a message begins.
     Message,
     /// `type`
@@ -33,19 +33,19 @@ pub(crate) struct Found<'a> {
     pub after: &'a [u8],
 }
 
-impl Stop {
+impl Delimiter {
     ghost use Rattle.uci_lines.specs.Cuts.{stops};
 
     fn has(self, word: &[u8]) -> bool
         ensures { result ≡ stops self word.now }
     {
         match self {
-            Stop::Message => is_known(word),
-            Stop::Kind => word == b"type".as_slice(),
-            Stop::Default => word == b"default".as_slice(),
-            Stop::Choice => word == b"default".as_slice() || word == b"var".as_slice(),
-            Stop::Ponder => word == b"ponder".as_slice(),
-            Stop::NoMove => !word.is_empty() && read_move(word).is_none(),
+            Delimiter::Message => is_known(word),
+            Delimiter::Kind => word == b"type".as_slice(),
+            Delimiter::Default => word == b"default".as_slice(),
+            Delimiter::Choice => word == b"default".as_slice() || word == b"var".as_slice(),
+            Delimiter::Ponder => word == b"ponder".as_slice(),
+            Delimiter::NoMove => !word.is_empty() && read_move(word).is_none(),
         }
     }
 }
@@ -81,8 +81,8 @@ pub(crate) fn split_at_white(text: &[u8]) -> (&[u8], &[u8])
 }
 
 /// The first token at which the text is to be cut.
-pub(crate) fn find_word(text: &[u8], stop: Stop) -> Option<Found<'_>>
-    ensures { option_map part_of result ≡ cut (stops stop) true text.now }
+pub(crate) fn find_word(text: &[u8], stop: Delimiter) -> Option<Found<'_>>
+    ensures { option_map found_of result ≡ cut (stops stop) true text.now }
 {
     let mut is_fresh = true;
     for (i, byte) in text.iter().enumerate() {

@@ -2,19 +2,19 @@
 ghost use Rattle.std.specs.Prelude.{◌≡◌, ◌↔◌};
 ghost use Rattle.uci_lines.specs.Engine.{name_said, best_said, said_after, engine_message};
 ghost use Rattle.uci_lines.specs.Writable.{CanWrite};
-ghost use Rattle.uci_lines.specs.Says.{Says, says_of};
+ghost use Rattle.uci_lines.specs.Messages.{EngineMsg as AnyEngineMsg, engine_message_of};
 ghost use Rattle.uci_lines.specs.Spells.{SpellsMessage};
 
-use crate::cut::{Stop, find_word};
+use crate::cut::{Delimiter, find_word};
 use crate::info::read_info;
+use crate::messages::EngineMsg;
 use crate::option::read_option;
-use crate::says::EngineMsg;
 use chess_board::read_move;
 use peer_words::split_token;
 
 fn read_name(text: &[u8]) -> EngineMsg<'_>
-    ensures value { says_of result ≡ name_said text.now }
-    ensures writable { CanWrite (says_of result) }
+    ensures value { engine_message_of result ≡ name_said text.now }
+    ensures writable { CanWrite (engine_message_of result) }
 {
     let (word, others) = split_token(text);
     if word == b"name".as_slice() {
@@ -25,12 +25,12 @@ fn read_name(text: &[u8]) -> EngineMsg<'_>
 }
 
 fn read_best(text: &[u8]) -> EngineMsg<'_>
-    ensures value { says_of result ≡ best_said text.now }
-    ensures writable { CanWrite (says_of result) }
+    ensures value { engine_message_of result ≡ best_said text.now }
+    ensures writable { CanWrite (engine_message_of result) }
 {
     let (word, others) = split_token(text);
     let best = read_move(word);
-    let hint = match find_word(others, Stop::Ponder) {
+    let hint = match find_word(others, Delimiter::Ponder) {
         Some(found) => read_move(split_token(found.after).0),
         None => None,
     };
@@ -38,8 +38,8 @@ fn read_best(text: &[u8]) -> EngineMsg<'_>
 }
 
 fn read_after<'a>(word: &[u8], text: &'a [u8]) -> EngineMsg<'a>
-    ensures value { says_of result ≡ said_after word.now text.now }
-    ensures writable { CanWrite (says_of result) }
+    ensures value { engine_message_of result ≡ said_after word.now text.now }
+    ensures writable { CanWrite (engine_message_of result) }
 {
     if word == b"id".as_slice() {
         read_name(text)
@@ -58,10 +58,10 @@ fn read_after<'a>(word: &[u8], text: &'a [u8]) -> EngineMsg<'a>
 
 #[tactic(auto, unfolding(crate::specs::Engine::engine_message))]
 fn read_message(line: &[u8]) -> EngineMsg<'_>
-    ensures value { says_of result ≡ engine_message line.now }
-    ensures writable { CanWrite (says_of result) }
+    ensures value { engine_message_of result ≡ engine_message line.now }
+    ensures writable { CanWrite (engine_message_of result) }
 {
-    match find_word(line, Stop::Message) {
+    match find_word(line, Delimiter::Message) {
         Some(found) => read_after(found.word, found.after),
         None => EngineMsg::Nothing,
     }
@@ -70,10 +70,11 @@ fn read_message(line: &[u8]) -> EngineMsg<'_>
 /// What a line of the engine says (UCI, "Engine to GUI"). It may end with a CR, and has no LF.
 /// `lines_say_one_message` says that each line spells exactly one message.
 pub fn read_engine(line: &[u8]) -> EngineMsg<'_>
-    ensures value { says_of result ≡ engine_message line.now }
+    ensures value { engine_message_of result ≡ engine_message line.now }
     // A message is read if and only if the line spells it.
-    ensures spelled { (m : Says) → (says_of result ≡ m) ↔ SpellsMessage line.now m }
-    ensures writable { CanWrite (says_of result) }
+    ensures spelled { (m : AnyEngineMsg) → (engine_message_of result ≡ m)
+        ↔ SpellsMessage line.now m }
+    ensures writable { CanWrite (engine_message_of result) }
 {
     read_message(line)
 }

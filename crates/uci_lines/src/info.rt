@@ -4,10 +4,10 @@ ghost use Rattle.peer_words.specs.Tokens.{tokens};
 ghost use Rattle.uci_lines.specs.Infos.{ends_info, field_named, first_count, score_of, first_score, first_move, newer_run, hear, facts_in, facts_from};
 ghost use Rattle.uci_lines.specs.Moves.{run};
 ghost use Rattle.uci_lines.specs.Writable.{can_write};
-ghost use Rattle.uci_lines.specs.Says.{facts_of};
+ghost use Rattle.uci_lines.specs.Info.{info_of};
 
+use crate::messages::{Info, Score};
 use crate::moves::{front_moves, next_move};
-use crate::says::{Info, Score};
 use crate::words::next_token;
 use chess_board::{Move, read_move};
 use peer_words::{read_centis, read_count};
@@ -105,7 +105,7 @@ fn newer_run<'a>(new: &'a [u8], old: &'a [u8]) -> &'a [u8]
 
 /// What was reported before, and what a field reports with the text behind its word.
 fn hear<'a>(field: Field, info: Info<'a>, text: &'a [u8]) -> Info<'a>
-    ensures value { facts_of result ≡ hear field (facts_of info.entry) (tokens text.now) }
+    ensures value { info_of result ≡ hear field (info_of info.entry) (tokens text.now) }
     ensures officer { can_write info.entry.current → can_write result.current }
 {
     match field {
@@ -152,7 +152,7 @@ fn hear<'a>(field: Field, info: Info<'a>, text: &'a [u8]) -> Info<'a>
 /// Reads what stands behind `info`.
 #[tactic(auto, unfolding(crate::specs::Infos::facts_in))]
 pub(crate) fn read_info(text: &[u8]) -> Info<'_>
-    ensures value { facts_of result ≡ facts_in text.now }
+    ensures value { info_of result ≡ facts_in text.now }
     ensures officer { can_write result.current }
 {
     let mut info = Info {

@@ -4,14 +4,15 @@ ghost use Rattle.peer_words.specs.Tokens.{tokens};
 ghost use Rattle.chess_board.specs.Text.{IsOfficer};
 ghost use Rattle.uci_lines.specs.Moves.{run};
 
-use crate::cut::{Stop, find_word};
+use crate::cut::{Delimiter, find_word};
 use crate::words::next_token;
 use chess_board::{Move, read_move};
 use peer_words::trim;
 
 /// The first move of a text of moves, and the text after it. None if the text begins with no move.
 pub fn next_move(text: &[u8]) -> Option<(Move, &[u8])>
-    ensures first { MatchOption result (run (tokens text.now) ≡ []) (λ p. run (tokens text.now) ≡ p.0 ∷ run (tokens p.1.now)) }
+    ensures first { MatchOption result (run (tokens text.now) ≡ [])
+        (λ p. run (tokens text.now) ≡ p.0 ∷ run (tokens p.1.now)) }
     ensures officer { IfSome result (λ p. IsOfficer p.0.promo) }
     ensures shorter { IfSome result (λ p. length p.1.now < length text.now) }
 {
@@ -23,7 +24,7 @@ pub fn next_move(text: &[u8]) -> Option<(Move, &[u8])>
 pub(crate) fn front_moves(text: &[u8]) -> &[u8]
     ensures { run (tokens result.now) ≡ run (tokens text.now) }
 {
-    match find_word(text, Stop::NoMove) {
+    match find_word(text, Delimiter::NoMove) {
         Some(found) => trim(found.before),
         None => trim(text),
     }

@@ -6,17 +6,17 @@ ghost use Rattle.uci_lines.specs.Cuts.{cut, is_word, is_choice};
 ghost use Rattle.uci_lines.specs.Choices.{values, before_choice, from_choice, default_value};
 ghost use Rattle.uci_lines.specs.Options.{is_on, text_after, shape_named, option_with, option_said};
 ghost use Rattle.uci_lines.specs.Writable.{CanWrite};
-ghost use Rattle.uci_lines.specs.Says.{shape_of, declared_by, says_of};
+ghost use Rattle.uci_lines.specs.Messages.{option_kind_of, declared_by, engine_message_of};
 
-use crate::cut::{Stop, find_word};
+use crate::cut::{Delimiter, find_word};
+use crate::messages::{EngineMsg, OptionKind, OptionMsg};
 use crate::range::read_range;
-use crate::says::{EngineMsg, OptionKind, OptionMsg};
 use peer_words::{split_token, trim};
 
 fn is_on(text: &[u8]) -> bool
     ensures { result ≡ is_on (cut (is_word (codes "default")) true text.now) }
 {
-    match find_word(text, Stop::Default) {
+    match find_word(text, Delimiter::Default) {
         Some(found) => split_token(found.after).0 == b"true".as_slice(),
         None => false,
     }
@@ -25,7 +25,7 @@ fn is_on(text: &[u8]) -> bool
 fn text_default(text: &[u8]) -> &[u8]
     ensures { result.now ≡ text_after (cut (is_word (codes "default")) true text.now) }
 {
-    match find_word(text, Stop::Default) {
+    match find_word(text, Delimiter::Default) {
         Some(found) => {
             let text = trim(found.after);
             if text == b"<empty>".as_slice() {
@@ -42,7 +42,7 @@ fn text_default(text: &[u8]) -> &[u8]
 fn before_choice(text: &[u8]) -> &[u8]
     ensures { result.now ≡ before_choice (cut is_choice true text.now) text.now }
 {
-    match find_word(text, Stop::Choice) {
+    match find_word(text, Delimiter::Choice) {
         Some(found) => found.before,
         None => text,
     }
@@ -51,7 +51,7 @@ fn before_choice(text: &[u8]) -> &[u8]
 fn combo_default(text: &[u8]) -> &[u8]
     ensures { result.now ≡ default_value text.now }
 {
-    match find_word(text, Stop::Default) {
+    match find_word(text, Delimiter::Default) {
         Some(found) => trim(before_choice(found.after)),
         None => &[],
     }
@@ -63,7 +63,7 @@ fn split_choice(text: &[u8]) -> (&[u8], &[u8])
     ensures others { result.1.now ≡ from_choice (cut is_choice true text.now) text.now }
     ensures shorter { length result.1.now ≤ length text.now }
 {
-    match find_word(text, Stop::Choice) {
+    match find_word(text, Delimiter::Choice) {
         Some(found) => {
             let (_, others) = text.split_at(found.before.len());
             (trim(found.before), others)
@@ -74,11 +74,12 @@ fn split_choice(text: &[u8]) -> (&[u8], &[u8])
 
 /// The first value of a combo, and the text from which the later ones are read. None if there is none.
 pub fn next_value(text: &[u8]) -> Option<(&[u8], &[u8])>
-    ensures first { MatchOption result (values text.now ≡ []) (λ p. values text.now ≡ p.0.now ∷ values p.1.now) }
+    ensures first { MatchOption result (values text.now ≡ [])
+        (λ p. values text.now ≡ p.0.now ∷ values p.1.now) }
     ensures shorter { IfSome result (λ p. length p.1.now < length text.now) }
 {
     let mut others = text;
-    while let Some(found) = find_word(others, Stop::Choice) {
+    while let Some(found) = find_word(others, Delimiter::Choice) {
         let (value, after) = split_choice(found.after);
         if found.word == b"var".as_slice() {
             return Some((value, after));
@@ -89,7 +90,7 @@ pub fn next_value(text: &[u8]) -> Option<(&[u8], &[u8])>
 }
 
 fn read_kind<'a>(word: &[u8], text: &'a [u8]) -> Option<OptionKind<'a>>
-    ensures { option_map shape_of result ≡ shape_named word.now text.now }
+    ensures { option_map option_kind_of result ≡ shape_named word.now text.now }
 {
     if word == b"check".as_slice() {
         Some(OptionKind::Check { on: is_on(text) })
@@ -114,7 +115,7 @@ fn read_kind<'a>(word: &[u8], text: &'a [u8]) -> Option<OptionKind<'a>>
 fn option_after(text: &[u8]) -> Option<OptionMsg<'_>>
     ensures { declared_by result ≡ option_with (cut (is_word (codes "type")) true text.now) }
 {
-    let found = find_word(text, Stop::Kind)?;
+    let found = find_word(text, Delimiter::Kind)?;
     let (word, others) = split_token(found.after);
     let kind = read_kind(word, others)?;
     let name = trim(found.before);
@@ -124,8 +125,8 @@ fn option_after(text: &[u8]) -> Option<OptionMsg<'_>>
 /// What stands behind `option`.
 #[tactic(auto, unfolding(crate::specs::Options::option_said))]
 pub(crate) fn read_option(text: &[u8]) -> EngineMsg<'_>
-    ensures value { says_of result ≡ option_said text.now }
-    ensures writable { CanWrite (says_of result) }
+    ensures value { engine_message_of result ≡ option_said text.now }
+    ensures writable { CanWrite (engine_message_of result) }
 {
     let (word, others) = split_token(text);
     if word != b"name".as_slice() {

@@ -1,7 +1,7 @@
 // The orders to an engine.
 ghost use Rattle.std.specs.Prelude.{◌≡◌, ◌+◌, ◌≤◌, ◌++◌, codes, decimal, length};
 ghost use Rattle.line_io.specs.Out.{with};
-ghost use Rattle.uci_lines.specs.Orders.{command_of, command_text, optional_text, optional_number, optional_now, start_text, moves_text, set_option_text, position_text, control_text, go_text};
+ghost use Rattle.uci_lines.specs.Orders.{order_of, order_text, optional_text, optional_number, optional_now, start_text, moves_text, set_option_text, position_text, control_text, go_text};
 
 use itoa::Buffer;
 use line_io::Out;
@@ -64,7 +64,8 @@ fn put_optional_number(word: &[u8], n: Option<u64>, out: &mut Out)
 }
 
 fn put_optional_text(word: &[u8], text: Option<&[u8]>, out: &mut Out)
-    requires { length out.old.text + length (optional_text word.now (optional_now text)) ≤ out.old.room }
+    requires { length out.old.text + length (optional_text word.now (optional_now text))
+        ≤ out.old.room }
     ensures { out.new ≡ with out.old (optional_text word.now (optional_now text.entry)) }
 {
     if let Some(text) = text {
@@ -74,7 +75,8 @@ fn put_optional_text(word: &[u8], text: Option<&[u8]>, out: &mut Out)
 }
 
 fn put_set_option(name: &[u8], value: Option<&[u8]>, out: &mut Out)
-    requires { length out.old.text + length (set_option_text name.now (optional_now value)) ≤ out.old.room }
+    requires { length out.old.text + length (set_option_text name.now (optional_now value))
+        ≤ out.old.room }
     ensures { out.new ≡ with out.old (set_option_text name.now (optional_now value.entry)) }
 {
     out.put(b"setoption name ");
@@ -106,7 +108,8 @@ fn put_moves(moves: &[u8], out: &mut Out)
 }
 
 fn put_position(fen: Option<&[u8]>, moves: &[u8], out: &mut Out)
-    requires { length out.old.text + length (position_text (optional_now fen) moves.now) ≤ out.old.room }
+    requires { length out.old.text + length (position_text (optional_now fen) moves.now)
+        ≤ out.old.room }
     ensures { out.new ≡ with out.old (position_text (optional_now fen.entry) moves.now) }
 {
     out.put(b"position ");
@@ -150,10 +153,10 @@ fn put_go(ponder: bool, control: GoControl, depth: Option<u64>, out: &mut Out)
 }
 
 /// Writes an order, with no line feed.
-#[tactic(auto, unfolding(crate::specs::Orders::command_text))]
+#[tactic(auto, unfolding(crate::specs::Orders::order_text))]
 pub fn write_order(order: &Order, out: &mut Out)
-    requires { length out.old.text + length (command_text (command_of order.now)) ≤ out.old.room }
-    ensures { out.new ≡ with out.old (command_text (command_of order.now)) }
+    requires { length out.old.text + length (order_text (order_of order.now)) ≤ out.old.room }
+    ensures { out.new ≡ with out.old (order_text (order_of order.now)) }
 {
     match order {
         Order::Uci => out.put(b"uci"),

@@ -4,7 +4,7 @@ ghost use Rattle.std.specs.Option.{option_map};
 ghost use Rattle.peer_words.specs.Tokens.{tokens};
 ghost use Rattle.uci_lines.specs.Options.{range_of, limited, first_signed, range_from, no_range};
 
-use crate::says::OptionKind;
+use crate::messages::OptionKind;
 use crate::words::next_token;
 use peer_words::read_signed;
 
@@ -19,11 +19,11 @@ pub(crate) struct Range {
 impl Range {
     ghost use Rattle.std.specs.Option.{option_map};
     ghost use Rattle.uci_lines.specs.Options.{range_of, spin_in};
-    ghost use Rattle.uci_lines.specs.Says.{shape_of};
+    ghost use Rattle.uci_lines.specs.Messages.{option_kind_of};
 
     /// The spin, with its default moved into the range. None if a number is missing or the range is empty.
     pub fn spin<'a>(self) -> Option<OptionKind<'a>>
-        ensures { option_map shape_of result ≡ spin_in (range_of self) }
+        ensures { option_map option_kind_of result ≡ spin_in (range_of self) }
     {
         let (default, min, max) = (self.default?, self.min?, self.max?);
         if min > max {

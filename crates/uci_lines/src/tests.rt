@@ -346,7 +346,7 @@ fn orders(rt: HostRuntime) {
 }
 
 #[test]
-#[tactic(auto, unfolding(crate::specs::Orders::command_text))]
+#[tactic(auto, unfolding(crate::specs::Orders::order_text))]
 fn lists_and_texts(rt: HostRuntime) -> Result<(), Fail> {
     positions_may_stand();
     lines_say_one_message();

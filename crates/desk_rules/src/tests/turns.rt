@@ -1,6 +1,6 @@
 // Turns of the dialogue, as the desk sees them.
 use super::{Bench, MOVE, SIGHT, STALE, Turn, check_turns};
-use crate::{Mode, Sight};
+use crate::{Context, Mode};
 use chess_board::{Side, read_move};
 use line_io::Event;
 use peer_words::GoKind;
@@ -94,7 +94,7 @@ fn passes_over_events(rt: HostRuntime) -> Result<(), Fail> {
         passed(Gone, "u."),
     ];
     check_turns(&rt, &mut bench, SIGHT, &turns);
-    let closed = Sight {
+    let closed = Context {
         closed: true,
         ..SIGHT
     };
@@ -218,7 +218,7 @@ fn gives_up_without_a_legal_move(rt: HostRuntime) -> Result<(), Fail> {
 
 #[test]
 fn resigns_and_draws_by_the_policy(rt: HostRuntime) -> Result<(), Fail> {
-    let lost = Sight {
+    let lost = Context {
         resigns: true,
         accepts: true,
         ..SIGHT
@@ -294,7 +294,7 @@ fn ponders_on_the_hint(rt: HostRuntime) -> Result<(), Fail> {
         SIGHT,
         &[(pondering, info, "thinks", false, hint, line)],
     );
-    let hidden = Sight {
+    let hidden = Context {
         show_ponder: false,
         ..SIGHT
     };
@@ -348,7 +348,7 @@ fn keeps_so_many_pings(rt: HostRuntime) -> Result<(), Fail> {
     check_turns(&rt, &mut bench, SIGHT, &turns);
     assert!(rt; bench.desk.owes_move(SIGHT));
     assert!(rt;
-        !bench.desk.owes_move(Sight {
+        !bench.desk.owes_move(Context {
             spent: true,
             ..SIGHT
         })

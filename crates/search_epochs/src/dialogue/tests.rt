@@ -15,7 +15,7 @@ enum Event {
 #[derive(Clone, Copy)]
 struct Turn {
     event: Event,
-    rises: bool,
+    begins_epoch: bool,
     call: Call,
     unsent: bool,
     orders: Orders,
@@ -25,7 +25,7 @@ struct Turn {
 fn says(said: Said, heard: Heard, call: Call, orders: Orders) -> Turn {
     Turn {
         event: Event::Says(said, heard),
-        rises: false,
+        begins_epoch: false,
         call,
         unsent: matches!(heard, Heard::Booted),
         orders,
@@ -40,7 +40,7 @@ fn answers(kind: GoKind, current: bool, call: Call, orders: Orders) -> Turn {
 // A move is shown.
 fn shows(call: Call, orders: Orders) -> Turn {
     Turn {
-        rises: true,
+        begins_epoch: true,
         ..answers(GoKind::Move, true, call, orders)
     }
 }
@@ -49,7 +49,7 @@ fn shows(call: Call, orders: Orders) -> Turn {
 fn line(call: Call, orders: Orders) -> Turn {
     Turn {
         event: Event::Line,
-        rises: true,
+        begins_epoch: true,
         call,
         unsent: false,
         orders,
@@ -90,7 +90,7 @@ fn walk(rt: &impl Abort, name: &str, turns: &[Turn]) {
                 "{name}: what is heard in turn {k}"
             );
         }
-        if turn.rises {
+        if turn.begins_epoch {
             dialogue.new_epoch();
         }
         let played = match turn.event {
@@ -149,7 +149,7 @@ fn sessions(rt: HostRuntime) {
                 begins,
                 Turn {
                     event: Event::Hurries,
-                    rises: false,
+                    begins_epoch: false,
                     ..line(Call::Move, Orders::Stop)
                 },
                 line(Call::Nothing, Orders::None),

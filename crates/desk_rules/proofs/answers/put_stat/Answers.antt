@@ -1,5 +1,5 @@
 use Rattle.std.proofs.Common.{arith, [], ◌∷◌, length-append}
-use Rattle.cecp_lines.specs.Replies.{told_text}
+use Rattle.cecp_lines.specs.Replies.{reply_text}
 use Rattle.think_text.specs.Kept.{stat01_of}
 use Rattle.think_text.specs.Short.{IsBounded}
 use Rattle.think_text.proofs.Short.{stat_short}
@@ -14,7 +14,7 @@ stat01-requires-clause-room c =
 pub put-requires : goal.put-requires
 put-requires c =
     let seen : IsBounded c.args.seen.now = record { depth = omega arith; time = omega arith; nodes = omega arith; number = omega arith } in
-    let put = put_le c.args.out.now c.stat01.new.out (told_text (stat01_of c.args.seen.now c.args.at.now)) 128 c.stat01.ensures (stat_short c.args.seen.now c.args.at.now seen) in
+    let put = put_le c.args.out.now c.stat01.new.out (reply_text (stat01_of c.args.seen.now c.args.at.now)) 128 c.stat01.ensures (stat_short c.args.seen.now c.args.at.now seen) in
     omega (arith, c.requires.room, put.0, put.1)
 
 pub returns-clause-line : goal.returns-clause-line
@@ -26,4 +26,4 @@ pub returns-clause-short : goal.returns-clause-short
 returns-clause-short c =
     let seen : IsBounded c.args.seen.now = record { depth = omega arith; time = omega arith; nodes = omega arith; number = omega arith } in
     let told = stat01_of c.args.seen.now c.args.at.now in
-    one_le 129 told (omega (arith, stat_short c.args.seen.now c.args.at.now seen, length-append (told_text told) (10 ∷ [])))
+    one_le 129 told (omega (arith, stat_short c.args.seen.now c.args.at.now seen, length-append (reply_text told) (10 ∷ [])))

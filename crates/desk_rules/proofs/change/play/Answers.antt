@@ -1,4 +1,4 @@
-use Rattle.game_record.specs.Course.{ply_of}
+use Rattle.game_record.specs.Game.{ply_of}
 use Rattle.desk_rules.proofs.Plays.{pushed}
 use Rattle.desk_rules.proofs.change.play.Goals as goal
 

@@ -3,7 +3,7 @@ use Rattle.std.specs.Prelude.{IfSome}
 use Rattle.std.specs.Option.{option_map}
 use Rattle.chess_board.specs.declared.board.Move.{Move}
 use Rattle.line_io.specs.Out.{with}
-use Rattle.game_record.specs.Course.{ply_of, now_of, IsPlayable}
+use Rattle.game_record.specs.Game.{ply_of, now_of, IsPlayable}
 use Rattle.game_record.specs.Line.{position_text}
 use Rattle.desk_rules.proofs.Searches.{searched_text, can_ponder}
 use Rattle.desk_rules.proofs.orders.put_position.Goals as goal

@@ -1,12 +1,12 @@
 -- The last occurrence tells how often the position stood.
 use Rattle.std.proofs.Common.{◌≡◌, ℕ, zero, suc, ◌+◌, ◌-◌, ◌<◌, List, [], ◌∷◌, true, length, drop, get_or, refl, sym, ap, ◌∙◌, arith}
-use Rattle.chess_board.specs.Placement.{Placement}
+use Rattle.chess_board.specs.Position.{Position}
 use Rattle.game_record.specs.Ending.{is_same, stood_in}
 use Rattle.game_record.proofs.Times.{stood_found}
 use Rattle.game_record.proofs.Recent.{stood_nowhere}
 use Rattle.game_record.proofs.game.last_stood.Goals as goal
 
-inside : (xs : List Placement) (i : ℕ) (a b : Placement) → i < length xs → get_or xs i a ≡ get_or xs i b
+inside : (xs : List Position) (i : ℕ) (a b : Position) → i < length xs → get_or xs i a ≡ get_or xs i b
 inside [] i a b h = absurd (omega arith)
 inside (x ∷ xs) zero a b h = refl
 inside (x ∷ xs) (suc i) a b h = inside xs i a b (omega arith)

@@ -2,7 +2,7 @@
 use Rattle.std.proofs.Common.{◌≡◌, ◌+◌, ◌∷◌, ◌++◌, List, drop, sym, ap, ◌∙◌, arith}
 use Rattle.std.proofs.lemmas.List.{drop_more}
 use Rattle.chess_board.specs.declared.board.Move.{Move}
-use Rattle.game_record.specs.Course.{plies_of}
+use Rattle.game_record.specs.Game.{plies_of}
 use Rattle.game_record.specs.Line.{spaced}
 use Rattle.game_record.proofs.Lines.{officer_at, next_fits}
 use Rattle.game_record.proofs.line.write_moves.Goals as goal

@@ -1,6 +1,6 @@
 -- What is left of the moves completes the text.
 use Rattle.std.proofs.Common.{◌≡◌, ◌++◌, drop}
-use Rattle.game_record.specs.Course.{plies_of}
+use Rattle.game_record.specs.Game.{plies_of}
 use Rattle.game_record.specs.Line.{spaced}
 use Rattle.game_record.proofs.line.write_moves.Given as goal
 

@@ -1,5 +1,5 @@
 use Rattle.std.proofs.Common.{◌≡◌, ◌∷◌, length, List, true, false, ap, sym, ◌∙◌, subst, arith}
-use Rattle.uci_lines.specs.Orders.{Command, command_text}
+use Rattle.uci_lines.specs.Orders.{Order, order_text}
 use Rattle.option_map.specs.declared.keeping.KeptOrder.{KeptOrder}
 use Rattle.option_map.specs.Data.{setup_seen}
 use Rattle.option_map.specs.Held.{are_for_same, staying_beside, batch_text}
@@ -16,9 +16,9 @@ loop-order-preserved-then-is_for_same c =
     let all = ap (λ (l : List KeptOrder). length (batch_text (orders_in texts l))) c.in-Some.ensures in
     record {
       within = (subst (λ (os : List KeptOrder). AreIn (length texts) os) c.in-Some.ensures c.loop-order.invariant.within).1;
-      count = omega (arith, ap (λ (l : List Command). length l) gone, c.loop-order.invariant.count);
+      count = omega (arith, ap (λ (l : List Order). length l) gone, c.loop-order.invariant.count);
       few = omega (arith, ap (λ (l : List KeptOrder). length l) c.in-Some.ensures, c.loop-order.invariant.few);
-      size = omega (arith, ap (λ (l : List Command). length (batch_text l)) gone, c.loop-order.invariant.size);
+      size = omega (arith, ap (λ (l : List Order). length (batch_text l)) gone, c.loop-order.invariant.size);
       fits = omega (arith, all, batch_first (order_in texts c.in-Some.order) (orders_in texts c.in-Some.after.now), c.loop-order.invariant.fits);
     }
 
@@ -29,7 +29,7 @@ size-requires c =
       arith,
       ap (λ (l : List KeptOrder). length (batch_text (orders_in texts l))) c.in-Some.ensures,
       batch_first (order_in texts c.in-Some.order) (orders_in texts c.in-Some.after.now),
-      ap (λ (x : Command). length (command_text x)) c.setup_in-setup.ensures,
+      ap (λ (x : Order). length (order_text x)) c.setup_in-setup.ensures,
       c.loop-order.invariant.fits,
     )
 
@@ -41,7 +41,7 @@ overflow_add-extent-in-Some c =
       c.size.ensures,
       ap (λ (l : List KeptOrder). length (batch_text (orders_in texts l))) c.in-Some.ensures,
       batch_first (order_in texts c.in-Some.order) (orders_in texts c.in-Some.after.now),
-      ap (λ (x : Command). length (command_text x)) c.setup_in-setup.ensures,
+      ap (λ (x : Order). length (order_text x)) c.setup_in-setup.ensures,
       c.loop-order.invariant.fits,
     )
 
@@ -53,7 +53,7 @@ overflow_add-extent-in-Some-2 c =
       c.size.ensures,
       ap (λ (l : List KeptOrder). length (batch_text (orders_in texts l))) c.in-Some.ensures,
       batch_first (order_in texts c.in-Some.order) (orders_in texts c.in-Some.after.now),
-      ap (λ (x : Command). length (command_text x)) c.setup_in-setup.ensures,
+      ap (λ (x : Order). length (order_text x)) c.setup_in-setup.ensures,
       c.loop-order.invariant.fits,
     )
 
@@ -64,17 +64,17 @@ loop-order-preserved c =
     let same : are_for_same asked (order_in texts c.in-Some.order) ≡ false = ap (are_for_same asked) (sym c.setup_in-setup.ensures) ∙ sym c.is_for_same.ensures ∙ c.if-is_for_same.false in
     let here = stays_here asked texts c.loop-order.others.now c.in-Some.after.now c.in-Some.order c.in-Some.ensures same in
     let all = ap (λ (l : List KeptOrder). length (batch_text (orders_in texts l))) c.in-Some.ensures in
-    let line = ap (λ (x : Command). length (command_text x)) c.setup_in-setup.ensures in
+    let line = ap (λ (x : Order). length (order_text x)) c.setup_in-setup.ensures in
     record {
       within = (subst (λ (os : List KeptOrder). AreIn (length texts) os) c.in-Some.ensures c.loop-order.invariant.within).1;
-      count = omega (arith, ap (λ (l : List Command). length l) here, c.loop-order.invariant.count);
+      count = omega (arith, ap (λ (l : List Order). length l) here, c.loop-order.invariant.count);
       few = omega (arith, ap (λ (l : List KeptOrder). length l) c.in-Some.ensures, c.loop-order.invariant.few);
       size =
           omega (
             arith,
             c.size.ensures,
             line,
-            ap (λ (l : List Command). length (batch_text l)) here,
+            ap (λ (l : List Order). length (batch_text l)) here,
             batch_first (order_in texts c.in-Some.order) (staying_beside asked (orders_in texts c.in-Some.after.now)),
             c.loop-order.invariant.size,
           );

@@ -1,5 +1,5 @@
 use Rattle.std.proofs.Common.{◌++◌, ◌∷◌, [], length, List, ap, sym, ◌∙◌, subst}
-use Rattle.uci_lines.specs.Orders.{Command, command_text}
+use Rattle.uci_lines.specs.Orders.{Order, order_text}
 use Rattle.option_map.specs.declared.keeping.KeptOrder.{KeptOrder}
 use Rattle.option_map.specs.Data.{setup_seen}
 use Rattle.option_map.specs.Held.{batch_text}
@@ -11,14 +11,14 @@ pub write_line-requires : goal.write_line-requires
 write_line-requires c =
     let old = c.args.old.now in
     let more = batch_text (orders_in old c.in-Some.after.now) in
-    room_here c.loop-order.out c.args.out.now (command_text (setup_seen c.setup_in.result) ++ 10 ∷ []) more (batch_text (orders_in old c.loop-order.others.now)) (batch_text (orders_in old c.args.held.now))
-    (ap (λ (l : List KeptOrder). batch_text (orders_in old l)) c.in-Some.ensures ∙ ap (λ (x : Command). (command_text x ++ 10 ∷ []) ++ more) (sym c.setup_in.ensures)) c.loop-order.invariant.0 c.requires.room
+    room_here c.loop-order.out c.args.out.now (order_text (setup_seen c.setup_in.result) ++ 10 ∷ []) more (batch_text (orders_in old c.loop-order.others.now)) (batch_text (orders_in old c.args.held.now))
+    (ap (λ (l : List KeptOrder). batch_text (orders_in old l)) c.in-Some.ensures ∙ ap (λ (x : Order). (order_text x ++ 10 ∷ []) ++ more) (sym c.setup_in.ensures)) c.loop-order.invariant.0 c.requires.room
 
 pub loop-order-preserved : goal.loop-order-preserved
 loop-order-preserved c =
     let old = c.args.old.now in
     let more = batch_text (orders_in old c.in-Some.after.now) in (
-      put_on c.loop-order.out c.args.out.now c.write_line.new.out (command_text (setup_seen c.setup_in.result) ++ 10 ∷ []) more (batch_text (orders_in old c.loop-order.others.now)) (batch_text (orders_in old c.args.held.now))
-          c.write_line.ensures (ap (λ (l : List KeptOrder). batch_text (orders_in old l)) c.in-Some.ensures ∙ ap (λ (x : Command). (command_text x ++ 10 ∷ []) ++ more) (sym c.setup_in.ensures)) c.loop-order.invariant.0,
+      put_on c.loop-order.out c.args.out.now c.write_line.new.out (order_text (setup_seen c.setup_in.result) ++ 10 ∷ []) more (batch_text (orders_in old c.loop-order.others.now)) (batch_text (orders_in old c.args.held.now))
+          c.write_line.ensures (ap (λ (l : List KeptOrder). batch_text (orders_in old l)) c.in-Some.ensures ∙ ap (λ (x : Order). (order_text x ++ 10 ∷ []) ++ more) (sym c.setup_in.ensures)) c.loop-order.invariant.0,
       (subst (λ (os : List KeptOrder). AreIn (length old) os) c.in-Some.ensures c.loop-order.invariant.1).1,
     )

@@ -1,5 +1,5 @@
 use Rattle.std.proofs.Common.{◌≤◌, Bool, cond, [], length, subst, sym, arith}
-use Rattle.feature_talk.specs.Features.{feature_list, told_lines}
+use Rattle.feature_talk.specs.Features.{feature_list, reply_lines}
 use Rattle.desk_rules.proofs.Rooms.{list_le}
 use Rattle.desk_rules.proofs.desk.Desk.put_list.Goals as goal
 
@@ -10,4 +10,4 @@ pub returns-then-booted-clause-short : goal.returns-then-booted-clause-short
 returns-then-booted-clause-short c =
     let os = c.args.self.now.options in
     let name = c.args.self.now.name in
-    subst (λ (b : Bool). length (told_lines (feature_list (cond b os []) name)) ≤ 67000) (sym c.if-booted.true) (list_le os name c.text.ensures.short c.count.ensures.few)
+    subst (λ (b : Bool). length (reply_lines (feature_list (cond b os []) name)) ≤ 67000) (sym c.if-booted.true) (list_le os name c.text.ensures.short c.count.ensures.few)

@@ -1,6 +1,6 @@
 -- The last of the positions, or the start.
 use Rattle.std.proofs.Common.{ap, ◌∙◌}
-use Rattle.game_record.specs.Course.{now_of, plies_of}
+use Rattle.game_record.specs.Game.{now_of, plies_of}
 use Rattle.game_record.proofs.game.Game.now.Goals as goal
 
 pub returns : goal.returns

@@ -1,8 +1,8 @@
 -- The move, its position and how often that stood are put at the ends.
 use Rattle.std.proofs.Common.{◌≡◌, ℕ, ◌+◌, length, refl, sym, ap, subst, ◌∙◌, arith, [], ◌∷◌}
 use Rattle.std.proofs.lemmas.List.{length-map}
-use Rattle.chess_board.specs.Placement.{Placement}
-use Rattle.game_record.specs.Course.{Course, ply_of, plies_of, played, IsPlayable, now_of, now_after, positions_of}
+use Rattle.chess_board.specs.Position.{Position}
+use Rattle.game_record.specs.Game.{Game, ply_of, plies_of, played, IsPlayable, now_of, now_after, positions_of}
 use Rattle.game_record.specs.Ending.{stood_in}
 use Rattle.game_record.proofs.Courses.{keeps_push}
 use Rattle.game_record.proofs.Replays.{length-later}
@@ -23,11 +23,11 @@ push_reserved-requires-3 c =
 pub invariant_of-self : goal.invariant_of-self
 invariant_of-self c =
     let now : c.now.result.now ≡ now_after c.self.inside.start (plies_of c.self.inside.moves.items) = c.now.ensures ∙ sym (ap now_of c.self.view_is) in
-    let legal = subst (λ (p : Placement). IsPlayable p (ply_of c.args.m)) now (c.legal.ensures.0 c.if-not-legal.false) in
+    let legal = subst (λ (p : Position). IsPlayable p (ply_of c.args.m)) now (c.legal.ensures.0 c.if-not-legal.false) in
     let plies = length-map c.self.inside.moves.items ply_of in
-    let stood = ap (λ (n : ℕ). n + 1) (c.stood-times.ensures.value ∙ ap (λ (g : Course). stood_in c.play-after.result (positions_of g)) (sym c.self.view_is)) in
+    let stood = ap (λ (n : ℕ). n + 1) (c.stood-times.ensures.value ∙ ap (λ (g : Game). stood_in c.play-after.result (positions_of g)) (sym c.self.view_is)) in
     let end = c.ended_by-ended.ensures ∙ ended_same _ _ _ _ _ _ c.state_of.ensures refl c.half.ensures in
     keeps_push c.self.inside.start c.self.inside.moves.items _ c.self.inside.later.items _ c.self.inside.times.items _ c.args.m c.play-after.result _ _ _ _ _ _ _ _ _
     c.self.invariant c.push_reserved.ensures.items c.push_reserved-2.ensures.items c.push_reserved-3.ensures.items
     c.push_reserved.ensures.capacity c.push_reserved-2.ensures.capacity c.push_reserved-3.ensures.capacity
-    (c.play-after.ensures ∙ ap (λ (p : Placement). played p (ply_of c.args.m)) now) stood end legal (omega arith)
+    (c.play-after.ensures ∙ ap (λ (p : Position). played p (ply_of c.args.m)) now) stood end legal (omega arith)

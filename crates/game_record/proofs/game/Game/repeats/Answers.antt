@@ -1,6 +1,6 @@
 -- The last of the times, or once.
 use Rattle.std.proofs.Common.{ap, ◌∙◌}
-use Rattle.game_record.specs.Course.{plies_of}
+use Rattle.game_record.specs.Game.{plies_of}
 use Rattle.game_record.specs.Ending.{repeats_of}
 use Rattle.game_record.proofs.game.Game.repeats.Goals as goal
 

@@ -1,8 +1,8 @@
 -- At most 12,000 positions stand behind the start.
 use Rattle.std.proofs.Common.{◌≡◌, ◌∷◌, List, length, sym, subst, ap, ◌∙◌, arith}
 use Rattle.std.proofs.lemmas.List.{length-map}
-use Rattle.chess_board.specs.Placement.{Placement}
-use Rattle.game_record.specs.Course.{Course, ply_of, plies_of, played, IsPlayable, now_of, now_after, positions_of}
+use Rattle.chess_board.specs.Position.{Position}
+use Rattle.game_record.specs.Game.{Game, ply_of, plies_of, played, IsPlayable, now_of, now_after, positions_of}
 use Rattle.game_record.specs.Ending.{stood_in}
 use Rattle.game_record.specs.Keeps.{left_behind}
 use Rattle.game_record.proofs.Replays.{length-later}
@@ -21,15 +21,15 @@ last_stood-requires-clause-behind c =
     let now : now_of c.args.self.now ≡ now_after start (plies_of moves) = sym (ap now_of c.self.view_is) in
     let few = c.self.invariant.few in
     let plies = length-map moves ply_of in
-    let playable = subst (λ (p : Placement). IsPlayable p (ply_of c.args.m)) now c.requires.legal in
-    let after = c.requires.after ∙ ap (λ (p : Placement). played p (ply_of c.args.m)) now in
+    let playable = subst (λ (p : Position). IsPlayable p (ply_of c.args.m)) now c.requires.legal in
+    let after = c.requires.after ∙ ap (λ (p : Position). played p (ply_of c.args.m)) now in
     let none = new_behind start moves c.args.m c.args.after.now c.facts.ensures.position c.self.invariant.legal (omega arith) playable after in
-    ap (λ (xs : List Placement). stood_in c.args.after.now (left_behind c.args.after.now (start ∷ xs))) (c.as_slice.ensures.value ∙ c.self.invariant.positions_are) ∙ none
+    ap (λ (xs : List Position). stood_in c.args.after.now (left_behind c.args.after.now (start ∷ xs))) (c.as_slice.ensures.value ∙ c.self.invariant.positions_are) ∙ none
 
 pub returns-clause-value : goal.returns-clause-value
 returns-clause-value c =
-    c.last_stood.ensures ∙ ap (λ (xs : List Placement). stood_in c.args.after.now (c.self.inside.start ∷ xs)) (c.as_slice.ensures.value ∙ c.self.invariant.positions_are)
-    ∙ ap (λ (g : Course). stood_in c.args.after.now (positions_of g)) c.self.view_is
+    c.last_stood.ensures ∙ ap (λ (xs : List Position). stood_in c.args.after.now (c.self.inside.start ∷ xs)) (c.as_slice.ensures.value ∙ c.self.invariant.positions_are)
+    ∙ ap (λ (g : Game). stood_in c.args.after.now (positions_of g)) c.self.view_is
 
 pub returns-clause-few : goal.returns-clause-few
 returns-clause-few c =

@@ -1,5 +1,5 @@
 use Rattle.std.proofs.Common.{ap, ◌∙◌}
-use Rattle.search_epochs.specs.View.{View, settled_state}
+use Rattle.search_epochs.specs.Dialogue.{Dialogue, settled_state}
 use Rattle.search_epochs.proofs.Stands.{settled_by_view, settled_stands}
 use Rattle.search_epochs.proofs.dialogue.Dialogue.settle.Goals as goal
 
@@ -9,5 +9,5 @@ returns-clause-settled c = λ t waiting h a w. settled_by_view _ t _ _ _ _ waiti
 pub returns-clause-tickets : goal.returns-clause-tickets
 returns-clause-tickets c = λ t waiting h a.
     settled_stands _ t _ _ _ _ waiting _ c.choose-orders.ensures h a _
-    (c.after-self-inside.ensures ∙ ap (λ (v : View). settled_state v.state c.choose-orders.result) c.self.view_is)
-    (ap (λ (v : View). v.spent) c.self.view_is)
+    (c.after-self-inside.ensures ∙ ap (λ (v : Dialogue). settled_state v.state c.choose-orders.result) c.self.view_is)
+    (ap (λ (v : Dialogue). v.spent) c.self.view_is)

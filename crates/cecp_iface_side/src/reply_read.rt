@@ -2,11 +2,11 @@
 ghost use Rattle.std.specs.Prelude.{◌≡◌, ◌↔◌, Some, is_some, ◌+◌, ◌-◌, ◌*◌, ◌<◌, ◌≤◌, ◌^◌, length, position, IfSome};
 ghost use Rattle.std.specs.Option.{option_map};
 ghost use Rattle.std.specs.List.{list_all};
-ghost use Rattle.cecp_lines.specs.Replies.{Told, told_of, Tells, IsWritable, is_feature_name, is_name_byte};
-ghost use Rattle.cecp_iface_side.specs.Hearing.{stripped, plain, written, written_signed, written_move, are_moves, is_space, is_paren, is_plain, cut, number_field, score_field, fixed_of, reason_of, feature_in, is_repeated, error_in, pong_in, last_in, stat01_in, hint_in, thinking_in, told_in, with_front};
+ghost use Rattle.cecp_lines.specs.Replies.{Reply as AnyReply, reply_of, SpellsReply, IsWritable, is_feature_name, is_name_byte};
+ghost use Rattle.cecp_iface_side.specs.ReplyReading.{stripped, plain, written, written_signed, written_move, are_moves, is_space, is_paren, is_plain, cut, number_field, score_field, fixed_of, reason_of, feature_in, is_repeated, error_in, pong_in, last_in, stat01_in, hint_in, thinking_in, reply_in, with_front};
 ghost use Rattle.cecp_lines.specs.Reading.{is_equals};
 
-use cecp_lines::{Outcome, Reason, Reply, Tell};
+use cecp_lines::{Outcome, Reason, Reply, UserError};
 use chess_board::{Move, read_move, write_move};
 use peer_words::{is_white, named, trim};
 
@@ -15,13 +15,16 @@ const FIXED: [(&[u8], Reply<'static>); 11] = [
     (b"resign", Reply::Resign),
     (
         b"tellusererror Illegal position",
-        Reply::TellError(Tell::Position),
+        Reply::TellError(UserError::Position),
     ),
     (
         b"tellusererror Illegal move by engine",
-        Reply::TellError(Tell::Move),
+        Reply::TellError(UserError::Move),
     ),
-    (b"tellusererror Engine ended", Reply::TellError(Tell::Ended)),
+    (
+        b"tellusererror Engine ended",
+        Reply::TellError(UserError::Ended),
+    ),
     (b"1-0 {White mates}", Reply::Result(Outcome::WhiteMates)),
     (b"0-1 {Black mates}", Reply::Result(Outcome::BlackMates)),
     (b"1/2-1/2 {Stalemate}", Reply::Result(Outcome::Stalemate)),
@@ -210,7 +213,7 @@ fn is_name(name: &[u8]) -> bool
 }
 
 fn read_feature(text: &[u8]) -> Option<Reply<'_>>
-    ensures { option_map told_of result ≡ feature_in text.now }
+    ensures { option_map reply_of result ≡ feature_in text.now }
 {
     let at = equals_at(text)?;
     let name = &text[..at];
@@ -232,7 +235,7 @@ fn is_repeated_line(reason: Reason, line: &[u8]) -> bool
 }
 
 fn read_error(text: &[u8]) -> Option<Reply<'_>>
-    ensures { option_map told_of result ≡ error_in text.now }
+    ensures { option_map reply_of result ≡ error_in text.now }
 {
     let at = paren_at(text)?;
     let reason = reason_named(&text[..at])?;
@@ -245,7 +248,7 @@ fn read_error(text: &[u8]) -> Option<Reply<'_>>
 }
 
 fn read_pong(text: &[u8]) -> Option<Reply<'_>>
-    ensures { option_map told_of result ≡ pong_in text.now }
+    ensures { option_map reply_of result ≡ pong_in text.now }
 {
     let n = read_written(text)?;
     if n < 0x1_0000_0000 {
@@ -270,7 +273,7 @@ fn read_last(text: &[u8]) -> Option<(u64, Option<Move>)>
 }
 
 fn read_stat01(text: &[u8]) -> Option<Reply<'_>>
-    ensures { option_map told_of result ≡ stat01_in text.now }
+    ensures { option_map reply_of result ≡ stat01_in text.now }
 {
     let (time, text) = read_number_field(text)?;
     let (nodes, text) = read_number_field(text)?;
@@ -302,7 +305,7 @@ fn read_hint(text: &[u8]) -> Option<(Option<Move>, &[u8])>
 }
 
 fn read_thinking(text: &[u8]) -> Option<Reply<'_>>
-    ensures { option_map told_of result ≡ thinking_in text.now }
+    ensures { option_map reply_of result ≡ thinking_in text.now }
 {
     let (depth, text) = read_number_field(text)?;
     let (score, text) = read_score_field(text)?;
@@ -324,7 +327,7 @@ fn read_thinking(text: &[u8]) -> Option<Reply<'_>>
 }
 
 fn read_with_front(line: &[u8]) -> Option<Reply<'_>>
-    ensures { option_map told_of result ≡ with_front line.now }
+    ensures { option_map reply_of result ≡ with_front line.now }
 {
     if let Some(text) = behind_front(b"feature ", line) {
         return read_feature(text);
@@ -353,8 +356,8 @@ fn read_with_front(line: &[u8]) -> Option<Reply<'_>>
     read_thinking(line)
 }
 
-fn read_told(line: &[u8]) -> Option<Reply<'_>>
-    ensures { option_map told_of result ≡ told_in line.now }
+fn read_longer(line: &[u8]) -> Option<Reply<'_>>
+    ensures { option_map reply_of result ≡ reply_in line.now }
 {
     match fixed_reply(line) {
         Some(reply) => Some(reply),
@@ -364,9 +367,9 @@ fn read_told(line: &[u8]) -> Option<Reply<'_>>
 
 /// The reply whose text the line is, without its line feed. None if no reply has this text.
 pub fn read_reply(line: &[u8]) -> Option<Reply<'_>>
-    ensures value { option_map told_of result ≡ told_in line.now }
+    ensures value { option_map reply_of result ≡ reply_in line.now }
     // A reply is read if and only if the line is its text.
-    ensures told { (t : Told) → (option_map told_of result ≡ Some t) ↔ Tells line.now t }
+    ensures told { (t : AnyReply) → (option_map reply_of result ≡ Some t) ↔ SpellsReply line.now t }
 {
-    read_told(line)
+    read_longer(line)
 }

@@ -2,8 +2,8 @@
 ghost use Rattle.std.specs.Prelude.{◌≡◌, codes, IfOk, IsOkAnd};
 ghost use Rattle.std.specs.Option.{option_map};
 ghost use Rattle.uci_lines.specs.Behind.{after, number_behind};
-ghost use Rattle.uci_lines.specs.Asked.{is_positive_or_none, is_search, setting_in, moves_in, set_up, position_in, clock_three, clock_in, control_in, search_with, search_in, long_order, order_in, SpellsOrder, TakesPositions};
-ghost use Rattle.uci_lines.specs.Orders.{Command, command_of, optional_now};
+ghost use Rattle.uci_lines.specs.OrderReading.{is_positive_or_none, is_search, setting_in, moves_in, set_up, position_in, clock_three, clock_in, control_in, search_with, search_in, long_order, order_in, SpellsOrder, TakesPositions};
+ghost use Rattle.uci_lines.specs.Orders.{Order as AnyOrder, order_of, optional_now};
 ghost use Rattle.uci_lines.specs.Written.{fields_before};
 
 use crate::behind::{after, number_behind, perhaps_number};
@@ -15,7 +15,7 @@ use crate::written::{cut_value, is_count, is_fen, is_moves, is_positive, is_text
 pub struct BadOrder;
 
 fn read_setting(text: &[u8]) -> Option<Order<'_>>
-    ensures { option_map command_of result ≡ setting_in text.now }
+    ensures { option_map order_of result ≡ setting_in text.now }
 {
     let (name, value) = match cut_value(text) {
         Some((name, value)) => (name, Some(value)),
@@ -43,7 +43,7 @@ fn read_moves(text: &[u8]) -> Option<&[u8]>
 }
 
 fn read_set_up(text: &[u8]) -> Option<Order<'_>>
-    ensures { option_map command_of result ≡ set_up (fields_before 5 text.now) }
+    ensures { option_map order_of result ≡ set_up (fields_before 5 text.now) }
 {
     let (fen, others) = split_fields(text);
     if !is_fen(fen) {
@@ -57,7 +57,7 @@ fn read_set_up(text: &[u8]) -> Option<Order<'_>>
 }
 
 fn read_position(text: &[u8]) -> Option<Order<'_>>
-    ensures { option_map command_of result ≡ position_in text.now }
+    ensures { option_map order_of result ≡ position_in text.now }
 {
     match after(b"startpos", text) {
         Some(others) => {
@@ -70,7 +70,8 @@ fn read_position(text: &[u8]) -> Option<Order<'_>>
 
 /// A clock behind its two times.
 fn read_increments(wtime: u64, btime: u64, text: &[u8]) -> Option<(GoControl, &[u8])>
-    ensures { option_map (λ p. (p.0, p.1.now)) result ≡ clock_three wtime btime (number_behind (codes " winc ") text.now) }
+    ensures { option_map (λ p. (p.0, p.1.now)) result
+        ≡ clock_three wtime btime (number_behind (codes " winc ") text.now) }
 {
     let (winc, others) = number_behind(b" winc ", text)?;
     let (binc, others) = number_behind(b" binc ", others)?;
@@ -85,7 +86,7 @@ fn read_increments(wtime: u64, btime: u64, text: &[u8]) -> Option<(GoControl, &[
     Some((clock, others))
 }
 
-#[tactic(auto, unfolding(crate::specs::Asked::clock_in))]
+#[tactic(auto, unfolding(crate::specs::OrderReading::clock_in))]
 fn read_clock(text: &[u8]) -> Option<(GoControl, &[u8])>
     ensures { option_map (λ p. (p.0, p.1.now)) result ≡ clock_in text.now }
 {
@@ -94,7 +95,7 @@ fn read_clock(text: &[u8]) -> Option<(GoControl, &[u8])>
     read_increments(wtime, btime, others)
 }
 
-#[tactic(auto, unfolding(crate::specs::Asked::control_in))]
+#[tactic(auto, unfolding(crate::specs::OrderReading::control_in))]
 fn read_control(text: &[u8]) -> Option<(GoControl, &[u8])>
     ensures { option_map (λ p. (p.0, p.1.now)) result ≡ control_in text.now }
 {
@@ -140,7 +141,7 @@ fn is_search(ponder: bool, control: GoControl, depth: Option<u64>) -> bool
 }
 
 fn read_search_with(ponder: bool, text: &[u8]) -> Option<Order<'_>>
-    ensures { option_map command_of result ≡ search_with ponder (control_in text.now) }
+    ensures { option_map order_of result ≡ search_with ponder (control_in text.now) }
 {
     let (control, others) = read_control(text)?;
     let (depth, others) = perhaps_number(b" depth ", others);
@@ -156,7 +157,7 @@ fn read_search_with(ponder: bool, text: &[u8]) -> Option<Order<'_>>
 }
 
 fn read_search(text: &[u8]) -> Option<Order<'_>>
-    ensures { option_map command_of result ≡ search_in text.now }
+    ensures { option_map order_of result ≡ search_in text.now }
 {
     match after(b" ponder", text) {
         Some(others) => read_search_with(true, others),
@@ -165,7 +166,7 @@ fn read_search(text: &[u8]) -> Option<Order<'_>>
 }
 
 fn read_long(line: &[u8]) -> Option<Order<'_>>
-    ensures { option_map command_of result ≡ long_order line.now }
+    ensures { option_map order_of result ≡ long_order line.now }
 {
     if let Some(text) = after(b"setoption name ", line) {
         return read_setting(text);
@@ -176,9 +177,9 @@ fn read_long(line: &[u8]) -> Option<Order<'_>>
     read_search(after(b"go", line)?)
 }
 
-#[tactic(auto, unfolding(crate::specs::Asked::order_in))]
+#[tactic(auto, unfolding(crate::specs::OrderReading::order_in))]
 fn order_in(line: &[u8]) -> Option<Order<'_>>
-    ensures { option_map command_of result ≡ order_in line.now }
+    ensures { option_map order_of result ≡ order_in line.now }
 {
     if line == b"uci".as_slice() {
         Some(Order::Uci)
@@ -202,8 +203,8 @@ fn order_in(line: &[u8]) -> Option<Order<'_>>
 /// # Errors
 /// `BadOrder` if and only if the line is the text of no order that may be written.
 pub fn read_order(line: &[u8]) -> Result<Order<'_>, BadOrder>
-    ensures found { IfOk result (λ o. SpellsOrder line.now (command_of o)) }
-    ensures only { (c : Command) → SpellsOrder line.now c → IsOkAnd result (λ o. command_of o ≡ c) }
+    ensures found { IfOk result (λ o. SpellsOrder line.now (order_of o)) }
+    ensures only { (c : AnyOrder) → SpellsOrder line.now c → IsOkAnd result (λ o. order_of o ≡ c) }
 {
     order_in(line).ok_or(BadOrder)
 }

@@ -2,48 +2,48 @@
 use Rattle.std.specs.Prelude.{ℕ, List, [], ◌∷◌, Bool, true, false, not, ◌||◌, if◌then◌else◌, ◌≤◌, length, ◌≡◌}
 use Rattle.line_io.specs.Event.{Event}
 use Rattle.line_io.specs.Out.{empty, with}
-use Rattle.uci_lines.specs.Orders.{Command}
+use Rattle.uci_lines.specs.Orders.{Order}
 use Rattle.uci_lines.specs.Orders as orders
-use Rattle.feature_talk.specs.Features.{told_lines}
+use Rattle.feature_talk.specs.Features.{reply_lines}
 use Rattle.policy_rules.specs.declared.settings.Settings.{Settings}
 use Rattle.policy_rules.specs.declared.scores.Scores.{Scores}
 use Rattle.policy_rules.specs.Scores.{Score, no_scores, after_shown, resigns_by, accepts_by}
 use Rattle.search_epochs.specs.declared.words.EngineState.{EngineState}
 use Rattle.search_epochs.specs.declared.words.Orders.{Orders}
 use Rattle.search_epochs.specs.declared.words.Orders.TheVariants as chosen
-use Rattle.search_epochs.specs.Talk.{is_move, is_hurry}
-use Rattle.search_epochs.specs.View as dialogue
-use Rattle.search_epochs.specs.View.{owed_view, mid_view, settle, after_settled, played_of, is_hit_order, is_batch_order}
-use Rattle.desk_rules.specs.declared.deed.Sight.{Sight}
+use Rattle.search_epochs.specs.Tickets.{is_move, is_hurry}
+use Rattle.search_epochs.specs.Dialogue as dialogues
+use Rattle.search_epochs.specs.Dialogue.{owed_by_dialogue, mid_dialogue, settle, after_settled, played_of, is_hit_order, is_batch_order}
+use Rattle.desk_rules.specs.declared.effect.Context.{Context}
 use Rattle.desk_rules.specs.declared.desk.Desk.{Desk}
-use Rattle.desk_rules.specs.Desk.{at, Here, opening_desk, is_gone}
-use Rattle.desk_rules.specs.Steps.{Deed, comes, what_of, rises, call_after, desk_after_deed, desk_after, is_boots, is_death, counts_after}
+use Rattle.desk_rules.specs.Desk.{at, Situation, opening_desk, is_gone}
+use Rattle.desk_rules.specs.Steps.{Effect, classify, what_of, begins_epoch, call_after, desk_after_effect, desk_after, is_boots, is_death, counts_after}
 use Rattle.desk_rules.specs.Orders.{waiting, order_list}
 use Rattle.desk_rules.specs.Replies.{replies_of}
-use Rattle.desk_rules.specs.Texts.{command_lines}
+use Rattle.desk_rules.specs.Texts.{order_lines}
 use Rattle.desk_rules.specs.Fits.{Fits, IsFit, IsSound, IsServed, CanHold}
 use Rattle.adapter_core.specs.declared.session.TheConstants.{ROOM}
-use Rattle.adapter_core.specs.declared.session.Parts.{Parts}
+use Rattle.adapter_core.specs.declared.session.Parts as code
 use Rattle.adapter_core.specs.Ends.{ends_after, is_open, at_start}
 
 -- the parts of the core
-abbrev pub View : Type 0
-View = Parts
+abbrev pub Parts : Type 0
+Parts = code.Parts
 
-abbrev pub opening : Settings → View
+abbrev pub opening : Settings → Parts
 opening o = record {
   settings = o;
   ends = at_start;
   desk = opening_desk;
   scores = no_scores o;
   held = [];
-  talk = dialogue.opening;
-  told = empty ROOM;
-  ordered = empty ROOM;
+  dialogue = dialogues.opening;
+  to_iface = empty ROOM;
+  to_engine = empty ROOM;
 }
 
-abbrev pub sight_of : Settings → Bool → EngineState → Bool → Score → Scores → Sight
-sight_of o closed engine spent score scores = record {
+abbrev pub context_of : Settings → Bool → EngineState → Bool → Score → Scores → Context
+context_of o closed engine spent score scores = record {
   closed = closed;
   engine = engine;
   spent = spent;
@@ -52,74 +52,74 @@ sight_of o closed engine spent score scores = record {
   show_ponder = o.show_ponder;
 }
 
-abbrev pub here : View → Here
-here v = at (sight_of v.settings v.ends.closed v.talk.state v.talk.spent v.desk.seen.score v.scores) v.desk
+abbrev pub situation : Parts → Situation
+situation v = at (context_of v.settings v.ends.closed v.dialogue.state v.dialogue.spent v.desk.seen.score v.scores) v.desk
 
-abbrev pub none_held : List Command → Bool
+abbrev pub none_held : List Order → Bool
 none_held [] = true
 none_held (order ∷ held) = false
 
 -- orders wait, or Boot was left
-abbrev pub is_unsent : List Command → Deed → Bool
+abbrev pub is_unsent : List Order → Effect → Bool
 is_unsent held d = is_boots d || not (none_held held)
 
 -- the orders that are chosen: none at Open and in a closed session
-abbrev pub choice : Bool → Bool → Here → List Command → Deed → dialogue.View → Orders
+abbrev pub choice : Bool → Bool → Situation → List Order → Effect → dialogues.Dialogue → Orders
 choice opens closed h held d mid =
     if opens || closed then chosen.None
     else settle mid (call_after closed h d) (is_unsent held d) (played_of (what_of d)) (is_hurry (what_of d))
 
 -- the orders of a step, where these are held
-abbrev pub orders_of : Bool → Bool → Bool → Bool → List Command → Desk → Orders → List Command
+abbrev pub orders_of : Bool → Bool → Bool → Bool → List Order → Desk → Orders → List Order
 orders_of opens closed closed_now gone held desk choice =
     if opens then orders.Uci ∷ []
     else (if closed_now then (if closed || gone then [] else orders.Quit ∷ []) else order_list held desk choice)
 
 -- the core after an event: its parts, by what stood, what came of the event, what is held then, what the dialogue is then, whether a
 -- Move is owed then, what was chosen and the desk then
-abbrev pub finish : Here → Deed → Event → View → List Command → dialogue.View → Bool → Orders → Desk → View
+abbrev pub finish : Situation → Effect → Event → Parts → List Order → dialogues.Dialogue → Bool → Orders → Desk → Parts
 finish h d e v held m owes o desk = record {
   settings = v.settings;
   ends = ends_after v.ends e;
   desk = desk;
   scores = counts_after h.desk.seen.score d v.scores;
   held = (if is_batch_order o then [] else held);
-  talk = after_settled m o;
-  told = with (empty v.told.room) (told_lines (replies_of (ends_after v.ends e).closed owes h d));
-  ordered =
-      with (empty v.ordered.room)
-      (command_lines (orders_of (is_open e) v.ends.closed (ends_after v.ends e).closed (is_gone h.engine || is_death d) held desk o));
+  dialogue = after_settled m o;
+  to_iface = with (empty v.to_iface.room) (reply_lines (replies_of (ends_after v.ends e).closed owes h d));
+  to_engine =
+      with (empty v.to_engine.room)
+      (order_lines (orders_of (is_open e) v.ends.closed (ends_after v.ends e).closed (is_gone h.engine || is_death d) held desk o));
 }
 
-abbrev pub desk_with : Here → Deed → Event → View → Bool → Orders → Desk
+abbrev pub desk_with : Situation → Effect → Event → Parts → Bool → Orders → Desk
 desk_with h d e v owes o = desk_after (ends_after v.ends e).closed owes (is_hit_order o) h d
 
-abbrev pub advance_from : Here → Deed → Event → View → List Command → dialogue.View → View
+abbrev pub advance_from : Situation → Effect → Event → Parts → List Order → dialogues.Dialogue → Parts
 advance_from h d e v held m =
-    let owes = is_move (owed_view m (call_after (ends_after v.ends e).closed h d)) in
+    let owes = is_move (owed_by_dialogue m (call_after (ends_after v.ends e).closed h d)) in
     let o = choice (is_open e) (ends_after v.ends e).closed h held d m in
     finish h d e v held m owes o (desk_with h d e v owes o)
 
-abbrev pub advance_at : Here → Deed → View → Event → View
-advance_at h d v e = advance_from h d e v (waiting h v.held d) (mid_view v.talk (what_of d) (rises h d))
+abbrev pub advance_at : Situation → Effect → Parts → Event → Parts
+advance_at h d v e = advance_from h d e v (waiting h v.held d) (mid_dialogue v.dialogue (what_of d) (begins_epoch h d))
 
-unfoldable pub advance : View → Event → View
-advance v e = advance_at (here v) (comes (here v) v.held e) v e
+unfoldable pub advance : Parts → Event → Parts
+advance v e = advance_at (situation v) (classify (situation v) v.held e) v e
 
 -- What the core needs to go on from what comes of an event.
-pub record CanFollow (h : Here) (d : Deed) : Type 0 where
+pub record CanFollow (h : Situation) (d : Effect) : Type 0 where
   pub sound : IsSound h.desk
   pub fits : IsFit h d
   pub served : IsServed h
   pub pings : length h.desk.pings ≤ 64
   -- the desk then
-  pub sound_then : IsSound (desk_after_deed h d)
-  pub pings_then : length (desk_after_deed h d).pings ≤ 65
+  pub sound_then : IsSound (desk_after_effect h d)
+  pub pings_then : length (desk_after_effect h d).pings ≤ 65
 
 -- What the core needs to take an event, where this stands and this comes of it.
-pub record IsReadyFor (h : Here) (v : View) (d : Deed) : Type 0 where
+pub record IsReadyFor (h : Situation) (v : Parts) (d : Effect) : Type 0 where
   pub follow : CanFollow h d
   pub fits : Fits h v.held d
   pub holds : CanHold v.held d
-  pub told : v.told.room ≡ ROOM
-  pub ordered : v.ordered.room ≡ ROOM
+  pub to_iface : v.to_iface.room ≡ ROOM
+  pub to_engine : v.to_engine.room ≡ ROOM

@@ -3,9 +3,9 @@ ghost use Rattle.std.specs.Prelude.{◌≡◌, ◌+◌, ◌≤◌, ◌++◌, len
 ghost use Rattle.std.specs.Fmt.{signed_decimal};
 ghost use Rattle.line_io.specs.Out.{with};
 ghost use Rattle.chess_board.specs.Text.{text_of};
-ghost use Rattle.cecp_lines.specs.Replies.{told_of, told_text, reason_text, tell_text, outcome_text, hint_text, current_text, field, HasWritableMoves, IsWritable};
+ghost use Rattle.cecp_lines.specs.Replies.{reply_of, reply_text, reason_text, user_error_text, outcome_text, hint_text, current_text, field, HasWritableMoves, IsWritable};
 
-use crate::reply::{Outcome, Reason, Reply, Tell};
+use crate::reply::{Outcome, Reason, Reply, UserError};
 use chess_board::{Move, write_move};
 use itoa::Buffer;
 use line_io::Out;
@@ -27,13 +27,13 @@ fn words_of(reason: Reason) -> &'static [u8]
     }
 }
 
-fn tell_line(tell: Tell) -> &'static [u8]
-    ensures { result.now ≡ tell_text tell }
+fn user_error_line(tell: UserError) -> &'static [u8]
+    ensures { result.now ≡ user_error_text tell }
 {
     match tell {
-        Tell::Position => b"tellusererror Illegal position",
-        Tell::Move => b"tellusererror Illegal move by engine",
-        Tell::Ended => b"tellusererror Engine ended",
+        UserError::Position => b"tellusererror Illegal position",
+        UserError::Move => b"tellusererror Illegal move by engine",
+        UserError::Ended => b"tellusererror Engine ended",
     }
 }
 
@@ -112,9 +112,9 @@ fn put_current(current: Option<Move>, out: &mut Out)
 
 /// Writes the text of a reply, without a line feed.
 pub fn write_reply(reply: &Reply, out: &mut Out)
-    requires moves { HasWritableMoves (told_of reply.now) }
-    requires room { length out.old.text + length (told_text (told_of reply.now)) ≤ out.old.room }
-    ensures { out.new ≡ with out.old (told_text (told_of reply.now)) }
+    requires moves { HasWritableMoves (reply_of reply.now) }
+    requires room { length out.old.text + length (reply_text (reply_of reply.now)) ≤ out.old.room }
+    ensures { out.new ≡ with out.old (reply_text (reply_of reply.now)) }
 {
     match reply {
         Reply::Feature { name, value } => {
@@ -132,7 +132,7 @@ pub fn write_reply(reply: &Reply, out: &mut Out)
             out.put(b"): ");
             out.put(line);
         }
-        Reply::TellError(tell) => out.put(tell_line(*tell)),
+        Reply::TellError(tell) => out.put(user_error_line(*tell)),
         Reply::Pong(n) => {
             let mut digits = Buffer::new();
             out.put(b"pong ");

@@ -1,7 +1,7 @@
 use Rattle.std.proofs.Common.{◌∙◌, sym, ap}
-use Rattle.cecp_iface_side.specs.Hearing.{are_moves}
+use Rattle.cecp_iface_side.specs.ReplyReading.{are_moves}
 use Rattle.cecp_iface_side.proofs.Fronts.{moves_last, moves_skip, moves_stop}
-use Rattle.cecp_iface_side.proofs.hear.is_move_list.Goals as goal
+use Rattle.cecp_iface_side.proofs.reply_read.is_move_list.Goals as goal
 
 pub returns-then-not-is_written_move : goal.returns-then-not-is_written_move
 returns-then-not-is_written_move c =

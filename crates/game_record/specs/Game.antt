@@ -3,7 +3,7 @@ use Rattle.std.specs.Prelude.{ℕ, ◌-◌, List, [], ◌∷◌, ◌++◌, lengt
 use Rattle.chess_board.specs.declared.board.Kind.{Kind}
 use Rattle.chess_board.specs.declared.board.Move.{Move}
 use Rattle.chess_board.specs.Laws.{IsLegal}
-use Rattle.chess_board.specs.Placement.{Placement}
+use Rattle.chess_board.specs.Position.{Position}
 use Rattle.chess_board.specs.Play.{position_after}
 
 -- a move, by the numbers of its squares
@@ -13,8 +13,8 @@ pub record Ply : Type 0 where
   pub promo : Option Kind
 
 -- a game so far, its first move first
-pub record Course : Type 0 where
-  pub start : Placement
+pub record Game : Type 0 where
+  pub start : Position
   pub moves : List Ply
 
 abbrev pub ply_of : Move → Ply
@@ -23,43 +23,43 @@ ply_of m = record { from = m.from.index; to = m.to.index; promo = m.promo }
 abbrev pub plies_of : List Move → List Ply
 plies_of moves = map ply_of moves
 
-abbrev pub IsPlayable : Placement → Ply → Type 0
+abbrev pub IsPlayable : Position → Ply → Type 0
 IsPlayable p m = IsLegal p m.from m.to m.promo
 
 -- the position after a move
-abbrev pub played : Placement → Ply → Placement
+abbrev pub played : Position → Ply → Position
 played p m = position_after p m.from m.to m.promo
 
 -- the position after all these moves, replayed from the first
-abbrev pub now_after : Placement → List Ply → Placement
+abbrev pub now_after : Position → List Ply → Position
 now_after p [] = p
 now_after p (m ∷ moves) = now_after (played p m) moves
 
 -- the position after each of these moves
-abbrev pub later : Placement → List Ply → List Placement
+abbrev pub later : Position → List Ply → List Position
 later p [] = []
 later p (m ∷ moves) = played p m ∷ later (played p m) moves
 
 -- each move is legal in its turn
-abbrev pub AreLegal : Placement → List Ply → Type 0
+abbrev pub AreLegal : Position → List Ply → Type 0
 AreLegal p [] = Unit {0}
 AreLegal p (m ∷ moves) = IsPlayable p m × AreLegal (played p m) moves
 
-abbrev pub now_of : Course → Placement
+abbrev pub now_of : Game → Position
 now_of g = now_after g.start g.moves
 
 -- the start and the position after each move
-abbrev pub positions_of : Course → List Placement
+abbrev pub positions_of : Game → List Position
 positions_of g = g.start ∷ later g.start g.moves
 
 -- no move yet
-abbrev pub begun : Placement → Course
+abbrev pub begun : Position → Game
 begun p = record { start = p; moves = [] }
 
 -- one move more
-abbrev pub with_ply : Course → Ply → Course
+abbrev pub with_ply : Game → Ply → Game
 with_ply g m = record g { moves = g.moves ++ m ∷ [] }
 
 -- n moves fewer
-abbrev pub without_last : Course → ℕ → Course
+abbrev pub without_last : Game → ℕ → Game
 without_last g n = record g { moves = take (length g.moves - n) g.moves }

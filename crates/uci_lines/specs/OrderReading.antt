@@ -1,14 +1,14 @@
 -- The orders that may be written, and the order that a line is.
 use Rattle.std.specs.Prelude.{◌≡◌, ℕ, List, [], ◌∷◌, ◌++◌, codes, Bool, true, false, not, ◌&&◌, if◌then◌else◌, Option, Some, None}
 use Rattle.std.specs.Str.{bytes_eq}
-use Rattle.chess_board.specs.Placement.{Placement}
+use Rattle.chess_board.specs.Position.{Position as AnyPosition}
 use Rattle.chess_board.specs.Play.{IsPosition}
 use Rattle.fen_text.specs.Written.{written}
 use Rattle.uci_lines.specs.declared.orders.GoControl.{GoControl}
 use Rattle.uci_lines.specs.declared.orders.GoControl.TheVariants.{Infinite, MoveTime, Clock}
 use Rattle.uci_lines.specs.Behind.{after, number_behind, perhaps_number}
 use Rattle.uci_lines.specs.Written.{is_text, value_cut, holds_value, is_moves, is_fen, fields_before, is_count, is_positive}
-use Rattle.uci_lines.specs.Orders.{Command, Uci, IsReady, NewGame, Stop, PonderHit, Quit, SetOption, Position, Go, command_text}
+use Rattle.uci_lines.specs.Orders.{Order, Uci, IsReady, NewGame, Stop, PonderHit, Quit, SetOption, Position, Go, order_text}
 
 -- The name ends before the first ` value `.
 abbrev pub is_setting : List ℕ → Option (List ℕ) → Bool
@@ -40,22 +40,22 @@ is_search ponder (Clock wtime btime winc binc movestogo) depth =
     && is_positive_or_none movestogo && is_positive_or_none depth
 
 -- whether an order may be written
-abbrev pub is_order : Command → Bool
+abbrev pub is_order : Order → Bool
 is_order (SetOption name value) = is_setting name value
 is_order (Position fen moves) = is_start fen && is_played moves
 is_order (Go ponder control depth) = is_search ponder control depth
 is_order _ = true
 
-abbrev pub where_true : Bool → Command → Option Command
+abbrev pub where_true : Bool → Order → Option Order
 where_true true order = Some order
 where_true false order = None
 
 -- behind `setoption name `
-abbrev pub setting_by : Option (List ℕ × List ℕ) → List ℕ → Option Command
+abbrev pub setting_by : Option (List ℕ × List ℕ) → List ℕ → Option Order
 setting_by None text = where_true (is_text text) (SetOption text None)
 setting_by (Some halves) text = where_true (is_text halves.0 && is_text halves.1) (SetOption halves.0 (Some halves.1))
 
-abbrev pub setting_in : List ℕ → Option Command
+abbrev pub setting_in : List ℕ → Option Order
 setting_in text = setting_by (value_cut text) text
 
 -- behind the start of a position
@@ -67,23 +67,23 @@ abbrev pub moves_in : List ℕ → Option (List ℕ)
 moves_in [] = Some []
 moves_in (b ∷ bs) = moves_by (after (codes " moves ") (b ∷ bs))
 
-abbrev pub placed : Option (List ℕ) → Option (List ℕ) → Option Command
+abbrev pub placed : Option (List ℕ) → Option (List ℕ) → Option Order
 placed fen None = None
 placed fen (Some moves) = Some (Position fen moves)
 
-abbrev pub set_up : List ℕ × List ℕ → Option Command
+abbrev pub set_up : List ℕ × List ℕ → Option Order
 set_up halves = if is_fen halves.0 then placed (Some halves.0) (moves_in halves.1) else None
 
-abbrev pub fen_in : Option (List ℕ) → Option Command
+abbrev pub fen_in : Option (List ℕ) → Option Order
 fen_in None = None
 fen_in (Some text) = set_up (fields_before 5 text)
 
-abbrev pub start_in : Option (List ℕ) → List ℕ → Option Command
+abbrev pub start_in : Option (List ℕ) → List ℕ → Option Order
 start_in (Some others) text = placed None (moves_in others)
 start_in None text = fen_in (after (codes "fen ") text)
 
 -- behind `position `
-abbrev pub position_in : List ℕ → Option Command
+abbrev pub position_in : List ℕ → Option Order
 position_in text = start_in (after (codes "startpos") text) text
 
 -- the four numbers of a clock, and the moves to go
@@ -122,38 +122,38 @@ abbrev pub is_nil : List ℕ → Bool
 is_nil [] = true
 is_nil (b ∷ bs) = false
 
-abbrev pub search_end : Bool → GoControl → Option ℕ × List ℕ → Option Command
+abbrev pub search_end : Bool → GoControl → Option ℕ × List ℕ → Option Order
 search_end ponder control depth = where_true (is_nil depth.1 && is_search ponder control depth.0) (Go ponder control depth.0)
 
-abbrev pub search_with : Bool → Option (GoControl × List ℕ) → Option Command
+abbrev pub search_with : Bool → Option (GoControl × List ℕ) → Option Order
 search_with ponder None = None
 search_with ponder (Some control) = search_end ponder control.0 (perhaps_number (codes " depth ") control.1)
 
-abbrev pub ponder_or : Option (List ℕ) → List ℕ → Option Command
+abbrev pub ponder_or : Option (List ℕ) → List ℕ → Option Order
 ponder_or (Some others) text = search_with true (control_in others)
 ponder_or None text = search_with false (control_in text)
 
 -- behind `go`
-abbrev pub search_in : List ℕ → Option Command
+abbrev pub search_in : List ℕ → Option Order
 search_in text = ponder_or (after (codes " ponder") text) text
 
-abbrev pub search_or_none : Option (List ℕ) → Option Command
+abbrev pub search_or_none : Option (List ℕ) → Option Order
 search_or_none None = None
 search_or_none (Some text) = search_in text
 
-abbrev pub position_or : Option (List ℕ) → List ℕ → Option Command
+abbrev pub position_or : Option (List ℕ) → List ℕ → Option Order
 position_or (Some text) line = position_in text
 position_or None line = search_or_none (after (codes "go") line)
 
-abbrev pub setting_or : Option (List ℕ) → List ℕ → Option Command
+abbrev pub setting_or : Option (List ℕ) → List ℕ → Option Order
 setting_or (Some text) line = setting_in text
 setting_or None line = position_or (after (codes "position ") line) line
 
-abbrev pub long_order : List ℕ → Option Command
+abbrev pub long_order : List ℕ → Option Order
 long_order line = setting_or (after (codes "setoption name ") line) line
 
 -- the order that a line is
-unfoldable pub order_in : List ℕ → Option Command
+unfoldable pub order_in : List ℕ → Option Order
 order_in line =
     if bytes_eq line (codes "uci") then Some Uci
     else (if bytes_eq line (codes "isready") then Some IsReady
@@ -164,10 +164,10 @@ order_in line =
     else long_order line)))))
 
 -- a line is the text of an order that may be written
-pub record SpellsOrder (line : List ℕ) (order : Command) : Type 0 where
+pub record SpellsOrder (line : List ℕ) (order : Order) : Type 0 where
   pub fits : is_order order ≡ true
-  pub text : line ≡ command_text order
+  pub text : line ≡ order_text order
 
 -- The text of every position may stand in an order.
 abbrev pub TakesPositions : Type 0
-TakesPositions = (p : Placement) → IsPosition p → is_fen (written p) ≡ true
+TakesPositions = (p : AnyPosition) → IsPosition p → is_fen (written p) ≡ true

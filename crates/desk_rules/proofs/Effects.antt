@@ -1,15 +1,15 @@
--- What each deed tells of the event and of what stood when it came.
+-- What each effect tells of the event and of what stood when it came.
 use Rattle.std.proofs.Common.{◌≡◌, ℕ, List, Bool, true, false, cond, ◌&&◌, Option, Some, None, IfSome, Result, Ok, Err, refl, sym, ap, subst}
 use Rattle.line_io.specs.Event.{Event, is_line}
 use Rattle.line_io.specs.Event as events
 use Rattle.chess_board.specs.declared.board.Move.{Move}
 use Rattle.chess_board.specs.Place.{legal}
-use Rattle.chess_board.specs.Placement.{Placement}
+use Rattle.chess_board.specs.Position.{Position}
 use Rattle.fen_text.specs.declared.fault.FenFault.{FenFault}
 use Rattle.fen_text.specs.Fen.{position_of}
 use Rattle.peer_words.specs.declared.kinds.GoKind.{GoKind}
 use Rattle.peer_words.specs.declared.kinds.GoKind.TheVariants as kinds
-use Rattle.cecp_lines.specs.Messages.{Message}
+use Rattle.cecp_lines.specs.Messages.{IfaceMsg}
 use Rattle.cecp_lines.specs.Messages as says
 use Rattle.cecp_lines.specs.Reading.{reading}
 use Rattle.cecp_lines.specs.Replies.{IsWritable}
@@ -19,32 +19,33 @@ use Rattle.cecp_lines.specs.declared.reply.Reason.{Reason}
 use Rattle.cecp_lines.specs.declared.reply.Reason.TheVariants as reasons
 use Rattle.cecp_lines.proofs.Spellings.{reading_spells}
 use Rattle.cecp_lines.proofs.Officers.{move_writable}
-use Rattle.uci_lines.specs.Orders.{Command}
-use Rattle.uci_lines.specs.Says.{Says, Facts}
-use Rattle.uci_lines.specs.Says as hears
+use Rattle.uci_lines.specs.Orders.{Order}
+use Rattle.uci_lines.specs.Info.{Info}
+use Rattle.uci_lines.specs.Messages.{EngineMsg}
+use Rattle.uci_lines.specs.Messages as hears
 use Rattle.uci_lines.specs.Engine.{engine_message}
 use Rattle.option_map.specs.declared.fault.OptFault.{OptFault}
 use Rattle.option_map.specs.declared.fault.OptFault.TheVariants.{UnknownOption, BadValue}
 use Rattle.option_map.specs.Asked.{asked}
-use Rattle.game_record.specs.Course.{Course, now_of}
+use Rattle.game_record.specs.Game.{Game, now_of}
 use Rattle.search_epochs.specs.declared.words.EngineState.{EngineState}
 use Rattle.search_epochs.specs.declared.words.EngineState.TheVariants as states
-use Rattle.desk_rules.specs.declared.deed.Refusal.{Refusal}
-use Rattle.desk_rules.specs.declared.deed.Refusal.TheVariants as refusals
-use Rattle.desk_rules.specs.Desk.{Here, table, is_full, is_boot, is_getting, is_gone, current}
+use Rattle.desk_rules.specs.declared.effect.Refusal.{Refusal}
+use Rattle.desk_rules.specs.declared.effect.Refusal.TheVariants as refusals
+use Rattle.desk_rules.specs.Desk.{Situation, table, is_full, is_boot, is_getting, is_gone, current}
 use Rattle.desk_rules.specs.Lines.{verdict, judged, refusal, or_else, where_true, illegal_move, move_too_many, no_position, illegal_position, refused_option, needs_engine, lacks_moves, does_not_fit, asks, pings_too_often}
-use Rattle.desk_rules.specs.Steps.{Deed, Nothing, LongLine, Names, Declares, Boots, Readies, Shows, Forfeits, Dies, comes, line_deed, engine_says, answers, shows, thinks}
+use Rattle.desk_rules.specs.Steps.{Effect, Nothing, LongLine, Names, Declares, Boots, Readies, Shows, Forfeits, Dies, classify, line_effect, engine_says, answers, shows, thinks}
 use Rattle.desk_rules.specs.Fits.{Fits, IsTellable, IsOther, IsCurrentMove, IsSaid, IsLineEvent}
 
 -- THE MOVE OF A REFUSED LINE
 
 -- a move that a message names can be written
-abbrev IsWritten : Message → Type 0
+abbrev IsWritten : IfaceMsg → Type 0
 IsWritten (says.UserMove m) = IsWritable m
 IsWritten m = Unit {0}
 
 -- a move that a line spells can be written
-written : (line : List ℕ) (m : Message) → reading line ≡ Ok m → IsWritten m
+written : (line : List ℕ) (m : IfaceMsg) → reading line ≡ Ok m → IsWritten m
 written line (says.UserMove m) r = move_writable line m (reading_spells line (says.UserMove m) r)
 written line m r = tt
 
@@ -64,28 +65,28 @@ long_tells : (b : Bool) (m : Move) → IsWritable m → IfSome (cond b (Some (re
 long_tells true m w = w
 long_tells false m w = tt
 
-move_tells : (g : Course) (m : Message) → IsWritten m → IfSome (illegal_move g m) IsTellable
+move_tells : (g : Game) (m : IfaceMsg) → IsWritten m → IfSome (illegal_move g m) IsTellable
 move_tells g (says.UserMove m) w = illegal_tells (legal (now_of g) m) m w
 move_tells g m w = tt
 
-many_tells : (g : Course) (m : Message) → IsWritten m → IfSome (move_too_many g m) IsTellable
+many_tells : (g : Game) (m : IfaceMsg) → IsWritten m → IfSome (move_too_many g m) IsTellable
 many_tells g (says.UserMove m) w = long_tells (is_full g) m w
 many_tells g m w = tt
 
-no_position_tells : (r : Result Placement FenFault) → IfSome (no_position r) IsTellable
+no_position_tells : (r : Result Position FenFault) → IfSome (no_position r) IsTellable
 no_position_tells (Ok p) = tt
 no_position_tells (Err fault) = tt
 
-position_tells : (m : Message) → IfSome (illegal_position m) IsTellable
+position_tells : (m : IfaceMsg) → IfSome (illegal_position m) IsTellable
 position_tells (says.SetBoard text) = no_position_tells (position_of text)
 position_tells m = tt
 
-option_tells : (r : Result (Option Command) OptFault) → IfSome (refused_option r) IsTellable
+option_tells : (r : Result (Option Order) OptFault) → IfSome (refused_option r) IsTellable
 option_tells (Ok order) = tt
 option_tells (Err UnknownOption) = tt
 option_tells (Err BadValue) = tt
 
-refusal_tells : (h : Here) (held : List Command) (m : Message) → IsWritten m → IfSome (refusal h held m) IsTellable
+refusal_tells : (h : Situation) (held : List Order) (m : IfaceMsg) → IsWritten m → IfSome (refusal h held m) IsTellable
 unfolding refusal
 refusal_tells h held m w =
     first_tells _ _ (reason_tells (needs_engine m && is_gone h.engine) reasons.EngineEnded)
@@ -103,13 +104,13 @@ refusal_tells h held m w =
 some_tells : (o : Option Refusal) (r : Refusal) → o ≡ Some r → IfSome o IsTellable → IsTellable r
 some_tells o r e f = let g : IfSome (Some r) IsTellable = subst (λ (x : Option Refusal). IfSome x IsTellable) e f in g
 
-judged_fits : (h : Here) (held : List Command) (line : List ℕ) (m : Message) (r : Option Refusal) → h.closed ≡ false → is_line line ≡ true → reading line ≡ Ok m
-    → refusal h held m ≡ r → Fits h held (line_deed (judged m r) line)
+judged_fits : (h : Situation) (held : List Order) (line : List ℕ) (m : IfaceMsg) (r : Option Refusal) → h.closed ≡ false → is_line line ≡ true → reading line ≡ Ok m
+    → refusal h held m ≡ r → Fits h held (line_effect (judged m r) line)
 judged_fits h held line m None c l reads e = record { line = line; is_line = l; reads = reads; is_open = c; passes = e }
 judged_fits h held line m (Some r) c l reads e = record { is_open = c; tellable = some_tells (refusal h held m) r e (refusal_tells h held m (written line m reads)); is_line = l }
 
-line_fits : (h : Here) (held : List Command) (line : List ℕ) (r : Result Message IfaceFault) → h.closed ≡ false → is_line line ≡ true → reading line ≡ r
-    → Fits h held (line_deed (verdict h held r) line)
+line_fits : (h : Situation) (held : List Order) (line : List ℕ) (r : Result IfaceMsg IfaceFault) → h.closed ≡ false → is_line line ≡ true → reading line ≡ r
+    → Fits h held (line_effect (verdict h held r) line)
 unfolding verdict
 line_fits h held line (Err faults.UnknownCommand) c l e = record { is_open = c; tellable = tt; is_line = l }
 line_fits h held line (Err faults.BadArgument) c l e = record { is_open = c; tellable = tt; is_line = l }
@@ -117,23 +118,23 @@ line_fits h held line (Ok m) c l e = judged_fits h held line m (refusal h held m
 
 -- LINES OF THE ENGINE
 
-thinks_fits : (h : Here) (held : List Command) (facts : Facts) (k : Option GoKind) → h.closed ≡ false → current h.engine ≡ k → IsSaid (hears.Info facts) → Fits h held (thinks k facts)
+thinks_fits : (h : Situation) (held : List Order) (facts : Info) (k : Option GoKind) → h.closed ≡ false → current h.engine ≡ k → IsSaid (hears.Info facts) → Fits h held (thinks k facts)
 thinks_fits h held facts None c e s = tt
 thinks_fits h held facts (Some k) c e s = (c, e, s)
 
-shown_fits : (h : Here) (held : List Command) (m : Move) (hint : Option Move) (b : Bool) → h.closed ≡ false → IsCurrentMove h.engine → legal (now_of h.desk.game) m ≡ b
+shown_fits : (h : Situation) (held : List Order) (m : Move) (hint : Option Move) (b : Bool) → h.closed ≡ false → IsCurrentMove h.engine → legal (now_of h.desk.game) m ≡ b
     → Fits h held (cond b (Shows m hint) Forfeits)
 shown_fits h held m hint true c e l = (c, e, l)
 shown_fits h held m hint false c e l = (c, e)
 
-shows_fits : (h : Here) (held : List Command) (best hint : Option Move) → h.closed ≡ false → IsCurrentMove h.engine → Fits h held (shows h.desk.game best hint)
+shows_fits : (h : Situation) (held : List Order) (best hint : Option Move) → h.closed ≡ false → IsCurrentMove h.engine → Fits h held (shows h.desk.game best hint)
 shows_fits h held None hint c e = (c, e)
 shows_fits h held (Some m) hint c e = shown_fits h held m hint (legal (now_of h.desk.game) m) c e refl
 
 other_search : (e f : EngineState) → e ≡ f → IsOther f → IsOther e
 other_search e f p i = subst IsOther (sym p) i
 
-answers_fits : (h : Here) (held : List Command) (e : EngineState) (best hint : Option Move) → h.closed ≡ false → h.engine ≡ e → Fits h held (answers e h.desk.game best hint)
+answers_fits : (h : Situation) (held : List Order) (e : EngineState) (best hint : Option Move) → h.closed ≡ false → h.engine ≡ e → Fits h held (answers e h.desk.game best hint)
 answers_fits h held states.Boot best hint c e = tt
 answers_fits h held states.Getting best hint c e = tt
 answers_fits h held states.Idle best hint c e = tt
@@ -145,12 +146,12 @@ answers_fits h held (states.Search kinds.Ponder false stopped) best hint c e = (
 answers_fits h held (states.Search kinds.Analyse true stopped) best hint c e = (c, other_search h.engine _ e tt)
 answers_fits h held (states.Search kinds.Analyse false stopped) best hint c e = (c, other_search h.engine _ e tt)
 
--- a deed that comes only in one state
-only_in : (h : Here) (held : List Command) (b : Bool) (d : Deed) (x : Bool) → x ≡ b → (x ≡ true → Fits h held d) → Fits h held (cond b d Nothing)
+-- an effect that comes only in one state
+only_in : (h : Situation) (held : List Order) (b : Bool) (d : Effect) (x : Bool) → x ≡ b → (x ≡ true → Fits h held d) → Fits h held (cond b d Nothing)
 only_in h held true d x e f = f e
 only_in h held false d x e f = tt
 
-says_fits : (h : Here) (held : List Command) (line : List ℕ) (m : Says) → h.closed ≡ false → is_line line ≡ true → engine_message line ≡ m → Fits h held (engine_says h m)
+says_fits : (h : Situation) (held : List Order) (line : List ℕ) (m : EngineMsg) → h.closed ≡ false → is_line line ≡ true → engine_message line ≡ m → Fits h held (engine_says h m)
 says_fits h held line hears.Nothing c l e = tt
 says_fits h held line (hears.Name text) c l e = only_in h held (is_boot h.engine) (Names text) (is_boot h.engine) refl (λ b. (c, b))
 says_fits h held line (hears.OptionLine name shape) c l e =
@@ -162,19 +163,19 @@ says_fits h held line (hears.Best best hint) c l e = answers_fits h held h.engin
 
 -- EVENTS
 
-unless_closed : (h : Here) (held : List Command) (b : Bool) (d : Deed) → h.closed ≡ b → (h.closed ≡ false → Fits h held d) → Fits h held (cond b Nothing d)
+unless_closed : (h : Situation) (held : List Order) (b : Bool) (d : Effect) → h.closed ≡ b → (h.closed ≡ false → Fits h held d) → Fits h held (cond b Nothing d)
 unless_closed h held true d e f = tt
 unless_closed h held false d e f = f e
 
-dies_fits : (h : Here) (held : List Command) (b : Bool) → is_gone h.engine ≡ b → Fits h held (cond b Nothing Dies)
+dies_fits : (h : Situation) (held : List Order) (b : Bool) → is_gone h.engine ≡ b → Fits h held (cond b Nothing Dies)
 dies_fits h held true e = tt
 dies_fits h held false e = e
 
-pub comes_fits : (h : Here) (held : List Command) (e : Event) → IsLineEvent e → Fits h held (comes h held e)
-unfolding comes
+pub comes_fits : (h : Situation) (held : List Order) (e : Event) → IsLineEvent e → Fits h held (classify h held e)
+unfolding classify
 comes_fits h held events.Open l = tt
 comes_fits h held (events.Iface line) l =
-    unless_closed h held h.closed (line_deed (verdict h held (reading line)) line) refl (λ c. line_fits h held line (reading line) c l refl)
+    unless_closed h held h.closed (line_effect (verdict h held (reading line)) line) refl (λ c. line_fits h held line (reading line) c l refl)
 comes_fits h held events.IfaceLong l = unless_closed h held h.closed LongLine refl (λ c. tt)
 comes_fits h held events.IfaceEnd l = tt
 comes_fits h held events.IfaceLost l = tt

@@ -1,8 +1,8 @@
 // What stands when an event comes, and what comes of it.
 ghost use Rattle.std.specs.Prelude.{◌≡◌};
-ghost use Rattle.search_epochs.specs.Talk.{is_hurry};
-ghost use Rattle.search_epochs.specs.View.{mid_view, played_of};
-ghost use Rattle.desk_rules.specs.Steps.{deed_of, what_of, is_boots, is_death, counts_after};
+ghost use Rattle.search_epochs.specs.Tickets.{is_hurry};
+ghost use Rattle.search_epochs.specs.Dialogue.{mid_dialogue, played_of};
+ghost use Rattle.desk_rules.specs.Steps.{effect_of, what_of, is_boots, is_death, counts_after};
 
 use crate::change::clears_scores;
 use cecp_lines::{IfaceMsg, Reason};
@@ -15,7 +15,7 @@ use uci_lines::{Info, OptionMsg};
 
 /// What is seen beside the desk when an event comes.
 #[derive(Clone, Copy)]
-pub struct Sight {
+pub struct Context {
     pub closed: bool,
     pub engine: EngineState,
     /// Whether the call was answered in this epoch.
@@ -42,7 +42,7 @@ pub enum Refusal {
 
 /// What comes of an event.
 #[derive(Clone, Copy)]
-pub enum Deed<'a> {
+pub enum Effect<'a> {
     Nothing,
     Opens,
     LongLine,
@@ -80,7 +80,7 @@ pub enum Asks<'a> {
 /// What is decided of an event, but for what it asks for.
 #[derive(Clone, Copy)]
 pub struct Ruling<'a> {
-    pub deed: Deed<'a>,
+    pub effect: Effect<'a>,
     pub begins_epoch: bool,
     /// The interface sends `quit`.
     pub quits: bool,
@@ -94,47 +94,47 @@ pub struct Decision<'l, 's> {
     pub asks: Asks<'s>,
 }
 
-impl Deed<'_> {
+impl Effect<'_> {
     /// Whether the engine leaves Boot.
     pub fn is_boots(&self) -> bool
-        ensures { result ≡ is_boots (deed_of self.now) }
+        ensures { result ≡ is_boots (effect_of self.now) }
     {
-        matches!(self, Deed::Boots)
+        matches!(self, Effect::Boots)
     }
 
     /// Whether the engine becomes Gone.
     pub fn is_death(&self) -> bool
-        ensures { result ≡ is_death (deed_of self.now) }
+        ensures { result ≡ is_death (effect_of self.now) }
     {
-        matches!(self, Deed::Dies)
+        matches!(self, Effect::Dies)
     }
 
     /// The move that the user played.
     pub fn played(&self) -> Option<Move>
-        ensures { result ≡ played_of (what_of (deed_of self.now)) }
+        ensures { result ≡ played_of (what_of (effect_of self.now)) }
     {
         match self {
-            Deed::Accepts(IfaceMsg::UserMove(m)) => Some(*m),
+            Effect::Accepts(IfaceMsg::UserMove(m)) => Some(*m),
             _ => None,
         }
     }
 
     /// Whether the user asks for the move now.
     pub fn is_hurry(&self) -> bool
-        ensures { result ≡ is_hurry (what_of (deed_of self.now)) }
+        ensures { result ≡ is_hurry (what_of (effect_of self.now)) }
     {
-        matches!(self, Deed::Accepts(IfaceMsg::MoveNow))
+        matches!(self, Effect::Accepts(IfaceMsg::MoveNow))
     }
 
     /// Counts the kept score of a shown move, and forgets all scores if a message wants it.
     pub fn count(&self, scores: &mut Scores, kept: Option<i64>)
-        ensures { scores.new ≡ counts_after kept (deed_of self.now) scores.old }
+        ensures { scores.new ≡ counts_after kept (effect_of self.now) scores.old }
     {
         match self {
-            Deed::Accepts(message) => if clears_scores(message) {
+            Effect::Accepts(message) => if clears_scores(message) {
                 scores.clear();
             },
-            Deed::Shows { best: _, hint: _ } => scores.shown(kept),
+            Effect::Shows { best: _, hint: _ } => scores.shown(kept),
             _ => {}
         }
     }
@@ -142,27 +142,28 @@ impl Deed<'_> {
 
 impl Ruling<'_> {
     /// Has the dialogue hear it.
-    pub fn hear(&self, talk: &mut Dialogue)
-        ensures { talk.new
-            ≡ mid_view talk.old (what_of (deed_of self.now.deed)) self.now.begins_epoch }
+    pub fn hear(&self, dialogue: &mut Dialogue)
+        ensures { dialogue.new
+            ≡ mid_dialogue dialogue.old
+            (what_of (effect_of self.now.effect)) self.now.begins_epoch }
     {
-        match self.deed {
-            Deed::Boots => {
-                talk.heard(Said::UciOk);
+        match self.effect {
+            Effect::Boots => {
+                dialogue.heard(Said::UciOk);
             }
-            Deed::Readies => {
-                talk.heard(Said::ReadyOk);
+            Effect::Readies => {
+                dialogue.heard(Said::ReadyOk);
             }
-            Deed::Shows { best: _, hint: _ } | Deed::Forfeits | Deed::Answers => {
-                talk.heard(Said::Best);
+            Effect::Shows { best: _, hint: _ } | Effect::Forfeits | Effect::Answers => {
+                dialogue.heard(Said::Best);
             }
-            Deed::Dies => {
-                talk.heard(Said::Ended);
+            Effect::Dies => {
+                dialogue.heard(Said::Ended);
             }
             _ => {}
         }
         if self.begins_epoch {
-            talk.new_epoch();
+            dialogue.new_epoch();
         }
     }
 }

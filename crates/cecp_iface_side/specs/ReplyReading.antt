@@ -13,12 +13,12 @@ use Rattle.chess_board.specs.Spelling.{move_of}
 use Rattle.cecp_lines.specs.Reading.{is_equals}
 use Rattle.cecp_lines.specs.declared.reply.Reason.{Reason}
 use Rattle.cecp_lines.specs.declared.reply.Reason.TheVariants as reasons
-use Rattle.cecp_lines.specs.declared.reply.Tell.TheVariants as tells
+use Rattle.cecp_lines.specs.declared.reply.UserError.TheVariants as tells
 use Rattle.cecp_lines.specs.declared.reply.Outcome.TheVariants as outcomes
-use Rattle.cecp_lines.specs.declared.reply.Reply.{Reply}
+use Rattle.cecp_lines.specs.declared.reply.Reply.{Reply as CodeReply}
 use Rattle.cecp_lines.specs.declared.reply.Reply.TheVariants as replies
 use Rattle.cecp_lines.specs.Replies as told
-use Rattle.cecp_lines.specs.Replies.{Told, told_of, is_feature_name}
+use Rattle.cecp_lines.specs.Replies.{Reply, reply_of, is_feature_name}
 
 -- what stands behind a front
 abbrev pub stripped : List ℕ → List ℕ → Option (List ℕ)
@@ -90,7 +90,7 @@ score_field text = field_of written_signed (cut text)
 
 -- THE LINES WITHOUT ARGUMENTS
 
-abbrev pub fixed_lines : List (List ℕ × Reply)
+abbrev pub fixed_lines : List (List ℕ × CodeReply)
 fixed_lines =
     (codes "offer draw", replies.OfferDraw) ∷ (codes "resign", replies.Resign)
     ∷ (codes "tellusererror Illegal position", replies.TellError tells.Position)
@@ -103,7 +103,7 @@ fixed_lines =
     ∷ (codes "1/2-1/2 {Draw by repetition}", replies.Result outcomes.Repetition)
     ∷ (codes "1/2-1/2 {Draw by fifty-move rule}", replies.Result outcomes.Fifty) ∷ []
 
-abbrev pub fixed_of : List ℕ → Option Reply
+abbrev pub fixed_of : List ℕ → Option CodeReply
 fixed_of line = lookup (bytes_eq line) fixed_lines
 
 abbrev pub reason_words : List (List ℕ × Reason)
@@ -118,21 +118,21 @@ reason_of words = lookup (bytes_eq words) reason_words
 
 -- THE LINES WITH ARGUMENTS
 
-abbrev pub named_feature : List ℕ → List ℕ → Option Told
+abbrev pub named_feature : List ℕ → List ℕ → Option Reply
 named_feature name value = if is_feature_name name then Some (told.Feature name value) else None
 
-abbrev pub feature_at : Option ℕ → List ℕ → Option Told
+abbrev pub feature_at : Option ℕ → List ℕ → Option Reply
 feature_at None text = None
 feature_at (Some at) text = named_feature (take at text) (drop (at + 1) text)
 
-abbrev pub feature_in : List ℕ → Option Told
+abbrev pub feature_in : List ℕ → Option Reply
 feature_in text = feature_at (position is_equals text) text
 
 abbrev pub is_repeated : Reason → List ℕ → Bool
 is_repeated reasons.LineTooLong line = bytes_eq line (codes "...")
 is_repeated _ line = bytes_eq (trimmed line) line
 
-abbrev pub error_of : Option Reason → Option (List ℕ) → Option Told
+abbrev pub error_of : Option Reason → Option (List ℕ) → Option Reply
 error_of (Some reason) (Some line) = if is_repeated reason line then Some (told.Error reason line) else None
 error_of (Some reason) None = None
 error_of None line = None
@@ -140,17 +140,17 @@ error_of None line = None
 abbrev pub is_paren : ℕ → Bool
 is_paren b = b == 41
 
-abbrev pub error_at : Option ℕ → List ℕ → Option Told
+abbrev pub error_at : Option ℕ → List ℕ → Option Reply
 error_at None text = None
 error_at (Some at) text = error_of (reason_of (take at text)) (stripped (codes "): ") (drop at text))
 
-abbrev pub error_in : List ℕ → Option Told
+abbrev pub error_in : List ℕ → Option Reply
 error_in text = error_at (position is_paren text) text
 
-abbrev pub short_pong : ℕ → Option Told
+abbrev pub short_pong : ℕ → Option Reply
 short_pong n = if nat_lt n (2 ^ 32) then Some (told.Pong n) else None
 
-abbrev pub pong_in : List ℕ → Option Told
+abbrev pub pong_in : List ℕ → Option Reply
 pong_in text = option_and_then short_pong (written text)
 
 -- the last number and the current move of a `stat01` line
@@ -161,7 +161,7 @@ last_at (Some at) text = option_and_then (λ n. option_map (λ m. (n, Some m)) (
 abbrev pub last_in : List ℕ → Option (ℕ × Option AnyMove)
 last_in text = last_at (position is_space text) text
 
-abbrev pub stat01_in : List ℕ → Option Told
+abbrev pub stat01_in : List ℕ → Option Reply
 stat01_in text =
     option_and_then (λ time. option_and_then (λ nodes. option_and_then (λ depth. option_and_then (λ left.
     option_map (λ last. told.Stat01 time.0 nodes.0 depth.0 left.0 last.0 last.1) (last_in left.1))
@@ -179,24 +179,24 @@ hint_of (Some inner) text = hint_at (position is_paren inner) inner
 abbrev pub hint_in : List ℕ → Option (Option AnyMove × List ℕ)
 hint_in text = hint_of (stripped (codes "(") text) text
 
-abbrev pub thinking_of : ℕ → ℤ → ℕ → ℕ → Option AnyMove × List ℕ → Option Told
+abbrev pub thinking_of : ℕ → ℤ → ℕ → ℕ → Option AnyMove × List ℕ → Option Reply
 thinking_of depth score time nodes end = if are_moves end.1 then Some (told.Thinking depth score time nodes end.0 end.1) else None
 
-abbrev pub thinking_in : List ℕ → Option Told
+abbrev pub thinking_in : List ℕ → Option Reply
 thinking_in text =
     option_and_then (λ depth. option_and_then (λ score. option_and_then (λ time. option_and_then (λ nodes.
     option_and_then (thinking_of depth.0 score.0 time.0 nodes.0) (hint_in nodes.1))
     (number_field time.1)) (number_field score.1)) (score_field depth.1)) (number_field text)
 
 -- what is read behind a front, or else
-abbrev pub behind : Option (List ℕ) → (List ℕ → Option Told) → Option Told → Option Told
+abbrev pub behind : Option (List ℕ) → (List ℕ → Option Reply) → Option Reply → Option Reply
 behind None read other = other
 behind (Some text) read other = read text
 
-abbrev pub of_move : (AnyMove → Told) → List ℕ → Option Told
+abbrev pub of_move : (AnyMove → Reply) → List ℕ → Option Reply
 of_move says text = option_map says (written_move text)
 
-abbrev pub with_front : List ℕ → Option Told
+abbrev pub with_front : List ℕ → Option Reply
 with_front line =
     behind (stripped (codes "feature ") line) feature_in
     (behind (stripped (codes "move ") line) (of_move (λ m. told.Move m))
@@ -208,9 +208,9 @@ with_front line =
     (behind (stripped (codes "stat01: ") line) stat01_in
     (thinking_in line))))))))
 
-abbrev pub or_front : Option Reply → List ℕ → Option Told
-or_front (Some reply) line = Some (told_of reply)
+abbrev pub or_front : Option CodeReply → List ℕ → Option Reply
+or_front (Some reply) line = Some (reply_of reply)
 or_front None line = with_front line
 
-abbrev pub told_in : List ℕ → Option Told
-told_in line = or_front (fixed_of line) line
+abbrev pub reply_in : List ℕ → Option Reply
+reply_in line = or_front (fixed_of line) line

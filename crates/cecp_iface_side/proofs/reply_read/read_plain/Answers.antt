@@ -1,7 +1,7 @@
 use Rattle.std.proofs.Common.{◌≤◌, ◌<◌, ◌^◌, ℕ, ◌∙◌, arith, sym, get_or, lit<}
 use Rattle.std.proofs.Math.Nat.{pow-le-pow_right}
 use Rattle.peer_words.proofs.Digits.{digit, more_value, more_digits, more_bound}
-use Rattle.cecp_iface_side.proofs.hear.read_plain.Goals as goal
+use Rattle.cecp_iface_side.proofs.reply_read.read_plain.Goals as goal
 
 small : (i : ℕ) → i < 20 → 10 ^ i ≤ 10000000000000000000
 small i h = let k : i ≤ 19 = omega arith in let p : 10 ^ i ≤ 10 ^ 19 = pow-le-pow_right (lit< tt) k in p

@@ -1,5 +1,5 @@
 use Rattle.uci_lines.proofs.Spelling.{found, only}
-use Rattle.uci_lines.proofs.asked.read_order.Goals as goal
+use Rattle.uci_lines.proofs.order_read.read_order.Goals as goal
 
 pub returns : goal.returns
 returns c = record {

@@ -1,0 +1,32 @@
+-- What an engine reports of its search.
+use Rattle.std.specs.Prelude.{ℕ, Bool, List, Option}
+use Rattle.peer_words.specs.Tokens.{tokens}
+use Rattle.chess_board.specs.declared.board.Move.{Move}
+use Rattle.uci_lines.specs.declared.messages.Score.{Score}
+use Rattle.uci_lines.specs.declared.messages.Info as code
+use Rattle.uci_lines.specs.Moves.{run}
+
+-- what an engine reports of its search, with the moves of its pv
+pub record Info : Type 0 where
+  pub depth : Option ℕ
+  pub time : Option ℕ
+  pub nodes : Option ℕ
+  pub multipv : Option ℕ
+  pub number : Option ℕ
+  pub score : Option Score
+  pub bound : Bool
+  pub current : Option Move
+  pub pv : List Move
+
+abbrev pub info_of : code.Info → Info
+info_of i = record {
+  depth = i.depth;
+  time = i.time;
+  nodes = i.nodes;
+  multipv = i.multipv;
+  number = i.number;
+  score = i.score;
+  bound = i.bound;
+  current = i.current;
+  pv = run (tokens i.pv.now);
+}
