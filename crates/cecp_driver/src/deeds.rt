@@ -142,7 +142,8 @@ pub(crate) fn write_down(
 )
     requires fits { FitsDown game.now down }
     requires room { length out.old.text + STEP ≤ out.old.room }
-    ensures text { out.new ≡ with out.old (lines_text (down_lines told.old game.now has_usermove down)) }
+    ensures text { out.new ≡ with out.old (lines_text
+        (down_lines told.old game.now has_usermove down)) }
     ensures told { told.new ≡ down_told game.now down told.old }
 {
     match down {

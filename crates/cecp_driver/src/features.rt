@@ -124,7 +124,8 @@ fn hear_cut(has: Has, cut: &Cut, name: &mut Out, up: &mut Out, down: &mut Out) -
     ensures name_room { name.new.room ≡ name.old.room }
     ensures up { up.new
         ≡ with up.old (greetings has name.old.text (onto (cut_seen cut.now).part [])) }
-    ensures down { down.new ≡ with down.old (lines_text (answers (onto (cut_seen cut.now).part []))) }
+    ensures down { down.new
+        ≡ with down.old (lines_text (answers (onto (cut_seen cut.now).part []))) }
 {
     match &cut.part {
         Some(part) => hear_part(has, part, name, up, down),

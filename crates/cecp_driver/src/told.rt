@@ -95,7 +95,8 @@ fn write_setup(further: Option<&[Move]>, game: &Game, has_usermove: bool, out: &
         × AllByRecursion (λ m. IsOfficer m.promo) (plies_of r.now)) }
     requires room { length out.old.text + SETUP ≤ out.old.room }
     ensures text { out.new
-        ≡ with out.old (lines_text (setup_lines (option_map (λ r. plies_of r.now) further.entry) has_usermove game.now)) }
+        ≡ with out.old (lines_text (setup_lines
+        (option_map (λ r. plies_of r.now) further.entry) has_usermove game.now)) }
     ensures short { length out.new.text ≤ length out.old.text + SETUP }
 {
     match further {
@@ -129,9 +130,11 @@ impl Told {
 
     /// The moves by which a game goes on from what the engine was told. None if it has to be set up anew.
     fn continued<'g>(&self, game: &'g Game, has_depth: bool) -> Option<&'g [Move]>
-        ensures value { option_map (λ r. plies_of r.now) result ≡ continued self.now game.now has_depth }
+        ensures value { option_map (λ r. plies_of r.now) result
+            ≡ continued self.now game.now has_depth }
         ensures few { IfSome result (λ r. length r.now ≤ length game.now.moves) }
-        ensures officers { IfSome result (λ r. AllByRecursion (λ m. IsOfficer m.promo) (plies_of r.now)) }
+        ensures officers { IfSome result (λ r. AllByRecursion (λ m. IsOfficer m.promo)
+            (plies_of r.now)) }
     {
         if self.is_known
             && !(self.is_limited && !has_depth)
@@ -160,7 +163,8 @@ impl Told {
         requires few { length game.now.moves ≤ MOST_PLIES }
         requires room { length out.old.text + SETUP ≤ out.old.room }
         ensures text { out.new
-            ≡ with out.old (lines_text (setup_lines (continued self.old game.now has_depth) has_usermove game.now)) }
+            ≡ with out.old (lines_text (setup_lines
+            (continued self.old game.now has_depth) has_usermove game.now)) }
         ensures short { length out.new.text ≤ length out.old.text + SETUP }
         ensures told { self.new ≡ set_up self.old game.now has_depth }
     {

@@ -104,5 +104,6 @@ pub trait Host {
     fn close_log(&mut self, log: Self::Log)
         requires { length (books self.old).logs < (books self.old).logs_out }
         ensures books { books self.new ≡ with_closed_log (books self.old) (Self.Log.state log) }
-        ensures cause { ClosesLogBy (faults self.old) (faults self.new) (Self.Log.state log).faults };
+        ensures cause { ClosesLogBy (faults self.old) (faults self.new)
+            (Self.Log.state log).faults };
 }

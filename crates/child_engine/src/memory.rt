@@ -44,7 +44,8 @@ pub struct MemHost {
     closed_logs: Vec<MemSink>,
     ghost some_piece: { 0 < piece },
     ghost few_runs: { (vec_len runs ≤ runs_out) × (runs_out ≤ 10) × (10 ≤ vec_capacity runs) },
-    ghost few_logs: { (vec_len closed_logs ≤ logs_out) × (logs_out ≤ 10) × (10 ≤ vec_capacity closed_logs) },
+    ghost few_logs: { (vec_len closed_logs ≤ logs_out) × (logs_out ≤ 10)
+        × (10 ≤ vec_capacity closed_logs) },
 }
 
 impl MemHost {
@@ -150,7 +151,8 @@ impl Host for MemHost {
     fn close(&mut self, run: Started<MemSource, MemSink, ()>) -> Result<(), Failed>
         requires { length (books_of self.old).runs < (books_of self.old).runs_out }
         ensures books { books_of self.new
-            ≡ with_closed_run (books_of self.old) (shown_by_source run.src) (shown_by_sink run.snk) }
+            ≡ with_closed_run (books_of self.old)
+            (shown_by_source run.src) (shown_by_sink run.snk) }
         ensures cause { ClosesBy self.old.faults self.new.faults
             (shown_by_source run.src).faults (shown_by_sink run.snk).faults result }
     {

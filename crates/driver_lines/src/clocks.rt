@@ -206,7 +206,8 @@ fn write_otim(time: u64, out: &mut Out)
 fn put_times(moves: u64, own: u64, other: u64, increment: u64, out: &mut Out)
     requires room { length out.old.text + 124 ≤ out.old.room }
     ensures text { out.new
-        ≡ with out.old (lines_text (Level moves (own / 1000) increment ∷ Time (own / 10) ∷ Otim (other / 10) ∷ [])) }
+        ≡ with out.old (lines_text (Level moves (own / 1000) increment
+        ∷ Time (own / 10) ∷ Otim (other / 10) ∷ [])) }
     ensures short { length out.new.text ≤ length out.old.text + 124 }
 {
     write_level(moves, own / 1000, increment, out);
@@ -233,7 +234,8 @@ ghost use Rattle.std.specs.Prelude.{None};
 
 fn write_control(side: Side, clocks: &Clocks, out: &mut Out)
     requires room { length out.old.text + 160 ≤ out.old.room }
-    ensures text { out.new ≡ with out.old (lines_text (control_lines side clocks.now clocks.now.movetime)) }
+    ensures text { out.new
+        ≡ with out.old (lines_text (control_lines side clocks.now clocks.now.movetime)) }
     ensures short { length out.new.text ≤ length out.old.text + 160 }
 {
     match clocks.movetime {

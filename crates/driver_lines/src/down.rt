@@ -43,7 +43,8 @@ pub fn write_numbered(word: &[u8], n: u64, out: &mut Out)
 pub(crate) fn put_line(word: &[u8], text: &[u8], out: &mut Out)
     requires room { length out.old.text + length word.now + length text.now + 1 ≤ out.old.room }
     ensures text { out.new ≡ with out.old (word.now ++ text.now ++ 10 ∷ []) }
-    ensures short { length out.new.text ≤ length out.old.text + length word.now + length text.now + 1 }
+    ensures short { length out.new.text
+        ≤ length out.old.text + length word.now + length text.now + 1 }
 {
     out.put(word);
     out.put(text);

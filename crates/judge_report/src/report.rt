@@ -66,8 +66,10 @@ impl Report {
     // Hears what a mark is, and puts what comes of it.
     fn hear(&mut self, number: u64, deed: &Deed, text: &mut Out) -> Option<Ending>
         requires { length text.old.text + LAST_LINES ≤ text.old.room }
-        ensures ending { result ≡ (of_deed self.old number deed.now (broken self.old deed.now)).ending }
-        ensures talk { self.new ≡ (of_deed self.old number deed.now (broken self.old deed.now)).talk }
+        ensures ending { result
+            ≡ (of_deed self.old number deed.now (broken self.old deed.now)).ending }
+        ensures talk { self.new
+            ≡ (of_deed self.old number deed.now (broken self.old deed.now)).talk }
         ensures put { text.new ≡ with text.old
             (of_deed self.old number deed.now (broken self.old deed.now)).more }
         ensures of_line { IfSome result (λ ending. IsOfLine ending) }
@@ -88,7 +90,8 @@ impl Report {
     // Reads a line by what it is.
     fn take(&mut self, number: u64, line: &[u8], text: &mut Out) -> Option<Ending>
         requires { length text.old.text + LAST_LINES ≤ text.old.room }
-        ensures ending { result ≡ (of_kind self.old number (kind_of number (Whole line.now))).ending }
+        ensures ending { result
+            ≡ (of_kind self.old number (kind_of number (Whole line.now))).ending }
         ensures talk { self.new ≡ (of_kind self.old number (kind_of number (Whole line.now))).talk }
         ensures put { text.new ≡ with text.old
             (of_kind self.old number (kind_of number (Whole line.now))).more }

@@ -19,7 +19,7 @@ use Rattle.policy_rules.specs.declared.settings.Settings.{Settings}
 use Rattle.adapter_core.specs.Trace.{iface_text, engine_text}
 use Rattle.adapter_core.specs.Parts.{Parts as AnyParts}
 use Rattle.adapter_core.specs.Stands.{Stands}
-use Rattle.session_script.specs.Script.{written_text, reply_in}
+use Rattle.session_script.specs.Script.{written_text, events_in}
 use Rattle.session_script.proofs.Lines.{written_lines, event_lines}
 use Rattle.session_script.proofs.Scripts.{some_opened}
 use Rattle.command_endings.specs.declared.ending.Ending.{Ending}
@@ -138,7 +138,7 @@ opens_numbered o s core due line h f =
               ∙ ap (λ (e : Event). Whole (header_text s) ∷ Whole (step_line 0) ∷ map Whole (event_lines e ++ written_lines (iface_text x) (engine_text x))) f.adds.event
               ∙ ap (λ (l : List ℕ). Whole l ∷ Whole (step_line 0) ∷ map Whole (written_lines (iface_text x) (engine_text x))) (sym spelled.text)
               ∙ ap (λ ls. Whole line ∷ map Whole ls) (sym due_parts);
-          quiet = ap reply_in due_parts ∙ ap reply_in (sym (written_is x (written_text x) refl)) ∙ written_still x (written_text x) refl;
+          quiet = ap events_in due_parts ∙ ap events_in (sym (written_is x (written_text x) refl)) ∙ written_still x (written_text x) refl;
         },
         record { count = 0; length_is = refl; number_is = refl },
       );

@@ -16,7 +16,7 @@ use Rattle.adapter_core.specs.Stands.{Stands, step_by}
 use Rattle.adapter_core.proofs.Unique.{unique}
 use Rattle.adapter_core.proofs.Holds.{extended}
 use Rattle.adapter_core.proofs.Traces.{lasts}
-use Rattle.session_script.specs.Script.{event_told, reply_in}
+use Rattle.session_script.specs.Script.{event_told, events_in}
 use Rattle.session_script.proofs.Lines.{lines_of, event_lines, step_lines, AreTold, script1_lines}
 use Rattle.session_script.proofs.Numbered.{number_line, lines_of2, script2_lines, script2_told, numbered_added, numbered_lines_added, NextNumbered, next_numbered}
 use Rattle.session_script.proofs.Scripts.{Next, added, later_events, script_told, all_told, some_opened, events_later, goes_on, same_trace, lines_added, next_line, event_line}
@@ -37,7 +37,7 @@ pub both_told : (ls ms : List Piece) → all_told_of (ls ++ ms) ≡ all_told_of 
 both_told [] ms = refl
 both_told (l ∷ ls) ms = ap (λ es. reply_of l ++ es) (both_told ls ms) ∙ sym (append_assoc (reply_of l) (all_told_of ls) (all_told_of ms))
 
-pub whole_told : (ls : List (List ℕ)) → all_told_of (map Whole ls) ≡ reply_in ls
+pub whole_told : (ls : List (List ℕ)) → all_told_of (map Whole ls) ≡ events_in ls
 whole_told [] = refl
 whole_told (l ∷ ls) = ap (λ es. event_told (mark_of l) ++ es) (whole_told ls)
 
@@ -59,7 +59,7 @@ both_in : (v : Version) (newer t : List Step) → lines_in v (newer ++ t) ≡ li
 both_in First newer t = lines_added newer t
 both_in (Second s) newer t = ap (λ ls. header_text s ∷ ls) (numbered_lines_added newer t)
 
-told_by : (v : Version) (t : List Step) → AreTold t → reply_in (lines_in v t) ≡ later_events t
+told_by : (v : Version) (t : List Step) → AreTold t → events_in (lines_in v t) ≡ later_events t
 told_by First t a = script_told t a
 told_by (Second s) t a = script2_told s t a
 

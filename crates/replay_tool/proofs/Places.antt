@@ -16,7 +16,7 @@ use Rattle.adapter_core.specs.declared.ends.Ends.{Ends}
 use Rattle.adapter_core.specs.Ends.{may}
 use Rattle.adapter_core.specs.Trace.{Step, state, iface_text, engine_text}
 use Rattle.adapter_core.specs.Parts.{Parts}
-use Rattle.session_script.specs.Script.{written_text, reply_in, event_told}
+use Rattle.session_script.specs.Script.{written_text, events_in, event_told}
 use Rattle.session_script.proofs.Lines.{written_lines, written_parts, step_lines}
 use Rattle.session_script.proofs.Scripts.{event_line, some_opened, written_quiet}
 use Rattle.command_endings.specs.declared.ending.Ending.{Ending}
@@ -60,8 +60,8 @@ pub data Taken (o : Settings) (v : Version) (before : List Piece) (p : Piece) (n
 pub written_is : (s : Step) (due : List ℕ) → due ≡ written_text s → parts due ≡ written_lines (iface_text s) (engine_text s)
 written_is s due e = ap parts (e ∙ sym (append-nil (written_text s))) ∙ written_parts (iface_text s) (engine_text s) [] ∙ append-nil (written_lines (iface_text s) (engine_text s))
 
-pub written_still : (s : Step) (due : List ℕ) → due ≡ written_text s → reply_in (parts due) ≡ []
-written_still s due e = ap reply_in (written_is s due e) ∙ written_quiet (iface_text s) (engine_text s)
+pub written_still : (s : Step) (due : List ℕ) → due ≡ written_text s → events_in (parts due) ≡ []
+written_still s due e = ap events_in (written_is s due e) ∙ written_quiet (iface_text s) (engine_text s)
 
 pub tells_text : (p : Piece) (e : Event) → kind_of p ≡ Tells e → p ≡ Whole (event_text e)
 tells_text TooLong e k = cc
@@ -126,7 +126,7 @@ module _ (o : Settings) (v : Version) (core : Parts) (stage : Stage) (due : List
     shows_next w d e f = record {
       same = w.same ∙ ap (λ (ls : List Piece). before ++ ls) (something d ∙ ap (λ (x : Piece). x ∷ map Whole (parts (after_first is_feed due))) (sym e) ∙ ap (λ (xs : List ℕ). p ∷ map Whole (parts xs)) (sym f))
           ∙ sym (append_assoc before (p ∷ []) (map Whole (parts due')));
-      quiet = ap (λ (xs : List ℕ). reply_in (parts xs)) f ∙ tail_quiet (event_told (mark_of (before_first is_feed due))) (reply_in (parts (after_first is_feed due))) (sym (ap reply_in (some_parts due d)) ∙ w.quiet);
+      quiet = ap (λ (xs : List ℕ). events_in (parts xs)) f ∙ tail_quiet (event_told (mark_of (before_first is_feed due))) (events_in (parts (after_first is_feed due))) (sym (ap events_in (some_parts due d)) ∙ w.quiet);
     }
 
     not_due : Shows v t due before → (length due == 0) ≡ false → (p ≡ Whole (before_first is_feed due) → ⊥) → BeginBy o v (before ++ p ∷ []) → ⊥

@@ -14,7 +14,7 @@ use Rattle.adapter_core.specs.Ends.{is_over}
 use Rattle.adapter_core.specs.Trace.{Step, Lawful, state}
 use Rattle.adapter_core.specs.Parts.{Parts}
 use Rattle.adapter_core.specs.Stands.{Stands}
-use Rattle.session_script.specs.Script.{written_text, reply_in}
+use Rattle.session_script.specs.Script.{written_text, events_in}
 use Rattle.command_endings.specs.declared.ending.Ending.{Ending}
 use Rattle.command_endings.specs.declared.ending.Ending.TheVariants as endings
 use Rattle.replay_tool.specs.declared.check.Checker.{Checker}
@@ -163,7 +163,7 @@ pub record IsUnread (o : Settings) (checker : Checker) : Type 0 where
 -- the lines and those that are due are a script, and only written lines and the first step line are due
 pub record Shows (version : Version) (trace : List Step) (due : List ℕ) (lines : List Piece) : Type 0 where
   pub same : lines_by version trace ≡ lines ++ map Whole (parts due)
-  pub quiet : reply_in (parts due) ≡ []
+  pub quiet : events_in (parts due) ≡ []
 
 -- the step of this number was the last
 pub record WasLast (number : ℕ) (trace : List Step) : Type 0 where

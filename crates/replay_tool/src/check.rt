@@ -164,7 +164,8 @@ fn take_any(
     due: &mut ExpectedLines,
 ) -> Option<Ending>
     requires { MayTake core.old stage.old }
-    ensures taken { TakesAny core.old stage.old due.old number line.now result core.new stage.new due.new }
+    ensures taken { TakesAny core.old stage.old due.old number line.now result
+        core.new stage.new due.new }
     ensures open { IsOpen stage.new }
     ensures unread { result ≢ Some endings.ReadingFailed }
 {

@@ -62,7 +62,8 @@ fn agrees(at: &Position, spelling: &Spelling, m: Move) -> bool
 /// check or mate, is not compared.
 pub fn read_san(at: &Position, text: &[u8]) -> Result<Move, SanFault>
     ensures read { IsRead at.now text.now result }
-    ensures written { (m : AnyMove) → IsLegal at.now m.from.index m.to.index m.promo → IsSan at.now m text.now → result ≡ Ok m }
+    ensures written { (m : AnyMove) → IsLegal at.now m.from.index m.to.index m.promo
+        → IsSan at.now m text.now → result ≡ Ok m }
 {
     let Some(spelling) = read_spelling(text) else {
         return Err(SanFault::BadSan);

@@ -82,7 +82,8 @@ fn put(text: &mut ArrayVec<u8, 7>, piece: &[u8])
 
 fn put_square(text: &mut ArrayVec<u8, 7>, square: Square)
     requires { array_vec_len text.old + 2 ≤ 7 }
-    ensures items { text.new.items ≡ text.old.items ++ file_letter square.index ∷ rank_digit square.index ∷ [] }
+    ensures items { text.new.items
+        ≡ text.old.items ++ file_letter square.index ∷ rank_digit square.index ∷ [] }
     ensures len { array_vec_len text.new ≡ array_vec_len text.old + 2 }
 {
     text.push(b'a' + square.file());

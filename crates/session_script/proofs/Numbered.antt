@@ -15,7 +15,7 @@ use Rattle.adapter_core.specs.Ends.{may}
 use Rattle.adapter_core.specs.Trace.{Step, Lawful, state, iface_text, engine_text}
 use Rattle.adapter_core.specs.Stands.{IsOneDialogue}
 use Rattle.session_script.specs.OneWay.{IsOpened, HasOneTrace, HasOneSession}
-use Rattle.session_script.specs.Script.{step_text, script1, numbered_texts, script2, event_told, reply_in}
+use Rattle.session_script.specs.Script.{step_text, script1, numbered_texts, script2, event_told, events_in}
 use Rattle.session_script.proofs.Lines.{written_lines, event_lines, step_lines, step_parts, AreTold, script1_lines}
 use Rattle.session_script.proofs.Scripts.{told_both, later_events, step_told, script_told, all_told, some_opened, events_later, same_trace}
 
@@ -57,16 +57,16 @@ script2_lines o t p a =
 pub header_quiet : (o : Settings) → event_told (mark_of (header_text o)) ≡ []
 header_quiet o = ap (λ l. event_told (mark_of l)) (header_words o)
 
-pub numbered_told : (t : List Step) → AreTold t → reply_in (numbered_lines t) ≡ later_events t
+pub numbered_told : (t : List Step) → AreTold t → events_in (numbered_lines t) ≡ later_events t
 numbered_told [] a = refl
 numbered_told (s ∷ t) a =
     told_both (numbered_lines t) (number_line (length t) ∷ step_lines s)
-    ∙ ap (λ es. es ++ reply_in (step_lines s)) (numbered_told t a.1)
+    ∙ ap (λ es. es ++ events_in (step_lines s)) (numbered_told t a.1)
     ∙ ap (λ es. later_events t ++ es) (step_told s a.0)
 
 -- a script of version 2 tells the events of its trace
-pub script2_told : (o : Settings) (t : List Step) → AreTold t → reply_in (lines_of2 o t) ≡ later_events t
-script2_told o t a = ap (λ es. es ++ reply_in (numbered_lines t)) (header_quiet o) ∙ numbered_told t a
+pub script2_told : (o : Settings) (t : List Step) → AreTold t → events_in (lines_of2 o t) ≡ later_events t
+script2_told o t a = ap (λ es. es ++ events_in (numbered_lines t)) (header_quiet o) ∙ numbered_told t a
 
 -- WHAT A LONGER TRACE ADDS
 
@@ -109,8 +109,8 @@ next_numbered o (s ∷ newer) t l = by (next_numbered o newer t l.0) where
 
 -- ONE WAY
 
-told_by1 : (o : Settings) (t : List Step) → Lawful o t → reply_in (parts (script1 t)) ≡ later_events t
-told_by1 o t l = ap reply_in (script1_lines t (all_told o t l)) ∙ script_told t (all_told o t l)
+told_by1 : (o : Settings) (t : List Step) → Lawful o t → events_in (parts (script1 t)) ≡ later_events t
+told_by1 o t l = ap events_in (script1_lines t (all_told o t l)) ∙ script_told t (all_told o t l)
 
 same_by_events : (o : Settings) → IsOneDialogue o → (t t' : List Step) → Lawful o t → Lawful o t' → IsOpened o t → IsOpened o t' → later_events t ≡ later_events t' → t ≡ t'
 same_by_events o one t t' l l' p p' e =
@@ -118,7 +118,7 @@ same_by_events o one t t' l l' p p' e =
 
 pub one_trace : (o : Settings) → IsOneDialogue o → HasOneTrace o
 one_trace o one t t' l l' p p' e =
-    same_by_events o one t t' l l' p p' (sym (told_by1 o t l) ∙ ap (λ s. reply_in (parts s)) e ∙ told_by1 o t' l')
+    same_by_events o one t t' l l' p p' (sym (told_by1 o t l) ∙ ap (λ s. events_in (parts s)) e ∙ told_by1 o t' l')
 
 some_same : (x y : Settings) → Some x ≡ Some y → x ≡ y
 some_same x y e = cc
@@ -141,7 +141,7 @@ same_numbered o one [] (s ∷ t') l l' e = absurd (some_line s t' e)
 same_numbered o one (s ∷ t) [] l l' e = absurd (some_line s t (sym e))
 same_numbered o one (s ∷ t) (s' ∷ t') l l' e =
     same_by_events o one (s ∷ t) (s' ∷ t') l l' (some_opened o s t l) (some_opened o s' t' l')
-    (sym (numbered_told (s ∷ t) (all_told o (s ∷ t) l)) ∙ ap reply_in e ∙ numbered_told (s' ∷ t') (all_told o (s' ∷ t') l'))
+    (sym (numbered_told (s ∷ t) (all_told o (s ∷ t) l)) ∙ ap events_in e ∙ numbered_told (s' ∷ t') (all_told o (s' ∷ t') l'))
 
 pub one_session : (o : Settings) → IsOneDialogue o → HasOneSession o
 one_session o one o' t t' p p' l l' e =

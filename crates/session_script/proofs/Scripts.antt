@@ -13,14 +13,14 @@ use Rattle.adapter_core.specs.Ends.{may, ends_after, at_start}
 use Rattle.adapter_core.specs.Trace.{Step, Lawful, state, event_in, iface_text, engine_text}
 use Rattle.adapter_core.specs.Stands.{IsOneDialogue}
 use Rattle.session_script.specs.OneWay.{IsOpened}
-use Rattle.session_script.specs.Script.{events, event_told, reply_in}
+use Rattle.session_script.specs.Script.{events, event_told, events_in}
 use Rattle.session_script.proofs.Lines.{behind, written_lines, event_lines, IsTold, told, step_lines, lines_of, AreTold}
 
 -- THE EVENTS THAT LINES TELL
 
-pub told_both : (ls ms : List (List ℕ)) → reply_in (ls ++ ms) ≡ reply_in ls ++ reply_in ms
+pub told_both : (ls ms : List (List ℕ)) → events_in (ls ++ ms) ≡ events_in ls ++ events_in ms
 told_both [] ms = refl
-told_both (l ∷ ls) ms = ap (λ es. event_told (mark_of l) ++ es) (told_both ls ms) ∙ sym (append_assoc (event_told (mark_of l)) (reply_in ls) (reply_in ms))
+told_both (l ∷ ls) ms = ap (λ es. event_told (mark_of l) ++ es) (told_both ls ms) ∙ sym (append_assoc (event_told (mark_of l)) (events_in ls) (events_in ms))
 
 iface_quiet : (line : List ℕ) → event_told (mark_of (behind 88 line)) ≡ []
 iface_quiet line = by (is_written line) where
@@ -34,25 +34,25 @@ engine_quiet line = by (is_written line) where
   by true = refl
   by false = refl
 
-all_iface : (ps : List (List ℕ)) → reply_in (map (behind 88) ps) ≡ []
+all_iface : (ps : List (List ℕ)) → events_in (map (behind 88) ps) ≡ []
 all_iface [] = refl
-all_iface (p ∷ ps) = ap (λ es. es ++ reply_in (map (behind 88) ps)) (iface_quiet p) ∙ all_iface ps
+all_iface (p ∷ ps) = ap (λ es. es ++ events_in (map (behind 88) ps)) (iface_quiet p) ∙ all_iface ps
 
-all_engine : (ps : List (List ℕ)) → reply_in (map (behind 85) ps) ≡ []
+all_engine : (ps : List (List ℕ)) → events_in (map (behind 85) ps) ≡ []
 all_engine [] = refl
-all_engine (p ∷ ps) = ap (λ es. es ++ reply_in (map (behind 85) ps)) (engine_quiet p) ∙ all_engine ps
+all_engine (p ∷ ps) = ap (λ es. es ++ events_in (map (behind 85) ps)) (engine_quiet p) ∙ all_engine ps
 
 -- written lines tell no event
-pub written_quiet : (iface engine : List ℕ) → reply_in (written_lines iface engine) ≡ []
+pub written_quiet : (iface engine : List ℕ) → events_in (written_lines iface engine) ≡ []
 written_quiet iface engine =
     told_both (map (behind 88) (parts iface)) (map (behind 85) (parts engine))
-    ∙ ap (λ es. es ++ reply_in (map (behind 85) (parts engine))) (all_iface (parts iface)) ∙ all_engine (parts engine)
+    ∙ ap (λ es. es ++ events_in (map (behind 85) (parts engine))) (all_iface (parts iface)) ∙ all_engine (parts engine)
 
 abbrev pub later_event : Event → List Event
 later_event Open = []
 later_event e = e ∷ []
 
-event_read : (e : Event) → IsTold e → reply_in (event_lines e) ≡ later_event e
+event_read : (e : Event) → IsTold e → events_in (event_lines e) ≡ later_event e
 event_read events.Open t = refl
 event_read (events.Iface line) t = ap (λ m. event_told m ++ []) (spelled_read (Happens (events.Iface line)) t)
 event_read events.IfaceLong t = ap (λ m. event_told m ++ []) (spelled_read (Happens events.IfaceLong) tt)
@@ -69,19 +69,19 @@ later_events [] = []
 later_events (s ∷ t) = later_events t ++ later_event s.event
 
 -- the lines of a step tell its event
-pub step_told : (s : Step) → IsTold s.event → reply_in (step_lines s) ≡ later_event s.event
+pub step_told : (s : Step) → IsTold s.event → events_in (step_lines s) ≡ later_event s.event
 step_told s a =
     told_both (event_lines s.event) (written_lines (iface_text s) (engine_text s))
-    ∙ ap (λ es. es ++ reply_in (written_lines (iface_text s) (engine_text s))) (event_read s.event a)
+    ∙ ap (λ es. es ++ events_in (written_lines (iface_text s) (engine_text s))) (event_read s.event a)
     ∙ ap (λ es. later_event s.event ++ es) (written_quiet (iface_text s) (engine_text s))
     ∙ append-nil (later_event s.event)
 
 -- a script tells the events of its trace
-pub script_told : (t : List Step) → AreTold t → reply_in (lines_of t) ≡ later_events t
+pub script_told : (t : List Step) → AreTold t → events_in (lines_of t) ≡ later_events t
 script_told [] a = refl
 script_told (s ∷ t) a =
     told_both (lines_of t) (step_lines s)
-    ∙ ap (λ es. es ++ reply_in (step_lines s)) (script_told t a.1)
+    ∙ ap (λ es. es ++ events_in (step_lines s)) (script_told t a.1)
     ∙ ap (λ es. later_events t ++ es) (step_told s a.0)
 
 -- LAWFUL TRACES

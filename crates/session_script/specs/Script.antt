@@ -44,9 +44,9 @@ abbrev pub event_told : Option Mark → List Event
 event_told (Some (Happens e)) = e ∷ []
 event_told m = []
 
-abbrev pub reply_in : List (List ℕ) → List Event
-reply_in [] = []
-reply_in (l ∷ ls) = event_told (mark_of l) ++ reply_in ls
+abbrev pub events_in : List (List ℕ) → List Event
+events_in [] = []
+events_in (l ∷ ls) = event_told (mark_of l) ++ events_in ls
 
 -- what a step may write to one peer: whole lines, of fewer than 131,072 bytes
 pub record IsShortText (text : List ℕ) : Type 0 where
