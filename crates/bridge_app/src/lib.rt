@@ -1,8 +1,6 @@
-//! The program `bridge`: words, the run that they ask for, and how it is told.
+//! The program `bridge`: words, the run that they ask for, and how it is reported.
 #![tactic(auto)]
 
-mod ending;
 mod main_call;
 
-pub use ending::Ending;
 pub use main_call::{bridge_main, refuse_for_memory};

@@ -5,10 +5,10 @@ use Rattle.policy_rules.specs.declared.settings.Settings.{Settings}
 use Rattle.event_pipe.specs.Counts.{Tells}
 use Rattle.child_engine.specs.Hosts.{Books}
 use Rattle.child_engine.specs.declared.host.Faults.{Faults}
-use Rattle.bridge_runner.specs.declared.bridge.Failures.{Failures}
+use Rattle.host_run.specs.declared.failures.Failures.{Failures}
 use Rattle.bridge_runner.specs.Bridged.{Bridged, Leaves}
-use Rattle.bridge_runner.specs.Early.{AreEarly, only_memory, only_start}
-use Rattle.bridge_runner.specs.Outside.{Outside, outside, unused, AreTold, IsClosed}
+use Rattle.host_run.specs.Early.{AreEarly, only_memory, only_start}
+use Rattle.host_run.specs.Outside.{Outside, outside, unused, AreTold, IsClosed}
 
 bridged_from : (s : Settings) (i : Supplied) (o : Received) (f f' : Faults) (b b' : Books) (after : Outside) (failures : Failures)
     → Bridged s (outside i o f b) after failures → Bridged s (outside i o f' b') after failures

@@ -2,18 +2,13 @@
 use Rattle.std.specs.Prelude.{◌≡◌, ◌<◌, ◌⊎◌, Bool, true, false, [], ◌∷◌}
 use Rattle.policy_rules.specs.declared.settings.Settings.{Settings}
 use Rattle.event_pipe.specs.Arrivals.{failed}
-use Rattle.event_pipe.specs.declared.reader.ReadEnd.{ReadEnd}
-use Rattle.event_pipe.specs.declared.reader.ReadEnd.TheVariants as read_ends
 use Rattle.pipe_runner.specs.declared.run.RunEnd.{RunEnd}
-use Rattle.pipe_runner.specs.Streams.{Streams}
+use Rattle.sink_offers.specs.Streams.{Streams}
 use Rattle.pipe_runner.specs.Ran.{Ran}
 use Rattle.child_engine.specs.Hosts.{Books, IsUnread, IsUnwritten, told_by}
-use Rattle.bridge_runner.specs.declared.bridge.Failures.{Failures}
-use Rattle.bridge_runner.specs.Outside.{Outside, AreTold, IsClosed}
-
-abbrev pub lacked_memory : ReadEnd → Bool
-lacked_memory read_ends.NoMemory = true
-lacked_memory end = false
+use Rattle.host_run.specs.declared.failures.Failures.{Failures}
+use Rattle.host_run.specs.Readers.{lacked_memory}
+use Rattle.host_run.specs.Outside.{Outside, AreTold, IsClosed}
 
 -- what the readers and the loop answered is told
 pub record TellsRun (run : RunEnd) (failures : Failures) : Type 0 where

@@ -1,5 +1,2 @@
 pub mod Bridged
-pub mod Early
-pub mod Logs
-pub mod Outside
 pub mod Parts

@@ -1,110 +1,24 @@
 // One run of the bridge.
-ghost use Rattle.std.specs.Prelude.{◌≡◌, ◌<◌, ◌+◌, ◌++◌, ◌||◌, length, true, None, IfOk, IfErr, OnOk, OnErr};
+ghost use Rattle.std.specs.Prelude.{◌≡◌, ◌<◌, ◌||◌, length, IfOk, IfErr, OnOk, OnErr};
 ghost use Rattle.policy_rules.specs.Policy.{IsProper};
-ghost use Rattle.event_pipe.specs.Arrivals.{failed};
-ghost use Rattle.event_pipe.specs.Counts.{Tells};
-ghost use Rattle.pipe_runner.specs.Streams.{log_state};
-ghost use Rattle.child_engine.specs.Hosts.{IsUnread, IsUnwritten, RisesBy, with_run};
-ghost use Rattle.bridge_runner.specs.Bridged.{Leaves, lacked_memory};
-ghost use Rattle.bridge_runner.specs.Early.{AreEarly, only_memory, only_start};
-ghost use Rattle.bridge_runner.specs.Logs.{log_count, logs_told, is_failed, is_no_memory};
-ghost use Rattle.bridge_runner.specs.Outside.{outside, unused};
+ghost use Rattle.child_engine.specs.Hosts.{IsUnread, IsUnwritten, with_run};
+ghost use Rattle.host_run.specs.Early.{AreEarly};
+ghost use Rattle.host_run.specs.Outside.{outside, unused};
+ghost use Rattle.bridge_runner.specs.Bridged.{Leaves};
 ghost use Rattle.bridge_runner.specs.Parts.{AreReady};
 
 use crate::parts::{Parts, make_parts};
-use crate::threads::TriedThreads;
 use child_engine::{Host, HostFault, Started};
-use event_pipe::ReadEnd;
+use host_run::{
+    Failures, Opened, TriedThreads, close_log, has_failed, has_lacked_memory, is_open_failure,
+    is_open_memory, only_memory, only_start, open_log,
+};
 use line_io::{Sink, Source};
 use pipe_runner::run_pipes;
 use policy_rules::Settings;
 use std::alloc::Global;
 use std::sync::Wait;
 use std::thread::Threads;
-
-/// What failed in a run of the bridge.
-#[derive(Clone, Copy, Debug, Default, PartialEq, Eq)]
-pub struct Failures {
-    /// Before the engine was started there was no memory for the run, for a thread of each reader
-    /// or for the engine's command; or later none to open the log or for a line in transit.
-    pub memory: bool,
-    pub iface_read: bool,
-    pub iface_write: bool,
-    pub engine_read: bool,
-    pub engine_write: bool,
-    pub engine_start: bool,
-    pub log: bool,
-    pub engine_wait: bool,
-}
-
-// Whether reading failed.
-fn has_failed(end: ReadEnd) -> bool
-    ensures { result ≡ failed end }
-{
-    matches!(end, ReadEnd::Fault(_))
-}
-
-fn has_lacked_memory(end: ReadEnd) -> bool
-    ensures { result ≡ lacked_memory end }
-{
-    matches!(end, ReadEnd::NoMemory)
-}
-
-// A log, or why there is none.
-struct Opened<L> {
-    log: Option<L>,
-    fault: Option<HostFault>,
-}
-
-fn open_log<H: Host>(host: &mut H, alloc: Global, name: &str) -> Opened<H::Log>
-    requires { (H.books host.old).logs_out ≡ 0 }
-    ensures books { H.books host.new
-        ≡ record (H.books host.old) { logs_out = log_count result.log } }
-    ensures fresh { IsUnwritten (log_state H.Log.state result.log) }
-    ensures cause { Tells (H.faults host.old).logs (H.faults host.new).logs
-        (is_failed result.fault) }
-    ensures others { H.faults host.new
-        ≡ record (H.faults host.old) { logs = (H.faults host.new).logs } }
-    ensures some { result.fault ≡ None → log_count result.log ≡ 1 }
-    ensures none { is_no_memory result.fault ≡ true → log_count result.log ≡ 0 }
-{
-    match host.open_log(alloc, name) {
-        Ok(log) => Opened {
-            log: Some(log),
-            fault: None,
-        },
-        Err(fault) => Opened {
-            log: None,
-            fault: Some(fault),
-        },
-    }
-}
-
-fn close_log<H: Host>(host: &mut H, log: Option<H::Log>)
-    requires { length (H.books host.old).logs + log_count log ≡ (H.books host.old).logs_out }
-    ensures books { H.books host.new ≡ record (H.books host.old)
-        { logs = (H.books host.old).logs ++ logs_told H.Log.state log } }
-    ensures cause { RisesBy (log_state H.Log.state log).faults
-        (H.faults host.old).logs (H.faults host.new).logs }
-    ensures others { H.faults host.new
-        ≡ record (H.faults host.old) { logs = (H.faults host.new).logs } }
-{
-    if let Some(log) = log {
-        host.close_log(log);
-    }
-}
-
-fn is_open_failure(fault: Option<HostFault>) -> bool
-    ensures { result ≡ is_failed fault }
-{
-    matches!(fault, Some(HostFault::Failed))
-}
-
-fn is_open_memory(fault: Option<HostFault>) -> bool
-    ensures { result ≡ is_no_memory fault }
-{
-    matches!(fault, Some(HostFault::NoMemory))
-}
 
 fn either(a: bool, b: bool) -> bool
     ensures { result ≡ (a || b) }
@@ -169,24 +83,6 @@ fn run_started<I: Source + Send, O: Sink + Send, H: Host, R: Threads + Wait + Sy
         engine_start: false,
         log: either(is_open_failure(fault), end.done.log),
         engine_wait: waited.is_err(),
-    }
-}
-
-fn only_memory() -> Failures
-    ensures { result ≡ only_memory }
-{
-    Failures {
-        memory: true,
-        ..Failures::default()
-    }
-}
-
-fn only_start() -> Failures
-    ensures { result ≡ only_start }
-{
-    Failures {
-        engine_start: true,
-        ..Failures::default()
     }
 }
 

@@ -3,6 +3,5 @@
 
 mod bridge;
 mod parts;
-mod threads;
 
-pub use bridge::{Failures, bridge_run};
+pub use bridge::bridge_run;

@@ -1,6 +1,6 @@
 // The program over hosts in memory.
 ghost use Rattle.std.specs.Prelude.{◌≡◌};
-ghost use Rattle.bridge_runner.specs.Outside.{unused};
+ghost use Rattle.host_run.specs.Outside.{unused};
 
 use bridge_app::bridge_main;
 use child_engine::{Host, SteadyHost};

@@ -1,7 +1,7 @@
 // A host in memory that shows what its engine and its log took.
 ghost use Rattle.std.specs.Prelude.{◌≡◌, IfOk};
 ghost use Rattle.child_engine.specs.Memory.{books_of};
-ghost use Rattle.bridge_runner.specs.Outside.{unused};
+ghost use Rattle.host_run.specs.Outside.{unused};
 
 use child_engine::{Fails, Host, HostFault, MemHost, Started};
 use line_io::{Failed, MemSink, MemSource, NoMemory};

@@ -1,7 +1,7 @@
 // A host whose engine waits for what its input brings.
 ghost use Rattle.std.specs.Prelude.{◌≡◌};
 ghost use Rattle.child_engine.specs.Hosts.{RisesBy};
-ghost use Rattle.bridge_runner.specs.Outside.{unused};
+ghost use Rattle.host_run.specs.Outside.{unused};
 ghost use Rattle.bridge_sessions.specs.Waiting.{books_with};
 
 use crate::talk::{ENGINE, Telling, Waiting};

@@ -7,11 +7,11 @@ use Rattle.event_pipe.specs.declared.message.Peer.{Peer}
 use Rattle.event_pipe.specs.declared.message.Peer.TheVariants as peers
 use Rattle.event_pipe.specs.declared.reader.ReadEnd.{ReadEnd}
 use Rattle.policy_rules.specs.declared.settings.Settings.{Settings}
-use Rattle.pipe_runner.specs.declared.looping.LoopEnd.{LoopEnd}
+use Rattle.sink_offers.specs.declared.offer.LoopEnd.{LoopEnd}
 use Rattle.event_pipe.specs.Rule.{sent_by, ended}
 use Rattle.event_pipe.specs.Ends.{Came}
 use Rattle.event_pipe.specs.Arrivals.{Arrived}
-use Rattle.pipe_runner.specs.Streams.{Sinks, Streams, streams}
+use Rattle.sink_offers.specs.Streams.{Sinks, Streams, streams}
 use Rattle.pipe_runner.specs.Looped.{Looped}
 use Rattle.pipe_runner.specs.Ran.{Ran}
 use Rattle.pipe_runner.proofs.Facts.{iface_is, engine_is}

@@ -1,4 +1,3 @@
-pub mod Streams
 pub mod Texts
 pub mod Looped
 pub mod Reached

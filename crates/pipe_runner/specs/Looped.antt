@@ -7,8 +7,9 @@ use Rattle.policy_rules.specs.declared.settings.Settings.{Settings}
 use Rattle.adapter_core.specs.Trace.{Step, Lawful, state, event_in, iface_text, engine_text}
 use Rattle.session_script.specs.Script.{script2}
 use Rattle.event_pipe.specs.Counts.{Tells}
-use Rattle.pipe_runner.specs.declared.looping.LoopEnd.{LoopEnd}
-use Rattle.pipe_runner.specs.Streams.{Sinks, TookFront}
+use Rattle.sink_offers.specs.declared.offer.LoopEnd.{LoopEnd}
+use Rattle.sink_offers.specs.Streams.{Sinks}
+use Rattle.sink_offers.specs.Took.{LogTook}
 use Rattle.pipe_runner.specs.Texts.{received, is_iface_lost, is_engine_lost, has, texts}
 
 -- a sink took the texts of all earlier steps, and failed within that of this one
@@ -59,12 +60,6 @@ pub record OutputTook (trace : List Step) (failed : Bool) (old new : Received) :
 pub record EngineTook (trace : List Step) (failed : Bool) (old new : Received) : Type 0 where
   pub whole : failed ≡ false → Appends old.taken new.taken (texts engine_text trace)
   pub lost : failed ≡ true → EngineLostBehind trace old.taken new.taken
-  pub count : Tells old.faults new.faults failed
-
--- the log took the whole script, or a front of it where it failed
-pub record LogTook (whole_script : List ℕ) (failed : Bool) (old new : Received) : Type 0 where
-  pub whole : failed ≡ false → Appends old.taken new.taken whole_script
-  pub front : failed ≡ true → TookFront whole_script old.taken new.taken
   pub count : Tells old.faults new.faults failed
 
 -- its first step is that of Open

@@ -6,7 +6,7 @@ use Rattle.event_pipe.specs.declared.message.Peer.TheVariants as peers
 use Rattle.event_pipe.specs.Rule.{sent_by}
 use Rattle.event_pipe.specs.Arrivals.{Arrived}
 use Rattle.pipe_runner.specs.declared.run.RunEnd.{RunEnd}
-use Rattle.pipe_runner.specs.Streams.{Streams}
+use Rattle.sink_offers.specs.Streams.{Streams}
 use Rattle.pipe_runner.specs.Looped.{Looped}
 
 -- The loop is over, and what it received of each side is what arrived there.

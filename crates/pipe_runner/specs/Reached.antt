@@ -12,9 +12,10 @@ use Rattle.script_lines.specs.StepText.{numbered_marks}
 use Rattle.session_script.specs.Script.{script2}
 use Rattle.event_pipe.specs.Counts.{Tells}
 use Rattle.pipe_runner.specs.declared.looping.Progress.{Progress}
-use Rattle.pipe_runner.specs.Streams.{Sinks, Offered}
+use Rattle.sink_offers.specs.Streams.{Sinks, Offered}
 use Rattle.pipe_runner.specs.Texts.{received, texts}
-use Rattle.pipe_runner.specs.Looped.{OutputFails, EngineFails, OutputLost, EngineLostBehind, LogTook}
+use Rattle.sink_offers.specs.Took.{LogTook}
+use Rattle.pipe_runner.specs.Looped.{OutputFails, EngineFails, OutputLost, EngineLostBehind}
 
 -- One step of the core, whose texts were offered to the sinks. In the log this front stands before the step's text.
 pub record Stepped (old new : Parts) (e : Event) (front : List ℕ) (before after : Sinks) (from to : Progress) : Type 0 where

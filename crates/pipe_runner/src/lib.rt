@@ -5,5 +5,5 @@
 mod looping;
 mod run;
 
-pub use looping::{LoopEnd, TEXT_ROOM, core_loop};
+pub use looping::{TEXT_ROOM, core_loop};
 pub use run::{RunEnd, run_pipes};

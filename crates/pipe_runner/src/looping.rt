@@ -7,55 +7,26 @@ ghost use Rattle.script_lines.specs.declared.step_text.TheConstants.{STEP_ROOM};
 ghost use Rattle.adapter_core.specs.Ends.{may};
 ghost use Rattle.adapter_core.specs.Stands.{Stands};
 ghost use Rattle.event_pipe.specs.Ends.{IsFreshTaker, KeepsTaker, taken};
-ghost use Rattle.pipe_runner.specs.Streams.{sinks, log_state, Offered};
+ghost use Rattle.sink_offers.specs.Streams.{sinks, log_state};
 ghost use Rattle.pipe_runner.specs.Looped.{Looped};
 ghost use Rattle.pipe_runner.specs.Reached.{Stepped};
 ghost use Rattle.pipe_runner.specs.declared.looping.TheConstants.{TEXT_ROOM};
 
 use adapter_core::Core;
 use event_pipe::PipeTake;
-use line_io::{Event, Out, Sink, write_all};
+use line_io::{Event, Out, Sink};
 use script_lines::{next_number, put_numbered_step, write_header};
+use sink_offers::{LoopEnd, offer, offer_log};
 use std::sync::Wait;
 
 /// Room for the text of any step in the log, that of the first with the header before it.
 pub const TEXT_ROOM: usize = 2_097_280;
-
-/// Which sinks failed.
-#[derive(Clone, Copy, Debug, PartialEq, Eq)]
-pub struct LoopEnd {
-    pub output: bool,
-    pub engine: bool,
-    pub log: bool,
-}
 
 // How far the loop has come: which sinks failed, and the number of the next step.
 #[derive(Clone, Copy, Debug, PartialEq, Eq)]
 pub struct Progress {
     pub end: LoopEnd,
     pub next: u64,
-}
-
-// Offers a piece to a sink, unless it failed before. It answers whether it has failed.
-fn offer<S: Sink>(sink: &mut S, piece: &[u8], failed: bool) -> bool
-    ensures { Offered failed result (S.state sink.old) (S.state sink.new) piece.now }
-{
-    if failed {
-        return true;
-    }
-    write_all(sink, piece).is_err()
-}
-
-// The same to a log that may be missing.
-fn offer_log<L: Sink>(log: &mut Option<L>, piece: &[u8], failed: bool) -> bool
-    ensures offered { Offered failed result
-        (log_state L.state log.old) (log_state L.state log.new) piece.now }
-    ensures kept { is_some log.new ≡ is_some log.old }
-{
-    match log {
-        Some(log) => offer(log, piece, failed),
-        None => failed,
-    }
 }
 
 // One step of the core. The log gets the step's text behind what stands in the buffer.

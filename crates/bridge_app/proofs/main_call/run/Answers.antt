@@ -3,9 +3,7 @@ use Rattle.bridge_app.proofs.main_call.run.Goals as goal
 pub returns : goal.returns
 returns g c =
     record {
-      failures = c.bridge_run-failures.result;
-      first = c.of.ensures;
-      leaves = c.bridge_run-failures.ensures;
+      leaves = c.bridge_run.ensures;
       shown = c.moves_are_shown_in_time.ensures.shown;
       shown_once = c.moves_are_shown_in_time.ensures.once;
       one_session = c.scripts_have_one_trace.ensures.version_2;

@@ -1,7 +1,7 @@
 use Rattle.std.proofs.Common.{◌≡◌, ◌<◌, ◌^◌}
 use Rattle.std.specs.Prelude.{is_some}
 use Rattle.event_pipe.specs.Ends.{KeepsTaker, taken}
-use Rattle.pipe_runner.specs.Streams.{sinks, log_state}
+use Rattle.sink_offers.specs.Streams.{sinks, log_state}
 use Rattle.pipe_runner.specs.Reached.{Reached}
 use Rattle.pipe_runner.proofs.looping.core_loop.Given as goal
 

@@ -1,11 +1,12 @@
-// How the program ends.
-ghost use Rattle.std.specs.Prelude.{◌≡◌};
-ghost use Rattle.bridge_app.specs.Endings.{ending_of, ending_for, code_of, diagnostic};
+// How a program ends.
+ghost use Rattle.std.specs.Prelude.{◌≡◌, string_bytes};
+ghost use Rattle.host_run.specs.Endings.{ending_of, code_of, words_of, diagnostic};
+ghost use Rattle.host_run.specs.Program.{IsToldTo};
 
-use bridge_runner::Failures;
-use bridge_words::Refusal;
+use crate::Failures;
+use line_io::{Sink, write_all};
 
-/// How the program ends. Where several failures came, the one that stands first here is told.
+/// How a program ends. If several failures came, the one that stands first here is reported.
 #[derive(Clone, Copy, Debug, PartialEq, Eq)]
 pub enum Ending {
     Done,
@@ -46,16 +47,6 @@ impl Ending {
         }
     }
 
-    /// The ending of a program whose words were refused.
-    pub fn refused(refusal: Refusal) -> Ending
-        ensures { result ≡ ending_for refusal }
-    {
-        match refusal {
-            Refusal::Usage => Ending::Usage,
-            Refusal::NoMemory => Ending::NoMemory,
-        }
-    }
-
     /// The status of the program.
     pub fn code(self) -> u8
         ensures { result ≡ code_of self }
@@ -74,21 +65,34 @@ impl Ending {
         }
     }
 
-    /// The diagnostic, which is one line or nothing.
-    pub fn diagnostic(self) -> &'static [u8]
-        ensures { result.now ≡ diagnostic self }
+    // What a diagnostic has behind the program's name, with its line feed.
+    fn words(self) -> &'static [u8]
+        ensures { result.now ≡ words_of self }
     {
         match self {
             Ending::Done => b"",
-            Ending::Usage => b"bridge: usage\n",
-            Ending::NoMemory => b"bridge: no memory\n",
-            Ending::ReadingFailed => b"bridge: reading failed\n",
-            Ending::WritingFailed => b"bridge: writing failed\n",
-            Ending::EngineReadingFailed => b"bridge: engine reading failed\n",
-            Ending::EngineWritingFailed => b"bridge: engine writing failed\n",
-            Ending::EngineStartFailed => b"bridge: engine start failed\n",
-            Ending::LogFailed => b"bridge: log failed\n",
-            Ending::EngineWaitFailed => b"bridge: engine wait failed\n",
+            Ending::Usage => b": usage\n",
+            Ending::NoMemory => b": no memory\n",
+            Ending::ReadingFailed => b": reading failed\n",
+            Ending::WritingFailed => b": writing failed\n",
+            Ending::EngineReadingFailed => b": engine reading failed\n",
+            Ending::EngineWritingFailed => b": engine writing failed\n",
+            Ending::EngineStartFailed => b": engine start failed\n",
+            Ending::LogFailed => b": log failed\n",
+            Ending::EngineWaitFailed => b": engine wait failed\n",
         }
+    }
+}
+
+/// Writes the diagnostic of an ending, one line that begins with the program's name. An ending without a failure
+/// has none. A diagnostic that cannot be written changes no status.
+pub fn tell<D: Sink>(program: &[u8], ending: Ending, diag: &mut D)
+    ensures { IsToldTo (D.state diag.old) (D.state diag.new) (diagnostic program.now ending) }
+{
+    if let Ending::Done = ending {
+        return;
+    }
+    if write_all(diag, program).is_ok() {
+        let _ = write_all(diag, ending.words());
     }
 }

@@ -2,7 +2,7 @@
 use Rattle.std.specs.Prelude.{◌≡◌, ◌⊎◌, true, false}
 use Rattle.event_pipe.specs.Counts.{Tells}
 use Rattle.child_engine.specs.declared.host.Faults.{Faults}
-use Rattle.bridge_runner.specs.declared.bridge.Failures.{Failures}
+use Rattle.host_run.specs.declared.failures.Failures.{Failures}
 
 abbrev pub no_failure : Failures
 no_failure =

@@ -1,10 +1,11 @@
--- What a run of the bridge sees of the outside, and what its failures tell of it.
-use Rattle.std.specs.Prelude.{◌≡◌, ◌≤◌, ℕ, Bool, true, false, List, [], length}
+-- What a run sees of the outside, and what its failures tell of it.
+use Rattle.std.specs.Prelude.{◌≡◌, ◌≤◌, false, [], length}
+use Rattle.line_io.specs.Causes.{Rose}
 use Rattle.line_io.specs.Source.{Supplied, Received}
 use Rattle.event_pipe.specs.Counts.{Tells}
 use Rattle.child_engine.specs.Hosts.{Books}
 use Rattle.child_engine.specs.declared.host.Faults.{Faults}
-use Rattle.bridge_runner.specs.declared.bridge.Failures.{Failures}
+use Rattle.host_run.specs.declared.failures.Failures.{Failures}
 
 -- the interface's streams, and what the host counts and tells
 pub record Outside : Type 0 where
@@ -30,6 +31,26 @@ pub record AreTold (before after : Outside) (failures : Failures) : Type 0 where
 -- nothing was handed out
 abbrev pub unused : Books
 unused = record { runs_out = 0; logs_out = 0; runs = []; logs = [] }
+
+-- no count of faults rose
+pub record HaveNotRisen (before after : Outside) : Type 0 where
+  pub input : Rose before.input.faults after.input.faults → ⊥
+  pub output : Rose before.output.faults after.output.faults → ⊥
+  pub reads : Rose before.faults.reads after.faults.reads → ⊥
+  pub writes : Rose before.faults.writes after.faults.writes → ⊥
+  pub starts : Rose before.faults.starts after.faults.starts → ⊥
+  pub logs : Rose before.faults.logs after.faults.logs → ⊥
+  pub waits : Rose before.faults.waits after.faults.waits → ⊥
+
+-- each count of faults is as before
+pub record AreAsBefore (before after : Outside) : Type 0 where
+  pub input : after.input.faults ≡ before.input.faults
+  pub output : after.output.faults ≡ before.output.faults
+  pub reads : after.faults.reads ≡ before.faults.reads
+  pub writes : after.faults.writes ≡ before.faults.writes
+  pub starts : after.faults.starts ≡ before.faults.starts
+  pub logs : after.faults.logs ≡ before.faults.logs
+  pub waits : after.faults.waits ≡ before.faults.waits
 
 -- What was handed out is closed, and it is one run and one log, but where a failure tells of less.
 pub record IsClosed (books : Books) (failures : Failures) : Type 0 where

@@ -5,10 +5,10 @@ use Rattle.line_io.specs.Source.{Supplied, Received}
 use Rattle.child_engine.specs.Hosts.{Told, Books, with_run, with_closed_run, told_by}
 use Rattle.child_engine.specs.declared.host.HostFault.{HostFault}
 use Rattle.child_engine.specs.declared.host.HostFault.TheVariants as faults
-use Rattle.pipe_runner.specs.Streams.{log_state}
-use Rattle.bridge_runner.specs.Logs.{log_count, logs_told, is_failed, is_no_memory}
-use Rattle.bridge_runner.specs.Outside.{IsClosed, unused}
-use Rattle.bridge_runner.specs.declared.bridge.Failures.{Failures}
+use Rattle.sink_offers.specs.Streams.{log_state}
+use Rattle.host_run.specs.Logs.{log_count, logs_told, is_failed, is_no_memory}
+use Rattle.host_run.specs.Outside.{IsClosed, unused}
+use Rattle.host_run.specs.declared.failures.Failures.{Failures}
 
 abbrev pub books : ℕ → ℕ → List Told → List (Option (List ℕ)) → Books
 books a b rs ls = record { runs_out = a; logs_out = b; runs = rs; logs = ls }

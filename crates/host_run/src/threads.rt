@@ -4,7 +4,7 @@ use std::thread::{JoinHandle, Threads};
 
 /// A thread for each reader and one in the engine's stead, each of which does nothing. They are
 /// asked for before an engine is started: a run whose readers get none would wait for ever.
-pub(crate) struct TriedThreads {
+pub struct TriedThreads {
     iface: Option<JoinHandle<()>>,
     engine: Option<JoinHandle<()>>,
     process: Option<JoinHandle<()>>,
@@ -24,7 +24,7 @@ fn join_one<R: Threads>(rt: &R, thread: Option<JoinHandle<()>>) {
 
 impl TriedThreads {
     /// Asks for all three at the same time.
-    pub(crate) fn ask<R: Threads>(rt: &R) -> TriedThreads {
+    pub fn ask<R: Threads>(rt: &R) -> TriedThreads {
         TriedThreads {
             iface: try_one(rt),
             engine: try_one(rt),
@@ -33,13 +33,13 @@ impl TriedThreads {
     }
 
     /// Whether the system gave all.
-    pub(crate) fn were_given(&self) -> bool {
+    pub fn were_given(&self) -> bool {
         self.iface.is_some() && self.engine.is_some() && self.process.is_some()
     }
 
     /// Waits for them, and leaves their stacks to the readers. Where an engine was started, it boots
     /// meanwhile.
-    pub(crate) fn join<R: Threads>(self, rt: &R) {
+    pub fn join<R: Threads>(self, rt: &R) {
         let TriedThreads {
             iface,
             engine,

@@ -1,0 +1,186 @@
+-- What each status says.
+use Rattle.std.proofs.Common.{◌≡◌, ◌∙◌, ◌⊎◌, ℕ, Bool, true, false, if◌then◌else◌, nat_eq, refl, sym, ap, subst, inl, inr}
+use Rattle.line_io.specs.Causes.{Rose}
+use Rattle.host_run.specs.declared.failures.Failures.{Failures}
+use Rattle.host_run.specs.declared.ending.Ending.{Ending}
+use Rattle.host_run.specs.declared.ending.Ending.TheVariants as endings
+use Rattle.host_run.specs.Endings.{ending_of, code_of}
+use Rattle.host_run.specs.Outside.{Outside, AreTold, HaveNotRisen, AreAsBefore}
+use Rattle.host_run.specs.Program.{DoesNothing, RunEnds, Ends, StatusSays}
+
+abbrev failures : Bool → Bool → Bool → Bool → Bool → Bool → Bool → Bool → Failures
+failures a b c d e f g h =
+    record { memory = a; iface_read = b; iface_write = c; engine_read = d; engine_write = e; engine_start = f; log = g; engine_wait = h }
+
+-- the ending of a status
+abbrev ending_with : ℕ → Ending
+ending_with n =
+    (if nat_eq n 0 then endings.Done
+    else (if nat_eq n 2 then endings.Usage
+    else (if nat_eq n 3 then endings.NoMemory
+    else (if nat_eq n 4 then endings.ReadingFailed
+    else (if nat_eq n 5 then endings.WritingFailed
+    else (if nat_eq n 6 then endings.EngineReadingFailed
+    else (if nat_eq n 7 then endings.EngineWritingFailed
+    else (if nat_eq n 8 then endings.EngineStartFailed
+    else (if nat_eq n 9 then endings.LogFailed
+    else endings.EngineWaitFailed)))))))))
+
+with_code : (e : Ending) → ending_with (code_of e) ≡ e
+with_code endings.Done = refl
+with_code endings.Usage = refl
+with_code endings.NoMemory = refl
+with_code endings.ReadingFailed = refl
+with_code endings.WritingFailed = refl
+with_code endings.EngineReadingFailed = refl
+with_code endings.EngineWritingFailed = refl
+with_code endings.EngineStartFailed = refl
+with_code endings.LogFailed = refl
+with_code endings.EngineWaitFailed = refl
+
+coded : (e : Ending) (n : ℕ) → code_of e ≡ n → e ≡ ending_with n
+coded e n z = sym (with_code e) ∙ ap ending_with z
+
+-- whether the failure that an ending names is there
+abbrev is_there : Ending → Failures → Bool
+is_there endings.Done f = true
+is_there endings.Usage f = false
+is_there endings.NoMemory f = f.memory
+is_there endings.ReadingFailed f = f.iface_read
+is_there endings.WritingFailed f = f.iface_write
+is_there endings.EngineReadingFailed f = f.engine_read
+is_there endings.EngineWritingFailed f = f.engine_write
+is_there endings.EngineStartFailed f = f.engine_start
+is_there endings.LogFailed f = f.log
+is_there endings.EngineWaitFailed f = f.engine_wait
+
+first_is_there : (a b c d e f g h : Bool) → is_there (ending_of (failures a b c d e f g h)) (failures a b c d e f g h) ≡ true
+first_is_there true b c d e f g h = refl
+first_is_there false true c d e f g h = refl
+first_is_there false false true d e f g h = refl
+first_is_there false false false true e f g h = refl
+first_is_there false false false false true f g h = refl
+first_is_there false false false false false true g h = refl
+first_is_there false false false false false false true h = refl
+first_is_there false false false false false false false true = refl
+first_is_there false false false false false false false false = refl
+
+flag : (f : Failures) (e x : Ending) → e ≡ ending_of f → e ≡ x → is_there x f ≡ true
+flag f e x first z =
+    subst (λ y. is_there y f ≡ true) (sym first ∙ z) (first_is_there f.memory f.iface_read f.iface_write f.engine_read f.engine_write f.engine_start f.log f.engine_wait)
+
+as_before : (before after : Outside) (a b c d e f g h : Bool) → AreTold before after (failures a b c d e f g h) → ending_of (failures a b c d e f g h) ≡ endings.Done
+    → AreAsBefore before after
+as_before before after true b c d e f g h t z = cc
+as_before before after false true c d e f g h t z = cc
+as_before before after false false true d e f g h t z = cc
+as_before before after false false false true e f g h t z = cc
+as_before before after false false false false true f g h t z = cc
+as_before before after false false false false false true g h t z = cc
+as_before before after false false false false false false true h t z = cc
+as_before before after false false false false false false false true t z = cc
+as_before before after false false false false false false false false t z =
+    record {
+      input = t.iface_read.same refl;
+      output = t.iface_write.same refl;
+      reads = t.engine_read.same refl;
+      writes = t.engine_write.same refl;
+      starts = t.engine_start.same refl;
+      logs = t.log.same refl;
+      waits = t.engine_wait.same refl;
+    }
+
+quiet : (before after : Outside) (a b c d e f g h : Bool) → AreTold before after (failures a b c d e f g h) → HaveNotRisen before after
+    → (code_of (ending_of (failures a b c d e f g h)) ≡ 0) ⊎ (code_of (ending_of (failures a b c d e f g h)) ≡ 3)
+quiet before after true b c d e f g h t n = inr refl
+quiet before after false true c d e f g h t n = absurd (n.input (t.iface_read.rose refl))
+quiet before after false false true d e f g h t n = absurd (n.output (t.iface_write.rose refl))
+quiet before after false false false true e f g h t n = absurd (n.reads (t.engine_read.rose refl))
+quiet before after false false false false true f g h t n = absurd (n.writes (t.engine_write.rose refl))
+quiet before after false false false false false true g h t n = absurd (n.starts (t.engine_start.rose refl))
+quiet before after false false false false false false true h t n = absurd (n.logs (t.log.rose refl))
+quiet before after false false false false false false false true t n = absurd (n.waits (t.engine_wait.rose refl))
+quiet before after false false false false false false false false t n = inl refl
+
+-- no failure is that of the words
+never_usage : (a b c d e f g h : Bool) → ending_of (failures a b c d e f g h) ≡ endings.Usage → ⊥
+never_usage true b c d e f g h z = cc
+never_usage false true c d e f g h z = cc
+never_usage false false true d e f g h z = cc
+never_usage false false false true e f g h z = cc
+never_usage false false false false true f g h z = cc
+never_usage false false false false false true g h z = cc
+never_usage false false false false false false true h z = cc
+never_usage false false false false false false false true z = cc
+never_usage false false false false false false false false z = cc
+
+module _ {Taken : Type 0} {Left : Failures → Type 0} (before after : Outside) (ending : Ending) where
+  -- a run was made, of words that were taken
+  pub ran : Taken → RunEnds Left before after ending → Ends Taken Left before after ending
+  ran taken run =
+      let f = run.failures in
+      record {
+        usage = λ u t. never_usage f.memory f.iface_read f.iface_write f.engine_read f.engine_write f.engine_start f.log f.engine_wait (sym run.first ∙ u);
+        refused = λ not. absurd (not taken);
+        did = inr run;
+      }
+
+  -- what holds of a run, and of both ways to do nothing
+  nothing_as : {P : Type 0} → ((ending ≡ endings.Usage) ⊎ (ending ≡ endings.NoMemory)) → (ending ≡ endings.Usage → P) → (ending ≡ endings.NoMemory → P) → P
+  nothing_as (inl z) u m = u z
+  nothing_as (inr z) u m = m z
+
+  either : {P : Type 0} → (DoesNothing before after ending ⊎ RunEnds Left before after ending) → (ending ≡ endings.Usage → P) → (ending ≡ endings.NoMemory → P)
+      → (RunEnds Left before after ending → P) → P
+  either (inl nothing) u m r = nothing_as nothing.why u m
+  either (inr run) u m r = r run
+
+  -- an ending that is a failure, and no refusal
+  failed : {P : Type 0} (x : Ending) → ((endings.Usage ≡ x) → ⊥) → ((endings.NoMemory ≡ x) → ⊥) → Ends Taken Left before after ending → ending ≡ x
+      → (RunEnds Left before after ending → P) → P
+  failed x nu nm ends e r = either ends.did (λ u. absurd (nu (sym u ∙ e))) (λ m. absurd (nm (sym m ∙ e))) r
+
+  there : (x : Ending) (run : RunEnds Left before after ending) → ending ≡ x → is_there x run.failures ≡ true
+  there x run e = flag run.failures ending x run.first e
+
+  coded_as : ((ending ≡ endings.Usage) ⊎ (ending ≡ endings.NoMemory)) → (code_of ending ≡ 2) ⊎ (code_of ending ≡ 3)
+  coded_as (inl z) = inl (ap code_of z)
+  coded_as (inr z) = inr (ap code_of z)
+
+  -- an engine that could not be started
+  pub unstarted : {P : Type 0} → Ends Taken Left before after ending → code_of ending ≡ 8 → ((f : Failures) → Left f → f.engine_start ≡ true → P) → P
+  unstarted ends z p =
+      let e = coded ending 8 z in
+      failed endings.EngineStartFailed (λ u. cc) (λ m. cc) ends e (λ r. p r.failures r.left (there endings.EngineStartFailed r e))
+
+  done : Ends Taken Left before after ending → code_of ending ≡ 0 → AreAsBefore before after
+  done ends z =
+      let e = coded ending 0 z in
+      failed endings.Done (λ u. cc) (λ m. cc) ends e
+      (λ r. let f = r.failures in as_before before after f.memory f.iface_read f.iface_write f.engine_read f.engine_write f.engine_start f.log f.engine_wait r.told (sym r.first ∙ e))
+
+  complete : Ends Taken Left before after ending → Taken → HaveNotRisen before after → (code_of ending ≡ 0) ⊎ (code_of ending ≡ 3)
+  complete ends t n =
+      either ends.did (λ u. absurd (ends.usage u t)) (λ m. inr (ap code_of m))
+      (λ r. let f = r.failures in
+      subst (λ (x : Ending). (code_of x ≡ 0) ⊎ (code_of x ≡ 3)) (sym r.first)
+      (quiet before after f.memory f.iface_read f.iface_write f.engine_read f.engine_write f.engine_start f.log f.engine_wait r.told n))
+
+  said : Ends Taken Left before after ending → StatusSays Taken before after (code_of ending)
+  said ends =
+      record {
+        done = done ends;
+        usage = λ z. ends.usage (coded ending 2 z);
+        refused = λ n. coded_as (ends.refused n);
+        reading = λ z. let e = coded ending 4 z in failed endings.ReadingFailed (λ u. cc) (λ m. cc) ends e (λ r. r.told.iface_read.rose (there endings.ReadingFailed r e));
+        writing = λ z. let e = coded ending 5 z in failed endings.WritingFailed (λ u. cc) (λ m. cc) ends e (λ r. r.told.iface_write.rose (there endings.WritingFailed r e));
+        engine_reading = λ z. let e = coded ending 6 z in failed endings.EngineReadingFailed (λ u. cc) (λ m. cc) ends e (λ r. r.told.engine_read.rose (there endings.EngineReadingFailed r e));
+        engine_writing = λ z. let e = coded ending 7 z in failed endings.EngineWritingFailed (λ u. cc) (λ m. cc) ends e (λ r. r.told.engine_write.rose (there endings.EngineWritingFailed r e));
+        engine_start = λ z. let e = coded ending 8 z in failed endings.EngineStartFailed (λ u. cc) (λ m. cc) ends e (λ r. r.told.engine_start.rose (there endings.EngineStartFailed r e));
+        log = λ z. let e = coded ending 9 z in failed endings.LogFailed (λ u. cc) (λ m. cc) ends e (λ r. r.told.log.rose (there endings.LogFailed r e));
+        engine_wait = λ z. let e = coded ending 10 z in failed endings.EngineWaitFailed (λ u. cc) (λ m. cc) ends e (λ r. r.told.engine_wait.rose (there endings.EngineWaitFailed r e));
+        complete = complete ends;
+      }
+
+  pub status_says : (code : ℕ) → code ≡ code_of ending → Ends Taken Left before after ending → StatusSays Taken before after code
+  status_says code e ends = subst (λ (k : ℕ). StatusSays Taken before after k) (sym e) (said ends)

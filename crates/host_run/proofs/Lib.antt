@@ -1,0 +1,4 @@
+pub mod Causes
+pub mod Closes
+pub mod Counts
+mod Tells

@@ -1,0 +1,40 @@
+-- A diagnostic in two pieces.
+use Rattle.std.proofs.Common.{◌≡◌, ◌∙◌, ◌⊎◌, ℕ, ◌+◌, ◌≤◌, min, Bool, true, false, List, ◌++◌, length, take, sym, subst, inl, inr, arith, Result, Ok, Err, OnOk, OnErr}
+use Rattle.std.specs.Result.{is_ok}
+use Rattle.std.proofs.lemmas.List.{take-append-le, take_min}
+use Rattle.std.proofs.Math.Seq.{take-append-add}
+use Rattle.std.proofs.Math.Nat.{min-le_right}
+use Rattle.std.specs.Io.KnownBytes.{Appends}
+use Rattle.std.proofs.KnownBytes.{Appends-trans}
+use Rattle.line_io.specs.Causes.{HasCause, Rose}
+use Rattle.line_io.specs.Source.{Received, TakesPrefix}
+use Rattle.host_run.specs.Program.{IsToldTo}
+
+-- a front of the first piece is one of both
+front_first : (xs ys : List ℕ) (n : ℕ) → take (min n (length xs)) (xs ++ ys) ≡ take n xs
+front_first xs ys n = take-append-le (min n (length xs)) xs ys (min-le_right n (length xs)) ∙ take_min n xs
+
+-- the first piece failed
+pub told_front : (a b : Received) (xs ys : List ℕ) {T E : Type 0} (r : Result T E) → is_ok r ≡ false → OnErr r (TakesPrefix a.taken b.taken xs) → HasCause a.faults b.faults r
+    → IsToldTo a b (xs ++ ys)
+told_front a b xs ys (Ok x) no err cause = cc
+told_front a b xs ys (Err x) no err cause =
+    inr ((min err.0 (length xs), subst (λ t. Appends a.taken b.taken t) (sym (front_first xs ys err.0)) err.1), cause.failed)
+
+behind : (a b c : Received) (xs ys : List ℕ) → Appends a.taken b.taken xs → b.faults ≡ a.faults → {T E : Type 0} (r : Result T E) → OnOk r (Appends b.taken c.taken ys)
+    → OnErr r (TakesPrefix b.taken c.taken ys) → HasCause b.faults c.faults r → IsToldTo a c (xs ++ ys)
+behind a b c xs ys first same (Ok x) ok err cause = inl (Appends-trans a.taken b.taken c.taken xs ys first ok)
+behind a b c xs ys first same (Err x) ok err cause =
+    inr (
+      (
+        length xs + err.0,
+        subst (λ t. Appends a.taken c.taken t) (sym (take-append-add xs ys err.0)) (Appends-trans a.taken b.taken c.taken xs (take err.0 ys) first err.1),
+      ),
+      subst (λ n. Rose n c.faults) same cause.failed,
+    )
+
+-- the first piece was written, and the second one was offered
+pub told_both : (a b c : Received) (xs ys : List ℕ) {T E T' E' : Type 0} (r : Result T E) (s : Result T' E') → is_ok r ≡ true → OnOk r (Appends a.taken b.taken xs) → HasCause a.faults b.faults r
+    → OnOk s (Appends b.taken c.taken ys) → OnErr s (TakesPrefix b.taken c.taken ys) → HasCause b.faults c.faults s → IsToldTo a c (xs ++ ys)
+told_both a b c xs ys (Ok x) s yes ok cause ok' err' cause' = behind a b c xs ys ok cause.same s ok' err' cause'
+told_both a b c xs ys (Err x) s yes ok cause ok' err' cause' = cc

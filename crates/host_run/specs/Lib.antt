@@ -1,0 +1,6 @@
+pub mod Early
+pub mod Endings
+pub mod Logs
+pub mod Outside
+pub mod Program
+pub mod Readers

@@ -1,0 +1,57 @@
+-- What a program over a host does, and what its status says.
+use Rattle.std.specs.Prelude.{◌≡◌, ◌⊎◌, ℕ, List}
+use Rattle.std.specs.Io.KnownBytes.{Appends}
+use Rattle.line_io.specs.Causes.{Rose}
+use Rattle.line_io.specs.Source.{Received, TakesPrefix}
+use Rattle.host_run.specs.declared.failures.Failures.{Failures}
+use Rattle.host_run.specs.declared.ending.Ending.{Ending}
+use Rattle.host_run.specs.declared.ending.Ending.TheVariants as endings
+use Rattle.host_run.specs.Endings.{ending_of, code_of, diagnostic}
+use Rattle.host_run.specs.Outside.{Outside, AreTold, HaveNotRisen, AreAsBefore}
+
+-- Nothing was done: the words fit no command, or there was no memory for them.
+pub record DoesNothing (before after : Outside) (ending : Ending) : Type 0 where
+  pub same : after ≡ before
+  pub why : (ending ≡ endings.Usage) ⊎ (ending ≡ endings.NoMemory)
+
+-- A run was made that left this, whatever its failures; each failure is counted, and the first one is the ending.
+pub record RunEnds (Left : Failures → Type 0) (before after : Outside) (ending : Ending) : Type 0 where
+  pub failures : Failures
+  pub first : ending ≡ ending_of failures
+  pub told : AreTold before after failures
+  pub left : Left failures
+
+-- How a program ends, of whose words it is said whether they are taken: it is `Usage` only if they are not, then nothing
+-- is done, and else a run is made that leaves what the words ask for.
+pub record Ends (Taken : Type 0) (Left : Failures → Type 0) (before after : Outside) (ending : Ending) : Type 0 where
+  pub usage : ending ≡ endings.Usage → Taken → ⊥
+  pub refused : (Taken → ⊥) → (ending ≡ endings.Usage) ⊎ (ending ≡ endings.NoMemory)
+  pub did : DoesNothing before after ending ⊎ RunEnds Left before after ending
+
+-- the text was written, or a front of it, if a write failed
+abbrev pub IsToldTo : Received → Received → List ℕ → Type 0
+IsToldTo before after text =
+    Appends before.taken after.taken text
+    ⊎ (TakesPrefix before.taken after.taken text × Rose before.faults after.faults)
+
+-- the program's status is that of how it ended, and the diagnostic reports it
+pub record Answers (program : List ℕ) (Taken : Type 0) (Left : Failures → Type 0) (before after : Outside) (diag diag' : Received) (code : ℕ) : Type 0 where
+  pub ending : Ending
+  pub ends : Ends Taken Left before after ending
+  pub code_is : code ≡ code_of ending
+  pub diagnosed : IsToldTo diag diag' (diagnostic program ending)
+
+-- what each status says
+pub record StatusSays (Taken : Type 0) (before after : Outside) (code : ℕ) : Type 0 where
+  pub done : code ≡ 0 → AreAsBefore before after
+  pub usage : code ≡ 2 → Taken → ⊥
+  pub refused : (Taken → ⊥) → (code ≡ 2) ⊎ (code ≡ 3)
+  pub reading : code ≡ 4 → Rose before.input.faults after.input.faults
+  pub writing : code ≡ 5 → Rose before.output.faults after.output.faults
+  pub engine_reading : code ≡ 6 → Rose before.faults.reads after.faults.reads
+  pub engine_writing : code ≡ 7 → Rose before.faults.writes after.faults.writes
+  pub engine_start : code ≡ 8 → Rose before.faults.starts after.faults.starts
+  pub log : code ≡ 9 → Rose before.faults.logs after.faults.logs
+  pub engine_wait : code ≡ 10 → Rose before.faults.waits after.faults.waits
+  -- words that are taken, and no failure
+  pub complete : Taken → HaveNotRisen before after → (code ≡ 0) ⊎ (code ≡ 3)

@@ -1,0 +1,17 @@
+//! What the programs over a host share: threads that are tried, a log that may be missing, what failed, and how a
+//! program ends and reports it.
+#![tactic(auto)]
+
+mod ending;
+mod failures;
+mod log;
+mod readers;
+#[cfg(test)]
+mod tests;
+mod threads;
+
+pub use ending::{Ending, tell};
+pub use failures::{Failures, only_memory, only_start};
+pub use log::{Opened, close_log, is_open_failure, is_open_memory, open_log};
+pub use readers::{has_failed, has_lacked_memory};
+pub use threads::TriedThreads;
