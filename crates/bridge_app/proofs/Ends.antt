@@ -18,7 +18,7 @@ use Rattle.bridge_app.specs.Program.{Runs, RunsAsAsked, ending_for}
 pub ran : (words : List Text) (s : Settings) (before after : Outside) (failures : Failures) (ending : Ending) → AreTaken words → AreAsked (values_found words) s
     → Runs s before after failures → ending ≡ ending_of failures → Ends (AreTaken words) (RunsAsAsked words before after) before after ending
 ran words s before after failures ending taken asked runs first =
-    causes.ran before after ending taken
+    causes.ran _ _ before after ending taken
     (record { failures = failures; first = first; told = runs.leaves.told; left = record { settings = s; asked = asked; runs = runs } })
 
 pub refused : (words : List Text) (before : Outside) (r : Refusal) (ending : Ending) → ending ≡ ending_for r

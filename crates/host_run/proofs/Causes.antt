@@ -114,7 +114,7 @@ never_usage false false false false false false true h z = cc
 never_usage false false false false false false false true z = cc
 never_usage false false false false false false false false z = cc
 
-module _ {Taken : Type 0} {Left : Failures → Type 0} (before after : Outside) (ending : Ending) where
+module _ (Taken : Type 0) (Left : Failures → Type 0) (before after : Outside) (ending : Ending) where
   -- a run was made, of words that were taken
   pub ran : Taken → RunEnds Left before after ending → Ends Taken Left before after ending
   ran taken run =

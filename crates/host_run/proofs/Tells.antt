@@ -1,5 +1,5 @@
 -- A diagnostic in two pieces.
-use Rattle.std.proofs.Common.{◌≡◌, ◌∙◌, ◌⊎◌, ℕ, ◌+◌, ◌≤◌, min, Bool, true, false, List, ◌++◌, length, take, sym, subst, inl, inr, arith, Result, Ok, Err, OnOk, OnErr}
+use Rattle.std.proofs.Common.{◌≡◌, ◌∙◌, ◌⊎◌, ℕ, ◌+◌, ◌≤◌, min, Bool, true, false, List, ◌++◌, length, take, refl, sym, subst, inl, inr, arith, Result, Ok, Err, OnOk, OnErr}
 use Rattle.std.specs.Result.{is_ok}
 use Rattle.std.proofs.lemmas.List.{take-append-le, take_min}
 use Rattle.std.proofs.Math.Seq.{take-append-add}
@@ -8,6 +8,9 @@ use Rattle.std.specs.Io.KnownBytes.{Appends}
 use Rattle.std.proofs.KnownBytes.{Appends-trans}
 use Rattle.line_io.specs.Causes.{HasCause, Rose}
 use Rattle.line_io.specs.Source.{Received, TakesPrefix}
+use Rattle.host_run.specs.declared.ending.Ending.{Ending}
+use Rattle.host_run.specs.declared.ending.Ending.TheVariants as endings
+use Rattle.host_run.specs.Endings.{diagnostic, words_of}
 use Rattle.host_run.specs.Program.{IsToldTo}
 
 -- a front of the first piece is one of both
@@ -17,8 +20,8 @@ front_first xs ys n = take-append-le (min n (length xs)) xs ys (min-le_right n (
 -- the first piece failed
 pub told_front : (a b : Received) (xs ys : List ℕ) {T E : Type 0} (r : Result T E) → is_ok r ≡ false → OnErr r (TakesPrefix a.taken b.taken xs) → HasCause a.faults b.faults r
     → IsToldTo a b (xs ++ ys)
-told_front a b xs ys (Ok x) no err cause = cc
-told_front a b xs ys (Err x) no err cause =
+told_front a b xs ys (Ok x) wrong err cause = cc
+told_front a b xs ys (Err x) wrong err cause =
     inr ((min err.0 (length xs), subst (λ t. Appends a.taken b.taken t) (sym (front_first xs ys err.0)) err.1), cause.failed)
 
 behind : (a b c : Received) (xs ys : List ℕ) → Appends a.taken b.taken xs → b.faults ≡ a.faults → {T E : Type 0} (r : Result T E) → OnOk r (Appends b.taken c.taken ys)
@@ -36,5 +39,18 @@ behind a b c xs ys first same (Err x) ok err cause =
 -- the first piece was written, and the second one was offered
 pub told_both : (a b c : Received) (xs ys : List ℕ) {T E T' E' : Type 0} (r : Result T E) (s : Result T' E') → is_ok r ≡ true → OnOk r (Appends a.taken b.taken xs) → HasCause a.faults b.faults r
     → OnOk s (Appends b.taken c.taken ys) → OnErr s (TakesPrefix b.taken c.taken ys) → HasCause b.faults c.faults s → IsToldTo a c (xs ++ ys)
-told_both a b c xs ys (Ok x) s yes ok cause ok' err' cause' = behind a b c xs ys ok cause.same s ok' err' cause'
-told_both a b c xs ys (Err x) s yes ok cause ok' err' cause' = cc
+told_both a b c xs ys (Ok x) s fine ok cause ok' err' cause' = behind a b c xs ys ok cause.same s ok' err' cause'
+told_both a b c xs ys (Err x) s fine ok cause ok' err' cause' = cc
+
+-- an ending that is a failure
+pub failing : (program : List ℕ) (e : Ending) → (e ≡ endings.Done → ⊥) → diagnostic program e ≡ program ++ words_of e
+failing program endings.Done other = absurd (other refl)
+failing program endings.Usage other = refl
+failing program endings.NoMemory other = refl
+failing program endings.ReadingFailed other = refl
+failing program endings.WritingFailed other = refl
+failing program endings.EngineReadingFailed other = refl
+failing program endings.EngineWritingFailed other = refl
+failing program endings.EngineStartFailed other = refl
+failing program endings.LogFailed other = refl
+failing program endings.EngineWaitFailed other = refl

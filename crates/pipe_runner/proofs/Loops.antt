@@ -21,7 +21,7 @@ use Rattle.session_script.specs.Script.{numbered_text, numbered_texts, script2}
 use Rattle.event_pipe.specs.Message.{role_of_event}
 use Rattle.event_pipe.specs.Rule.{Follows}
 use Rattle.event_pipe.specs.Counts.{Tells}
-use Rattle.sink_offers.specs.declared.offer.LoopEnd.{LoopEnd}
+use Rattle.sink_offers.specs.declared.offering.LoopEnd.{LoopEnd}
 use Rattle.pipe_runner.specs.declared.looping.Progress.{Progress}
 use Rattle.sink_offers.specs.Streams.{Sinks, TookFront, Offered}
 use Rattle.pipe_runner.specs.Texts.{is_own, is_iface_lost, is_engine_lost, has, received, texts}

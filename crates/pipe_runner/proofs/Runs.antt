@@ -7,7 +7,7 @@ use Rattle.event_pipe.specs.declared.message.Peer.{Peer}
 use Rattle.event_pipe.specs.declared.message.Peer.TheVariants as peers
 use Rattle.event_pipe.specs.declared.reader.ReadEnd.{ReadEnd}
 use Rattle.policy_rules.specs.declared.settings.Settings.{Settings}
-use Rattle.sink_offers.specs.declared.offer.LoopEnd.{LoopEnd}
+use Rattle.sink_offers.specs.declared.offering.LoopEnd.{LoopEnd}
 use Rattle.event_pipe.specs.Rule.{sent_by, ended}
 use Rattle.event_pipe.specs.Ends.{Came}
 use Rattle.event_pipe.specs.Arrivals.{Arrived}

@@ -7,7 +7,7 @@ use Rattle.policy_rules.specs.declared.settings.Settings.{Settings}
 use Rattle.adapter_core.specs.Trace.{Step, Lawful, state, event_in, iface_text, engine_text}
 use Rattle.session_script.specs.Script.{script2}
 use Rattle.event_pipe.specs.Counts.{Tells}
-use Rattle.sink_offers.specs.declared.offer.LoopEnd.{LoopEnd}
+use Rattle.sink_offers.specs.declared.offering.LoopEnd.{LoopEnd}
 use Rattle.sink_offers.specs.Streams.{Sinks}
 use Rattle.sink_offers.specs.Took.{LogTook}
 use Rattle.pipe_runner.specs.Texts.{received, is_iface_lost, is_engine_lost, has, texts}

@@ -1,1 +1,1 @@
-mod Offers
+mod Writes

@@ -1,8 +1,8 @@
 //! What a loop offers to its sinks: the peers' lines and the log. A sink that failed gets nothing more.
 #![tactic(auto)]
 
-mod offer;
+mod offering;
 #[cfg(test)]
 mod tests;
 
-pub use offer::{LoopEnd, offer, offer_log};
+pub use offering::{LoopEnd, offer, offer_log};

@@ -13,8 +13,8 @@ returns-clause-answers g c =
     }
 
 pub returns-clause-status : goal.returns-clause-status
-returns-clause-status g c = causes.status_says _ _ _ _ c.code.ensures c.end_of-ending.ensures
+returns-clause-status g c = causes.status_says _ _ _ _ _ _ c.code.ensures c.end_of-ending.ensures
 
 pub returns-clause-unstarted : goal.returns-clause-unstarted
 returns-clause-unstarted g c z =
-    causes.unstarted _ _ _ c.end_of-ending.ensures (sym c.code.ensures ∙ z) (λ f left e. unstarted _ _ f left e)
+    causes.unstarted _ _ _ _ _ c.end_of-ending.ensures (sym c.code.ensures ∙ z) (λ f left e. unstarted _ _ f left e)

@@ -1,6 +1,6 @@
 use Rattle.std.proofs.Common.{◌≡◌, ◌∙◌, sym}
-use Rattle.sink_offers.proofs.Offers.{offered}
-use Rattle.sink_offers.proofs.offer.offer.Goals as goal
+use Rattle.sink_offers.proofs.Writes.{offered}
+use Rattle.sink_offers.proofs.offering.offer.Goals as goal
 
 pub returns : goal.returns
 returns g c =
