@@ -80,4 +80,4 @@ pub first_line : (texts : List ℕ) (all after : List Span) (s : Span) → all �
 first_line texts all after s e h =
     let within : IsLineIn texts s = (subst (λ (l : List Span). AreIn texts l) e h).0 in
     ap (λ (l : List Span). batch_text (orders_at texts l)) e
-    ∙ ap (λ (t : List ℕ). (t ++ 10 ∷ []) ++ batch_text (orders_at texts after)) (sym within.spells.text)
+    ∙ ap (λ (t : List ℕ). (t ++ 10 ∷ []) ++ batch_text (orders_at texts after)) (sym within.spells.order.text)

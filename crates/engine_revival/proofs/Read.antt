@@ -1,6 +1,7 @@
 -- The orders that lines spell.
 use Rattle.std.proofs.Common.{◌≡◌, ◌&&◌, ℕ, List, Bool, true, false, Option, Some, None, Result, Ok, Err, refl, sym, ap, ◌∙◌, true≢false}
 use Rattle.std.specs.Option.{option_map}
+use Rattle.line_io.specs.Event.{has_feed}
 use Rattle.std.specs.Result.{IfOk, IsOkAnd, result_ok}
 use Rattle.uci_lines.specs.declared.order_read.BadOrder.{BadOrder}
 use Rattle.uci_lines.specs.declared.orders.Order.{Order as CodeOrder}
@@ -22,7 +23,7 @@ pub order_read : (line : List ℕ) (r : Result CodeOrder BadOrder) (o : Option C
 order_read line r o found only e = ap (option_map order_of) e ∙ order_by line r found only
 
 -- A line from which an order is read spells it.
-pub read_spells : (line : List ℕ) (o : Option CodeOrder) (x : CodeOrder) → option_map order_of o ≡ order_in line → o ≡ Some x → (order_in line ≡ Some (order_of x)) × Spells line × (order_of x ≡ or_uci (order_in line))
-read_spells line o x e f =
+pub read_spells : (line : List ℕ) (o : Option CodeOrder) (x : CodeOrder) → has_feed line ≡ false → option_map order_of o ≡ order_in line → o ≡ Some x → (order_in line ≡ Some (order_of x)) × Spells line × (order_of x ≡ or_uci (order_in line))
+read_spells line o x one e f =
     let is : order_in line ≡ Some (order_of x) = sym e ∙ ap (option_map order_of) f in
-    (is, order_takes line (or_uci (order_in line)) (is ∙ ap (λ (w : Option Order). Some (or_uci w)) (sym is)), ap or_uci (sym is))
+    (is, record { order = order_takes line (or_uci (order_in line)) (is ∙ ap (λ (w : Option Order). Some (or_uci w)) (sym is)); one_line = one }, ap or_uci (sym is))

@@ -1,6 +1,7 @@
 -- How orders are kept: their lines stand in one buffer, each with its line feed.
-use Rattle.std.specs.Prelude.{◌≡◌, ℕ, ◌+◌, ◌≤◌, List, take, drop, map, length, Option, Some, None}
+use Rattle.std.specs.Prelude.{◌≡◌, ℕ, ◌+◌, ◌≤◌, List, take, drop, map, length, false, Option, Some, None}
 use Rattle.std.specs.List.{AllByRecursion}
+use Rattle.line_io.specs.Event.{has_feed}
 use Rattle.line_io.specs.Out.{Text}
 use Rattle.uci_lines.specs.Orders.{Order, Uci}
 use Rattle.uci_lines.specs.OrderReading.{order_in, SpellsOrder}
@@ -20,9 +21,10 @@ or_uci (Some order) = order
 abbrev pub spelled : List ℕ → Order
 spelled line = or_uci (order_in line)
 
--- The line spells an order.
-abbrev pub Spells : List ℕ → Type 0
-Spells line = SpellsOrder line (spelled line)
+-- The line is one line, and spells an order.
+pub record Spells (line : List ℕ) : Type 0 where
+  pub order : SpellsOrder line (spelled line)
+  pub one_line : has_feed line ≡ false
 
 abbrev pub orders_at : List ℕ → List Span → List Order
 orders_at texts lines = map (λ s. spelled (line_at texts s)) lines

@@ -3,6 +3,7 @@ pub mod Lists
 pub mod Kept
 pub mod Steps
 pub mod Rooms
+pub mod Marks
 pub mod Calls
 pub mod View
 pub mod Lending

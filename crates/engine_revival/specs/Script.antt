@@ -1,10 +1,9 @@
 -- The marks of a script of version 1, and what is written for each.
-use Rattle.std.specs.Prelude.{◌≡◌, ℕ, ◌≤◌, List, length, codes, Bool, true, false, not, if◌then◌else◌, Option, Some, None}
+use Rattle.std.specs.Prelude.{◌≡◌, ℕ, List, [], ◌∷◌, ◌++◌, codes, Bool, true, false, not, if◌then◌else◌}
 use Rattle.line_io.specs.Event.{Event, Iface, IfaceEnd, Engine, EngineLong, EngineEnd}
 use Rattle.script_lines.specs.StepText.{step_marks}
 use Rattle.engine_revival.specs.declared.state.State.{State}
-use Rattle.engine_revival.specs.declared.state.TheConstants.{MOST_LINE}
-use Rattle.engine_revival.specs.Steps.{ending, may_begin, is_alive, is_ended}
+use Rattle.engine_revival.specs.Steps.{opening, ending, may_begin, is_alive, is_ended}
 use Rattle.engine_revival.specs.Calls.{Call, Order, Heard, Begin, Over, after, up_of, child_of}
 
 -- The events that may come. No line of the engine comes after it was over.
@@ -37,7 +36,23 @@ state_after s event = after (state_before s event) (call_of s event)
 abbrev pub event_text : State → Event → List ℕ
 event_text s event = step_marks event (up_of (state_before s event) (call_of s event)) (child_of (state_before s event) (call_of s event))
 
-abbrev pub IsShort : Event → Type 0
-IsShort (Iface line) = length line ≤ MOST_LINE
-IsShort (Engine line) = length line ≤ MOST_LINE
-IsShort event = Unit {0}
+-- EVENTS IN A ROW, THE FIRST ONE FIRST
+
+-- Each of them may come at its place.
+abbrev pub AllMayHappen : State → List Event → Type 0
+AllMayHappen s [] = Unit {0}
+AllMayHappen s (event ∷ events) = (may_happen s event ≡ true) × AllMayHappen (state_after s event) events
+
+-- the state behind them
+abbrev pub state_behind : State → List Event → State
+state_behind s [] = s
+state_behind s (event ∷ events) = state_behind (state_after s event) events
+
+-- their texts, one behind the other
+abbrev pub texts_from : State → List Event → List ℕ
+texts_from s [] = []
+texts_from s (event ∷ events) = event_text s event ++ texts_from (state_after s event) events
+
+-- the script of an engine that is started again, where so many lives may be begun
+abbrev pub revival_script : ℕ → List Event → List ℕ
+revival_script lives events = texts_from (opening lives) events

@@ -3,6 +3,7 @@ use Rattle.std.specs.Prelude.{◌≡◌, ℕ}
 use Rattle.line_io.specs.Out.{empty}
 use Rattle.engine_revival.specs.declared.revival.Parts.{Parts}
 use Rattle.engine_revival.specs.declared.revival.TheConstants.{UP_ROOM, CHILD_ROOM}
+use Rattle.engine_revival.specs.Marks.{HaveRoom}
 use Rattle.engine_revival.specs.Rooms.{IsRoomy}
 use Rattle.engine_revival.specs.Steps as steps
 
@@ -21,3 +22,4 @@ pub record Keeps (v : View) : Type 0 where
   pub roomy : IsRoomy v.state
   pub up : v.up.room ≡ UP_ROOM
   pub child : v.child.room ≡ CHILD_ROOM
+  pub marks : HaveRoom v.up.text v.child.text

@@ -5,6 +5,7 @@ ghost use Rattle.line_io.specs.Out.{with};
 ghost use Rattle.uci_lines.specs.OrderReading.{order_in};
 ghost use Rattle.uci_lines.specs.Orders.{order_of as order_of_by};
 ghost use Rattle.engine_revival.specs.Lists.{are_for_same, staying_beside, batch_text, is_nil};
+ghost use Rattle.engine_revival.specs.Marks.{AreLines};
 ghost use Rattle.engine_revival.specs.Kept.{line_at, spelled, Spells, orders_at, IsLineIn, AreIn};
 
 use arrayvec::ArrayVec;
@@ -234,7 +235,8 @@ impl OrderList {
     /// Writes the orders, each with its line feed.
     pub(crate) fn write(&self, out: &mut Out)
         requires { length out.old.text + length (batch_text self.now) ≤ out.old.room }
-        ensures { out.new ≡ with out.old (batch_text self.now) }
+        ensures out { out.new ≡ with out.old (batch_text self.now) }
+        ensures lines { AreLines self.now LIST_ORDERS }
     {
         out.put(self.texts.bytes());
     }

@@ -1,8 +1,10 @@
 // An engine that is started again.
-ghost use Rattle.std.specs.Prelude.{◌≡◌, ◌≤◌, ◌<◌, length, true, IfOk};
+ghost use Rattle.std.specs.Prelude.{◌≡◌, ◌≤◌, ◌<◌, length, true, false, IfOk};
 ghost use Rattle.std.specs.Borrow.{sem};
 ghost use Rattle.engine_revival.specs.Calls as calls;
 ghost use Rattle.engine_revival.specs.Calls.{Gives, may, after};
+ghost use Rattle.line_io.specs.Event.{has_feed};
+ghost use Rattle.engine_revival.specs.Marks.{HaveRoom};
 ghost use Rattle.engine_revival.specs.View.{opening, cleared, Keeps};
 ghost use Rattle.engine_revival.specs.declared.state.TheConstants.{MOST_LINE};
 
@@ -16,6 +18,9 @@ pub(crate) const UP_ROOM: usize = 66_560;
 
 /// The room of the lines to the engine: all settings, and the orders of a search.
 pub(crate) const CHILD_ROOM: usize = 1_310_720;
+
+/// Room for the marks of the lines up and of those to the engine, each on a line behind its letter.
+pub const MARKS_ROOM: usize = 2_000_000;
 
 // The state, and the lines of the last call.
 #[derive(Drop)]
@@ -34,6 +39,7 @@ impl Parts {
     }
 
     fn order(&mut self, line: &[u8])
+        requires one_line { has_feed line.now ≡ false }
         requires short { length line.now ≤ MOST_LINE }
         requires keeps { Keeps self.old }
         ensures gives { Gives self.old.state (calls.Order line.now)
@@ -128,8 +134,10 @@ impl Revival {
     /// An order came. The line has no line feed.
     pub fn order<'a>(&'a mut self, line: &[u8]) -> Both<'a>
         requires may { may self.old.state (calls.Order line.now) ≡ true }
+        requires one_line { has_feed line.now ≡ false }
         requires short { length line.now ≤ MOST_LINE }
         ensures* gives { sem 𝓛 (CallGives self.entry (calls.Order line.now) result) }
+        ensures marks { HaveRoom result.up.now result.child.now }
     {
         self.take_order(line);
         self.lines()
@@ -140,6 +148,7 @@ impl Revival {
         requires may { may self.old.state (calls.Heard line.now) ≡ true }
         requires short { length line.now ≤ MOST_LINE }
         ensures* gives { sem 𝓛 (CallGives self.entry (calls.Heard line.now) result) }
+        ensures marks { HaveRoom result.up.now result.child.now }
     {
         self.take_heard(line);
         self.lines()
@@ -158,6 +167,7 @@ impl Revival {
     pub fn begin(&mut self) -> Both<'_>
         requires { may self.old.state calls.Begin ≡ true }
         ensures* gives { sem 𝓛 (CallGives self.entry calls.Begin result) }
+        ensures marks { HaveRoom result.up.now result.child.now }
     {
         self.take_begin();
         self.lines()
@@ -167,6 +177,7 @@ impl Revival {
     pub fn over(&mut self) -> Both<'_>
         requires { may self.old.state calls.Over ≡ true }
         ensures* gives { sem 𝓛 (CallGives self.entry calls.Over result) }
+        ensures marks { HaveRoom result.up.now result.child.now }
     {
         self.take_over();
         self.lines()
@@ -194,6 +205,7 @@ impl Revival {
     }
 
     pub(crate) fn take_order(&mut self, line: &[u8])
+        requires one_line { has_feed line.now ≡ false }
         requires short { length line.now ≤ MOST_LINE }
         ensures gives { Gives self.old.state (calls.Order line.now)
             self.new.state self.new.up.text self.new.child.text }
@@ -227,8 +239,7 @@ impl Revival {
     pub(crate) fn lines(&self) -> Both<'_>
         ensures up { result.up.now ≡ self.now.up.text }
         ensures child { result.child.now ≡ self.now.child.text }
-        ensures up_room { length result.up.now ≤ UP_ROOM }
-        ensures child_room { length result.child.now ≤ CHILD_ROOM }
+        ensures marks { HaveRoom result.up.now result.child.now }
     {
         Both {
             up: self.parts.up.bytes(),

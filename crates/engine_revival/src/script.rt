@@ -1,31 +1,57 @@
 // The marks of a script, and what is written for each.
-ghost use Rattle.std.specs.Prelude.{◌≡◌, ◌≤◌, ◌+◌, ◌↔◌, length, true};
+ghost use Rattle.std.specs.Prelude.{◌≡◌, ◌≤◌, ◌+◌, length, true};
 ghost use Rattle.line_io.specs.Event.{event_of};
 ghost use Rattle.line_io.specs.Out.{with};
-ghost use Rattle.script_lines.specs.Marks.{event_marked};
-ghost use Rattle.script_lines.specs.StepText.{step_marks};
-ghost use Rattle.engine_revival.specs.declared.revival.TheConstants.{UP_ROOM, CHILD_ROOM};
+ghost use Rattle.script_lines.specs.Marks.{Happens, IsSpelled, event_marked, line_marked};
+ghost use Rattle.script_lines.specs.StepText.{lines_marked, step_marks};
 ghost use Rattle.engine_revival.specs.declared.script.TheConstants.{EVENT_ROOM};
-ghost use Rattle.engine_revival.specs.Script.{may_happen, state_after, event_text, IsShort};
+ghost use Rattle.engine_revival.specs.Script.{may_happen, state_after, event_text};
 ghost use Rattle.engine_revival.specs.Script.{state_before, call_of};
 ghost use Rattle.engine_revival.specs.Calls.{Gives};
-ghost use Rattle.engine_revival.specs.Steps.{ending, may_begin};
+ghost use Rattle.engine_revival.specs.Marks.{HaveRoom};
+ghost use Rattle.engine_revival.specs.Steps.{ending};
 
-use crate::{MOST_LINE, Revival};
-use line_io::{Event, Out};
-use script_lines::{Mark, put_written, write_mark_line};
+use crate::{Both, Revival};
+use line_io::{Event, Out, split_line};
+use script_lines::{Mark, write_mark_line};
 
-/// Room for the marks of any event and of the lines that are written for it.
-pub const EVENT_ROOM: usize = 5_600_000;
+/// Room for the marks of an event and of the lines that are written for it.
+pub const EVENT_ROOM: usize = 2_097_152;
 
-/// Whether the line of an event is no longer than a line may be.
-pub fn is_short(event: &Event) -> bool
-    ensures { (result ≡ true) ↔ IsShort (event_of event.now) }
+fn put_line(letter: u8, line: &[u8], text: &mut Out)
+    requires { length text.old.text + length (line_marked letter line.now) ≤ text.old.room }
+    ensures { text.new ≡ with text.old (line_marked letter line.now) }
 {
-    match event {
-        Event::Iface(line) | Event::Engine(line) => line.len() <= MOST_LINE,
-        _ => true,
+    text.put(&[letter, b' ']);
+    text.put(line);
+    text.put(b"\n");
+}
+
+// Puts the lines of a text, each behind the letter of its mark.
+fn put_lines(letter: u8, lines: &[u8], text: &mut Out)
+    requires { length text.old.text + length (lines_marked letter lines.now) ≤ text.old.room }
+    ensures { text.new ≡ with text.old (lines_marked letter lines.now) }
+{
+    let mut rest = lines;
+    while !rest.is_empty() {
+        let (line, after) = split_line(rest);
+        put_line(letter, line, text);
+        rest = after;
     }
+}
+
+/// Puts the mark of an event and those of the lines that a call gave for it: `X` before those up,
+/// `U` before those to the engine.
+pub fn put_marks(event: &Event, both: Both, text: &mut Out)
+    requires mark { length (event_marked (event_of event.now)) ≤ 65539 }
+    requires marks { HaveRoom both.up.now both.child.now }
+    requires room { length text.old.text + EVENT_ROOM ≤ text.old.room }
+    ensures { text.new
+        ≡ with text.old (step_marks (event_of event.now) both.entry.up.now both.entry.child.now) }
+{
+    write_mark_line(&Mark::Event(*event), text);
+    put_lines(b'X', both.up, text);
+    put_lines(b'U', both.child, text);
 }
 
 impl Revival {
@@ -57,7 +83,7 @@ impl Revival {
 
     fn take_event(&mut self, event: &Event)
         requires may { may_happen self.old.state (event_of event.now) ≡ true }
-        requires short { IsShort (event_of event.now) }
+        requires spelled { IsSpelled (Happens (event_of event.now)) }
         ensures { Gives (state_before self.old.state (event_of event.now))
             (call_of self.old.state (event_of event.now))
             self.new.state self.new.up.text self.new.child.text }
@@ -71,32 +97,20 @@ impl Revival {
         }
     }
 
-    // Puts the marks of an event and of the lines of the last call.
-    fn put_marks(&self, event: &Event, text: &mut Out)
-        requires short { IsShort (event_of event.now) }
-        requires room { length text.old.text + EVENT_ROOM ≤ text.old.room }
-        ensures { text.new ≡ with text.old
-            (step_marks (event_of event.now) self.now.up.text self.now.child.text) }
-    {
-        write_mark_line(&Mark::Event(*event), text);
-        let both = self.lines();
-        put_written(both.up, both.child, text);
-    }
-
-    /// Plays an event of a script, and puts its mark and those of the lines that are written for it: `X` before those
-    /// up, `U` before those to the engine.
+    /// Plays an event of a script, and puts its mark and those of the lines that are written for it:
+    /// `X` before those up, `U` before those to the engine.
     ///
-    /// A line of the interface is an order, and its end is `quit`. A line of the engine is one of the present life. The
-    /// mark of a long line of the engine, `u!`, is the end of a life, behind which another one begins if one may; the
-    /// engine's end is the end of a life behind which none follows.
+    /// A line of the interface is an order, and its end is `quit`. A line of the engine is one of the
+    /// present life. The mark of a long line of the engine, `u!`, is the end of a life, behind which
+    /// another one begins if one may; the engine's end is the end of a life behind which none follows.
     pub fn play(&mut self, event: &Event, text: &mut Out)
         requires may { may_happen self.old.state (event_of event.now) ≡ true }
-        requires short { IsShort (event_of event.now) }
+        requires spelled { IsSpelled (Happens (event_of event.now)) }
         requires room { length text.old.text + EVENT_ROOM ≤ text.old.room }
         ensures state { self.new.state ≡ state_after self.old.state (event_of event.now) }
         ensures text { text.new ≡ with text.old (event_text self.old.state (event_of event.now)) }
     {
         self.take_event(event);
-        self.put_marks(event, text);
+        put_marks(event, self.lines(), text);
     }
 }

@@ -7,6 +7,8 @@ ghost use Rattle.engine_revival.specs.Dialogue.{said_in};
 ghost use Rattle.engine_revival.specs.Kept.{Spells, spelled};
 ghost use Rattle.engine_revival.specs.Lists.{batch_text};
 ghost use Rattle.engine_revival.specs.Rooms.{IsRoomy};
+ghost use Rattle.engine_revival.specs.Marks.{AreLines};
+ghost use Rattle.line_io.specs.Event.{has_feed};
 ghost use Rattle.engine_revival.specs.Steps.{opening, keeping, with_value, with_button, answer_text};
 ghost use Rattle.engine_revival.specs.Steps.{is_given, gives, is_served, is_alive, is_ended, takes_at_once};
 ghost use Rattle.engine_revival.specs.Steps.{after_at_once, life_after_said, due_to, answer_to};
@@ -25,6 +27,9 @@ use uci_lines::Order;
 
 /// How many bytes a line may have.
 pub const MOST_LINE: usize = 65_536;
+
+/// More orders than an idle life gets: two lists of them.
+pub(crate) const DUE_ORDERS: usize = 1_026;
 
 /// How many bytes the orders of a search have at most, with their line feeds.
 pub(crate) const SEARCH_BYTES: usize = 131_089;
@@ -317,6 +322,7 @@ impl State {
 
     // A line that is not `quit` came.
     fn take_line(&mut self, line: &[u8], child: &mut Out)
+        requires one_line { has_feed line.now ≡ false }
         requires short { length line.now ≤ MOST_LINE }
         requires roomy { IsRoomy self.old }
         requires room { length child.old.text + MOST_LINE < child.old.room }
@@ -345,6 +351,7 @@ impl State {
 
     /// An order came.
     pub(crate) fn order(&mut self, line: &[u8], child: &mut Out)
+        requires one_line { has_feed line.now ≡ false }
         requires short { length line.now ≤ MOST_LINE }
         requires roomy { IsRoomy self.old }
         requires room { length child.old.text + MOST_LINE < child.old.room }
@@ -414,6 +421,7 @@ impl State {
         ensures state { self.new ≡ after_due due self.old }
         ensures child { child.new
             ≡ with child.old (batch_text (due_orders due self.old.unsent self.old.search)) }
+        ensures lines { AreLines (due_orders due self.old.unsent self.old.search) DUE_ORDERS }
     {
         match due {
             Due::Nothing => {}
@@ -449,6 +457,7 @@ impl State {
         ensures state { self.new ≡ settled self.old }
         ensures up { up.new ≡ with up.old (answer_text (answer_of self.old)) }
         ensures child { child.new ≡ with child.old (batch_text (settled_orders self.old)) }
+        ensures lines { AreLines (settled_orders self.old) DUE_ORDERS }
     {
         let due = due_to(self.life, self.quit, self.upper);
         let answer = answer_to(self.life, self.upper);
