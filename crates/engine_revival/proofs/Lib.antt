@@ -5,3 +5,4 @@ pub mod Marks
 pub mod Wires
 pub mod Agrees
 pub mod Values
+pub mod Scripts

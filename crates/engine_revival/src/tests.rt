@@ -1,8 +1,12 @@
 // Worked sessions: what comes, the lines up, and the lines to the engine.
+ghost use Rattle.std.specs.Prelude.{◌≡◌, ◌≤◌, length, true, false};
+ghost use Rattle.line_io.specs.Event.{has_feed};
+
 use crate::{
-    Both, MOST_LINE, Revival, lines_up_are_waited_for, lives_are_in_order, no_life_idles,
-    searches_are_given,
+    Both, EVENT_ROOM, MOST_LINE, Revival, lines_up_are_waited_for, lives_are_in_order,
+    no_life_idles, put_marks, searches_are_given,
 };
+use line_io::{Event, Out};
 use std::alloc::Global;
 use std::process::Abort;
 use std::test::Fail;
@@ -34,12 +38,19 @@ fn expect(rt: &impl Abort, name: &str, k: usize, both: Both, row: Row) {
     );
 }
 
+fn is_line(line: &[u8]) -> bool
+    ensures yes { result ≡ true → length line.now ≤ 65536 }
+    ensures no_feed { result ≡ true → has_feed line.now ≡ false }
+{
+    line.len() <= MOST_LINE && !line.contains(&b'\n')
+}
+
 fn play(rt: &impl Abort, alloc: Global, name: &str, lives: u32, rows: &[Row]) -> Result<(), Fail> {
     let mut revival = Revival::make(alloc, lives)?;
     for (k, row) in rows.iter().enumerate() {
         match row.0 {
             Mark::Order(line) => {
-                if revival.awaits_next() || line.len() > MOST_LINE {
+                if revival.awaits_next() || !is_line(line.as_bytes()) {
                     return Err(Fail::from(UNFIT));
                 }
                 expect(rt, name, k, revival.order(line.as_bytes()), *row);
@@ -110,5 +121,21 @@ fn laws_can_be_called(_rt: HostRuntime) -> Result<(), Fail> {
     lines_up_are_waited_for();
     no_life_idles();
     searches_are_given();
+    Ok(())
+}
+
+#[test]
+fn marks_of_an_event(rt: HostRuntime) -> Result<(), Fail> {
+    let mut revival = Revival::make(rt.alloc(), 1)?;
+    let mut text = Out::make(rt.alloc(), 2 * EVENT_ROOM)?;
+    let uci = Event::Iface(b"uci");
+    put_marks(&uci, revival.order(b"uci"), &mut text);
+    assert_eq!(rt; text.bytes(), b"x uci\nU uci\n".as_slice());
+    text.clear();
+    let end = Event::EngineLong;
+    assert!(rt; revival.may_happen(&end));
+    revival.play(&end, &mut text);
+    assert_eq!(rt; text.bytes(), b"u!\nX uciok\n".as_slice());
+    assert!(rt; !revival.may_happen(&end));
     Ok(())
 }

@@ -29,9 +29,9 @@ returns-clause-keeps c =
       ap (λ (v : View). length v.up.text) c.clear.ensures,
     ) in
     let child : c.settle.new.child.text ≡ batch_text (first_order was.state.upper) ++ batch_text (settled_orders c.begin.new.self) =
-        ap (λ (t : Text). t.text) c.settle.ensures.child
-        ∙ ap (λ (t : Text). t.text ++ batch_text (settled_orders c.begin.new.self)) c.begin.ensures.child
-        ∙ ap (λ (v : View). (v.child.text ++ batch_text (first_order was.state.upper)) ++ batch_text (settled_orders c.begin.new.self)) c.clear.ensures in
+    ap (λ (t : Text). t.text) c.settle.ensures.child
+    ∙ ap (λ (t : Text). t.text ++ batch_text (settled_orders c.begin.new.self)) c.begin.ensures.child
+    ∙ ap (λ (v : View). (v.child.text ++ batch_text (first_order was.state.upper)) ++ batch_text (settled_orders c.begin.new.self)) c.clear.ensures in
     let short : length (batch_text (first_order was.state.upper)) ≤ MOST_LINE + 1 = omega (
       arith,
       c.begin.ensures.short,

@@ -50,8 +50,8 @@ returns-clause-keeps c =
       c.requires.short,
     ) in
     let child : c.settle.new.child.text ≡ batch_text [] ++ batch_text (settled_orders c.hear.new.self) =
-        ap (λ (t : Text). t.text) c.settle.ensures.child
-        ∙ ap (λ (v : View). v.child.text ++ batch_text (settled_orders c.hear.new.self)) c.clear.ensures in
+    ap (λ (t : Text). t.text) c.settle.ensures.child
+    ∙ ap (λ (v : View). v.child.text ++ batch_text (settled_orders c.hear.new.self)) c.clear.ensures in
     record {
       roomy = subst IsRoomy (sym c.settle.ensures.state) (settled_roomy c.hear.new.self k);
       up = ap (λ (t : Text). t.room) c.settle.ensures.up ∙ ap (λ (t : Text). t.room) c.hear.ensures.up ∙ ap (λ (v : View). v.up.room) c.clear.ensures ∙ c.requires.keeps.up;

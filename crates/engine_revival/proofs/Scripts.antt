@@ -1,0 +1,353 @@
+-- What is written for events is a script, and its events are these.
+use Rattle.std.proofs.Common.{◌≡◌, ◌≤◌, ◌&&◌, ◌||◌, ℕ, List, [], ◌∷◌, ◌++◌, map, length, filter, cond, Bool, true, false, not, Option, Some, None, is_some, refl, sym, ap, subst, ◌∙◌, arith, append_assoc, append-nil, if◌then◌else◌}
+use Rattle.std.specs.Prelude.{nat_le}
+use Rattle.std.specs.List.{AllByRecursion, flat_map}
+use Rattle.std.proofs.lemmas.Bool.Decides.{nat_tests}
+use Rattle.std.proofs.lemmas.List.Concat.{flat_map-append}
+use Rattle.line_io.specs.Event.{Event, Iface, IfaceEnd, IfaceLong, IfaceLost, Engine, EngineEnd, EngineLong, EngineLost, Open, has_feed, is_line}
+use Rattle.line_io.specs.Lines.{parts}
+use Rattle.script_lines.specs.Marks.{Mark, Happens, ToIface, ToEngine, IsSpelled, event_marked, is_written, line_marked, mark_of, mark_line, mark_text}
+use Rattle.script_lines.specs.Scripts.{AreSpelled, script_of}
+use Rattle.script_lines.specs.StepText.{lines_marked, step_marks}
+use Rattle.script_lines.proofs.Scripts.{parts_line}
+use Rattle.cecp_lines.specs.Quit.{is_quit}
+use Rattle.uci_lines.specs.Orders.{Order as AnyOrder, NewGame, order_text}
+use Rattle.uci_lines.specs.Orders as orders
+use Rattle.uci_lines.specs.OrderReading.{order_in}
+use Rattle.uci_lines.proofs.Spelling.{order_takes}
+use Rattle.engine_revival.specs.declared.state.State.{State}
+use Rattle.engine_revival.specs.declared.words.Answer.{Answer}
+use Rattle.engine_revival.specs.declared.words.Answer.TheVariants as answers
+use Rattle.engine_revival.specs.declared.words.DialogueState.{DialogueState}
+use Rattle.engine_revival.specs.declared.words.Due.{Due}
+use Rattle.engine_revival.specs.declared.words.Due.TheVariants as due
+use Rattle.engine_revival.specs.declared.words.LifeState.{LifeState}
+use Rattle.engine_revival.specs.Dialogue.{is_before, said_in}
+use Rattle.engine_revival.specs.Lists.{are_for_same, batch_text, can_join, staying_beside, with_order}
+use Rattle.engine_revival.specs.Steps.{accepted, accepted_at_once, accepting, after_answer, after_due, answer_of, answer_text, at_once, beginning, closing, due_of, due_orders, ending, first_order, given, gives, hearing, is_served, keeping, may_begin, opening, ordering, quit_to, read_at_once, reading, settled, settled_orders, takes_at_once, with_button, with_quit, with_value}
+use Rattle.engine_revival.specs.Calls.{Call, Order, Heard, Ended, Begin, Over, after, child_of, first_orders, first_up, orders_of, turned, up_of}
+use Rattle.engine_revival.specs.Script.{call_of, event_text, state_after, state_before, texts_from}
+
+-- ORDERS WHOSE MARKS ARE LINES OF SCRIPTS
+
+abbrev pub CanMark : AnyOrder → Type 0
+CanMark order = is_written (order_text order) ≡ true
+
+abbrev pub AllMark : List AnyOrder → Type 0
+AllMark list = AllByRecursion CanMark list
+
+all_mark : (a b : List AnyOrder) → AllMark a → AllMark b → AllMark (a ++ b)
+all_mark [] b h k = k
+all_mark (c ∷ cs) b h k = (h.0, all_mark cs b h.1 k)
+
+stay_step : (w : Bool) (c : AnyOrder) (cs : List AnyOrder) → CanMark c → AllMark cs → AllMark (cond w (c ∷ cs) cs)
+stay_step true c cs h k = (h, k)
+stay_step false c cs h k = k
+
+stay_mark : (test : AnyOrder → Bool) (cs : List AnyOrder) → AllMark cs → AllMark (filter test cs)
+stay_mark test [] h = tt
+stay_mark test (c ∷ cs) h = stay_step (test c) c (filter test cs) h.0 (stay_mark test cs h.1)
+
+with_mark : (list : List AnyOrder) (c : AnyOrder) → AllMark list → CanMark c → AllMark (with_order list c)
+with_mark list c h k = all_mark (staying_beside c list) (c ∷ []) (stay_mark (λ (o : AnyOrder). not (are_for_same c o)) list h) (k, tt)
+
+quit_mark : CanMark orders.Quit
+unfolding order_text
+quit_mark = refl
+
+uci_mark : CanMark orders.Uci
+unfolding order_text
+uci_mark = refl
+
+ready_mark : CanMark orders.IsReady
+unfolding order_text
+ready_mark = refl
+
+-- a line that came can be written
+both : (a b : Bool) → (a && b) ≡ true → (a ≡ true) × (b ≡ true)
+both true b h = (refl, h)
+both false b h = cc
+
+longer : (n : ℕ) → nat_le n 65536 ≡ true → nat_le n 131070 ≡ true
+longer n h = let l : n ≤ 65536 = grind (arith, nat_tests) in grind (arith, nat_tests)
+
+pub line_written : (line : List ℕ) → is_line line ≡ true → is_written line ≡ true
+line_written line h =
+    let p = both (nat_le (length line) 65536) (not (has_feed line)) h in
+    ap (λ b. b && not (has_feed line)) (longer (length line) p.0) ∙ p.1
+
+came : (line : List ℕ) (c : AnyOrder) → is_line line ≡ true → order_in line ≡ Some c → CanMark c
+came line c h e = ap (λ (t : List ℕ). is_written t) (sym (order_takes line c e).text) ∙ line_written line h
+
+-- THE STATES
+
+pub record HasMarks (s : State) : Type 0 where
+  pub kept : AllMark s.kept
+  pub unsent : AllMark s.unsent
+  pub search : AllMark s.search
+
+value_marks : (w : Bool) (s : State) (c : AnyOrder) → CanMark c → HasMarks s → HasMarks (with_value w s c)
+value_marks true s c k h = record { kept = with_mark s.kept c h.kept k; unsent = with_mark s.unsent c h.unsent k; search = h.search }
+value_marks false s c k h = record { kept = h.kept; unsent = h.unsent; search = h.search }
+
+button_marks : (w : Bool) (s : State) (c : AnyOrder) → CanMark c → HasMarks s → HasMarks (with_button w s c)
+button_marks true s c k h = record { kept = h.kept; unsent = with_mark s.unsent c h.unsent k; search = h.search }
+button_marks false s c k h = record { kept = h.kept; unsent = h.unsent; search = h.search }
+
+search_marks : (s : State) (c : AnyOrder) → CanMark c → HasMarks s → HasMarks (record s { search = s.search ++ c ∷ [] })
+search_marks s c k h = record { kept = h.kept; unsent = h.unsent; search = all_mark s.search (c ∷ []) h.search (k, tt) }
+
+keeping_marks : (s : State) (c : AnyOrder) → CanMark c → HasMarks s → HasMarks (keeping s c)
+keeping_marks s (orders.SetOption name (Some value)) k h =
+    value_marks (can_join s.kept (orders.SetOption name (Some value)) && can_join s.unsent (orders.SetOption name (Some value))) s (orders.SetOption name (Some value)) k h
+keeping_marks s (orders.SetOption name None) k h = button_marks (can_join s.unsent (orders.SetOption name None)) s (orders.SetOption name None) k h
+keeping_marks s orders.NewGame k h = record { kept = h.kept; unsent = with_mark s.unsent NewGame h.unsent k; search = h.search }
+keeping_marks s (orders.Position fen moves) k h = record { kept = h.kept; unsent = h.unsent; search = (k, tt) }
+keeping_marks s (orders.Go ponder control depth) k h = search_marks s (orders.Go ponder control depth) k h
+keeping_marks s orders.PonderHit k h = search_marks s orders.PonderHit k h
+keeping_marks s orders.Stop k h = search_marks s orders.Stop k h
+keeping_marks s orders.Uci k h = h
+keeping_marks s orders.IsReady k h = h
+keeping_marks s orders.Quit k h = h
+
+accepting_marks : (w : Option DialogueState) (s : State) (c : AnyOrder) → CanMark c → HasMarks s → HasMarks (accepting w s c)
+accepting_marks None s c k h = h
+accepting_marks (Some up) s c k h = let m = keeping_marks s c k h in record { kept = m.kept; unsent = m.unsent; search = m.search }
+
+reading_marks : (s : State) (line : List ℕ) (o : Option AnyOrder) → order_in line ≡ o → is_line line ≡ true → HasMarks s → HasMarks (reading s o)
+reading_marks s line None e l h = h
+reading_marks s line (Some c) e l h = accepting_marks (accepted s c) s c (came line c l e) h
+
+ordering_by : (w : Bool) (s : State) (line : List ℕ) → is_line line ≡ true → HasMarks s → HasMarks (if w then with_quit s else reading s (order_in line))
+ordering_by true s line l h = record { kept = h.kept; unsent = h.unsent; search = h.search }
+ordering_by false s line l h = reading_marks s line (order_in line) refl l h
+
+-- a call whose line is one that a peer may send
+abbrev pub IsProperCall : Call → Type 0
+IsProperCall (Order line) = is_line line ≡ true
+IsProperCall (Heard line) = is_line line ≡ true
+IsProperCall call = Unit {0}
+
+turned_marks : (s : State) (call : Call) → IsProperCall call → HasMarks s → HasMarks (turned s call)
+turned_marks s (Order line) l h = ordering_by (is_quit line) s line l h
+turned_marks s (Heard line) l h = record { kept = h.kept; unsent = h.unsent; search = h.search }
+turned_marks s Ended l h = record { kept = h.kept; unsent = h.unsent; search = h.search }
+turned_marks s Begin l h = record { kept = h.kept; unsent = h.kept; search = h.search }
+turned_marks s Over l h = record { kept = h.kept; unsent = h.unsent; search = h.search }
+
+due_marks : (d : Due) (s : State) → HasMarks s → HasMarks (after_due d s)
+due_marks due.Nothing s h = h
+due_marks due.Settings s h = record { kept = h.kept; unsent = tt; search = h.search }
+due_marks due.Search s h = record { kept = h.kept; unsent = tt; search = h.search }
+
+answer_marks : (a : Answer) (s : State) → HasMarks s → HasMarks (after_answer a s)
+answer_marks answers.Nothing s h = h
+answer_marks answers.UciOk s h = record { kept = h.kept; unsent = h.unsent; search = h.search }
+answer_marks answers.ReadyOk s h = record { kept = h.kept; unsent = h.unsent; search = h.search }
+answer_marks answers.NoMove s h = record { kept = h.kept; unsent = h.unsent; search = h.search }
+
+after_marks : (s : State) (call : Call) → IsProperCall call → HasMarks s → HasMarks (after s call)
+after_marks s call l h = let t = turned s call in answer_marks (answer_of t) (after_due (due_of t) t) (due_marks (due_of t) t (turned_marks s call l h))
+
+-- THE ORDERS OF A CALL
+
+mark_if : (w : Bool) (c : AnyOrder) → CanMark c → AllMark (if w then c ∷ [] else [])
+mark_if true c k = (k, tt)
+mark_if false c k = tt
+
+accepted_mark : (w : Option DialogueState) (life : LifeState) (c : AnyOrder) → CanMark c → AllMark (accepted_at_once w life c)
+accepted_mark None life c k = tt
+accepted_mark (Some up) life c k = mark_if (takes_at_once life c) c k
+
+read_mark : (s : State) (line : List ℕ) (o : Option AnyOrder) → order_in line ≡ o → is_line line ≡ true → AllMark (read_at_once s o)
+read_mark s line None e l = tt
+read_mark s line (Some c) e l = accepted_mark (accepted s c) s.life c (came line c l e)
+
+at_once_by : (w : Bool) (s : State) (line : List ℕ) → is_line line ≡ true → AllMark (if w then quit_to s.quit s.life else read_at_once s (order_in line))
+at_once_by true s line l = mark_if (not s.quit && is_served s.life) orders.Quit quit_mark
+at_once_by false s line l = read_mark s line (order_in line) refl l
+
+first_by : (w : Bool) → AllMark (if w then [] else orders.Uci ∷ [])
+first_by true = tt
+first_by false = (uci_mark, tt)
+
+first_mark : (s : State) (call : Call) → IsProperCall call → AllMark (first_orders s call)
+first_mark s (Order line) l = at_once_by (is_quit line) s line l
+first_mark s (Heard line) l = tt
+first_mark s Ended l = tt
+first_mark s Begin l = first_by (is_before s.upper)
+first_mark s Over l = tt
+
+due_mark : (d : Due) (unsent search : List AnyOrder) → AllMark unsent → AllMark search → AllMark (due_orders d unsent search)
+due_mark due.Nothing u s h k = tt
+due_mark due.Settings u s h k = all_mark u (orders.IsReady ∷ []) h (ready_mark, tt)
+due_mark due.Search u s h k = all_mark u s h k
+
+orders_mark : (s : State) (call : Call) → IsProperCall call → HasMarks s → AllMark (orders_of s call)
+orders_mark s call l h =
+    let t = turned s call in
+    let m = turned_marks s call l h in
+    all_mark (first_orders s call) (settled_orders t) (first_mark s call l) (due_mark (due_of t) t.unsent t.search m.unsent m.search)
+
+-- THE MARKS OF A CALL
+
+abbrev pub AllWritten : List (List ℕ) → Type 0
+AllWritten lines = AllByRecursion (λ (line : List ℕ). is_written line ≡ true) lines
+
+feedless : (line : List ℕ) → is_written line ≡ true → has_feed line ≡ false
+feedless line h = let p = both (nat_le (length line) 131070) (not (has_feed line)) h in not_true (has_feed line) p.1
+  where
+    not_true : (b : Bool) → not b ≡ true → b ≡ false
+    not_true true e = cc
+    not_true false e = refl
+
+-- a written line, and what stands behind it
+line_parts : (line more : List ℕ) → is_written line ≡ true → AllWritten (parts more) → AllWritten (parts ((line ++ 10 ∷ []) ++ more))
+line_parts line more h k =
+    let e : parts ((line ++ 10 ∷ []) ++ more) ≡ line ∷ parts more = ap parts (append_assoc line (10 ∷ []) more) ∙ parts_line line more (feedless line h) in
+    subst (λ (ps : List (List ℕ)). AllWritten ps) (sym e) (h, k)
+
+batch_parts : (list : List AnyOrder) → AllMark list → AllWritten (parts (batch_text list))
+batch_parts [] h = tt
+batch_parts (c ∷ cs) h = line_parts (order_text c) (batch_text cs) h.0 (batch_parts cs h.1)
+
+answer_parts : (a : Answer) → AllWritten (parts (answer_text a))
+answer_parts answers.Nothing = tt
+answer_parts answers.UciOk = (refl, tt)
+answer_parts answers.ReadyOk = (refl, tt)
+answer_parts answers.NoMove = (refl, tt)
+
+given_parts : (w : Bool) (line : List ℕ) (a : Answer) → is_line line ≡ true → AllWritten (parts ((if w then line ++ 10 ∷ [] else []) ++ answer_text a))
+given_parts true line a l = line_parts line (answer_text a) (line_written line l) (answer_parts a)
+given_parts false line a l = answer_parts a
+
+up_parts : (s : State) (call : Call) → IsProperCall call → AllWritten (parts (up_of s call))
+up_parts s (Heard line) l = given_parts (gives s (said_in line)) line (answer_of (turned s (Heard line))) l
+up_parts s (Order line) l = answer_parts (answer_of (turned s (Order line)))
+up_parts s Ended l = answer_parts (answer_of (turned s Ended))
+up_parts s Begin l = answer_parts (answer_of (turned s Begin))
+up_parts s Over l = answer_parts (answer_of (turned s Over))
+
+-- THE MARKS OF AN EVENT
+
+up_marks : (ps : List (List ℕ)) → flat_map (line_marked 88) ps ≡ script_of (map ToIface ps)
+up_marks [] = refl
+up_marks (p ∷ ps) = ap (λ (t : List ℕ). line_marked 88 p ++ t) (up_marks ps)
+
+child_marks : (ps : List (List ℕ)) → flat_map (line_marked 85) ps ≡ script_of (map ToEngine ps)
+child_marks [] = refl
+child_marks (p ∷ ps) = ap (λ (t : List ℕ). line_marked 85 p ++ t) (child_marks ps)
+
+up_spelled : (ps : List (List ℕ)) → AllWritten ps → AreSpelled (map ToIface ps)
+up_spelled [] h = tt
+up_spelled (p ∷ ps) h = (h.0, up_spelled ps h.1)
+
+child_spelled : (ps : List (List ℕ)) → AllWritten ps → AreSpelled (map ToEngine ps)
+child_spelled [] h = tt
+child_spelled (p ∷ ps) h = (h.0, child_spelled ps h.1)
+
+both_spelled : (a b : List Mark) → AreSpelled a → AreSpelled b → AreSpelled (a ++ b)
+both_spelled [] b h k = k
+both_spelled (m ∷ ms) b h k = (h.0, both_spelled ms b h.1 k)
+
+abbrev pub written_by : List ℕ → List ℕ → List Mark
+written_by up child = map ToIface (parts up) ++ map ToEngine (parts child)
+
+abbrev pub marks_of : State → Event → List Mark
+marks_of s e = Happens e ∷ written_by (up_of (state_before s e) (call_of s e)) (child_of (state_before s e) (call_of s e))
+
+marks_text : (e : Event) (up child : List ℕ) → step_marks e up child ≡ script_of (Happens e ∷ written_by up child)
+marks_text e up child =
+    ap (λ (t : List ℕ). event_marked e ++ t)
+    (ap (λ (t : List ℕ). t ++ lines_marked 85 child) (up_marks (parts up))
+    ∙ ap (λ (t : List ℕ). script_of (map ToIface (parts up)) ++ t) (child_marks (parts child))
+    ∙ sym (flat_map-append mark_line (map ToIface (parts up)) (map ToEngine (parts child))))
+
+abbrev pub event_by : Mark → List Event
+event_by (Happens event) = event ∷ []
+event_by mark = []
+
+-- the events of marks
+abbrev pub told_in : List Mark → List Event
+told_in marks = flat_map (λ (m : Mark). event_by m) marks
+
+no_up : (ps : List (List ℕ)) → told_in (map ToIface ps) ≡ []
+no_up [] = refl
+no_up (p ∷ ps) = no_up ps
+
+no_child : (ps : List (List ℕ)) → told_in (map ToEngine ps) ≡ []
+no_child [] = refl
+no_child (p ∷ ps) = no_child ps
+
+told_written : (up child : List ℕ) → told_in (written_by up child) ≡ []
+told_written up child =
+    flat_map-append (λ (m : Mark). event_by m) (map ToIface (parts up)) (map ToEngine (parts child))
+    ∙ ap (λ (es : List Event). es ++ told_in (map ToEngine (parts child))) (no_up (parts up))
+    ∙ no_child (parts child)
+
+proper_by : (w : Bool) → IsProperCall (if w then Begin else Over)
+proper_by true = tt
+proper_by false = tt
+
+proper_call : (s : State) (e : Event) → IsSpelled (Happens e) → IsProperCall (call_of s e)
+proper_call s (Iface line) h = h
+proper_call s IfaceEnd h = refl
+proper_call s (Engine line) h = h
+proper_call s EngineLong h = proper_by (may_begin s)
+proper_call s EngineEnd h = tt
+proper_call s IfaceLong h = tt
+proper_call s IfaceLost h = tt
+proper_call s EngineLost h = tt
+proper_call s Open h = tt
+
+before_marks : (s : State) (e : Event) → HasMarks s → HasMarks (state_before s e)
+before_marks s EngineLong h = record { kept = h.kept; unsent = h.unsent; search = h.search }
+before_marks s (Iface line) h = h
+before_marks s IfaceEnd h = h
+before_marks s (Engine line) h = h
+before_marks s EngineEnd h = h
+before_marks s IfaceLong h = h
+before_marks s IfaceLost h = h
+before_marks s EngineLost h = h
+before_marks s Open h = h
+
+event_spelled : (s : State) (e : Event) → IsSpelled (Happens e) → HasMarks s → AreSpelled (marks_of s e)
+event_spelled s e l h =
+    let b = state_before s e in
+    let call = call_of s e in
+    let p = proper_call s e l in
+    (l, both_spelled (map ToIface (parts (up_of b call))) (map ToEngine (parts (child_of b call)))
+        (up_spelled (parts (up_of b call)) (up_parts b call p))
+        (child_spelled (parts (child_of b call)) (batch_parts (orders_of b call) (orders_mark b call p (before_marks s e h)))))
+
+-- EVENTS IN A ROW
+
+abbrev pub marks_from : State → List Event → List Mark
+marks_from s [] = []
+marks_from s (e ∷ es) = marks_of s e ++ marks_from (state_after s e) es
+
+pub from_text : (s : State) (es : List Event) → texts_from s es ≡ script_of (marks_from s es)
+from_text s [] = refl
+from_text s (e ∷ es) =
+    let b = state_before s e in
+    ap (λ (t : List ℕ). t ++ texts_from (state_after s e) es) (marks_text e (up_of b (call_of s e)) (child_of b (call_of s e)))
+    ∙ ap (λ (t : List ℕ). script_of (marks_of s e) ++ t) (from_text (state_after s e) es)
+    ∙ sym (flat_map-append mark_line (marks_of s e) (marks_from (state_after s e) es))
+
+pub from_told : (s : State) (es : List Event) → told_in (marks_from s es) ≡ es
+from_told s [] = refl
+from_told s (e ∷ es) =
+    let b = state_before s e in
+    flat_map-append (λ (m : Mark). event_by m) (marks_of s e) (marks_from (state_after s e) es)
+    ∙ ap (λ (x : List Event). (e ∷ x) ++ told_in (marks_from (state_after s e) es)) (told_written (up_of b (call_of s e)) (child_of b (call_of s e)))
+    ∙ ap (λ (x : List Event). e ∷ x) (from_told (state_after s e) es)
+
+pub from_spelled : (s : State) (es : List Event) → AreSpelled (map Happens es) → HasMarks s → AreSpelled (marks_from s es)
+from_spelled s [] l h = tt
+from_spelled s (e ∷ es) l h =
+    both_spelled (marks_of s e) (marks_from (state_after s e) es) (event_spelled s e l.0 h)
+    (from_spelled (state_after s e) es l.1 (after_marks (state_before s e) (call_of s e) (proper_call s e l.0) (before_marks s e h)))
+
+-- before the first event
+pub no_marks : (lives : ℕ) → HasMarks (opening lives)
+no_marks lives = record { kept = tt; unsent = tt; search = tt }

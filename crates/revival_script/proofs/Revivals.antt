@@ -1,0 +1,262 @@
+-- What the status of the command `revive` says.
+use Rattle.std.proofs.Common.{◌≡◌, ◌⊎◌, inl, inr, ℕ, ◌+◌, ◌^◌, ◌<◌, List, [], ◌∷◌, ◌++◌, length, take, true, false, is_some, Option, Some, None, refl, sym, ap, subst, ◌∙◌, arith, append_assoc}
+use Rattle.std.proofs.Math.Seq.{take-length}
+use Rattle.std.specs.Io.KnownBytes.{Appends}
+use Rattle.std.specs.List.{AllByRecursion}
+use Rattle.std.proofs.lemmas.List.Concat.{flat_map-append}
+use Rattle.line_io.specs.Event.{Event}
+use Rattle.line_io.specs.Lines.{Piece, items}
+use Rattle.line_io.specs.Runs.{whole}
+use Rattle.command_endings.specs.declared.ending.Ending.{Ending}
+use Rattle.command_endings.specs.declared.ending.Ending.TheVariants as endings
+use Rattle.command_endings.specs.Diagnostics.{code_of, diagnostic, tail_of}
+use Rattle.command_endings.specs.Reads.{AreFirst, AreRead, IsAll}
+use Rattle.command_endings.specs.Streams.{Streams, AreSame}
+use Rattle.command_endings.specs.Told.{Told}
+use Rattle.line_scribe.specs.Outcomes.{LineReported, Outcome, WroteLast}
+use Rattle.line_scribe.specs.Putting.{IsOfLine}
+use Rattle.line_scribe.specs.Scribed.{IsText, WroteFront, WroteAll, WroteWhole}
+use Rattle.engine_revival.specs.declared.state.State.{State}
+use Rattle.engine_revival.specs.Steps.{opening}
+use Rattle.script_lines.specs.Marks.{Mark}
+use Rattle.engine_revival.specs.Script.{AllMayHappen, may_happen, revival_script, state_after, state_behind}
+use Rattle.revival_script.specs.Played.{ArePlayed, IsFault, IsReason, event_by, events_in, mark_in, revived, state_over}
+use Rattle.revival_script.specs.Revived.{AllRevived, CompletesRevival, FaultReported, FrontRevived, MuchRevived, PlaysAll, Revived, RevivesAgain, WholeRevived}
+use Rattle.revival_script.specs.Reviving.{Closes, Says, Stops, revives}
+use Rattle.revival_script.proofs.Again.{script_again}
+
+-- FIRST LINES
+
+first_part : (left : Option (List ℕ)) (a b : List Piece) → AreFirst left (a ++ b) → AreFirst left a
+first_part None a b h = h
+first_part (Some x) a b h = (b ++ h.0, h.1 ∙ append_assoc a b h.0)
+
+-- what stands before the last of lines that were read was read
+read_part : (start now : Streams) (lines a b : List Piece) → lines ≡ a ++ b → AreRead start now lines → AreRead start now a
+read_part start now lines a b e r = record {
+  got = r.got;
+  reads = r.reads;
+  of_got = (b ++ r.of_got.0, r.of_got.1 ∙ ap (λ (ls : List Piece). ls ++ r.of_got.0) e ∙ append_assoc a b r.of_got.0);
+  of_left = first_part start.input.left a b (subst (λ (ls : List Piece). AreFirst start.input.left ls) e r.of_left);
+}
+
+all_of : (left : Option (List ℕ)) (got x : List ℕ) → IsAll left got → left ≡ Some x → x ≡ got
+all_of None got x a e = cc
+all_of (Some y) got x a e = let same : y ≡ x = cc in sym same ∙ a
+
+first_of : (left : Option (List ℕ)) (lines : List Piece) (x : List ℕ) → AreFirst left lines → left ≡ Some x → (ls : List Piece) × (items 131072 x ≡ lines ++ ls)
+first_of None lines x a e = cc
+first_of (Some y) lines x a e = let same : y ≡ x = cc in subst (λ (z : List ℕ). (ls : List Piece) × (items 131072 z ≡ lines ++ ls)) same a
+
+-- NO FAULT WHERE ALL LINES ARE PLAYED
+
+is_marked : (before : List Piece) (line : Piece) (more : List Piece) → AllByRecursion (λ l. is_some (mark_in l) ≡ true) (before ++ line ∷ more) → is_some (mark_in line) ≡ true
+is_marked [] line more h = h.0
+is_marked (b ∷ bs) line more h = is_marked bs line more h.1
+
+may_part : (s : State) (events more : List Event) (e : Event) → AllMayHappen s (events ++ e ∷ more) → may_happen (state_behind s events) e ≡ true
+may_part s [] more e h = h.0
+may_part s (x ∷ xs) more e h = may_part (state_after s x) xs more e h.1
+
+not_reason : (lives : ℕ) (before : List Piece) (line : Piece) (more : List Piece) (n : ℕ) (f : Ending) → ArePlayed lives (before ++ line ∷ more) → IsReason (state_over lives before) n line f → ⊥
+not_reason lives before line more n (endings.NoMark k) p r =
+    let marked = is_marked before line more p.marked in
+    let none : is_some (mark_in line) ≡ false = ap (λ (x : Option Mark). is_some x) r.1 in
+    let both = sym marked ∙ none in
+    cc
+not_reason lives before line more n (endings.MayNotCome k) p r =
+    let e = r.1.0 in
+    let all : events_in (before ++ line ∷ more) ≡ events_in before ++ e ∷ events_in more =
+    flat_map-append (λ (l : Piece). event_by (mark_in l)) before (line ∷ more)
+    ∙ ap (λ (x : Option Mark). events_in before ++ (event_by x ++ events_in more)) r.1.1 in
+    let comes = may_part (opening lives) (events_in before) (events_in more) e (subst (λ (es : List Event). AllMayHappen (opening lives) es) all p.may_come) in
+    let both = sym comes ∙ r.1.2 in
+    cc
+not_reason lives before line more n (endings.OutOfStep k) p r = r
+not_reason lives before line more n (endings.Differs k) p r = r
+not_reason lives before line more n (endings.Unlawful k) p r = r
+not_reason lives before line more n endings.Done p r = r
+not_reason lives before line more n endings.Usage p r = r
+not_reason lives before line more n (endings.NoPosition k) p r = r
+not_reason lives before line more n endings.NoMemory p r = r
+not_reason lives before line more n endings.ReadingFailed p r = r
+not_reason lives before line more n endings.WritingFailed p r = r
+not_reason lives before line more n endings.TooLong p r = r
+
+no_fault : (lives : ℕ) (lines more all : List Piece) (f : Ending) → all ≡ lines ++ more → IsFault lives lines f → ArePlayed lives all → ⊥
+no_fault lives lines more all f e i p =
+    not_reason lives i.before i.line more (length i.before + 1) f
+    (subst (λ (ls : List Piece). ArePlayed lives ls) (e ∙ ap (λ (ls : List Piece). ls ++ more) i.lines_are ∙ append_assoc i.before (i.line ∷ []) more) p)
+    i.reason
+
+-- WITHOUT MEMORY
+
+pub want_of_memory : (lives : ℕ) (Untouched : Type 0) (start now : Streams) (code : ℕ) → Untouched → Told code 3 (tail_of endings.NoMemory) start.diag now.diag → Revived lives Untouched start now code
+want_of_memory lives U start now code u (inl t) = record {
+  all_revived = λ z. absurd (let y = sym t.0 ∙ z in cc);
+  no_other = λ z. let y = sym t.0 ∙ z in cc;
+  fault_reported = λ z. absurd (let y = sym t.0 ∙ z in cc);
+  memory = λ z. u;
+  reading_failed = λ z. absurd (let y = sym t.0 ∙ z in cc);
+  writing_failed = λ z. absurd (let y = sym t.0 ∙ z in cc);
+  too_long = λ z. absurd (let y = sym t.0 ∙ z in cc);
+  complete = λ x e l s. inr (inr t.0);
+  plays_all = λ x e l p s. inr t.0;
+  again = λ events a m e l s. inr t.0;
+}
+want_of_memory lives U start now code u (inr t) = record {
+  all_revived = λ z. absurd (let y = sym t.0 ∙ z in cc);
+  no_other = λ z. let y = sym t.0 ∙ z in cc;
+  fault_reported = λ z. absurd (let y = sym t.0 ∙ z in cc);
+  memory = λ z. u;
+  reading_failed = λ z. absurd (let y = sym t.0 ∙ z in cc);
+  writing_failed = λ z. (inr t.1, inl u);
+  too_long = λ z. absurd (let y = sym t.0 ∙ z in cc);
+  complete = λ x e l s. absurd (s.told t.1);
+  plays_all = λ x e l p s. absurd (s.told t.1);
+  again = λ events a m e l s. absurd (s.told t.1);
+}
+
+-- WHAT THE STATUS SAYS
+
+module _ (lives : ℕ) (s0 : State) (first : s0 ≡ opening lives) (U : Type 0) (start now : Streams) (code : ℕ) (o : Outcome revives s0 U start now code) where
+  abbrev Wrote : List ℕ → Type 0
+  Wrote text = Appends start.output.taken now.output.taken text
+
+  all_by : WroteAll revives s0 start now → AreSame start now → AllRevived lives start now
+  all_by w s =
+      let c = w.says lives first in
+      record { got = w.got; reads = w.reads; all_read = w.all; played = c.played; written = subst Wrote c.text_is w.written; no_failure = s }
+
+  abbrev Reported : ℕ → Type 0
+  Reported n = LineReported revives s0 start now n
+
+  -- a line that ends it is a fault
+  stops_by : (lines : List Piece) (e : Ending) (text : List ℕ) → IsOfLine e → Says lives lines e text → Stops lives lines e text × (code_of e ≡ 2)
+  stops_by lines (endings.NoMark n) text i s = (s, refl)
+  stops_by lines (endings.MayNotCome n) text i s = (s, refl)
+  stops_by lines (endings.OutOfStep n) text i s = absurd s
+  stops_by lines (endings.Differs n) text i s = absurd s
+  stops_by lines (endings.Unlawful n) text i s = absurd s
+  stops_by lines endings.Done text i s = absurd i
+  stops_by lines endings.Usage text i s = absurd i
+  stops_by lines (endings.NoPosition f) text i s = absurd i
+  stops_by lines endings.NoMemory text i s = absurd i
+  stops_by lines endings.ReadingFailed text i s = absurd i
+  stops_by lines endings.WritingFailed text i s = absurd i
+  stops_by lines endings.TooLong text i s = absurd i
+
+  the_fault : (n : ℕ) (r : Reported n) → Stops lives r.wrote.lines r.ending r.wrote.text × (code_of r.ending ≡ 2)
+  the_fault n r = stops_by r.wrote.lines r.ending r.wrote.text r.of_line (r.wrote.says lives first)
+
+  reported : (n : ℕ) → Reported n → FaultReported lives start now
+  reported n r =
+      let f = (the_fault n r).0 in
+      record {
+        fault = r.ending;
+        lines = r.wrote.lines;
+        read = r.wrote.read;
+        is_fault = f.is_fault;
+        written = subst Wrote f.text_is r.wrote.written;
+        told = r.told;
+      }
+
+  reported_code : (n : ℕ) → Reported n → n ≡ 2
+  reported_code n r = r.code_is ∙ (the_fault n r).1
+
+  no_other : code ≡ 1 → ⊥
+  no_other z = let n = reported_code 1 (o.found z) in cc
+
+  abbrev pub whole_by : (w : (ending : Ending) × (least : ℕ) × WroteWhole revives s0 ending least start now) → Closes lives (whole 131072 w.2.got) w.2.text → WholeRevived lives start now
+  whole_by w c = record {
+    got = w.2.got;
+    reads = w.2.reads;
+    first = w.2.first;
+    played = c.played;
+    written = subst Wrote c.text_is w.2.written;
+  }
+
+  -- A FRONT
+
+  abbrev Front : List ℕ → Type 0
+  Front text = (lines : List Piece) × AreRead start now lines × ArePlayed lives lines × (text ≡ revived lives lines)
+
+  of_stop : (lines : List Piece) (e : Ending) (text : List ℕ) → AreRead start now lines → Stops lives lines e text → Front text
+  of_stop lines e text r s = (s.is_fault.before, read_part start now lines s.is_fault.before (s.is_fault.line ∷ []) s.is_fault.lines_are r, s.is_fault.played, s.text_is)
+
+  of_close : (lines : List Piece) (text : List ℕ) → AreRead start now lines → Closes lives lines text → Front text
+  of_close lines text r c = (lines, r, c.played, c.text_is)
+
+  of_says : (lines : List Piece) (e : Ending) (text : List ℕ) → AreRead start now lines → Says lives lines e text → Front text
+  of_says lines (endings.NoMark n) text r s = of_stop lines (endings.NoMark n) text r s
+  of_says lines (endings.MayNotCome n) text r s = of_stop lines (endings.MayNotCome n) text r s
+  of_says lines endings.Done text r s = of_close lines text r s
+  of_says lines endings.ReadingFailed text r s = of_close lines text r s
+  of_says lines endings.TooLong text r s = of_close lines text r s
+  of_says lines (endings.OutOfStep n) text r s = absurd s
+  of_says lines (endings.Differs n) text r s = absurd s
+  of_says lines (endings.Unlawful n) text r s = absurd s
+  of_says lines endings.Usage text r s = absurd s
+  of_says lines (endings.NoPosition f) text r s = absurd s
+  of_says lines endings.NoMemory text r s = absurd s
+  of_says lines endings.WritingFailed text r s = absurd s
+
+  of_text : (lines : List Piece) (text : List ℕ) → AreRead start now lines → IsText revives s0 lines text → Front text
+  of_text lines text r (inl p) = let h = p.1 lives first in (lines, r, h.played, h.text_is)
+  of_text lines text r (inr p) = of_says lines p.0 text r (p.1 lives first)
+
+  front_of : (text : List ℕ) (front : ℕ) → Front text → Wrote (take front text) → FrontRevived lives start now
+  front_of text front f w = record {
+    lines = f.0;
+    read = f.1;
+    played = f.2;
+    front = front;
+    written = subst (λ (t : List ℕ). Wrote (take front t)) f.3 w;
+  }
+
+  front_by : WroteFront revives s0 start now ⊎ WroteLast revives s0 start now → FrontRevived lives start now
+  front_by (inl w) = front_of w.text w.front (of_text w.lines w.text w.read w.is_text) w.written
+  front_by (inr w) = front_of w.text (length w.text) (of_says w.lines w.ending w.text w.read (w.says lives first)) (subst Wrote (sym (take-length w.text)) w.written)
+
+  writing : U ⊎ WroteFront revives s0 start now ⊎ WroteLast revives s0 start now → U ⊎ FrontRevived lives start now
+  writing (inl u) = inl u
+  writing (inr p) = inr (front_by p)
+
+  complete : CompletesRevival lives start now code
+  complete x e l s = of (o.complete x e l s) where
+    of : ((code ≡ 0) × WroteAll revives s0 start now) ⊎ LineReported revives s0 start now code ⊎ (code ≡ 3)
+        → ((code ≡ 0) × AllRevived lives start now) ⊎ ((code ≡ 2) × FaultReported lives start now) ⊎ (code ≡ 3)
+    of (inl p) = inl (p.0, all_by p.1 (o.done p.0).1)
+    of (inr (inl r)) = inr (inl (reported_code code r, reported code r))
+    of (inr (inr z)) = inr (inr z)
+
+  plays_all : PlaysAll lives start now code
+  plays_all x e l p s = of (complete x e l s) where
+    of : ((code ≡ 0) × AllRevived lives start now) ⊎ ((code ≡ 2) × FaultReported lives start now) ⊎ (code ≡ 3) → (code ≡ 0) ⊎ (code ≡ 3)
+    of (inl q) = inl q.0
+    of (inr (inl q)) = let f = first_of start.input.left q.1.lines x q.1.read.of_left e in absurd (no_fault lives q.1.lines f.0 (items 131072 x) q.1.fault f.1 q.1.is_fault p)
+    of (inr (inr z)) = inr z
+
+  again : RevivesAgain lives start now code
+  again events a m e l s = of (plays_all (revival_script lives events) e l (script_again lives events a m).0 s) where
+    of : (code ≡ 0) ⊎ (code ≡ 3) → ((code ≡ 0) × Wrote (revival_script lives events)) ⊎ (code ≡ 3)
+    of (inr z) = inr z
+    of (inl z) =
+        let d = o.done z in
+        let r = all_by d.0 d.1 in
+        let same = all_of start.input.left r.got (revival_script lives events) r.all_read e in
+        inl (z, subst Wrote (ap (λ (t : List ℕ). revived lives (items 131072 t)) (sym same) ∙ ap (λ (es : List Event). revival_script lives es) (script_again lives events a m).1) r.written)
+
+  pub revived_by : Revived lives U start now code
+  revived_by = record {
+    all_revived = λ z. let d = o.done z in all_by d.0 d.1;
+    no_other = no_other;
+    fault_reported = λ z. reported 2 (o.fault z);
+    memory = λ z. o.memory z;
+    reading_failed = λ z. let p = o.reading z in (p.0, whole_by (endings.ReadingFailed, 0, p.1) (p.1.says lives first));
+    writing_failed = λ z. let p = o.writing z in (p.0, writing p.1);
+    too_long = λ z. let w = o.too_long z in record { whole_lines = whole_by (endings.TooLong, 2 ^ 32, w) (w.says lives first); least = w.least_is };
+    complete = complete;
+    plays_all = plays_all;
+    again = again;
+  }
