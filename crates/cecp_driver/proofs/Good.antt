@@ -29,7 +29,7 @@ use Rattle.driver_talk.specs.Talk.{turn_of, quiet, resume_in, is_free_at, is_awa
 use Rattle.cecp_driver.specs.declared.told.TheConstants.{MOST_PLIES}
 use Rattle.cecp_driver.specs.SetUp.{Told}
 use Rattle.cecp_driver.specs.Deeds.{FitsDown, CanPush, down_told, board_told}
-use Rattle.cecp_driver.specs.Keeps.{TellsGame, Serves}
+use Rattle.cecp_driver.specs.Keeps.{IsTold, TellsGame, Serves}
 
 abbrev talk_of : Stage → Bool → Option ℕ → ℕ → Option Search → Talk
 talk_of stage gone awaited pings search = record { stage = stage; gone = gone; awaited = awaited; pings = pings; search = search }
@@ -47,7 +47,7 @@ SaysLegal g up = Unit {0}
 abbrev pub FitsTold : Game → Told → Down → Type 0
 FitsTold g told (downs.Play clocks hurried) = length g.moves ≤ MOST_PLIES
 FitsTold g told (downs.Analyse clocks ping) = length g.moves ≤ MOST_PLIES
-FitsTold g told (downs.Resume clocks) = told.game ≡ g
+FitsTold g told (downs.Resume clocks) = IsTold g told
 FitsTold g told down = Unit {0}
 
 pub fits_down : (g : Game) (told : Told) (down : Down) → FitsTold g told down → FitsDown g down
@@ -97,12 +97,12 @@ stop_good g told stages.Over gone awaited pings search h = (tt, tt, tt, h)
 
 play_good : (g : Game) (told : Told) (awaited : Option ℕ) (stage : Stage) (gone : Bool) (pings : ℕ) (search : Option Search) (s : Search) (clocks : Clocks)
     → legal (now_of g) s.kept ≡ true → length g.moves ≤ MOST_PLIES → IsGood g told (played_by awaited (talk_of stage gone awaited pings search) s clocks)
-play_good g told None stage gone pings search s clocks l n = (tt, n, tt, (l, n, refl))
+play_good g told None stage gone pings search s clocks l n = (tt, n, tt, (l, n, (refl, refl)))
 play_good g told (Some ping) stage gone pings search s clocks l n = (tt, tt, tt, (l, n, tt))
 
 open_good : (g : Game) (told : Told) (awaited : Option ℕ) (stage : Stage) (gone : Bool) (pings : ℕ) (search : Option Search) (s : Search) (clocks : Clocks)
     → legal (now_of g) s.kept ≡ true → length g.moves ≤ MOST_PLIES → IsGood g told (opened_by awaited (talk_of stage gone awaited pings search) s clocks)
-open_good g told None stage gone pings search s clocks l n = (tt, n, tt, (l, n, refl))
+open_good g told None stage gone pings search s clocks l n = (tt, n, tt, (l, n, (refl, refl)))
 open_good g told (Some ping) stage gone pings search s clocks l n = (tt, tt, tt, (l, n, tt))
 
 hit_phase : (g : Game) (told : Told) (gone : Bool) (awaited : Option ℕ) (pings : ℕ) (kind : GoKind) (clocks : Clocks) (best : Move) (p : Phase) → legal (now_of g) best ≡ true → length g.moves ≤ MOST_PLIES → TellsGame p g told
@@ -131,7 +131,7 @@ hit_good g told stages.Over gone awaited pings search h = (tt, tt, tt, h)
 moved_phase : (g : Game) (told : Told) (gone : Bool) (awaited : Option ℕ) (pings : ℕ) (kind : GoKind) (clocks : Clocks) (best : Move) (p : Phase) (shown : Option Move) → IfSome shown (λ m. legal (now_of g) m ≡ true) → legal (now_of g) best ≡ true → length g.moves ≤ MOST_PLIES → TellsGame p g told
     → IsGood g told (after_moved (talk_of stages.Open gone awaited pings (Some (search_of kind clocks best p))) shown)
 moved_phase g told gone awaited pings kind clocks best (Thinks hurried) None f l n t = (tt, tt, tt, tt)
-moved_phase g told gone awaited pings kind clocks best (Thinks hurried) (Some m) f l n t = (f, tt, subst (λ (c : Game). length c.moves ≤ MOST_PLIES) (sym t) n, tt)
+moved_phase g told gone awaited pings kind clocks best (Thinks hurried) (Some m) f l n t = (f, tt, subst (λ (c : Game). length c.moves ≤ MOST_PLIES) (sym t.1) n, tt)
 moved_phase g told gone awaited pings kind clocks best Analyses shown f l n t = (tt, tt, tt, (l, n, t))
 moved_phase g told gone awaited pings kind clocks best Rests shown f l n t = (tt, tt, tt, (l, n, t))
 moved_phase g told gone awaited pings kind clocks best (Leaves next) shown f l n t = (tt, tt, tt, (l, n, t))
@@ -165,9 +165,9 @@ resume_phase : (g : Game) (told : Told) (gone : Bool) (awaited : Option ℕ) (pi
     → IsGood g told (resumed (talk_of stages.Open gone None pings (Some (search_of kind clocks best p))) (search_of kind clocks best p) p)
 resume_phase g told gone awaited pings kind clocks best (Leaves Answer) l n t = (l, tt, tt, tt)
 resume_phase g told gone awaited pings kind clocks best (Leaves Play) l n t = (tt, t, tt, (l, n, t))
-resume_phase g told gone awaited pings kind clocks best (WaitsToThink hurried) l n t = (tt, n, tt, (l, n, refl))
-resume_phase g told gone awaited pings kind clocks best (WaitsToAnalyse None) l n t = (tt, n, tt, (l, n, refl))
-resume_phase g told gone awaited pings kind clocks best (WaitsToAnalyse (Some next)) l n t = (tt, n, tt, (l, n, refl))
+resume_phase g told gone awaited pings kind clocks best (WaitsToThink hurried) l n t = (tt, n, tt, (l, n, (refl, refl)))
+resume_phase g told gone awaited pings kind clocks best (WaitsToAnalyse None) l n t = (tt, n, tt, (l, n, (refl, refl)))
+resume_phase g told gone awaited pings kind clocks best (WaitsToAnalyse (Some next)) l n t = (tt, n, tt, (l, n, (refl, refl)))
 resume_phase g told gone awaited pings kind clocks best Analyses l n t = (tt, tt, tt, (l, n, t))
 resume_phase g told gone awaited pings kind clocks best Rests l n t = (tt, tt, tt, (l, n, t))
 resume_phase g told gone awaited pings kind clocks best (Thinks hurried) l n t = (tt, tt, tt, (l, n, t))

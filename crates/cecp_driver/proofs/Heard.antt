@@ -1,7 +1,7 @@
 -- What is cut off the front, and then the rest.
 use Rattle.std.proofs.Common.{◌≡◌, ℕ, List, [], ◌∷◌, ◌++◌, length, ◌+◌, ◌*◌, ◌≤◌, Option, Some, None, IfSome, refl, sym, ap, ◌∙◌, append_assoc, append-nil, arith}
 use Rattle.line_io.specs.Out.{Text, with}
-use Rattle.driver_lines.specs.Parts.{Feature, Cut, onto, FitsIn}
+use Rattle.driver_lines.specs.Parts.{Feature, Cut, onto, FitsIn, IsNamed}
 use Rattle.driver_lines.specs.Lines.{Line, line_text, lines_text}
 use Rattle.cecp_driver.specs.declared.features.Has.{Has}
 use Rattle.cecp_driver.specs.Features.{has_after, name_after, answer_line, greeting, has_all, name_all, answers, greetings, weight, weight_by}
@@ -55,6 +55,6 @@ pub value_within : (text : List ℕ) (p : Option Feature) (rest : List ℕ) (roo
 value_within text None rest room f h = tt
 value_within text (Some g) rest room f h = omega arith
 
-pub down_within : (text : List ℕ) (p : Option Feature) (rest : List ℕ) (d room : ℕ) → FitsIn text (record { part = p; rest = rest }) → d + 10 * length text ≤ room → IfSome p (λ f. d + length f.name + 10 ≤ room)
-down_within text None rest d room f h = tt
-down_within text (Some g) rest d room f h = omega arith
+pub down_within : (text : List ℕ) (p : Option Feature) (rest : List ℕ) (d room : ℕ) → FitsIn text (record { part = p; rest = rest }) → IsNamed (record { part = p; rest = rest }) → d + 6 * length text ≤ room → IfSome p (λ f. d + length f.name + 10 ≤ room)
+down_within text None rest d room f n h = tt
+down_within text (Some g) rest d room f n h = omega arith

@@ -5,3 +5,4 @@ mod Acting
 mod Moves
 mod Puts
 mod Pushing
+pub mod Scripts

@@ -10,11 +10,15 @@ use Rattle.cecp_driver.specs.declared.driver.TheConstants.{LINE_LIMIT, UP_ROOM, 
 use Rattle.cecp_driver.specs.declared.told.TheConstants.{MOST_PLIES}
 use Rattle.cecp_driver.specs.SetUp.{Told}
 
+-- the engine's game is known, and it is this
+abbrev pub IsTold : Game → Told → Type 0
+IsTold game told = (told.known ≡ true) × (told.game ≡ game)
+
 -- where the engine searches, it was told the ordered game
 abbrev pub TellsGame : Phase → Game → Told → Type 0
-TellsGame (Thinks hurried) game told = told.game ≡ game
-TellsGame Analyses game told = told.game ≡ game
-TellsGame (Leaves next) game told = told.game ≡ game
+TellsGame (Thinks hurried) game told = IsTold game told
+TellsGame Analyses game told = IsTold game told
+TellsGame (Leaves next) game told = IsTold game told
 TellsGame phase game told = Unit {0}
 
 -- the best move of an open search is legal in the ordered position, whose game is not too long

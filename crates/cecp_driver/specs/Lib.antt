@@ -6,3 +6,4 @@ pub mod Deeds
 pub mod Driver
 pub mod Keeps
 pub mod Lending
+pub mod Script

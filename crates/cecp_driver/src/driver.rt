@@ -23,12 +23,13 @@ use std::marker::Model;
 use uci_talk::go_kind;
 
 /// The most bytes of a line.
-const LINE_LIMIT: usize = 65_536;
+pub const LINE_LIMIT: usize = 65_536;
 
-/// The room of the lines to a peer.
-const UP_ROOM: usize = 131_072;
+/// The most bytes of the lines that a call gives for the interface: the engine's name and `uciok`.
+pub const UP_ROOM: usize = 66_560;
 
-const DOWN_ROOM: usize = 1_048_576;
+/// The most bytes of the lines that a call gives for the engine: the answers to a line of features.
+pub const DOWN_ROOM: usize = 393_216;
 
 // The parts of a driver.
 #[derive(Drop)]
@@ -169,7 +170,7 @@ impl Parts {
     fn hear_features(&mut self, text: &[u8])
         requires name { length text.now ≤ self.old.name.room }
         requires up { length self.old.up.text + self.old.name.room + 30 ≤ self.old.up.room }
-        requires down { length self.old.down.text + 10 * length text.now ≤ self.old.down.room }
+        requires down { length self.old.down.text + 6 * length text.now ≤ self.old.down.room }
         ensures { self.new ≡ featured self.old text.now }
     {
         if matches!(self.talk.stage, Stage::Over) {
@@ -305,7 +306,7 @@ fn make_parts(alloc: Global) -> Result<Parts, NoMemory>
 
 impl Driver {
     ghost use Rattle.cecp_driver.specs.Driver.{Orders, Hears, Ends};
-    ghost use Rattle.cecp_driver.specs.Lending.{OrdersOn, HearsOn, EndsOn};
+    ghost use Rattle.cecp_driver.specs.Lending.{Gives, Fits, OrdersOn, HearsOn, EndsOn};
 
     /// A driver before the first call. It takes all memory that it ever uses.
     pub fn make(alloc: Global) -> Result<Driver, NoMemory>
@@ -318,6 +319,7 @@ impl Driver {
     /// Takes an order of the interface: a line of at most 65,536 bytes, without its line feed.
     pub fn order<'a>(&'a mut self, line: &[u8]) -> Both<'a>
         ensures* orders { sem 𝓛 (OrdersOn self.entry line.now result) }
+        ensures fits { Fits result }
     {
         self.take_order(line);
         self.lines()
@@ -327,6 +329,7 @@ impl Driver {
     pub fn heard<'a>(&'a mut self, line: &[u8]) -> Both<'a>
         requires { length line.now ≤ LINE_LIMIT }
         ensures* hears { sem 𝓛 (HearsOn self.entry line.now result) }
+        ensures fits { Fits result }
     {
         self.take_line(line);
         self.lines()
@@ -335,33 +338,41 @@ impl Driver {
     /// Takes the end of the engine.
     pub fn ended(&mut self) -> Both<'_>
         ensures* ends { sem 𝓛 (EndsOn self.entry result) }
+        ensures fits { Fits result }
     {
         self.take_end();
         self.lines()
     }
 
-    fn take_order(&mut self, line: &[u8])
+    pub(crate) fn take_order(&mut self, line: &[u8])
         ensures { Orders line.now self.old self.new }
     {
         self.parts.order(line);
     }
 
-    fn take_line(&mut self, line: &[u8])
+    pub(crate) fn take_line(&mut self, line: &[u8])
         requires { length line.now ≤ LINE_LIMIT }
         ensures { Hears line.now self.old self.new }
     {
         self.parts.hear(line);
     }
 
-    fn take_end(&mut self)
+    pub(crate) fn take_end(&mut self)
         ensures { Ends self.old self.new }
     {
         self.parts.end();
     }
 
-    fn lines(&self) -> Both<'_>
-        ensures up { result.up.now ≡ self.now.up.text }
-        ensures child { result.child.now ≡ self.now.down.text }
+    pub(crate) fn is_gone(&self) -> bool
+        ensures { result ≡ self.now.talk.gone }
+    {
+        self.parts.talk.gone
+    }
+
+    /// What the last call gave.
+    pub fn lines(&self) -> Both<'_>
+        ensures gives { Gives self.now result }
+        ensures fits { Fits result }
     {
         Both {
             up: self.parts.up.bytes(),

@@ -1,7 +1,7 @@
 // The features of the engine.
 ghost use Rattle.std.specs.Prelude.{◌≡◌, ◌+◌, ◌*◌, ◌≤◌, ◌∷◌, [], length, IfSome, false};
 ghost use Rattle.line_io.specs.Out.{with};
-ghost use Rattle.driver_lines.specs.Parts.{feature_of, parts, cut_seen, onto};
+ghost use Rattle.driver_lines.specs.Parts.{feature_of, parts, cut_seen, onto, IsNamed};
 ghost use Rattle.driver_lines.specs.Lines.{lines_text};
 ghost use Rattle.cecp_driver.specs.Features.{has_word, is_on, rejects, answer_line, has_after, name_after, greeting, has_all, name_all, answers, greetings, weight};
 
@@ -112,14 +112,15 @@ fn hear_part(has: Has, part: &Part, name: &mut Out, up: &mut Out, down: &mut Out
 
 /// The same for what was cut off the front of a text.
 fn hear_cut(has: Has, cut: &Cut, name: &mut Out, up: &mut Out, down: &mut Out) -> Has
+    requires named { IsNamed (cut_seen cut.now) }
     requires value { IfSome (cut_seen cut.now).part (λ f. length f.value ≤ name.old.room) }
     requires up { has.done ≡ false → length up.old.text + name.old.room + 30 ≤ up.old.room }
     requires down { IfSome (cut_seen cut.now).part
         (λ f. length down.old.text + length f.name + 10 ≤ down.old.room) }
     ensures has { result ≡ has_all has (onto (cut_seen cut.now).part []) }
     ensures silent { result.done ≡ false → (has.done ≡ false) × (up.new ≡ up.old) }
-    ensures down_short { length down.new.text + 10 * length (cut_seen cut.now).rest
-        ≤ length down.old.text + 10 * weight (cut_seen cut.now) }
+    ensures down_short { length down.new.text + 6 * length (cut_seen cut.now).rest
+        ≤ length down.old.text + 6 * weight (cut_seen cut.now) }
     ensures name { name.new.text ≡ name_all name.old.text (onto (cut_seen cut.now).part []) }
     ensures name_room { name.new.room ≡ name.old.room }
     ensures up { up.new
@@ -143,7 +144,7 @@ pub(crate) fn hear_features(
 ) -> Has
     requires name { length text.now ≤ name.old.room }
     requires up { length up.old.text + name.old.room + 30 ≤ up.old.room }
-    requires down { length down.old.text + 10 * length text.now ≤ down.old.room }
+    requires down { length down.old.text + 6 * length text.now ≤ down.old.room }
     ensures has { result ≡ has_all before (parts text.now) }
     ensures name { name.new.text ≡ name_all name.old.text (parts text.now) }
     ensures name_room { name.new.room ≡ name.old.room }

@@ -11,8 +11,10 @@ mod further;
 mod ordered;
 mod played;
 mod same;
+mod script;
 #[cfg(test)]
 mod tests;
 mod told;
 
-pub use driver::{Both, Driver};
+pub use driver::{Both, DOWN_ROOM, Driver, LINE_LIMIT, UP_ROOM};
+pub use script::{EVENT_ROOM, put_marks};

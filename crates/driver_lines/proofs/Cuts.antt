@@ -4,7 +4,7 @@ use Rattle.std.specs.List.{before_first, after_first, position_or_len}
 use Rattle.std.proofs.lemmas.List.{length-drop, length-take}
 use Rattle.std.proofs.lemmas.Bool.Decides.{nat_tests}
 use Rattle.peer_words.specs.Tokens.{is_white, trim_left, token_end}
-use Rattle.driver_lines.specs.Parts.{Feature, Cut, ends_name, is_quote, found, value_cut, skipped, cut_by, cut_of, onto, parts_from, parts_within, parts, FitsIn}
+use Rattle.driver_lines.specs.Parts.{Feature, Cut, ends_name, is_quote, found, value_cut, skipped, cut_by, cut_of, onto, parts_from, parts_within, parts, FitsIn, IsNamed}
 use Rattle.driver_lines.proofs.Lengths.{trim_left_length}
 
 drop_short : (n : ℕ) (xs : List ℕ) → length (drop n xs) ≤ length xs
@@ -67,6 +67,28 @@ pub cut_shorter : (text : List ℕ) (b : ℕ) (bs : List ℕ) → trim_left text
 cut_shorter text b bs e =
     let whole : length (trim_left text) ≡ suc (length bs) = ap length e in
     omega (arith, rest_short b bs, trim_left_length text)
+
+-- a feature has a name
+
+quoted_named : (q : Bool) (c : ℕ) (cs : List ℕ) (b : ℕ) (bs : List ℕ) → IsNamed (cond q (found (c ∷ cs) (before_first is_quote bs) (after_first is_quote bs)) (found (c ∷ cs) (before_first is_white (b ∷ bs)) (drop (token_end (b ∷ bs)) (b ∷ bs))))
+quoted_named true c cs b bs = omega arith
+quoted_named false c cs b bs = omega arith
+
+value_named : (c : ℕ) (cs bs : List ℕ) → IsNamed (value_cut (c ∷ cs) bs)
+value_named c cs [] = omega arith
+value_named c cs (b ∷ bs) = quoted_named (eqb b 34) c cs b bs
+
+named_by : (equals : Bool) (c : ℕ) (cs bs behind : List ℕ) → IsNamed (cond equals (value_cut (c ∷ cs) bs) (skipped behind))
+named_by true c cs bs behind = value_named c cs bs
+named_by false c cs bs behind = tt
+
+named_within : (name after behind : List ℕ) → IsNamed (cut_by name after behind)
+named_within [] after behind = tt
+named_within (c ∷ cs) [] behind = tt
+named_within (c ∷ cs) (b ∷ bs) behind = named_by (eqb b 61) c cs bs behind
+
+pub cut_named : (front : List ℕ) (cut : Cut) → cut ≡ cut_of front (drop 1 front) → IsNamed cut
+cut_named front cut f = rw f (named_within (before_first ends_name front) (drop (position_or_len ends_name front) front) (drop 1 front))
 
 -- more cuts than bytes change nothing
 

@@ -1,5 +1,5 @@
 -- The parts of a `feature` line.
-use Rattle.std.specs.Prelude.{ℕ, zero, suc, ◌+◌, ◌≤◌, List, [], ◌∷◌, length, drop, Bool, ◌&&◌, ◌||◌, not, if◌then◌else◌, ◌==◌, Option, Some, None, IfSome}
+use Rattle.std.specs.Prelude.{ℕ, zero, suc, ◌+◌, ◌<◌, ◌≤◌, List, [], ◌∷◌, length, drop, Bool, ◌&&◌, ◌||◌, not, if◌then◌else◌, ◌==◌, Option, Some, None, IfSome}
 use Rattle.std.specs.List.{before_first, after_first, position_or_len}
 use Rattle.std.specs.Option.{option_map}
 use Rattle.peer_words.specs.Tokens.{is_white, trim_left, token_end}
@@ -73,6 +73,10 @@ parts_within (suc n) text = parts_from (trim_left text) (λ rest. parts_within n
 -- the features of a text: each cut takes a byte or more
 unfoldable pub parts : List ℕ → List Feature
 parts text = parts_within (length text) text
+
+-- a feature has a name
+abbrev pub IsNamed : Cut → Type 0
+IsNamed c = IfSome c.part (λ f. 0 < length f.name)
 
 -- what a feature and the rest leave of a text
 abbrev pub FitsIn : List ℕ → Cut → Type 0

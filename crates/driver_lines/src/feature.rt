@@ -3,7 +3,7 @@ ghost use Rattle.std.specs.Prelude.{◌≡◌, ◌+◌, ◌<◌, ◌≤◌, ◌�
 ghost use Rattle.std.specs.List.{before_first, after_first, position_or_len};
 ghost use Rattle.std.specs.Option.{option_map};
 ghost use Rattle.peer_words.specs.Tokens.{is_white, token_end};
-ghost use Rattle.driver_lines.specs.Parts.{ends_name, is_quote, feature_of, cut_seen, cut_of, value_cut, skipped, parts, onto, FitsIn};
+ghost use Rattle.driver_lines.specs.Parts.{ends_name, is_quote, feature_of, cut_seen, cut_of, value_cut, skipped, parts, onto, FitsIn, IsNamed};
 
 use peer_words::{is_white, trim_start};
 
@@ -120,6 +120,7 @@ pub fn next_cut(text: &[u8]) -> Option<Cut<'_>>
         (λ c. parts text.now ≡ onto (cut_seen c).part (parts c.rest.now)) }
     ensures shorter { IfSome result (λ c. length c.rest.now < length text.now) }
     ensures fits { IfSome result (λ c. FitsIn text.now (cut_seen c)) }
+    ensures named { IfSome result (λ c. IsNamed (cut_seen c)) }
 {
     let front = trim_start(text);
     if front.is_empty() {

@@ -16,7 +16,7 @@ hear_cut-has-requires-clause-up c = c.loop-cut.invariant.up_fits
 pub hear_cut-has-requires-clause-down : goal.hear_cut-has-requires-clause-down
 hear_cut-has-requires-clause-down c =
     let i = c.loop-cut.invariant in
-    down_within c.loop-cut.others.now (cut_seen c.in-Some.cut).part (cut_seen c.in-Some.cut).rest (length c.loop-cut.down.text) c.loop-cut.down.room c.in-Some.ensures.fits (omega (arith, i.down_fits, i.down_room, c.requires.down))
+    down_within c.loop-cut.others.now (cut_seen c.in-Some.cut).part (cut_seen c.in-Some.cut).rest (length c.loop-cut.down.text) c.loop-cut.down.room c.in-Some.ensures.fits c.in-Some.ensures.named (omega (arith, i.down_fits, i.down_room, c.requires.down))
 
 pub loop-cut-preserved : goal.loop-cut-preserved
 loop-cut-preserved c =

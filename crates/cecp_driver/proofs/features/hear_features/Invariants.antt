@@ -15,7 +15,7 @@ invariant-loop-cut l = record {
   up_room : l.up.room ≡ l.initial.up.room;
   down_room : l.down.room ≡ l.initial.down.room;
   short : length l.others ≤ length l.fn.text;
-  down_fits : length l.down.text + 10 * length l.others ≤ length l.initial.down.text + 10 * length l.fn.text;
+  down_fits : length l.down.text + 6 * length l.others ≤ length l.initial.down.text + 6 * length l.fn.text;
   up_fits : l.has.done ≡ false → length l.up.text + l.name.room + 30 ≤ l.up.room;
 }
 
