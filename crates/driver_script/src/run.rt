@@ -1,0 +1,31 @@
+// The command `drive`.
+ghost use Rattle.std.specs.Prelude.{◌≡◌};
+ghost use Rattle.command_endings.specs.Diagnostics.{code_of};
+ghost use Rattle.command_endings.specs.Streams.{streams};
+ghost use Rattle.driver_script.specs.Driven.{Driven};
+
+use crate::scribe::Drive;
+use command_endings::{Ending, tell_short};
+use line_io::{Sink, Source};
+use line_scribe::run_scribe;
+use std::alloc::Global;
+
+/// Drives a CECP engine by the events of a script of version 1, writes the script of it, and reports how that ended.
+///
+/// A line of the interface is an order and its end counts as `quit`; a line of the engine is heard, and nothing of it
+/// may come behind its end. The marks of written lines in the input are passed over.
+pub fn run_drive<I: Source, O: Sink, D: Sink>(
+    alloc: Global,
+    input: &mut I,
+    output: &mut O,
+    diag: &mut D,
+) -> Ending
+    ensures { Driven ((input.new ≡ input.old) × (output.new ≡ output.old))
+        (streams (I.state input.old) (O.state output.old) (D.state diag.old))
+        (streams (I.state input.new) (O.state output.new) (D.state diag.new)) (code_of result) }
+{
+    let Ok(drive) = Drive::make(alloc) else {
+        return tell_short(Ending::NoMemory, diag);
+    };
+    run_scribe(alloc, drive, input, output, diag)
+}
