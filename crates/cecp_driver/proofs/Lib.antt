@@ -6,3 +6,6 @@ mod Moves
 mod Puts
 mod Pushing
 pub mod Scripts
+mod OwnMoves
+mod EngineGames
+mod EngineRuns

@@ -7,3 +7,4 @@ pub mod Driver
 pub mod Keeps
 pub mod Lending
 pub mod Script
+pub mod EngineGame

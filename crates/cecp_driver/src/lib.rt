@@ -8,6 +8,7 @@ mod deeds;
 mod driver;
 mod features;
 mod further;
+mod laws;
 mod ordered;
 mod played;
 mod same;
@@ -17,4 +18,5 @@ mod tests;
 mod told;
 
 pub use driver::{Both, DOWN_ROOM, Driver, LINE_LIMIT, UP_ROOM};
+pub use laws::searches_are_on_the_ordered_game;
 pub use script::{EVENT_ROOM, put_marks};

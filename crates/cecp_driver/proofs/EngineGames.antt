@@ -1,0 +1,270 @@
+-- The engine's game is the one that it was told, and it searches on the ordered one.
+use Rattle.std.proofs.Common.{◌≡◌, ℕ, Bool, true, false, cond, not, ◌&&◌, eqb, List, [], ◌∷◌, ◌++◌, Option, Some, None, is_some, refl, sym, ap, subst, ◌∙◌, append_assoc, append-nil}
+use Rattle.std.specs.Option.{option_eq}
+use Rattle.std.specs.List.{AllByRecursion}
+use Rattle.std.proofs.lemmas.Bool.Decides.{Decides-eqb}
+use Rattle.chess_board.specs.declared.board.Kind.{Kind}
+use Rattle.chess_board.specs.declared.board.Side.{Side}
+use Rattle.chess_board.specs.declared.board.Move.{Move}
+use Rattle.chess_board.specs.declared.board.Rights.{Rights}
+use Rattle.chess_board.specs.Position.{Position}
+use Rattle.chess_board.specs.Play.{start_position}
+use Rattle.chess_board.proofs.Equal.{kinds-Decides}
+use Rattle.game_record.specs.Game.{Ply, Game, begun, now_of, ply_of, with_ply}
+use Rattle.game_record.specs.Ending.{is_same}
+use Rattle.game_record.proofs.Sames.{same-law}
+use Rattle.san_text.specs.Writing.{same_kind}
+use Rattle.driver_talk.specs.declared.words.Clocks.{Clocks}
+use Rattle.driver_talk.specs.declared.words.Down.{Down}
+use Rattle.driver_talk.specs.declared.words.Down.TheVariants as downs
+use Rattle.driver_lines.specs.Lines.{Line, XBoard, Protover, Quit, New, Force, Post, SetBoard, Played, St, Level, Time, Otim, Sd, Go, Analyze, Hurry, Exit, Ping, Accepted, Rejected, lines_text}
+use Rattle.driver_lines.specs.Clocks.{clock_lines, control_lines, depth_lines}
+use Rattle.cecp_driver.specs.Same.{same_position, same_ply}
+use Rattle.cecp_driver.specs.SetUp.{Told, further, continued, played, start_lines, setup_lines, set_up, limited}
+use Rattle.cecp_driver.specs.Deeds.{has_depth, hurry_lines, leave_lines, think_lines, play_lines, analyse_lines, down_lines, down_told}
+use Rattle.cecp_driver.specs.Keeps.{IsTold}
+use Rattle.cecp_driver.specs.EngineGame.{set_by, set_by_all, SearchesOn}
+use Rattle.cecp_driver.proofs.Good.{FitsTold}
+use Rattle.cecp_driver.proofs.Lasting.{left_true, right_true}
+
+-- EQUAL POSITIONS AND MOVES
+
+abbrev position : List (Option (Side × Kind)) → Side → Rights → Option ℕ → ℕ → ℕ → Position
+position men side rights passant half full = record { men = men; side = side; rights = rights; passant = passant; half = half; full = full }
+
+same_positions : (p q : Position) → same_position p q ≡ true → p ≡ q
+same_positions p q e =
+    let counts : ((eqb p.half q.half) && (eqb p.full q.full)) ≡ true = right_true (is_same p q) ((eqb p.half q.half) && (eqb p.full q.full)) e in
+    let s = (same-law p q).0 (left_true (is_same p q) ((eqb p.half q.half) && (eqb p.full q.full)) e) in
+    let half : p.half ≡ q.half = (Decides-eqb p.half q.half).0 (left_true (eqb p.half q.half) (eqb p.full q.full) counts) in
+    let full : p.full ≡ q.full = (Decides-eqb p.full q.full).0 (right_true (eqb p.half q.half) (eqb p.full q.full) counts) in
+    let whole : position p.men p.side p.rights p.passant p.half p.full ≡ position q.men q.side q.rights q.passant q.half q.full =
+    ap (λ (x : List (Option (Side × Kind))). position x p.side p.rights p.passant p.half p.full) s.men
+    ∙ ap (λ (x : Side). position q.men x p.rights p.passant p.half p.full) s.side
+    ∙ ap (λ (x : Rights). position q.men q.side x p.passant p.half p.full) s.rights
+    ∙ ap (λ (x : Option ℕ). position q.men q.side q.rights x p.half p.full) s.passant
+    ∙ ap (λ (x : ℕ). position q.men q.side q.rights q.passant x p.full) half
+    ∙ ap (λ (x : ℕ). position q.men q.side q.rights q.passant q.half x) full in
+    whole
+
+same_promos : (a b : Option Kind) → option_eq same_kind a b ≡ true → a ≡ b
+same_promos None None e = refl
+same_promos None (Some b) e = cc
+same_promos (Some a) None e = cc
+same_promos (Some a) (Some b) e = ap (λ (k : Kind). Some k) ((kinds-Decides a b).0 e)
+
+abbrev ply : ℕ → ℕ → Option Kind → Ply
+ply from to promo = record { from = from; to = to; promo = promo }
+
+same_plies : (a b : Ply) → same_ply a b ≡ true → a ≡ b
+same_plies a b e =
+    let squares : ((eqb a.from b.from) && (eqb a.to b.to)) ≡ true = left_true ((eqb a.from b.from) && (eqb a.to b.to)) (option_eq same_kind a.promo b.promo) e in
+    let from : a.from ≡ b.from = (Decides-eqb a.from b.from).0 (left_true (eqb a.from b.from) (eqb a.to b.to) squares) in
+    let to : a.to ≡ b.to = (Decides-eqb a.to b.to).0 (right_true (eqb a.from b.from) (eqb a.to b.to) squares) in
+    let promo : a.promo ≡ b.promo = same_promos a.promo b.promo (right_true ((eqb a.from b.from) && (eqb a.to b.to)) (option_eq same_kind a.promo b.promo) e) in
+    let whole : ply a.from a.to a.promo ≡ ply b.from b.to b.promo =
+    ap (λ (x : ℕ). ply x a.to a.promo) from ∙ ap (λ (x : ℕ). ply b.from x a.promo) to ∙ ap (λ (x : Option Kind). ply b.from b.to x) promo in
+    whole
+
+-- the further moves complete those that are known
+further_by : (b : Bool) (k m : Ply) (ks ms rest : List Ply) (o : Option (List Ply)) → same_ply k m ≡ b → (o ≡ Some rest → ms ≡ ks ++ rest) → cond b o None ≡ Some rest → m ∷ ms ≡ k ∷ (ks ++ rest)
+further_by true k m ks ms rest o s f e = ap (λ (x : Ply). x ∷ ms) (sym (same_plies k m s)) ∙ ap (λ (xs : List Ply). k ∷ xs) (f e)
+further_by false k m ks ms rest o s f e = absurd (cc)
+
+further_rest : (ks ms rest : List Ply) → further ks ms ≡ Some rest → ms ≡ ks ++ rest
+further_rest [] ms rest e = let same : ms ≡ rest = cc in same
+further_rest (k ∷ ks) [] rest e = absurd (cc)
+further_rest (k ∷ ks) (m ∷ ms) rest e = further_by (same_ply k m) k m ks ms rest (further ks ms) refl (further_rest ks ms rest) e
+
+-- LINES AMONG WHICH NO SEARCH BEGINS
+
+abbrev pub IsQuiet : Line → Type 0
+IsQuiet Go = ⊥
+IsQuiet Analyze = ⊥
+IsQuiet line = Unit {0}
+
+abbrev pub AreQuiet : List Line → Type 0
+AreQuiet lines = AllByRecursion IsQuiet lines
+
+quiet_first : (o g : Game) (line : Line) (lines : List Line) → IsQuiet line → SearchesOn o (set_by g line) lines → SearchesOn o g (line ∷ lines)
+quiet_first o g Go lines q s = absurd q
+quiet_first o g Analyze lines q s = absurd q
+quiet_first o g XBoard lines q s = s
+quiet_first o g Protover lines q s = s
+quiet_first o g Quit lines q s = s
+quiet_first o g New lines q s = s
+quiet_first o g Force lines q s = s
+quiet_first o g Post lines q s = s
+quiet_first o g (SetBoard p) lines q s = s
+quiet_first o g (Played has_usermove m) lines q s = s
+quiet_first o g (St seconds) lines q s = s
+quiet_first o g (Level moves seconds increment) lines q s = s
+quiet_first o g (Time centis) lines q s = s
+quiet_first o g (Otim centis) lines q s = s
+quiet_first o g (Sd plies) lines q s = s
+quiet_first o g Hurry lines q s = s
+quiet_first o g Exit lines q s = s
+quiet_first o g (Ping n) lines q s = s
+quiet_first o g (Accepted name) lines q s = s
+quiet_first o g (Rejected name) lines q s = s
+
+searches_then : (o g : Game) (a b : List Line) → AreQuiet a → SearchesOn o (set_by_all g a) b → SearchesOn o g (a ++ b)
+searches_then o g [] b q s = s
+searches_then o g (l ∷ ls) b q s = quiet_first o g l (ls ++ b) q.0 (searches_then o (set_by g l) ls b q.1 s)
+
+pub quiet_searches : (o g : Game) (lines : List Line) → AreQuiet lines → SearchesOn o g lines
+quiet_searches o g [] q = tt
+quiet_searches o g (l ∷ ls) q = quiet_first o g l ls q.0 (quiet_searches o (set_by g l) ls q.1)
+
+sets_then : (g : Game) (a b : List Line) → set_by_all g (a ++ b) ≡ set_by_all (set_by_all g a) b
+sets_then g [] b = refl
+sets_then g (l ∷ ls) b = sets_then (set_by g l) ls b
+
+quiet_then : (a b : List Line) → AreQuiet a → AreQuiet b → AreQuiet (a ++ b)
+quiet_then [] b q r = r
+quiet_then (l ∷ ls) b q r = (q.0, quiet_then ls b q.1 r)
+
+-- A SET-UP
+
+abbrev game : Position → List Ply → Game
+game start moves = record { start = start; moves = moves }
+
+played_quiet : (has_usermove : Bool) (ms : List Ply) → AreQuiet (played has_usermove ms)
+played_quiet has_usermove [] = tt
+played_quiet has_usermove (m ∷ ms) = (tt, played_quiet has_usermove ms)
+
+played_sets : (has_usermove : Bool) (ms : List Ply) (g : Game) → set_by_all g (played has_usermove ms) ≡ game g.start (g.moves ++ ms)
+played_sets has_usermove [] g = ap (λ (x : List Ply). game g.start x) (sym (append-nil g.moves))
+played_sets has_usermove (m ∷ ms) g = played_sets has_usermove ms (with_ply g m) ∙ ap (λ (x : List Ply). game g.start x) (append_assoc g.moves (m ∷ []) ms)
+
+start_quiet : (standard : Bool) (p : Position) → AreQuiet (cond standard [] (SetBoard p ∷ []))
+start_quiet true p = tt
+start_quiet false p = (tt, tt)
+
+start_sets : (standard : Bool) (p : Position) → same_position p start_position ≡ standard → set_by_all (begun start_position) (cond standard [] (SetBoard p ∷ [])) ≡ begun p
+start_sets true p e = ap begun (sym (same_positions p start_position e))
+start_sets false p e = refl
+
+-- the further moves lead from the engine's game to the ordered one
+abbrev IsRest : Game → Game → Option (List Ply) → Type 0
+IsRest eg g None = Unit {0}
+IsRest eg g (Some rest) = (eg.start ≡ g.start) × (g.moves ≡ eg.moves ++ rest)
+
+setup_quiet : (o : Option (List Ply)) (has_usermove : Bool) (g : Game) → AreQuiet (setup_lines o has_usermove g)
+setup_quiet (Some rest) has_usermove g = (tt, played_quiet has_usermove rest)
+setup_quiet None has_usermove g =
+    (tt, (tt, (tt, quiet_then (start_lines g.start) (played has_usermove g.moves) (start_quiet (same_position g.start start_position) g.start) (played_quiet has_usermove g.moves))))
+
+setup_sets : (o : Option (List Ply)) (has_usermove : Bool) (eg g : Game) → IsRest eg g o → set_by_all eg (setup_lines o has_usermove g) ≡ g
+setup_sets (Some rest) has_usermove eg g r =
+    played_sets has_usermove rest eg
+    ∙ ap (λ (x : Position). game x (eg.moves ++ rest)) r.0
+    ∙ ap (λ (x : List Ply). game g.start x) (sym r.1)
+setup_sets None has_usermove eg g r =
+    sets_then (begun start_position) (start_lines g.start) (played has_usermove g.moves)
+    ∙ ap (λ (x : Game). set_by_all x (played has_usermove g.moves)) (start_sets (same_position g.start start_position) g.start refl)
+    ∙ played_sets has_usermove g.moves (begun g.start)
+
+rest_from : (told : Told) (eg g : Game) (o : Option (List Ply)) → eg ≡ told.game → same_position told.game.start g.start ≡ true → further told.game.moves g.moves ≡ o → IsRest eg g o
+rest_from told eg g None k e f = tt
+rest_from told eg g (Some rest) k e f = (
+  ap (λ (x : Game). x.start) k ∙ same_positions told.game.start g.start e,
+  further_rest told.game.moves g.moves rest f ∙ ap (λ (x : Game). x.moves ++ rest) (sym k),
+)
+
+rest_by : (b : Bool) (told : Told) (eg g : Game) (deep : Bool) → (told.known ≡ true → eg ≡ told.game) → ((told.known && not (told.limited && not deep)) && same_position told.game.start g.start) ≡ b
+    → IsRest eg g (cond b (further told.game.moves g.moves) None)
+rest_by true told eg g deep k e =
+    let known = left_true told.known (not (told.limited && not deep)) (left_true (told.known && not (told.limited && not deep)) (same_position told.game.start g.start) e) in
+    rest_from told eg g (further told.game.moves g.moves) (k known) (right_true (told.known && not (told.limited && not deep)) (same_position told.game.start g.start) e) refl
+rest_by false told eg g deep k e = tt
+
+rest_of : (told : Told) (eg g : Game) (deep : Bool) → (told.known ≡ true → eg ≡ told.game) → IsRest eg g (continued told g deep)
+rest_of told eg g deep k = rest_by ((told.known && not (told.limited && not deep)) && same_position told.game.start g.start) told eg g deep k refl
+
+-- CLOCKS, AND A SEARCH
+
+control_quiet : (side : Side) (c : Clocks) (o : Option ℕ) → AreQuiet (control_lines side c o)
+control_quiet side c None = (tt, (tt, (tt, tt)))
+control_quiet side c (Some time) = (tt, tt)
+
+control_sets : (side : Side) (c : Clocks) (o : Option ℕ) (g : Game) → set_by_all g (control_lines side c o) ≡ g
+control_sets side c None g = refl
+control_sets side c (Some time) g = refl
+
+depth_quiet : (b : Bool) (n : ℕ) → AreQuiet (cond b [] (Sd n ∷ []))
+depth_quiet true n = tt
+depth_quiet false n = (tt, tt)
+
+depth_sets : (b : Bool) (n : ℕ) (g : Game) → set_by_all g (cond b [] (Sd n ∷ [])) ≡ g
+depth_sets true n g = refl
+depth_sets false n g = refl
+
+clocks_quiet : (side : Side) (c : Clocks) → AreQuiet (clock_lines side c)
+clocks_quiet side c = quiet_then (control_lines side c c.movetime) (depth_lines c.depth) (control_quiet side c c.movetime) (depth_quiet (eqb c.depth 0) _)
+
+clocks_set : (side : Side) (c : Clocks) (g : Game) → set_by_all g (clock_lines side c) ≡ g
+clocks_set side c g =
+    sets_then g (control_lines side c c.movetime) (depth_lines c.depth)
+    ∙ ap (λ (x : Game). set_by_all x (depth_lines c.depth)) (control_sets side c c.movetime g)
+    ∙ depth_sets (eqb c.depth 0) _ g
+
+hurry_on : (o g : Game) (hurried : Bool) → SearchesOn o g (hurry_lines hurried)
+hurry_on o g true = tt
+hurry_on o g false = tt
+
+hurry_sets : (g : Game) (hurried : Bool) → set_by_all g (hurry_lines hurried) ≡ g
+hurry_sets g true = refl
+hurry_sets g false = refl
+
+think_on : (o g on : Game) (c : Clocks) (hurried : Bool) → g ≡ o → SearchesOn o g (think_lines on c hurried)
+think_on o g on c hurried e =
+    let side = (now_of on).side in
+    searches_then o g (clock_lines side c) (Go ∷ hurry_lines hurried) (clocks_quiet side c)
+    (subst (λ (x : Game). SearchesOn o x (Go ∷ hurry_lines hurried)) (sym (clocks_set side c g)) (e, hurry_on o g hurried))
+
+think_sets : (g on : Game) (c : Clocks) (hurried : Bool) → set_by_all g (think_lines on c hurried) ≡ g
+think_sets g on c hurried =
+    let side = (now_of on).side in
+    sets_then g (clock_lines side c) (Go ∷ hurry_lines hurried)
+    ∙ ap (λ (x : Game). set_by_all x (Go ∷ hurry_lines hurried)) (clocks_set side c g)
+    ∙ hurry_sets g hurried
+
+leave_on : (o g : Game) (ping : Option ℕ) → SearchesOn o g (leave_lines ping)
+leave_on o g None = tt
+leave_on o g (Some n) = tt
+
+leave_sets : (g : Game) (ping : Option ℕ) → set_by_all g (leave_lines ping) ≡ g
+leave_sets g None = refl
+leave_sets g (Some n) = refl
+
+-- WHAT A DEED WRITES
+
+abbrev pub IsKnown : Told → Game → Type 0
+IsKnown told eg = told.known ≡ true → eg ≡ told.game
+
+abbrev pub DeedOn : Game → Game → Told → Bool → Down → Type 0
+DeedOn g eg told has_usermove down = SearchesOn g eg (down_lines told g has_usermove down) × IsKnown (down_told g down told) (set_by_all eg (down_lines told g has_usermove down))
+
+pub deed_on : (g eg : Game) (told : Told) (has_usermove : Bool) (down : Down) → FitsTold g told down → IsKnown told eg → DeedOn g eg told has_usermove down
+deed_on g eg told has_usermove downs.Nothing f k = (tt, k)
+deed_on g eg told has_usermove downs.Greeting f k = (tt, k)
+deed_on g eg told has_usermove downs.Quit f k = (tt, k)
+deed_on g eg told has_usermove downs.Hurry f k = (tt, k)
+deed_on g eg told has_usermove (downs.Leave ping) f k = (tt, k)
+deed_on g eg told has_usermove (downs.Retreat ping) f k = (tt, k)
+deed_on g eg told has_usermove (downs.Resume c) f k = (think_on g eg g c false (k f.0 ∙ f.1), λ h. think_sets eg g c false ∙ k h)
+deed_on g eg told has_usermove (downs.Play c hurried) f k =
+    let o = continued told g (has_depth c) in
+    let setup = setup_lines o has_usermove g in
+    let whole = setup_sets o has_usermove eg g (rest_of told eg g (has_depth c) k) in (
+      searches_then g eg setup (think_lines g c hurried) (setup_quiet o has_usermove g) (think_on g (set_by_all eg setup) g c hurried whole),
+      λ h. sets_then eg setup (think_lines g c hurried) ∙ think_sets (set_by_all eg setup) g c hurried ∙ whole,
+    )
+deed_on g eg told has_usermove (downs.Analyse c ping) f k =
+    let o = continued told g (has_depth c) in
+    let setup = setup_lines o has_usermove g in
+    let whole = setup_sets o has_usermove eg g (rest_of told eg g (has_depth c) k) in (
+      searches_then g eg setup (Analyze ∷ leave_lines ping) (setup_quiet o has_usermove g) (whole, leave_on g (set_by_all eg setup) ping),
+      λ h. sets_then eg setup (Analyze ∷ leave_lines ping) ∙ leave_sets (set_by_all eg setup) ping ∙ whole,
+    )
