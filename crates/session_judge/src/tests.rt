@@ -22,7 +22,7 @@ fn judged(log: &[&'static [u8]]) -> Option<(u64, Rule)> {
 
 #[test]
 fn each_rule_is_broken(rt: HostRuntime) {
-    let logs: [(&[&'static [u8]], u64, Rule); 17] = [
+    let logs: [(&[&'static [u8]], u64, Rule); 22] = [
         (&[b"U isready"], 1, Rule::First),
         (&[b"U uci", b"u uciok", b"U uci"], 3, Rule::First),
         (&[b"U uci", b"u.", b"U quit"], 3, Rule::Gone),
@@ -77,6 +77,24 @@ fn each_rule_is_broken(rt: HostRuntime) {
             Rule::Hit,
         ),
         (
+            &[
+                b"U uci",
+                b"u uciok",
+                b"U position startpos",
+                b"U go ponder movetime 5",
+                b"U stop",
+                b"U ponderhit",
+            ],
+            6,
+            Rule::Hit,
+        ),
+        (&[b"U uci", b"U isready"], 2, Rule::Busy),
+        (
+            &[b"U uci", b"u uciok", b"U isready", b"U ucinewgame"],
+            4,
+            Rule::Busy,
+        ),
+        (
             &[b"U uci", b"u uciok", b"U position startpos moves e2e5"],
             3,
             Rule::Position,
@@ -105,6 +123,30 @@ fn each_rule_is_broken(rt: HostRuntime) {
                 b"X move e2e4",
             ],
             7,
+            Rule::Move,
+        ),
+        (
+            &[
+                b"U uci",
+                b"u uciok",
+                b"U position startpos",
+                b"U go movetime 5",
+                b"u bestmove e2e4",
+                b"X move d2d4",
+            ],
+            6,
+            Rule::Move,
+        ),
+        (
+            &[
+                b"U uci",
+                b"u uciok",
+                b"U position startpos",
+                b"U go ponder movetime 5",
+                b"u bestmove e2e4",
+                b"X move e2e4",
+            ],
+            6,
             Rule::Move,
         ),
         (

@@ -1,0 +1,9 @@
+pub mod Runs
+pub mod Texts
+pub mod Writes
+pub mod Hears
+pub mod Boards
+pub mod Games
+pub mod Steps
+pub mod Settles
+pub mod Scripts

@@ -1,0 +1,143 @@
+-- In the log of each lawful trace no mark breaks a rule.
+use Rattle.std.proofs.Common.{◌≡◌, List, [], ◌∷◌, ◌++◌, map, Bool, true, false, None, refl, sym, ap, subst, ◌∙◌}
+use Rattle.line_io.specs.Event.{Event}
+use Rattle.line_io.specs.Event as events
+use Rattle.script_lines.specs.Marks.{Mark}
+use Rattle.uci_lines.specs.Orders.{Order}
+use Rattle.chess_board.specs.Position.{Position as Place}
+use Rattle.chess_board.specs.Play.{start_position}
+use Rattle.chess_board.proofs.Start.{start-is}
+use Rattle.policy_rules.specs.declared.settings.Settings.{Settings}
+use Rattle.search_epochs.specs.Tickets as talks
+use Rattle.search_epochs.specs.Tickets.{Engine, Ticketed, heard, sent_all}
+use Rattle.desk_rules.specs.Orders.{word_of}
+use Rattle.adapter_core.specs.declared.ends.Ends.{Ends}
+use Rattle.adapter_core.specs.Ends.{is_open, ends_after}
+use Rattle.adapter_core.specs.Trace.{State, Step, Lawful, state, state_after, situation, effect, mid, closed_after}
+use Rattle.adapter_core.proofs.Closing.{opened_later, closed_stays}
+use Rattle.adapter_core.proofs.Traces.{lasts, fits}
+use Rattle.dialogue_laws.specs.Wire.{said_by}
+use Rattle.dialogue_laws.proofs.Heard as hearing
+use Rattle.dialogue_laws.proofs.Places.{opening_may}
+use Rattle.session_judge.specs.declared.talk.Engine.TheVariants as wires
+use Rattle.session_judge.specs.declared.talk.Stage.TheVariants as stages
+use Rattle.session_judge.specs.declared.talk.Talk.{Talk}
+use Rattle.session_judge.specs.Talks.{opening}
+use Rattle.lawful_talk.specs.Logs.{step_marks, marks_of, LogsAreClean}
+use Rattle.lawful_talk.proofs.Runs.{Runs, more_runs, both_run, clean_runs}
+use Rattle.lawful_talk.proofs.Writes.{shown, Agrees}
+use Rattle.lawful_talk.proofs.Games.{IsGame, begun_is, effect_is}
+use Rattle.lawful_talk.proofs.Steps.{SearchesAt, open_parts, opening_parts, closing_parts, closed_parts}
+use Rattle.lawful_talk.proofs.Settles.{settles}
+
+-- the talk goes with the trace
+record Matches (s : State) (t : Talk) : Type 0 where
+  begins : s.ends.opened ≡ false → (t.engine ≡ wires.Boot) × (t.stage ≡ stages.Start)
+  goes_on : s.ends.opened ≡ true → s.ends.closed ≡ false → (p : Place) × Agrees t s.dialogue.engine p × SearchesAt s p
+
+differ : (b : Bool) → b ≡ true → b ≡ false → ⊥
+differ true p q = cc
+differ false p q = cc
+
+-- THE GAME
+
+game_is : (o : Settings) (trace : List Step) → Lawful o trace → IsGame (state o trace).desk.game
+game_is o [] l = begun_is start_position start-is
+game_is o (step ∷ trace) l =
+    let s = state o trace in
+    effect_is (situation s) s.held (effect s step.event) (fits s step (lasts o trace l.0) l.1) (game_is o trace l.0)
+
+-- THE OPENING
+
+opening_says : (closed : Bool) (e : Event) → is_open e ≡ true → said_by closed e ≡ None
+opening_says closed events.Open x = refl
+opening_says closed (events.Iface line) x = cc
+opening_says closed events.IfaceLong x = cc
+opening_says closed events.IfaceEnd x = cc
+opening_says closed events.IfaceLost x = cc
+opening_says closed (events.Engine line) x = cc
+opening_says closed events.EngineLong x = cc
+opening_says closed events.EngineEnd x = cc
+opening_says closed events.EngineLost x = cc
+
+still_opened : (ends : Ends) (e : Event) → is_open e ≡ false → (ends_after ends e).opened ≡ ends.opened
+still_opened ends events.Open x = cc
+still_opened ends (events.Iface line) x = refl
+still_opened ends events.IfaceLong x = refl
+still_opened ends events.IfaceEnd x = refl
+still_opened ends events.IfaceLost x = refl
+still_opened ends (events.Engine line) x = refl
+still_opened ends events.EngineLong x = refl
+still_opened ends events.EngineEnd x = refl
+still_opened ends events.EngineLost x = refl
+
+-- STEP BY STEP
+
+module _ (o : Settings) (step : Step) (trace : List Step) (l : Lawful o (step ∷ trace)) where
+  abbrev s : State
+  s = state o trace
+
+  abbrev ev : Event
+  ev = step.event
+
+  abbrev m : Ticketed
+  m = mid s ev
+
+  abbrev next : State
+  next = state_after s step
+
+  opened : next.ends.opened ≡ true
+  opened = opened_later s.ends ev l.1.may_come
+
+  -- once the session is closed nothing more need be known
+  once_closed : (u : Talk) → closed_after s ev ≡ true → Matches next u
+  once_closed u c = record { begins = λ n. absurd (differ next.ends.opened opened n); goes_on = λ y n. absurd (differ (closed_after s ev) c n) }
+
+  boots : is_open ev ≡ true → next.dialogue.engine ≡ talks.Boot
+  boots n =
+      let none = (lasts o trace l.0).begins (opening_may s ev n l.1.may_come) in
+      let heard_none : m.engine ≡ talks.Boot = hearing.event_heard s ev ∙ ap (heard s.dialogue.engine) (opening_says s.ends.closed ev n) ∙ none in
+      ap (λ (os : List Order). sent_all m.epoch m.engine (map word_of os)) (l.1.opens n) ∙ ap (λ (y : Engine). sent_all m.epoch y (talks.Uci ∷ [])) heard_none
+
+  at_opening : (t : Talk) → is_open ev ≡ true → Matches s t → Runs t (step_marks step) (Matches next)
+  at_opening t n a =
+      let b = a.begins (opening_may s ev n l.1.may_come) in
+      more_runs t (step_marks step) _ (Matches next) (opening_parts o step trace l t n b.0 b.1) (λ u w. record {
+        begins = λ x. absurd (differ next.ends.opened opened x);
+        goes_on = λ x c. (
+          u.placed,
+          record { engine = w.0 ∙ ap shown (sym (boots n)); stage = w.1; placed = refl },
+          λ k st e. let x = boots n in cc,
+        );
+      })
+
+  by_close : (t : Talk) (p : Place) → is_open ev ≡ false → s.ends.closed ≡ false → Agrees t s.dialogue.engine p → SearchesAt s p → (c : Bool) → closed_after s ev ≡ c → Runs t (step_marks step) (Matches next)
+  by_close t p n b a f true c = more_runs t (step_marks step) _ (Matches next) (closing_parts o step trace l t p n b c a) (λ u w. once_closed u c)
+  by_close t p n b a f false c =
+      more_runs t (step_marks step) _ (Matches next)
+      (open_parts o step trace l t p _ n c f a (λ u w. settles o step trace l (game_is o trace l.0) u p n c f w))
+      (λ u w. record { begins = λ x. absurd (differ next.ends.opened opened x); goes_on = λ x y. w })
+
+  by_stage : (t : Talk) → is_open ev ≡ false → Matches s t → (b : Bool) → s.ends.closed ≡ b → Runs t (step_marks step) (Matches next)
+  by_stage t n a true b = more_runs t (step_marks step) _ (Matches next) (closed_parts o step trace l t n b) (λ u w. once_closed u (closed_stays s.ends ev b))
+  by_stage t n a false b =
+      let f = a.goes_on (sym (still_opened s.ends ev n) ∙ opened) b in
+      by_close t f.0 n b f.1 f.2 (closed_after s ev) refl
+
+  step_matches : (t : Talk) → Matches s t → Runs t (step_marks step) (Matches next)
+  step_matches t a = by_open (is_open ev) refl where
+    by_open : (b : Bool) → is_open ev ≡ b → Runs t (step_marks step) (Matches next)
+    by_open true n = at_opening t n a
+    by_open false n = by_stage t n a s.ends.closed refl
+
+-- EACH TRACE
+
+matches : (o : Settings) (trace : List Step) → Lawful o trace → Runs opening (marks_of trace) (Matches (state o trace))
+matches o [] l = record { begins = λ n. (refl, refl); goes_on = λ y n. absurd (cc) }
+matches o (step ∷ trace) l =
+    both_run opening (marks_of trace) (step_marks step) (Matches (state o (step ∷ trace)))
+    (more_runs opening (marks_of trace) (Matches (state o trace)) _ (matches o trace l.0) (step_matches o step trace l))
+
+pub logs_are_clean : (o : Settings) → LogsAreClean o
+logs_are_clean o trace log l e =
+    (clean_runs log (Matches (state o trace)) (subst (λ (ms : List Mark). Runs opening ms (Matches (state o trace))) (sym e) (matches o trace l))).0

@@ -1,0 +1,432 @@
+-- The orders of a step after which the session is open.
+use Rattle.std.proofs.Common.{◌≡◌, ℕ, ◌+◌, ◌<◌, ◌≤◌, List, [], ◌∷◌, map, Bool, true, false, not, cond, ◌&&◌, ◌||◌, ◌==◌, Option, Some, None, refl, sym, ap, subst, ◌∙◌, arith}
+use Rattle.std.specs.Prelude.{IfSome}
+use Rattle.std.specs.List.{join_with_byte}
+use Rattle.std.specs.Option.{option_eq}
+use Rattle.std.proofs.lemmas.Bool.Decides.{nat_tests}
+use Rattle.line_io.specs.Event.{Event}
+use Rattle.chess_board.specs.declared.board.Kind.{Kind}
+use Rattle.chess_board.specs.declared.board.Kind.TheVariants.{Pawn, Knight, Bishop, Rook, Queen, King}
+use Rattle.chess_board.specs.declared.board.Side.{Side}
+use Rattle.chess_board.specs.declared.board.Side.TheVariants.{White, Black}
+use Rattle.chess_board.specs.declared.board.Move.{Move}
+use Rattle.chess_board.specs.Position.{Position as Place}
+use Rattle.peer_words.specs.declared.kinds.GoKind.{GoKind}
+use Rattle.peer_words.specs.declared.kinds.GoKind.TheVariants as kinds
+use Rattle.peer_words.proofs.Trims.{and_true}
+use Rattle.cecp_lines.specs.Messages.{IfaceMsg}
+use Rattle.cecp_lines.specs.Messages as says
+use Rattle.uci_lines.specs.declared.orders.GoControl.TheVariants.{Infinite}
+use Rattle.uci_lines.specs.Orders.{Order}
+use Rattle.uci_lines.specs.Orders as orders
+use Rattle.game_record.specs.Game.{Ply, Game, ply_of, with_ply, IsPlayable, now_of}
+use Rattle.game_record.specs.Line.{ply_text}
+use Rattle.clock_map.specs.declared.clocks.Clocks.{Clocks}
+use Rattle.clock_map.specs.declared.clocks.Control.{Control}
+use Rattle.clock_map.specs.declared.clocks.Control.TheVariants.{Session, Fixed}
+use Rattle.clock_map.specs.Search.{search_order, time_of}
+use Rattle.policy_rules.specs.declared.settings.Settings.{Settings}
+use Rattle.search_epochs.specs.declared.words.Call.{Call}
+use Rattle.search_epochs.specs.declared.words.Call.TheVariants as calls
+use Rattle.search_epochs.specs.declared.words.Said.{Said}
+use Rattle.search_epochs.specs.declared.words.Said.TheVariants as said
+use Rattle.search_epochs.specs.Tickets as talks
+use Rattle.search_epochs.specs.Tickets.{Engine, Word, Ticketed, Turn, What, TicketWithin, MaySendAll, heard, said_of, sent, sent_all, spent, has_go, has_hit, is_hint, is_hit, is_move, kind_of, owed, ponders_at, same_kind, same_move}
+use Rattle.desk_rules.specs.declared.desk.Desk.{Desk}
+use Rattle.desk_rules.specs.Desk as desks
+use Rattle.desk_rules.specs.Desk.{Situation, is_boot, is_gone, owes_move, on_move, plies}
+use Rattle.desk_rules.specs.Lines.{asks, change, is_epoch_line}
+use Rattle.desk_rules.specs.Steps.{Effect, Accepts, Boots, Readies, Shows, Forfeits, Answers, Dies, what_of, what_accepted, begins_epoch, desk_after_effect, searched_by, is_death}
+use Rattle.desk_rules.specs.Orders.{kind_named, word_of, start_of, position_order, searched, search_orders}
+use Rattle.desk_rules.specs.Fits.{IsSound}
+use Rattle.desk_rules.proofs.Hints.{hint_kept, call_hint}
+use Rattle.desk_rules.proofs.Sound.{step_sound}
+use Rattle.adapter_core.specs.Ends.{is_open}
+use Rattle.adapter_core.specs.Trace.{State, Step, Lawful, AreSettled, state, state_after, situation, effect, turn, mid, owing, closed_after, desk_of}
+use Rattle.adapter_core.proofs.Traces.{lasts, fits}
+use Rattle.session_judge.specs.declared.deed.Order.TheVariants as hears
+use Rattle.session_judge.specs.declared.talk.Talk.{Talk}
+use Rattle.session_judge.specs.Deeds.{end_of}
+use Rattle.uci_talk.specs.Lines.{line_of}
+use Rattle.lawful_talk.specs.Logs.{engine_mark}
+use Rattle.lawful_talk.proofs.Runs.{Runs, more_runs}
+use Rattle.lawful_talk.proofs.Texts.{as_order, kind_heard}
+use Rattle.lawful_talk.proofs.Writes.{shown, Agrees, plain_runs, search_runs}
+use Rattle.lawful_talk.proofs.Games.{IsGame, played_is, effect_is, line_leads}
+use Rattle.lawful_talk.proofs.Steps.{SearchesAt}
+
+-- WHAT STAYS
+
+changed : (boot : Bool) (d : Desk) (owes : Bool) (a : Option Order) (m : IfaceMsg) → is_epoch_line owes a m ≡ false → (change boot d m).game ≡ d.game
+unfolding change is_epoch_line
+changed boot d owes a says.New r = cc
+changed boot d owes a (says.UserMove m) r = cc
+changed boot d owes a says.Undo r = cc
+changed boot d owes a says.Remove r = cc
+changed boot d owes a (says.SetBoard text) r = cc
+changed boot d owes a m r = refl
+
+game_kept : (h : Situation) (d : Effect) → begins_epoch h d ≡ false → (desk_after_effect h d).game ≡ h.desk.game
+unfolding desk_after_effect
+game_kept h (Accepts m) r = changed (is_boot h.engine) h.desk (owes_move h) (asks (is_gone h.engine) h.desk m) m r
+game_kept h (Shows best hint) r = cc
+game_kept h d r = refl
+
+heard_search : (e : Engine) (w : Option Said) (k : GoKind) (t : ℕ) (st : Bool) → heard e w ≡ talks.Search k t st → e ≡ talks.Search k t st
+heard_search e None k t st x = x
+heard_search talks.Boot (Some said.UciOk) k t st x = cc
+heard_search talks.Boot (Some said.ReadyOk) k t st x = cc
+heard_search talks.Boot (Some said.Best) k t st x = cc
+heard_search talks.Boot (Some said.Ended) k t st x = cc
+heard_search talks.Getting (Some said.UciOk) k t st x = cc
+heard_search talks.Getting (Some said.ReadyOk) k t st x = cc
+heard_search talks.Getting (Some said.Best) k t st x = cc
+heard_search talks.Getting (Some said.Ended) k t st x = cc
+heard_search talks.Idle (Some said.UciOk) k t st x = cc
+heard_search talks.Idle (Some said.ReadyOk) k t st x = cc
+heard_search talks.Idle (Some said.Best) k t st x = cc
+heard_search talks.Idle (Some said.Ended) k t st x = cc
+heard_search talks.Gone (Some said.UciOk) k t st x = cc
+heard_search talks.Gone (Some said.ReadyOk) k t st x = cc
+heard_search talks.Gone (Some said.Best) k t st x = cc
+heard_search talks.Gone (Some said.Ended) k t st x = cc
+heard_search (talks.Search k' t' s') (Some said.UciOk) k t st x = x
+heard_search (talks.Search k' t' s') (Some said.ReadyOk) k t st x = x
+heard_search (talks.Search k' t' s') (Some said.Best) k t st x = cc
+heard_search (talks.Search k' t' s') (Some said.Ended) k t st x = cc
+
+-- an order that is neither `go` nor `ponderhit`
+abbrev goes_on : Word → Bool
+goes_on (talks.Go k) = false
+goes_on talks.PonderHit = false
+goes_on w = true
+
+record Later (w : Word) (ws : List Word) : Type 0 where
+  first : goes_on w ≡ true
+  no_go : has_go ws ≡ false
+  no_hit : has_hit ws ≡ false
+
+later : (w : Word) (ws : List Word) → has_go (w ∷ ws) ≡ false → has_hit (w ∷ ws) ≡ false → Later w ws
+later (talks.Go k) ws g h = absurd (cc)
+later talks.PonderHit ws g h = absurd (cc)
+later talks.Uci ws g h = record { first = refl; no_go = g; no_hit = h }
+later talks.Setup ws g h = record { first = refl; no_go = g; no_hit = h }
+later talks.IsReady ws g h = record { first = refl; no_go = g; no_hit = h }
+later talks.Position ws g h = record { first = refl; no_go = g; no_hit = h }
+later talks.Stop ws g h = record { first = refl; no_go = g; no_hit = h }
+later talks.Quit ws g h = record { first = refl; no_go = g; no_hit = h }
+
+stop_one : (k k' : GoKind) (t t' : ℕ) (s' st : Bool) → talks.Search k' t' true ≡ talks.Search k t st → talks.Search k' t' s' ≡ talks.Search k t s'
+stop_one k k' t t' s' st x = let a : k' ≡ k = cc in let b : t' ≡ t = cc in ap (λ (y : GoKind). talks.Search y t' s') a ∙ ap (λ (y : ℕ). talks.Search k y s') b
+
+sent_one : (n : ℕ) (e : Engine) (w : Word) (k : GoKind) (t : ℕ) (st : Bool) → goes_on w ≡ true → sent n e w ≡ talks.Search k t st → (st' : Bool) × (e ≡ talks.Search k t st')
+sent_one n talks.Gone w k t st g x = absurd (cc)
+sent_one n talks.Boot talks.Uci k t st g x = absurd (cc)
+sent_one n talks.Boot talks.Setup k t st g x = absurd (cc)
+sent_one n talks.Boot talks.IsReady k t st g x = absurd (cc)
+sent_one n talks.Boot talks.Position k t st g x = absurd (cc)
+sent_one n talks.Boot (talks.Go j) k t st g x = absurd (cc)
+sent_one n talks.Boot talks.Stop k t st g x = absurd (cc)
+sent_one n talks.Boot talks.PonderHit k t st g x = absurd (cc)
+sent_one n talks.Boot talks.Quit k t st g x = absurd (cc)
+sent_one n talks.Getting talks.Uci k t st g x = absurd (cc)
+sent_one n talks.Getting talks.Setup k t st g x = absurd (cc)
+sent_one n talks.Getting talks.IsReady k t st g x = absurd (cc)
+sent_one n talks.Getting talks.Position k t st g x = absurd (cc)
+sent_one n talks.Getting (talks.Go j) k t st g x = absurd (cc)
+sent_one n talks.Getting talks.Stop k t st g x = absurd (cc)
+sent_one n talks.Getting talks.PonderHit k t st g x = absurd (cc)
+sent_one n talks.Getting talks.Quit k t st g x = absurd (cc)
+sent_one n talks.Idle talks.Uci k t st g x = absurd (cc)
+sent_one n talks.Idle talks.Setup k t st g x = absurd (cc)
+sent_one n talks.Idle talks.IsReady k t st g x = absurd (cc)
+sent_one n talks.Idle talks.Position k t st g x = absurd (cc)
+sent_one n talks.Idle (talks.Go j) k t st g x = absurd (cc)
+sent_one n talks.Idle talks.Stop k t st g x = absurd (cc)
+sent_one n talks.Idle talks.PonderHit k t st g x = absurd (cc)
+sent_one n talks.Idle talks.Quit k t st g x = absurd (cc)
+sent_one n (talks.Search k' t' s') talks.Uci k t st g x = absurd (cc)
+sent_one n (talks.Search k' t' s') talks.Setup k t st g x = (st, x)
+sent_one n (talks.Search k' t' s') talks.IsReady k t st g x = absurd (cc)
+sent_one n (talks.Search k' t' s') talks.Position k t st g x = (st, x)
+sent_one n (talks.Search k' t' s') (talks.Go j) k t st g x = absurd (cc)
+sent_one n (talks.Search k' t' s') talks.Stop k t st g x = (s', stop_one k k' t t' s' st x)
+sent_one n (talks.Search k' t' s') talks.PonderHit k t st g x = absurd (cc)
+sent_one n (talks.Search k' t' s') talks.Quit k t st g x = (st, x)
+
+sent_search : (n : ℕ) (e : Engine) (ws : List Word) (k : GoKind) (t : ℕ) (st : Bool) → has_go ws ≡ false → has_hit ws ≡ false → sent_all n e ws ≡ talks.Search k t st → (st' : Bool) × (e ≡ talks.Search k t st')
+sent_search n e [] k t st g h x = (st, x)
+sent_search n e (w ∷ ws) k t st g h x =
+    let l = later w ws g h in
+    let r = sent_search n (sent n e w) ws k t st l.no_go l.no_hit x in
+    sent_one n e w k t r.0 l.first r.1
+
+-- THE HINT IS PLAYED
+
+record Hits (t : Ticketed) (u : Turn) : Type 0 where
+  engine : t.engine ≡ talks.Search kinds.Ponder t.epoch false
+  hint : is_hint u.hint u.what ≡ true
+
+ponders_so : (epoch : ℕ) (e : Engine) → ponders_at epoch e ≡ true → e ≡ talks.Search kinds.Ponder epoch false
+ponders_so epoch talks.Boot x = cc
+ponders_so epoch talks.Getting x = cc
+ponders_so epoch talks.Idle x = cc
+ponders_so epoch talks.Gone x = cc
+ponders_so epoch (talks.Search kinds.Move t s) x = cc
+ponders_so epoch (talks.Search kinds.Analyse t s) x = cc
+ponders_so epoch (talks.Search kinds.Ponder t s) x =
+    let both = and_true (t == epoch) (not s) x in
+    let same : t ≡ epoch = let e = both.0 in grind (arith, nat_tests) in
+    ap (λ (y : ℕ). talks.Search kinds.Ponder y s) same ∙ ap (talks.Search kinds.Ponder epoch) (not_true s both.1)
+  where
+    not_true : (b : Bool) → not b ≡ true → b ≡ false
+    not_true true e = cc
+    not_true false e = refl
+
+hits_so : (t : Ticketed) (u : Turn) → is_hit t u ≡ true → Hits t u
+hits_so t u x =
+    let first = and_true (ponders_at t.epoch t.engine && is_hint u.hint u.what) _ x in
+    let both = and_true (ponders_at t.epoch t.engine) (is_hint u.hint u.what) first.0 in
+    record { engine = ponders_so t.epoch t.engine both.0; hint = both.1 }
+
+same_kind_is : (a b : Kind) → same_kind a b ≡ true → a ≡ b
+same_kind_is Pawn Pawn e = refl
+same_kind_is Knight Knight e = refl
+same_kind_is Bishop Bishop e = refl
+same_kind_is Rook Rook e = refl
+same_kind_is Queen Queen e = refl
+same_kind_is King King e = refl
+same_kind_is Pawn Knight e = cc
+same_kind_is Pawn Bishop e = cc
+same_kind_is Pawn Rook e = cc
+same_kind_is Pawn Queen e = cc
+same_kind_is Pawn King e = cc
+same_kind_is Knight Pawn e = cc
+same_kind_is Knight Bishop e = cc
+same_kind_is Knight Rook e = cc
+same_kind_is Knight Queen e = cc
+same_kind_is Knight King e = cc
+same_kind_is Bishop Pawn e = cc
+same_kind_is Bishop Knight e = cc
+same_kind_is Bishop Rook e = cc
+same_kind_is Bishop Queen e = cc
+same_kind_is Bishop King e = cc
+same_kind_is Rook Pawn e = cc
+same_kind_is Rook Knight e = cc
+same_kind_is Rook Bishop e = cc
+same_kind_is Rook Queen e = cc
+same_kind_is Rook King e = cc
+same_kind_is Queen Pawn e = cc
+same_kind_is Queen Knight e = cc
+same_kind_is Queen Bishop e = cc
+same_kind_is Queen Rook e = cc
+same_kind_is Queen King e = cc
+same_kind_is King Pawn e = cc
+same_kind_is King Knight e = cc
+same_kind_is King Bishop e = cc
+same_kind_is King Rook e = cc
+same_kind_is King Queen e = cc
+
+same_promo_is : (a b : Option Kind) → option_eq same_kind a b ≡ true → a ≡ b
+same_promo_is None None e = refl
+same_promo_is None (Some b) e = cc
+same_promo_is (Some a) None e = cc
+same_promo_is (Some a) (Some b) e = ap Some (same_kind_is a b e)
+
+abbrev ply_with : ℕ → ℕ → Option Kind → Ply
+ply_with from to promo = record { from = from; to = to; promo = promo }
+
+same_ply : (a b : Move) → same_move a b ≡ true → ply_of a ≡ ply_of b
+same_ply a b x =
+    let first = and_true (a.from.index == b.from.index) ((a.to.index == b.to.index) && option_eq same_kind a.promo b.promo) x in
+    let second = and_true (a.to.index == b.to.index) (option_eq same_kind a.promo b.promo) first.1 in
+    let from : a.from.index ≡ b.from.index = let e = first.0 in grind (arith, nat_tests) in
+    let to : a.to.index ≡ b.to.index = let e = second.0 in grind (arith, nat_tests) in
+    let promo = same_promo_is a.promo b.promo second.1 in
+    ap (λ y. ply_with y a.to.index a.promo) from ∙ ap (λ y. ply_with b.from.index y a.promo) to ∙ ap (λ (y : Option Kind). ply_with b.from.index b.to.index y) promo
+
+-- an effect that plays the hint
+record Plays (h : Situation) (d : Effect) : Type 0 where
+  hint : Move
+  move : Move
+  hint_is : h.desk.hint ≡ Some hint
+  effect_is : d ≡ Accepts (says.UserMove move)
+  same : ply_of hint ≡ ply_of move
+
+plays_hint : (h : Situation) (m : Move) (o : Option Move) → h.desk.hint ≡ o → is_hint o (talks.Plays m) ≡ true → Plays h (Accepts (says.UserMove m))
+plays_hint h m None e x = absurd (cc)
+plays_hint h m (Some g) e x = record { hint = g; move = m; hint_is = e; effect_is = refl; same = same_ply g m x }
+
+no_hint : (o : Option Move) (w : What) → is_hint o w ≡ true → (m : Move) × (w ≡ talks.Plays m)
+no_hint None w x = absurd (cc)
+no_hint (Some g) (talks.Plays m) x = (m, refl)
+no_hint (Some g) (talks.Says s) x = absurd (cc)
+no_hint (Some g) talks.Hurries x = absurd (cc)
+no_hint (Some g) talks.Quiet x = absurd (cc)
+
+accepted_plays : (h : Situation) (message : IfaceMsg) (m : Move) → what_accepted message ≡ talks.Plays m → is_hint h.desk.hint (what_accepted message) ≡ true → Plays h (Accepts message)
+accepted_plays h (says.UserMove b) m e x = plays_hint h b h.desk.hint refl x
+accepted_plays h says.MoveNow m e x = absurd (cc)
+accepted_plays h message m e x = absurd (cc)
+
+effect_plays : (h : Situation) (d : Effect) (m : Move) → what_of d ≡ talks.Plays m → is_hint h.desk.hint (what_of d) ≡ true → Plays h d
+effect_plays h (Accepts message) m e x = accepted_plays h message m e x
+effect_plays h Boots m e x = absurd (cc)
+effect_plays h Readies m e x = absurd (cc)
+effect_plays h (Shows best hint) m e x = absurd (cc)
+effect_plays h Forfeits m e x = absurd (cc)
+effect_plays h Answers m e x = absurd (cc)
+effect_plays h Dies m e x = absurd (cc)
+effect_plays h d m e x = absurd (cc)
+
+hit_plays : (h : Situation) (d : Effect) → is_hint h.desk.hint (what_of d) ≡ true → Plays h d
+hit_plays h d x = let w = no_hint h.desk.hint (what_of d) x in effect_plays h d w.0 w.1 x
+
+-- the desk once the hint was played
+hit_game : (h : Situation) (m : Move) → (desk_after_effect h (Accepts (says.UserMove m))).game ≡ desks.played h.desk.game m
+unfolding desk_after_effect change
+hit_game h m = refl
+
+hit_hint : (h : Situation) (m : Move) → (desk_after_effect h (Accepts (says.UserMove m))).hint ≡ None
+unfolding desk_after_effect change
+hit_hint h m = refl
+
+searched_now : (k : GoKind) (g : Game) → searched_by k g None ≡ g
+searched_now kinds.Move g = refl
+searched_now kinds.Ponder g = refl
+searched_now kinds.Analyse g = refl
+
+-- THE ORDERS FOR A SEARCH
+
+clock_kind : (c : Control) (clocks : Clocks) (side : Side) (n : ℕ) → kind_named false (time_of c clocks side n) ≡ kinds.Move
+clock_kind Session clocks White n = refl
+clock_kind Session clocks Black n = refl
+clock_kind (Fixed time) clocks side n = refl
+
+go_heard : (clocks : Clocks) (side : Side) (n : ℕ) (k : GoKind) → as_order (search_order clocks side n k) ≡ hears.Go k
+go_heard clocks side n kinds.Move = ap hears.Go (kind_heard false (time_of clocks.control clocks side n) clocks.depth ∙ clock_kind clocks.control clocks side n)
+go_heard clocks side n kinds.Ponder = ap hears.Go (kind_heard true (time_of clocks.control clocks side n) clocks.depth)
+go_heard clocks side n kinds.Analyse = ap hears.Go (kind_heard false Infinite None)
+
+-- what is searched: a game, which stands where a search of this kind searches
+record IsSearched (d : Desk) (c : Call) : Type 0 where
+  game : IsGame (searched d.game c)
+  same : now_of (searched d.game c) ≡ now_of (searched_by (kind_of c) d.game d.hint)
+
+hint_playable : (d : Desk) (o : Option Move) (g : Move) → d.hint ≡ o → o ≡ Some g → IfSome o (λ m. IsPlayable (now_of d.game) (ply_of m)) → IsPlayable (now_of d.game) (ply_of g)
+hint_playable d None g e x p = absurd (cc)
+hint_playable d (Some m) g e x p = let same : m ≡ g = cc in subst (λ (y : Move). IsPlayable (now_of d.game) (ply_of y)) same p
+
+is_searched : (d : Desk) (c : Call) → IsGame d.game → IsSound d → ((g : Move) → c ≡ calls.Ponder g → d.hint ≡ Some g) → IsSearched d c
+is_searched d calls.Nothing i s f = record { game = i; same = refl }
+is_searched d calls.Move i s f = record { game = i; same = refl }
+is_searched d calls.Analyse i s f = record { game = i; same = refl }
+is_searched d (calls.Ponder g) i s f =
+    let e = f g refl in
+    record { game = played_is d.game g i (hint_playable d d.hint g refl e s.hint); same = ap (λ (o : Option Move). now_of (searched_by kinds.Ponder d.game o)) (sym e) }
+
+not_owed : (b : Bool) (c : Call) (g : Move) → cond b calls.Nothing c ≡ calls.Ponder g → c ≡ calls.Ponder g
+not_owed true c g e = cc
+not_owed false c g e = e
+
+module _ (o : Settings) (step : Step) (trace : List Step) (l : Lawful o (step ∷ trace)) (i : IsGame (state o trace).desk.game) where
+  abbrev s : State
+  s = state o trace
+
+  abbrev ev : Event
+  ev = step.event
+
+  abbrev h : Situation
+  h = situation s
+
+  abbrev d : Effect
+  d = effect s ev
+
+  abbrev m : Ticketed
+  m = mid s ev
+
+  abbrev ws : List Word
+  ws = map word_of step.orders
+
+  abbrev next : State
+  next = state_after s step
+
+  game_after : IsGame (desk_of s ev).game
+  game_after = effect_is h s.held d (fits s step (lasts o trace l.0) l.1) i
+
+  sound_after : IsSound (desk_of s ev)
+  sound_after = step_sound (closed_after s ev) (is_move (owing s ev)) (is_hit s.dialogue (turn s ev)) h s.held d (lasts o trace l.0).sound (fits s step (lasts o trace l.0) l.1)
+
+  searched_here : IsSearched (desk_of s ev) (owing s ev)
+  searched_here =
+      is_searched (desk_of s ev) (owing s ev) game_after sound_after
+      (λ g e. call_hint (closed_after s ev) (is_gone h.engine || is_death d) (desk_after_effect h d) g (not_owed (spent m) (turn s ev).call g e))
+
+  -- the talk after the orders
+  abbrev Follows : Talk → Type 0
+  Follows t = (p : Place) × Agrees t next.dialogue.engine p × SearchesAt next p
+
+  begun_at : (k k' : GoKind) (n : ℕ) (st : Bool) (q : Place) (x : Desk) → talks.Search k n false ≡ talks.Search k' n st → q ≡ now_of (searched_by k x.game x.hint) → q ≡ now_of (searched_by k' x.game x.hint)
+  begun_at k k' n st q x e f = let same : k ≡ k' = cc in f ∙ ap (λ (y : GoKind). now_of (searched_by y x.game x.hint)) same
+
+  begins : (t : Talk) (p : Place) → AreSettled s ev step.orders → has_go ws ≡ true → Agrees t m.engine p → Runs t (map engine_mark step.orders) Follows
+  begins t p a g b =
+      let c = owing s ev in
+      let x = desk_of s ev in
+      let words = (a.words.go g).0 in
+      let is : step.orders ≡ search_orders x c = a.search g in
+      let idle : m.engine ≡ talks.Idle = (subst (MaySendAll m.epoch m.engine) words a.words.may_send).0 in
+      let q = line_leads (searched x.game c) searched_here.game in
+      let last : sent_all m.epoch m.engine ws ≡ talks.Search (kind_of c) m.epoch false =
+      ap (sent_all m.epoch m.engine) words ∙ ap (λ (y : Engine). sent_all m.epoch y (talks.Position ∷ talks.Go (kind_of c) ∷ [])) idle in
+      let runs = search_runs m.epoch (start_of (searched x.game c).start) (join_with_byte 32 (map ply_text (searched x.game c).moves)) (search_order x.clocks (on_move (searched x.game c)) (plies (searched x.game c)) (kind_of c)) (kind_of c) t p q.0.end
+      (record { engine = b.engine ∙ ap shown idle; stage = b.stage; placed = b.placed })
+      (ap (λ y. hears.Position (end_of y)) q.1)
+      (go_heard x.clocks (on_move (searched x.game c)) (plies (searched x.game c)) (kind_of c)) in
+      subst (λ (os : List Order). Runs t (map engine_mark os) Follows) (sym is)
+      (more_runs t (map engine_mark (search_orders x c)) (λ u. Agrees u (talks.Search (kind_of c) m.epoch false) q.0.end) Follows runs (λ u w. (
+        q.0.end,
+        subst (λ (y : Engine). Agrees u y q.0.end) (sym last) w,
+        λ k' st e. begun_at (kind_of c) k' m.epoch st q.0.end x (sym last ∙ e) (q.2 ∙ searched_here.same),
+      )))
+
+  -- the position of the search that goes on
+  stays_at : (p : Place) → AreSettled s ev step.orders → has_go ws ≡ false → SearchesAt s p → (hit : Bool) → has_hit ws ≡ hit → SearchesAt next p
+  stays_at p a g f true y k st e =
+      let x = hits_so s.dialogue (turn s ev) (sym a.words.hit ∙ y) in
+      let b = hit_plays h d x.hint in
+      let desk = desk_after_effect h (Accepts (says.UserMove b.move)) in
+      f kinds.Ponder false x.engine
+      ∙ ap (λ (z : Option Move). now_of (searched_by kinds.Ponder s.desk.game z)) b.hint_is
+      ∙ ap (λ (z : Ply). now_of (with_ply s.desk.game z)) b.same
+      ∙ ap now_of (sym (hit_game h b.move))
+      ∙ ap now_of (sym (searched_now k desk.game))
+      ∙ ap (λ (z : Option Move). now_of (searched_by k desk.game z)) (sym (hit_hint h b.move))
+      ∙ ap (λ (z : Effect). now_of (searched_by k (desk_after_effect h z).game (desk_after_effect h z).hint)) (sym b.effect_is)
+  stays_at p a g f false y k st e =
+      let r = sent_search m.epoch m.engine ws k m.epoch st g y e in
+      let before = heard_search s.dialogue.engine (said_of (turn s ev).what) k m.epoch r.0 r.1 in
+      let within = subst (TicketWithin s.dialogue.epoch) before (lasts o trace l.0).ticket in
+      by_rise (turn s ev).begins_epoch refl r.0 before within
+    where
+      by_rise : (b : Bool) → (turn s ev).begins_epoch ≡ b → (st' : Bool) → s.dialogue.engine ≡ talks.Search k m.epoch st' → m.epoch ≤ s.dialogue.epoch → p ≡ now_of (searched_by k (desk_of s ev).game (desk_of s ev).hint)
+      by_rise true b st' x w =
+          let n : m.epoch ≡ s.dialogue.epoch + 1 = ap (λ z. cond z (s.dialogue.epoch + 1) s.dialogue.epoch) b in
+          absurd (omega (arith, n, w))
+      by_rise false b st' x w =
+          let n : m.epoch ≡ s.dialogue.epoch = ap (λ z. cond z (s.dialogue.epoch + 1) s.dialogue.epoch) b in
+          f k st' (x ∙ ap (λ z. talks.Search k z st') n)
+          ∙ ap (λ (z : Game). now_of (searched_by k z s.desk.hint)) (sym (game_kept h d b))
+          ∙ ap (λ (z : Option Move). now_of (searched_by k (desk_of s ev).game z)) (sym (hint_kept h d b))
+
+  goes_on_so : (t : Talk) (p : Place) → AreSettled s ev step.orders → has_go ws ≡ false → SearchesAt s p → Agrees t m.engine p → Runs t (map engine_mark step.orders) Follows
+  goes_on_so t p a g f b =
+      more_runs t (map engine_mark step.orders) (λ u. Agrees u (sent_all m.epoch m.engine ws) p) Follows
+      (plain_runs m.epoch m.engine step.orders t p b a.words.may_send a.words.paired g a.words.no_quit)
+      (λ u w. (p, w, stays_at p a g f (has_hit ws) refl))
+
+  pub settles : (t : Talk) (p : Place) → is_open ev ≡ false → closed_after s ev ≡ false → SearchesAt s p → Agrees t m.engine p → Runs t (map engine_mark step.orders) Follows
+  settles t p n c f b = by_go (has_go ws) refl where
+    by_go : (g : Bool) → has_go ws ≡ g → Runs t (map engine_mark step.orders) Follows
+    by_go true g = begins t p (l.1.settled n c) g b
+    by_go false g = goes_on_so t p (l.1.settled n c) g f b

@@ -1,0 +1,239 @@
+-- The marks of one step.
+use Rattle.std.proofs.Common.{◌≡◌, ℕ, ◌+◌, ◌<◌, ◌≤◌, List, [], ◌∷◌, ◌++◌, map, Bool, true, false, not, cond, ◌&&◌, ◌||◌, ◌==◌, Option, Some, None, refl, sym, ap, subst, ◌∙◌, arith}
+use Rattle.std.specs.Prelude.{Contains}
+use Rattle.std.proofs.lemmas.Bool.Decides.{nat_tests}
+use Rattle.std.proofs.lemmas.List.Elements.{Contains-append_left, Contains-push}
+use Rattle.line_io.specs.Event.{Event}
+use Rattle.line_io.specs.Event as events
+use Rattle.script_lines.specs.Marks.{Mark, Happens}
+use Rattle.chess_board.specs.declared.board.Move.{Move}
+use Rattle.chess_board.specs.Place.{legal}
+use Rattle.chess_board.specs.Position.{Position as Place}
+use Rattle.peer_words.specs.declared.kinds.GoKind.{GoKind}
+use Rattle.peer_words.specs.declared.kinds.GoKind.TheVariants as kinds
+use Rattle.cecp_lines.specs.Replies.{Reply}
+use Rattle.cecp_lines.specs.Replies as told
+use Rattle.uci_lines.specs.Orders.{Order}
+use Rattle.uci_lines.specs.Orders as orders
+use Rattle.uci_lines.specs.Messages as says
+use Rattle.uci_lines.specs.Engine.{engine_message}
+use Rattle.game_record.specs.Game.{Game, now_of}
+use Rattle.policy_rules.specs.declared.settings.Settings.{Settings}
+use Rattle.search_epochs.specs.Tickets as talks
+use Rattle.search_epochs.specs.Tickets.{Engine, Ticketed, heard, said_of, sent_all, is_move}
+use Rattle.search_epochs.specs.Dialogue.{forget}
+use Rattle.desk_rules.specs.Desk.{Situation, is_gone}
+use Rattle.desk_rules.specs.Steps.{Effect, Shows, classify, what_of, is_death, searched_by}
+use Rattle.desk_rules.specs.Orders.{word_of}
+use Rattle.desk_rules.specs.Replies.{replies_of, row, shown_row}
+use Rattle.adapter_core.specs.Ends.{is_open, may, ends_after}
+use Rattle.adapter_core.specs.Trace.{State, Step, IsLawful, Lawful, state, state_after, situation, effect, mid, owing, closed_after, gone_after, last_orders, replies}
+use Rattle.adapter_core.specs.Shown.{Answers, moves_told}
+use Rattle.adapter_core.proofs.Closing.{open_before, opened_later, closed_stays}
+use Rattle.adapter_core.proofs.Shown.{shown_by, open_shows, shown as shown_in_time}
+use Rattle.adapter_core.proofs.Traces.{Lasts, lasts, gone_is, fits}
+use Rattle.dialogue_laws.specs.Wire.{said_by}
+use Rattle.dialogue_laws.proofs.Heard as hearing
+use Rattle.session_judge.specs.declared.deed.Order.TheVariants as hears
+use Rattle.session_judge.specs.declared.deed.Deed.{Deed}
+use Rattle.session_judge.specs.declared.deed.Deed.TheVariants as deeds
+use Rattle.session_judge.specs.declared.talk.Answer.{Answer}
+use Rattle.session_judge.specs.declared.talk.Engine.{Engine as Wire}
+use Rattle.session_judge.specs.declared.talk.Engine.TheVariants as wires
+use Rattle.session_judge.specs.declared.talk.Stage.TheVariants as stages
+use Rattle.session_judge.specs.declared.talk.Talk.{Talk}
+use Rattle.session_judge.specs.Deeds.{deed_of, answer_told}
+use Rattle.session_judge.specs.Talks.{after, answer_after}
+use Rattle.lawful_talk.specs.Logs.{event_marks, iface_mark, engine_mark, step_marks}
+use Rattle.lawful_talk.proofs.Runs.{Runs, more_runs, both_run, first_runs}
+use Rattle.lawful_talk.proofs.Texts.{order_deed}
+use Rattle.lawful_talk.proofs.Writes.{shown, Agrees, quit_runs}
+use Rattle.lawful_talk.proofs.Hears.{event_runs, event_agrees, quiet_runs, still_agrees, answered, move_runs}
+
+-- THE PARTS OF A STEP
+
+-- the event, then the replies, then the orders
+pub parts_run : (t : Talk) (step : Step) (A B P : Talk → Type 0)
+    → Runs t (event_marks step.event) A
+    → ((u : Talk) → A u → Runs u (map iface_mark step.replies) B)
+    → ((u : Talk) → B u → Runs u (map engine_mark step.orders) P)
+    → Runs t (step_marks step) P
+parts_run t step A B P e r o =
+    let others = map iface_mark step.replies ++ map engine_mark step.orders in
+    both_run t (event_marks step.event) others P (more_runs t (event_marks step.event) A (λ u. Runs u others P) e (λ u a.
+      both_run u (map iface_mark step.replies) (map engine_mark step.orders) P (more_runs u (map iface_mark step.replies) B (λ v. Runs v (map engine_mark step.orders) P) (r u a) o)
+    ))
+
+-- the position of a current search
+abbrev pub SearchesAt : State → Place → Type 0
+SearchesAt s p = (k : GoKind) (stopped : Bool) → s.dialogue.engine ≡ talks.Search k s.dialogue.epoch stopped → p ≡ now_of (searched_by k s.desk.game s.desk.hint)
+
+-- WHAT IS SHOWN
+
+no_moves : (closed owes : Bool) (h : Situation) (d : Effect) → closed ≡ true → moves_told (replies_of closed owes h d) ≡ []
+no_moves true owes h d e = refl
+no_moves false owes h d e = cc
+
+open_moves : (closed owes : Bool) (h : Situation) (d : Effect) → closed ≡ false → moves_told (replies_of closed owes h d) ≡ shown_by d
+open_moves true owes h d e = cc
+open_moves false owes h d e = open_shows owes h d
+
+tells_first : (closed owes : Bool) (h : Situation) (best : Move) (hint : Option Move) → closed ≡ false → Contains (replies_of closed owes h (Shows best hint)) (told.Move best)
+unfolding row
+tells_first true owes h best hint e = cc
+tells_first false owes h best hint e = Contains-append_left (told.Move best ∷ []) _ (told.Move best) (Contains-push [] (told.Move best))
+
+-- an effect shows a move, or none
+data IsShown (d : Effect) : Type 0 where
+  It : (best : Move) (hint : Option Move) → d ≡ Shows best hint → IsShown d
+  Quiet : shown_by d ≡ [] → IsShown d
+
+is_shown : (d : Effect) → IsShown d
+is_shown (Shows best hint) = IsShown.It best hint refl
+is_shown d = IsShown.Quiet refl
+
+-- Open shows none
+opens_quiet : (h : Situation) (held : List Order) (e : Event) → is_open e ≡ true → shown_by (classify h held e) ≡ []
+unfolding classify
+opens_quiet h held events.Open x = refl
+opens_quiet h held (events.Iface line) x = cc
+opens_quiet h held events.IfaceLong x = cc
+opens_quiet h held events.IfaceEnd x = cc
+opens_quiet h held events.IfaceLost x = cc
+opens_quiet h held (events.Engine line) x = cc
+opens_quiet h held events.EngineLong x = cc
+opens_quiet h held events.EngineEnd x = cc
+opens_quiet h held events.EngineLost x = cc
+
+module _ (o : Settings) (step : Step) (trace : List Step) (l : Lawful o (step ∷ trace)) where
+  abbrev s : State
+  s = state o trace
+
+  abbrev ev : Event
+  ev = step.event
+
+  abbrev h : Situation
+  h = situation s
+
+  abbrev d : Effect
+  d = effect s ev
+
+  abbrev m : Ticketed
+  m = mid s ev
+
+  pub last : Lasts s
+  last = lasts o trace l.0
+
+  -- THE EVENT
+
+  pub heard_event : s.ends.closed ≡ false → heard s.dialogue.engine (said_by false ev) ≡ m.engine
+  heard_event c = ap (λ b. heard s.dialogue.engine (said_by b ev)) (sym c) ∙ sym (hearing.event_heard s ev)
+
+  pub told_moves : closed_after s ev ≡ false → moves_told step.replies ≡ shown_by d
+  told_moves c = ap moves_told l.1.replies ∙ open_moves (closed_after s ev) (is_move (owing s ev)) h d c
+
+  pub told_none : closed_after s ev ≡ true → moves_told step.replies ≡ []
+  told_none c = ap moves_told l.1.replies ∙ no_moves (closed_after s ev) (is_move (owing s ev)) h d c
+
+  -- what is known once the event was heard
+  record Heard (t u : Talk) (p : Place) : Type 0 where
+    agrees : Agrees u m.engine p
+    answer : u.answer ≡ answer_after t.engine t.placed t.answer (deed_of (Happens ev))
+
+  event_known : (t : Talk) (p : Place) → is_open ev ≡ false → s.ends.closed ≡ false → Agrees t s.dialogue.engine p → Runs t (event_marks ev) (λ u. Heard t u p)
+  event_known t p n c a =
+      event_runs t ev (λ u. Heard t u p) n (λ line. record {
+        agrees = subst (λ (x : Engine). Agrees (after t line (deed_of (Happens ev))) x p) (heard_event c) (event_agrees t s.dialogue.engine p ev line a);
+        answer = refl;
+      })
+
+  -- the answer that is heard before a move is shown
+  shown_answer : (t u : Talk) (p : Place) (best : Move) (hint : Option Move) → closed_after s ev ≡ false → d ≡ Shows best hint → Agrees t s.dialogue.engine p
+      → u.answer ≡ answer_after t.engine t.placed t.answer (deed_of (Happens ev)) → Answers s ev best → u.answer ≡ Some (answered best p)
+  shown_answer t u p best hint c e a w x =
+      w ∙ ap (λ y. answer_after t.engine t.placed t.answer (deed_of (Happens y))) x.event
+      ∙ ap (λ y. answer_after t.engine t.placed t.answer (answer_told y)) x.best
+      ∙ ap (λ y. answer_after y t.placed t.answer (deeds.Answers (Some best))) (a.engine ∙ ap shown x.current)
+      ∙ ap (λ y. let z : Answer = record { kind = kinds.Move; best = Some best; at = y; told = false } in Some z) a.placed
+
+  answers_in : (best : Move) (hint : Option Move) → closed_after s ev ≡ false → d ≡ Shows best hint → Answers s ev best
+  answers_in best hint c e =
+      let tells = subst (λ (x : Effect). Contains (replies_of (closed_after s ev) (is_move (owing s ev)) h x) (told.Move best)) (sym e) (tells_first (closed_after s ev) (is_move (owing s ev)) h best hint c) in
+      (shown_in_time o step trace l best).0 (subst (λ (rs : List Reply). Contains rs (told.Move best)) (sym l.1.replies) tells)
+
+  by_shown : (t u : Talk) (p : Place) → IsShown d → closed_after s ev ≡ false → SearchesAt s p → Agrees t s.dialogue.engine p → Heard t u p → Runs u (map iface_mark step.replies) (λ v. Agrees v m.engine p)
+  by_shown t u p (IsShown.It best hint e) c i a w =
+      let x = answers_in best hint c e in
+      move_runs step.replies u m.engine p best (told_moves c ∙ ap shown_by e) w.agrees (shown_answer t u p best hint c e a w.answer x)
+      (subst (λ y. legal y best ≡ true) (sym (i kinds.Move x.stopped x.current)) x.is_legal)
+  by_shown t u p (IsShown.Quiet n) c i a w = quiet_runs step.replies u (λ v. Agrees v m.engine p) (told_moves c ∙ n) (still_agrees m.engine p) w.agrees
+
+  -- the event and the replies of a step after which the session is open
+  pub open_parts : (t : Talk) (p : Place) (P : Talk → Type 0) → is_open ev ≡ false → closed_after s ev ≡ false → SearchesAt s p → Agrees t s.dialogue.engine p
+      → ((u : Talk) → Agrees u m.engine p → Runs u (map engine_mark step.orders) P) → Runs t (step_marks step) P
+  open_parts t p P n c i a f =
+      parts_run t step (λ u. Heard t u p) (λ v. Agrees v m.engine p) P (event_known t p n (open_before s.ends ev c) a) (λ u w. by_shown t u p (is_shown d) c i a w) f
+
+  -- AT THE OPENING
+
+  abbrev Begins : Talk → Type 0
+  Begins u = (u.engine ≡ wires.Boot) × (u.stage ≡ stages.Start)
+
+  begins_on : (u : Talk) (line : ℕ) → Begins u → Begins (after u line deeds.Nothing)
+  begins_on u line b = (rw b.0 refl, rw b.1 refl)
+
+  abbrev Opened : Talk → Type 0
+  Opened u = (u.engine ≡ wires.Boot) × (u.stage ≡ stages.Open)
+
+  uci_runs : (u : Talk) → Begins u → Runs u (map engine_mark (orders.Uci ∷ [])) Opened
+  uci_runs u b = first_runs u (engine_mark orders.Uci) [] Opened (deeds.Writes hears.Uci) (order_deed orders.Uci) (rw (b.1, b.0) refl) (λ line. (rw b.0 refl, rw b.1 refl))
+
+  no_event : (e : Event) → is_open e ≡ true → event_marks e ≡ []
+  no_event events.Open x = refl
+  no_event (events.Iface line) x = cc
+  no_event events.IfaceLong x = cc
+  no_event events.IfaceEnd x = cc
+  no_event events.IfaceLost x = cc
+  no_event (events.Engine line) x = cc
+  no_event events.EngineLong x = cc
+  no_event events.EngineEnd x = cc
+  no_event events.EngineLost x = cc
+
+  pub opening_parts : (t : Talk) → is_open ev ≡ true → t.engine ≡ wires.Boot → t.stage ≡ stages.Start → Runs t (step_marks step) Opened
+  opening_parts t n e g =
+      parts_run t step Begins Begins Opened
+      (subst (λ (ms : List Mark). Runs t ms Begins) (sym (no_event ev n)) (e, g))
+      (λ u b. quiet_runs step.replies u Begins (opening_moves (closed_after s ev) refl) begins_on b)
+      (λ u b. subst (λ (os : List Order). Runs u (map engine_mark os) Opened) (sym (l.1.opens n)) (uci_runs u b))
+    where
+      opening_moves : (c : Bool) → closed_after s ev ≡ c → moves_told step.replies ≡ []
+      opening_moves true c = told_none c
+      opening_moves false c = told_moves c ∙ opens_quiet (situation s) s.held ev n
+
+  -- WHERE THE SESSION IS CLOSED
+
+  pub closing_parts : (t : Talk) (p : Place) → is_open ev ≡ false → s.ends.closed ≡ false → closed_after s ev ≡ true → Agrees t s.dialogue.engine p → Runs t (step_marks step) (λ u. Unit {0})
+  closing_parts t p n c x a =
+      parts_run t step (λ u. Agrees u m.engine p) (λ u. Agrees u m.engine p) (λ u. Unit {0})
+      (more_runs t (event_marks ev) (λ u. Heard t u p) (λ u. Agrees u m.engine p) (event_known t p n c a) (λ u w. w.agrees))
+      (λ u b. quiet_runs step.replies u (λ v. Agrees v m.engine p) (told_none x) (still_agrees m.engine p) b)
+      (λ u b. subst (λ (os : List Order). Runs u (map engine_mark os) (λ v. Unit {0})) (sym (l.1.closes c x)) (by_gone u b (gone_after s ev) refl))
+    where
+      alive : gone_after s ev ≡ false → m.engine ≡ talks.Gone → ⊥
+      alive g e =
+          let now : is_gone (situation (state_after s step)).engine ≡ true =
+          ap (λ (os : List Order). is_gone (forget m.epoch (sent_all m.epoch m.engine (map word_of os)))) (l.1.closes c x ∙ ap last_orders g)
+          ∙ ap (λ (y : Engine). is_gone (forget m.epoch (sent_all m.epoch y (talks.Quit ∷ [])))) e in
+          let same = gone_is s step last l.1 in
+          cc
+
+      by_gone : (u : Talk) → Agrees u m.engine p → (g : Bool) → gone_after s ev ≡ g → Runs u (map engine_mark (last_orders (gone_after s ev))) (λ v. Unit {0})
+      by_gone u b true g = subst (λ (y : Bool). Runs u (map engine_mark (last_orders y)) (λ v. Unit {0})) (sym g) tt
+      by_gone u b false g = subst (λ (y : Bool). Runs u (map engine_mark (last_orders y)) (λ v. Unit {0})) (sym g) (quit_runs m.engine u p (λ v. Unit {0}) b (alive g) (λ v. tt))
+
+  pub closed_parts : (t : Talk) → is_open ev ≡ false → s.ends.closed ≡ true → Runs t (step_marks step) (λ u. Unit {0})
+  closed_parts t n c =
+      parts_run t step (λ u. Unit {0}) (λ u. Unit {0}) (λ u. Unit {0})
+      (event_runs t ev (λ u. Unit {0}) n (λ line. tt))
+      (λ u b. quiet_runs step.replies u (λ v. Unit {0}) (told_none (closed_stays s.ends ev c)) (λ v line y. tt) tt)
+      (λ u b. subst (λ (os : List Order). Runs u (map engine_mark os) (λ v. Unit {0})) (sym (l.1.closed n c)) tt)

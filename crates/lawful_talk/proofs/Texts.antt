@@ -1,0 +1,268 @@
+-- What the texts of orders and of replies are to a judge.
+use Rattle.std.proofs.Common.{◌≡◌, ℕ, zero, suc, ◌+◌, ◌/◌, ◌%◌, ◌<◌, ◌≤◌, List, [], ◌∷◌, ◌++◌, length, Bool, true, false, not, ◌&&◌, ◌||◌, cond, ◌==◌, ltb, Option, Some, None, decimal, codes, refl, sym, ap, subst, ◌∙◌, arith, append_assoc, append-nil}
+use Rattle.std.specs.List.{list_all}
+use Rattle.std.specs.Char.{is_ascii_digit}
+use Rattle.std.specs.Str.{bytes_eq}
+use Rattle.std.specs.Fmt.{digits, digits_onto, digit_glyph, signed_decimal}
+use Rattle.std.proofs.lemmas.Bool.Decides.{nat_tests}
+use Rattle.peer_words.specs.declared.kinds.GoKind.{GoKind}
+use Rattle.peer_words.specs.declared.kinds.GoKind.TheVariants as kinds
+use Rattle.peer_words.specs.Tokens.{is_white, is_token, tokens}
+use Rattle.peer_words.proofs.Trims.{and_true}
+use Rattle.peer_words.proofs.TokenLists.{tokens_more, tokens_alone, tokens_white}
+use Rattle.cecp_lines.specs.Replies.{Reply, reply_text, hint_text}
+use Rattle.cecp_lines.specs.Replies as told
+use Rattle.cecp_lines.specs.declared.reply.Reason.{Reason}
+use Rattle.cecp_lines.specs.declared.reply.UserError.TheVariants as tells
+use Rattle.cecp_lines.specs.declared.reply.Outcome.TheVariants as outcomes
+use Rattle.uci_lines.specs.declared.orders.GoControl.{GoControl}
+use Rattle.uci_lines.specs.declared.orders.GoControl.TheVariants.{Infinite, MoveTime, Clock}
+use Rattle.uci_lines.specs.Behind.{after}
+use Rattle.uci_lines.specs.Cuts.{is_word}
+use Rattle.uci_lines.specs.Orders.{Order, order_text, position_text, go_text, ponder_text, control_text, optional_number}
+use Rattle.uci_lines.specs.Orders as orders
+use Rattle.uci_lines.proofs.Counts.{same_text}
+use Rattle.uci_talk.specs.Kinds.{has_word, kind_asked}
+use Rattle.uci_talk.specs.Lines.{line_of}
+use Rattle.desk_rules.specs.Orders.{kind_named}
+use Rattle.session_judge.specs.declared.deed.Order.{Order as Heard}
+use Rattle.session_judge.specs.declared.deed.Order.TheVariants as hears
+use Rattle.session_judge.specs.declared.deed.Deed.{Deed}
+use Rattle.session_judge.specs.declared.deed.Deed.TheVariants as deeds
+use Rattle.session_judge.specs.Deeds.{deed_of, end_of, shown_by, told_move}
+use Rattle.lawful_talk.specs.Logs.{iface_mark, engine_mark}
+
+-- ORDERS
+
+-- an order as its text is heard
+abbrev pub as_order : Order → Heard
+as_order orders.Uci = hears.Uci
+as_order orders.IsReady = hears.IsReady
+as_order orders.NewGame = hears.Setup
+as_order orders.Stop = hears.Stop
+as_order orders.PonderHit = hears.PonderHit
+as_order orders.Quit = hears.Quit
+as_order (orders.SetOption name value) = hears.Setup
+as_order (orders.Position fen moves) = hears.Position (end_of (line_of (position_text fen moves)))
+as_order (orders.Go ponder control depth) = hears.Go (kind_asked (go_text ponder control depth))
+
+start_deed : (fen : Option (List ℕ)) (moves : List ℕ) → deed_of (engine_mark (orders.Position fen moves)) ≡ deeds.Writes (as_order (orders.Position fen moves))
+unfolding order_text
+start_deed None moves = refl
+start_deed (Some fen) moves = refl
+
+go_deed : (ponder : Bool) (control : GoControl) (depth : Option ℕ) → deed_of (engine_mark (orders.Go ponder control depth)) ≡ deeds.Writes (as_order (orders.Go ponder control depth))
+unfolding order_text
+go_deed true control depth = refl
+go_deed false Infinite depth = refl
+go_deed false (MoveTime time) depth = refl
+go_deed false (Clock w b i j m) depth = refl
+
+pub order_deed : (o : Order) → deed_of (engine_mark o) ≡ deeds.Writes (as_order o)
+unfolding order_text
+order_deed orders.Uci = refl
+order_deed orders.IsReady = refl
+order_deed orders.NewGame = refl
+order_deed orders.Stop = refl
+order_deed orders.PonderHit = refl
+order_deed orders.Quit = refl
+order_deed (orders.SetOption name value) = refl
+order_deed (orders.Position fen moves) = start_deed fen moves
+order_deed (orders.Go ponder control depth) = go_deed ponder control depth
+
+-- NUMBERS
+
+glyph : (d : ℕ) → d < 10 → is_ascii_digit (digit_glyph false d) ≡ true
+glyph d h = let t : ltb d 10 ≡ true = grind (arith, nat_tests) in rw t (grind (arith, nat_tests))
+
+low : (n : ℕ) → n % 10 < 10
+low n = omega arith
+
+onto_by : (b : Bool) (xs ys : List ℕ) → list_all is_ascii_digit xs ≡ true → list_all is_ascii_digit ys ≡ true → list_all is_ascii_digit (cond b xs ys) ≡ true
+onto_by true xs ys h k = h
+onto_by false xs ys h k = k
+
+onto_digits : (k n : ℕ) (acc : List ℕ) → list_all is_ascii_digit acc ≡ true → list_all is_ascii_digit (digits_onto k 10 false n acc) ≡ true
+onto_digits zero n acc h = h
+onto_digits (suc k) n acc h =
+    let more : list_all is_ascii_digit (digit_glyph false (n % 10) ∷ acc) ≡ true = rw (glyph (n % 10) (low n), h) refl in
+    onto_by (n / 10 == 0) (digit_glyph false (n % 10) ∷ acc) (digits_onto k 10 false (n / 10) (digit_glyph false (n % 10) ∷ acc)) more (onto_digits k (n / 10) (digit_glyph false (n % 10) ∷ acc) more)
+
+longer_by : (b : Bool) (m : ℕ) (xs ys : List ℕ) → m < length xs → m < length ys → m < length (cond b xs ys)
+longer_by true m xs ys h k = h
+longer_by false m xs ys h k = k
+
+onto_long : (k n : ℕ) (acc : List ℕ) → 0 < length acc → 0 < length (digits_onto k 10 false n acc)
+onto_long zero n acc h = h
+onto_long (suc k) n acc h =
+    let more : 0 < length (digit_glyph false (n % 10) ∷ acc) = omega arith in
+    longer_by (n / 10 == 0) 0 (digit_glyph false (n % 10) ∷ acc) (digits_onto k 10 false (n / 10) (digit_glyph false (n % 10) ∷ acc)) more (onto_long k (n / 10) (digit_glyph false (n % 10) ∷ acc) more)
+
+some_onto : (k n : ℕ) → 0 < k → 0 < length (digits_onto k 10 false n [])
+some_onto zero n h = absurd (omega (arith, h))
+some_onto (suc k) n h =
+    let more : 0 < length (digit_glyph false (n % 10) ∷ []) = omega arith in
+    longer_by (n / 10 == 0) 0 (digit_glyph false (n % 10) ∷ []) (digits_onto k 10 false (n / 10) (digit_glyph false (n % 10) ∷ [])) more (onto_long k (n / 10) (digit_glyph false (n % 10) ∷ []) more)
+
+-- digits, and not none
+record AreDigits (ds : List ℕ) : Type 0 where
+  some : 0 < length ds
+  all : list_all is_ascii_digit ds ≡ true
+
+number : (n : ℕ) → AreDigits (decimal n)
+unfolding digits
+number n = record { some = some_onto 64 n (omega arith); all = onto_digits 64 n [] refl }
+
+digit_black : (c : ℕ) → is_ascii_digit c ≡ true → not (is_white c) ≡ true
+digit_black c h = grind (arith, nat_tests)
+
+digits_black : (ds : List ℕ) → list_all is_ascii_digit ds ≡ true → list_all (λ b. not (is_white b)) ds ≡ true
+digits_black [] h = refl
+digits_black (c ∷ cs) h = let both = and_true (is_ascii_digit c) (list_all is_ascii_digit cs) h in rw (digit_black c both.0, digits_black cs both.1) refl
+
+number_token : (ds : List ℕ) → AreDigits ds → is_token ds ≡ true
+number_token ds a = let t : ltb 0 (length ds) ≡ true = let s = a.some in grind (arith, nat_tests) in rw (t, digits_black ds a.all) refl
+
+no_digits : (word ds : List ℕ) (b : Bool) → AreDigits ds → list_all is_ascii_digit word ≡ false → is_word word ds ≡ b → b ≡ false
+no_digits word ds false a n e = refl
+no_digits word ds true a n e = let same : ds ≡ word = same_text ds word e in let x : list_all is_ascii_digit word ≡ true = ap (list_all is_ascii_digit) (sym same) ∙ a.all in cc
+
+-- THE KIND OF A SEARCH
+
+abbrev ponders : List ℕ → Bool
+ponders text = has_word (codes "ponder") (tokens text)
+
+abbrev goes_on : List ℕ → Bool
+goes_on text = has_word (codes "infinite") (tokens text)
+
+-- nothing, or a text that begins with white space
+abbrev BeginsWhite : List ℕ → Type 0
+BeginsWhite [] = Unit {0}
+BeginsWhite (b ∷ bs) = is_white b ≡ true
+
+number_first : (ds more : List ℕ) → AreDigits ds → BeginsWhite more → tokens (ds ++ more) ≡ ds ∷ tokens more
+number_first ds [] a w = ap tokens (append-nil ds) ∙ tokens_alone ds (number_token ds a)
+number_first ds (b ∷ bs) a w = tokens_more ds bs b (number_token ds a) w ∙ ap (λ ts. ds ∷ ts) (sym (tokens_white b bs w))
+
+-- a number is neither word
+number_quiet : (word : List ℕ) (n : ℕ) (more : List ℕ) → list_all is_ascii_digit word ≡ false → BeginsWhite more → has_word word (tokens (decimal n ++ more)) ≡ has_word word (tokens more)
+number_quiet word n more d w =
+    let a = number n in
+    ap (has_word word) (number_first (decimal n) more a w) ∙ ap (λ b. b || has_word word (tokens more)) (no_digits word (decimal n) (is_word word (decimal n)) a d refl)
+
+depth_white : (depth : Option ℕ) → BeginsWhite (optional_number (codes " depth ") depth)
+depth_white None = tt
+depth_white (Some n) = refl
+
+-- a word that no part of a `go` is, but for the words of kinds
+record IsApart (word : List ℕ) : Type 0 where
+  letters : list_all is_ascii_digit word ≡ false
+  depth : is_word word (codes "depth") ≡ false
+  movestogo : is_word word (codes "movestogo") ≡ false
+  movetime : is_word word (codes "movetime") ≡ false
+  wtime : is_word word (codes "wtime") ≡ false
+  btime : is_word word (codes "btime") ≡ false
+  winc : is_word word (codes "winc") ≡ false
+  binc : is_word word (codes "binc") ≡ false
+
+depth_quiet : (word : List ℕ) (depth : Option ℕ) → IsApart word → has_word word (tokens (optional_number (codes " depth ") depth)) ≡ false
+depth_quiet word None a = refl
+depth_quiet word (Some n) a =
+    ap (λ b. b || has_word word (tokens (decimal n))) a.depth
+    ∙ ap (λ t. has_word word (tokens t)) (sym (append-nil (decimal n)))
+    ∙ number_quiet word n [] a.letters tt
+
+togo_white : (m depth : Option ℕ) → BeginsWhite (optional_number (codes " movestogo ") m ++ optional_number (codes " depth ") depth)
+togo_white None depth = depth_white depth
+togo_white (Some n) depth = refl
+
+togo_quiet : (word : List ℕ) (m depth : Option ℕ) → IsApart word → has_word word (tokens (optional_number (codes " movestogo ") m ++ optional_number (codes " depth ") depth)) ≡ false
+togo_quiet word None depth a = depth_quiet word depth a
+togo_quiet word (Some n) depth a =
+    ap (λ b. b || has_word word (tokens (decimal n ++ optional_number (codes " depth ") depth))) a.movestogo
+    ∙ number_quiet word n (optional_number (codes " depth ") depth) a.letters (depth_white depth) ∙ depth_quiet word depth a
+
+clock_quiet : (word : List ℕ) (w b i j : ℕ) (m depth : Option ℕ) → IsApart word → has_word word (tokens (control_text (Clock w b i j m) ++ optional_number (codes " depth ") depth)) ≡ false
+clock_quiet word w b i j m depth a =
+    let end = optional_number (codes " movestogo ") m ++ optional_number (codes " depth ") depth in
+    let four = codes " binc " ++ (decimal j ++ end) in
+    let three = codes " winc " ++ (decimal i ++ four) in
+    let two = codes " btime " ++ (decimal b ++ three) in
+    let all = codes " wtime " ++ (decimal w ++ two) in
+    let whole : control_text (Clock w b i j m) ++ optional_number (codes " depth ") depth ≡ all = simp append_assoc in
+    ap (λ t. has_word word (tokens t)) whole
+    ∙ ap (λ x. x || has_word word (tokens (decimal w ++ two))) a.wtime ∙ number_quiet word w two a.letters refl
+    ∙ ap (λ x. x || has_word word (tokens (decimal b ++ three))) a.btime ∙ number_quiet word b three a.letters refl
+    ∙ ap (λ x. x || has_word word (tokens (decimal i ++ four))) a.winc ∙ number_quiet word i four a.letters refl
+    ∙ ap (λ x. x || has_word word (tokens (decimal j ++ end))) a.binc ∙ number_quiet word j end a.letters (togo_white m depth)
+    ∙ togo_quiet word m depth a
+
+time_quiet : (word : List ℕ) (time : ℕ) (depth : Option ℕ) → IsApart word → has_word word (tokens (control_text (MoveTime time) ++ optional_number (codes " depth ") depth)) ≡ false
+time_quiet word time depth a =
+    ap (λ t. has_word word (tokens t)) (append_assoc (codes " movetime ") (decimal time) (optional_number (codes " depth ") depth))
+    ∙ ap (λ x. x || has_word word (tokens (decimal time ++ optional_number (codes " depth ") depth))) a.movetime
+    ∙ number_quiet word time (optional_number (codes " depth ") depth) a.letters (depth_white depth) ∙ depth_quiet word depth a
+
+ponder_apart : IsApart (codes "ponder")
+ponder_apart = record { letters = refl; depth = refl; movestogo = refl; movetime = refl; wtime = refl; btime = refl; winc = refl; binc = refl }
+
+infinite_apart : IsApart (codes "infinite")
+infinite_apart = record { letters = refl; depth = refl; movestogo = refl; movetime = refl; wtime = refl; btime = refl; winc = refl; binc = refl }
+
+asked_by : (p i : Bool) → p ≡ false → i ≡ false → cond p kinds.Ponder (cond i kinds.Analyse kinds.Move) ≡ kinds.Move
+asked_by p i e f = rw (e, f) refl
+
+asked_without : (p : Bool) → p ≡ false → cond p kinds.Ponder kinds.Analyse ≡ kinds.Analyse
+asked_without p e = rw e refl
+
+-- the kind of a search that is written is heard
+pub kind_heard : (ponder : Bool) (control : GoControl) (depth : Option ℕ) → kind_asked (go_text ponder control depth) ≡ kind_named ponder control
+kind_heard true Infinite depth = refl
+kind_heard true (MoveTime time) depth = refl
+kind_heard true (Clock w b i j m) depth = refl
+kind_heard false Infinite None = refl
+kind_heard false Infinite (Some n) = asked_without _ (depth_quiet (codes "ponder") (Some n) ponder_apart)
+kind_heard false (MoveTime time) depth = asked_by _ _ (time_quiet (codes "ponder") time depth ponder_apart) (time_quiet (codes "infinite") time depth infinite_apart)
+kind_heard false (Clock w b i j m) depth = asked_by _ _ (clock_quiet (codes "ponder") w b i j m depth ponder_apart) (clock_quiet (codes "infinite") w b i j m depth infinite_apart)
+
+-- REPLIES
+
+-- a reply that shows no move
+abbrev pub shows_none : Reply → Bool
+shows_none (told.Move m) = false
+shows_none r = true
+
+digit_other : (c : ℕ) → is_ascii_digit c ≡ true → (c == 109) ≡ false
+digit_other c h = grind (arith, nat_tests)
+
+digits_other : (ds more : List ℕ) → AreDigits ds → shown_by (after (codes "move ") (ds ++ more)) ≡ deeds.Nothing
+digits_other [] more a = absurd (let s = a.some in omega arith)
+digits_other (c ∷ cs) more a = rw (digit_other c (and_true (is_ascii_digit c) (list_all is_ascii_digit cs) a.all).0) refl
+
+thinking_quiet : (depth : ℕ) (text others : List ℕ) → text ≡ decimal depth ++ (32 ∷ others) → told_move text ≡ deeds.Nothing
+thinking_quiet depth text others e = ap told_move e ∙ digits_other (decimal depth) (32 ∷ others) (number depth)
+
+pub reply_deed : (r : Reply) → shows_none r ≡ true → deed_of (iface_mark r) ≡ deeds.Nothing
+reply_deed (told.Feature name value) h = refl
+reply_deed (told.Move m) h = absurd (cc)
+reply_deed (told.Illegal m) h = refl
+reply_deed (told.IllegalLong m) h = refl
+reply_deed (told.Error reason line) h = refl
+reply_deed (told.TellError tells.Position) h = refl
+reply_deed (told.TellError tells.Move) h = refl
+reply_deed (told.TellError tells.Ended) h = refl
+reply_deed (told.Pong n) h = refl
+reply_deed told.OfferDraw h = refl
+reply_deed told.Resign h = refl
+reply_deed (told.Hint m) h = refl
+reply_deed (told.Result outcomes.WhiteMates) h = refl
+reply_deed (told.Result outcomes.BlackMates) h = refl
+reply_deed (told.Result outcomes.Stalemate) h = refl
+reply_deed (told.Result outcomes.Dead) h = refl
+reply_deed (told.Result outcomes.Repetition) h = refl
+reply_deed (told.Result outcomes.Fifty) h = refl
+reply_deed (told.Thinking depth score time nodes hint pv) h =
+    let others = signed_decimal score ++ (32 ∷ (decimal time ++ (32 ∷ (decimal nodes ++ (32 ∷ (hint_text hint ++ pv)))))) in
+    let whole : reply_text (told.Thinking depth score time nodes hint pv) ≡ decimal depth ++ (32 ∷ others) = simp append_assoc in
+    thinking_quiet depth (reply_text (told.Thinking depth score time nodes hint pv)) others whole
+reply_deed (told.Stat01 time nodes depth left all current) h = refl

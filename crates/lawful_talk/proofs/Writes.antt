@@ -1,0 +1,171 @@
+-- Orders that a judge hears.
+use Rattle.std.proofs.Common.{◌≡◌, ℕ, List, [], ◌∷◌, ◌++◌, map, Bool, true, false, Option, Some, None, refl, sym, ap, subst, ◌∙◌}
+use Rattle.peer_words.specs.declared.kinds.GoKind.{GoKind}
+use Rattle.peer_words.specs.declared.kinds.GoKind.TheVariants as kinds
+use Rattle.chess_board.specs.Position.{Position as Place}
+use Rattle.script_lines.specs.Marks.{Mark}
+use Rattle.uci_lines.specs.Orders.{Order}
+use Rattle.uci_lines.specs.Orders as orders
+use Rattle.search_epochs.specs.Tickets as talks
+use Rattle.search_epochs.specs.Tickets.{Engine, Word, MaySend, MaySendAll, Paired, sent, sent_all, has_go, has_quit}
+use Rattle.desk_rules.specs.Orders.{word_of}
+use Rattle.session_judge.specs.declared.deed.Order.{Order as Heard}
+use Rattle.session_judge.specs.declared.deed.Order.TheVariants as hears
+use Rattle.session_judge.specs.declared.deed.Deed.TheVariants as deeds
+use Rattle.session_judge.specs.declared.talk.Engine.{Engine as Wire}
+use Rattle.session_judge.specs.declared.talk.Engine.TheVariants as wires
+use Rattle.session_judge.specs.declared.talk.Stage.{Stage}
+use Rattle.session_judge.specs.declared.talk.Stage.TheVariants as stages
+use Rattle.session_judge.specs.declared.talk.Talk.{Talk}
+use Rattle.session_judge.specs.Rules.{broken}
+use Rattle.session_judge.specs.Talks.{after, engine_after}
+use Rattle.lawful_talk.specs.Logs.{engine_mark}
+use Rattle.lawful_talk.proofs.Runs.{Runs, first_runs}
+use Rattle.lawful_talk.proofs.Texts.{as_order, order_deed}
+
+-- an engine without tickets
+abbrev pub shown : Engine → Wire
+shown talks.Boot = wires.Boot
+shown talks.Getting = wires.Getting
+shown talks.Idle = wires.Idle
+shown (talks.Search k ticket s) = wires.Search k s
+shown talks.Gone = wires.Gone
+
+-- what holds of a talk between the steps of an open session
+pub record Agrees (t : Talk) (e : Engine) (p : Place) : Type 0 where
+  pub engine : t.engine ≡ shown e
+  pub stage : t.stage ≡ stages.Open
+  pub placed : t.placed ≡ p
+
+-- an order breaks no rule, and leads to this engine
+record Takes (t : Talk) (e : Engine) (o : Heard) : Type 0 where
+  passes : broken t (deeds.Writes o) ≡ None
+  leads : (line : ℕ) → Agrees (after t line (deeds.Writes o)) e t.placed
+
+setup_takes : (t : Talk) → t.engine ≡ wires.Idle → t.stage ≡ stages.Open → Takes t talks.Idle hears.Setup
+setup_takes t e s = record {
+  passes = rw (s, e) refl;
+  leads = λ line. record { engine = rw e refl; stage = rw s refl; placed = refl };
+}
+
+ready_takes : (t : Talk) → t.engine ≡ wires.Idle → t.stage ≡ stages.Open → Takes t talks.Getting hears.IsReady
+ready_takes t e s = record {
+  passes = rw (s, e) refl;
+  leads = λ line. record { engine = rw e refl; stage = rw s refl; placed = refl };
+}
+
+stop_takes : (t : Talk) (k : GoKind) (ticket : ℕ) → t.engine ≡ wires.Search k false → t.stage ≡ stages.Open → Takes t (talks.Search k ticket true) hears.Stop
+stop_takes t k ticket e s = record {
+  passes = rw (s, e) refl;
+  leads = λ line. record { engine = rw e refl; stage = rw s refl; placed = refl };
+}
+
+hit_takes : (t : Talk) (ticket : ℕ) → t.engine ≡ wires.Search kinds.Ponder false → t.stage ≡ stages.Open → Takes t (talks.Search kinds.Move ticket false) hears.PonderHit
+hit_takes t ticket e s = record {
+  passes = rw (s, e) refl;
+  leads = λ line. record { engine = rw e refl; stage = rw s refl; placed = refl };
+}
+
+-- an order that is neither `uci`, `position`, `go` nor `quit`
+abbrev pub is_plain : Order → Bool
+is_plain orders.Uci = false
+is_plain (orders.Position start moves) = false
+is_plain (orders.Go ponder control depth) = false
+is_plain orders.Quit = false
+is_plain o = true
+
+by_idle : (n : ℕ) (e : Engine) (w : Word) (t : Talk) (o : Heard) → e ≡ talks.Idle → Takes t (sent n talks.Idle w) o → Takes t (sent n e w) o
+by_idle n e w t o i k = subst (λ (x : Engine). Takes t (sent n x w) o) (sym i) k
+
+stops_at : (n : ℕ) (e : Engine) (t : Talk) → t.engine ≡ shown e → t.stage ≡ stages.Open → MaySend e talks.Stop → Takes t (sent n e talks.Stop) hears.Stop
+stops_at n talks.Boot t e s m = absurd m
+stops_at n talks.Getting t e s m = absurd m
+stops_at n talks.Idle t e s m = absurd m
+stops_at n talks.Gone t e s m = absurd m
+stops_at n (talks.Search kinds.Move ticket x) t e s m = stop_takes t kinds.Move ticket (e ∙ ap (wires.Search kinds.Move) m) s
+stops_at n (talks.Search kinds.Ponder ticket x) t e s m = stop_takes t kinds.Ponder ticket (e ∙ ap (wires.Search kinds.Ponder) m) s
+stops_at n (talks.Search kinds.Analyse ticket x) t e s m = stop_takes t kinds.Analyse ticket (e ∙ ap (wires.Search kinds.Analyse) m) s
+
+hits_at : (n : ℕ) (e : Engine) (t : Talk) → t.engine ≡ shown e → t.stage ≡ stages.Open → MaySend e talks.PonderHit → Takes t (sent n e talks.PonderHit) hears.PonderHit
+hits_at n talks.Boot t e s m = absurd m
+hits_at n talks.Getting t e s m = absurd m
+hits_at n talks.Idle t e s m = absurd m
+hits_at n talks.Gone t e s m = absurd m
+hits_at n (talks.Search kinds.Move ticket x) t e s m = absurd (let a = m.0 in cc)
+hits_at n (talks.Search kinds.Analyse ticket x) t e s m = absurd (let a = m.0 in cc)
+hits_at n (talks.Search kinds.Ponder ticket x) t e s m = hit_takes t n (e ∙ ap (wires.Search kinds.Ponder) m.1) s
+
+takes : (n : ℕ) (e : Engine) (o : Order) (t : Talk) → is_plain o ≡ true → t.engine ≡ shown e → t.stage ≡ stages.Open → MaySend e (word_of o) → Takes t (sent n e (word_of o)) (as_order o)
+takes n e orders.IsReady t p a s m = by_idle n e talks.IsReady t hears.IsReady m (ready_takes t (a ∙ ap shown m) s)
+takes n e orders.NewGame t p a s m = by_idle n e talks.Setup t hears.Setup m (setup_takes t (a ∙ ap shown m) s)
+takes n e (orders.SetOption name value) t p a s m = by_idle n e talks.Setup t hears.Setup m (setup_takes t (a ∙ ap shown m) s)
+takes n e orders.Stop t p a s m = stops_at n e t a s m
+takes n e orders.PonderHit t p a s m = hits_at n e t a s m
+takes n e orders.Uci t p a s m = absurd (cc)
+takes n e orders.Quit t p a s m = absurd (cc)
+takes n e (orders.Position start moves) t p a s m = absurd (cc)
+takes n e (orders.Go ponder control depth) t p a s m = absurd (cc)
+
+-- `position` stands only before `go`
+no_position : (ws : List Word) → Paired (talks.Position ∷ ws) → has_go ws ≡ false → ⊥
+no_position [] p g = p
+no_position (talks.Uci ∷ ws) p g = p
+no_position (talks.Setup ∷ ws) p g = p
+no_position (talks.IsReady ∷ ws) p g = p
+no_position (talks.Position ∷ ws) p g = p
+no_position (talks.Go k ∷ ws) p g = cc
+no_position (talks.Stop ∷ ws) p g = p
+no_position (talks.PonderHit ∷ ws) p g = p
+no_position (talks.Quit ∷ ws) p g = p
+
+record Plain (o : Order) (os : List Order) : Type 0 where
+  plain : is_plain o ≡ true
+  paired : Paired (map word_of os)
+  no_go : has_go (map word_of os) ≡ false
+  no_quit : has_quit (map word_of os) ≡ false
+
+plain_first : (e : Engine) (o : Order) (os : List Order) → MaySend e (word_of o) → Paired (word_of o ∷ map word_of os) → has_go (word_of o ∷ map word_of os) ≡ false
+    → has_quit (word_of o ∷ map word_of os) ≡ false → Plain o os
+plain_first e orders.Uci os m p g q = absurd m
+plain_first e orders.Quit os m p g q = absurd (cc)
+plain_first e (orders.Position start moves) os m p g q = absurd (no_position (map word_of os) p g)
+plain_first e (orders.Go ponder control depth) os m p g q = absurd (cc)
+plain_first e orders.IsReady os m p g q = record { plain = refl; paired = p; no_go = g; no_quit = q }
+plain_first e orders.NewGame os m p g q = record { plain = refl; paired = p; no_go = g; no_quit = q }
+plain_first e (orders.SetOption name value) os m p g q = record { plain = refl; paired = p; no_go = g; no_quit = q }
+plain_first e orders.Stop os m p g q = record { plain = refl; paired = p; no_go = g; no_quit = q }
+plain_first e orders.PonderHit os m p g q = record { plain = refl; paired = p; no_go = g; no_quit = q }
+
+-- orders without a search
+pub plain_runs : (n : ℕ) (e : Engine) (os : List Order) (t : Talk) (p : Place) → Agrees t e p → MaySendAll n e (map word_of os) → Paired (map word_of os) → has_go (map word_of os) ≡ false
+    → has_quit (map word_of os) ≡ false → Runs t (map engine_mark os) (λ u. Agrees u (sent_all n e (map word_of os)) p)
+plain_runs n e [] t p a m r g q = a
+plain_runs n e (o ∷ os) t p a m r g q =
+    let k = plain_first e o os m.0 r g q in
+    let x = takes n e o t k.plain a.engine a.stage m.0 in
+    first_runs t (engine_mark o) (map engine_mark os) (λ u. Agrees u (sent_all n e (map word_of (o ∷ os))) p) (deeds.Writes (as_order o)) (order_deed o) x.passes (λ line.
+      let b = x.leads line in
+      plain_runs n (sent n e (word_of o)) os (after t line (deeds.Writes (as_order o))) p (record { engine = b.engine; stage = b.stage; placed = b.placed ∙ a.placed }) m.1 k.paired k.no_go k.no_quit
+    )
+
+-- THE ORDERS FOR A SEARCH
+
+pub search_runs : (n : ℕ) (fen : Option (List ℕ)) (moves : List ℕ) (go : Order) (k : GoKind) (t : Talk) (p q : Place) → Agrees t talks.Idle p
+    → as_order (orders.Position fen moves) ≡ hears.Position (Some q) → as_order go ≡ hears.Go k
+    → Runs t (map engine_mark (orders.Position fen moves ∷ go ∷ [])) (λ u. Agrees u (talks.Search k n false) q)
+search_runs n fen moves go k t p q a x y =
+    let first = deeds.Writes (hears.Position (Some q)) in
+    let second = deeds.Writes (hears.Go k) in
+    let P : Talk → Type 0 = λ u. Agrees u (talks.Search k n false) q in
+    first_runs t (engine_mark (orders.Position fen moves)) (engine_mark go ∷ []) P first (order_deed (orders.Position fen moves) ∙ ap deeds.Writes x) (rw (a.stage, a.engine) refl) (λ line.
+      first_runs (after t line first) (engine_mark go) [] P second (order_deed go ∙ ap deeds.Writes y) (rw (a.stage, a.engine) refl)
+          (λ line'. record { engine = rw a.engine refl; stage = rw a.stage refl; placed = refl })
+    )
+
+-- `quit`
+pub quit_runs : (e : Engine) (t : Talk) (p : Place) (P : Talk → Type 0) → Agrees t e p → (e ≡ talks.Gone → ⊥) → ((u : Talk) → P u) → Runs t (map engine_mark (orders.Quit ∷ [])) P
+quit_runs talks.Boot t p P a n f = first_runs t (engine_mark orders.Quit) [] P (deeds.Writes hears.Quit) (order_deed orders.Quit) (rw (a.stage, a.engine) refl) (λ line. f _)
+quit_runs talks.Getting t p P a n f = first_runs t (engine_mark orders.Quit) [] P (deeds.Writes hears.Quit) (order_deed orders.Quit) (rw (a.stage, a.engine) refl) (λ line. f _)
+quit_runs talks.Idle t p P a n f = first_runs t (engine_mark orders.Quit) [] P (deeds.Writes hears.Quit) (order_deed orders.Quit) (rw (a.stage, a.engine) refl) (λ line. f _)
+quit_runs (talks.Search k ticket s) t p P a n f = first_runs t (engine_mark orders.Quit) [] P (deeds.Writes hears.Quit) (order_deed orders.Quit) (rw (a.stage, a.engine) refl) (λ line. f _)
+quit_runs talks.Gone t p P a n f = absurd (n refl)

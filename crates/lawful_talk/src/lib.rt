@@ -1,0 +1,28 @@
+//! The talk of this bridge with its engine is lawful: in the log of a lawful trace the judge finds no mark that breaks a
+//! rule.
+#![tactic(auto)]
+
+ghost use Rattle.lawful_talk.specs.Logs.{LogsAreClean};
+
+use policy_rules::Settings;
+
+/// A law: in the log of a lawful trace no mark breaks a rule of the dialogue with the engine. So the position that an
+/// open current search was given is the desk's, with the hint if it ponders.
+pub fn logs_are_clean(settings: Settings)
+    ensures { LogsAreClean settings }
+{
+    let _ = settings;
+}
+
+#[cfg(test)]
+mod tests {
+    use super::logs_are_clean;
+    use policy_rules::Settings;
+    use std::test::Fail;
+
+    #[test]
+    fn laws_can_be_called(_rt: HostRuntime) -> Result<(), Fail> {
+        logs_are_clean(Settings::usual());
+        Ok(())
+    }
+}
