@@ -7,3 +7,4 @@ pub mod Games
 pub mod Steps
 pub mod Settles
 pub mod Scripts
+pub mod Marked

@@ -3,6 +3,7 @@
 #![tactic(auto)]
 
 ghost use Rattle.lawful_talk.specs.Logs.{LogsAreClean};
+ghost use Rattle.lawful_talk.specs.Scripts.{Scripts1AreClean, Scripts2AreClean};
 
 use policy_rules::Settings;
 
@@ -14,15 +15,25 @@ pub fn logs_are_clean(settings: Settings)
     let _ = settings;
 }
 
+/// A law: no mark of the script of a lawful trace breaks a rule, in version 1 and in version 2, if each line that was
+/// written can stand on a line of a script.
+pub fn scripts_are_clean(settings: Settings)
+    ensures version_1 { Scripts1AreClean settings }
+    ensures version_2 { Scripts2AreClean settings }
+{
+    let _ = settings;
+}
+
 #[cfg(test)]
 mod tests {
-    use super::logs_are_clean;
+    use super::{logs_are_clean, scripts_are_clean};
     use policy_rules::Settings;
     use std::test::Fail;
 
     #[test]
     fn laws_can_be_called(_rt: HostRuntime) -> Result<(), Fail> {
         logs_are_clean(Settings::usual());
+        scripts_are_clean(Settings::usual());
         Ok(())
     }
 }
