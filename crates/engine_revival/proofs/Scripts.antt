@@ -315,10 +315,12 @@ event_spelled : (s : State) (e : Event) → IsSpelled (Happens e) → HasMarks s
 event_spelled s e l h =
     let b = state_before s e in
     let call = call_of s e in
-    let p = proper_call s e l in
-    (l, both_spelled (map ToIface (parts (up_of b call))) (map ToEngine (parts (child_of b call)))
-        (up_spelled (parts (up_of b call)) (up_parts b call p))
-        (child_spelled (parts (child_of b call)) (batch_parts (orders_of b call) (orders_mark b call p (before_marks s e h)))))
+    let p = proper_call s e l in (
+      l,
+      both_spelled (map ToIface (parts (up_of b call))) (map ToEngine (parts (child_of b call)))
+          (up_spelled (parts (up_of b call)) (up_parts b call p))
+          (child_spelled (parts (child_of b call)) (batch_parts (orders_of b call) (orders_mark b call p (before_marks s e h)))),
+    )
 
 -- EVENTS IN A ROW
 

@@ -126,16 +126,23 @@ fn laws_can_be_called(_rt: HostRuntime) -> Result<(), Fail> {
 
 #[test]
 fn marks_of_an_event(rt: HostRuntime) -> Result<(), Fail> {
+    let mut text = Out::make(rt.alloc(), EVENT_ROOM)?;
+    let both = Both {
+        up: b"uciok\n",
+        child: b"isready\n",
+    };
+    put_marks(&Event::Engine(b"uciok"), both, &mut text);
+    assert_eq!(rt; text.bytes(), b"u uciok\nX uciok\nU isready\n".as_slice());
+    Ok(())
+}
+
+#[test]
+fn an_event_is_played(rt: HostRuntime) -> Result<(), Fail> {
     let mut revival = Revival::make(rt.alloc(), 1)?;
-    let mut text = Out::make(rt.alloc(), 2 * EVENT_ROOM)?;
-    let uci = Event::Iface(b"uci");
-    put_marks(&uci, revival.order(b"uci"), &mut text);
-    assert_eq!(rt; text.bytes(), b"x uci\nU uci\n".as_slice());
-    text.clear();
-    let end = Event::EngineLong;
-    assert!(rt; revival.may_happen(&end));
-    revival.play(&end, &mut text);
-    assert_eq!(rt; text.bytes(), b"u!\nX uciok\n".as_slice());
-    assert!(rt; !revival.may_happen(&end));
+    let mut text = Out::make(rt.alloc(), EVENT_ROOM)?;
+    let event = Event::EngineLong;
+    assert!(rt; revival.may_happen(&event));
+    revival.play(&event, &mut text);
+    assert_eq!(rt; text.bytes(), b"u!\n".as_slice());
     Ok(())
 }

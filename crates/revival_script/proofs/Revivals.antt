@@ -10,12 +10,15 @@ use Rattle.line_io.specs.Runs.{whole}
 use Rattle.command_endings.specs.declared.ending.Ending.{Ending}
 use Rattle.command_endings.specs.declared.ending.Ending.TheVariants as endings
 use Rattle.command_endings.specs.Diagnostics.{code_of, diagnostic, tail_of}
+use Rattle.command_endings.specs.Ran.{Ran}
 use Rattle.command_endings.specs.Reads.{AreFirst, AreRead, IsAll}
 use Rattle.command_endings.specs.Streams.{Streams, AreSame}
 use Rattle.command_endings.specs.Told.{Told}
+use Rattle.line_io.specs.Source.{Received, Supplied}
+use Rattle.line_scribe.proofs.Outcomes.{outcome}
 use Rattle.line_scribe.specs.Outcomes.{LineReported, Outcome, WroteLast}
 use Rattle.line_scribe.specs.Putting.{IsOfLine}
-use Rattle.line_scribe.specs.Scribed.{IsText, WroteFront, WroteAll, WroteWhole}
+use Rattle.line_scribe.specs.Scribed.{EndsBy, IsText, WroteFront, WroteAll, WroteWhole}
 use Rattle.engine_revival.specs.declared.state.State.{State}
 use Rattle.engine_revival.specs.Steps.{opening}
 use Rattle.script_lines.specs.Marks.{Mark}
@@ -89,47 +92,19 @@ no_fault lives lines more all f e i p =
     (subst (λ (ls : List Piece). ArePlayed lives ls) (e ∙ ap (λ (ls : List Piece). ls ++ more) i.lines_are ∙ append_assoc i.before (i.line ∷ []) more) p)
     i.reason
 
--- WITHOUT MEMORY
-
-pub want_of_memory : (lives : ℕ) (Untouched : Type 0) (start now : Streams) (code : ℕ) → Untouched → Told code 3 (tail_of endings.NoMemory) start.diag now.diag → Revived lives Untouched start now code
-want_of_memory lives U start now code u (inl t) = record {
-  all_revived = λ z. absurd (let y = sym t.0 ∙ z in cc);
-  no_other = λ z. let y = sym t.0 ∙ z in cc;
-  fault_reported = λ z. absurd (let y = sym t.0 ∙ z in cc);
-  memory = λ z. u;
-  reading_failed = λ z. absurd (let y = sym t.0 ∙ z in cc);
-  writing_failed = λ z. absurd (let y = sym t.0 ∙ z in cc);
-  too_long = λ z. absurd (let y = sym t.0 ∙ z in cc);
-  complete = λ x e l s. inr (inr t.0);
-  plays_all = λ x e l p s. inr t.0;
-  again = λ events a m e l s. inr t.0;
-}
-want_of_memory lives U start now code u (inr t) = record {
-  all_revived = λ z. absurd (let y = sym t.0 ∙ z in cc);
-  no_other = λ z. let y = sym t.0 ∙ z in cc;
-  fault_reported = λ z. absurd (let y = sym t.0 ∙ z in cc);
-  memory = λ z. u;
-  reading_failed = λ z. absurd (let y = sym t.0 ∙ z in cc);
-  writing_failed = λ z. (inr t.1, inl u);
-  too_long = λ z. absurd (let y = sym t.0 ∙ z in cc);
-  complete = λ x e l s. absurd (s.told t.1);
-  plays_all = λ x e l p s. absurd (s.told t.1);
-  again = λ events a m e l s. absurd (s.told t.1);
-}
-
 -- WHAT THE STATUS SAYS
 
-module _ (lives : ℕ) (s0 : State) (first : s0 ≡ opening lives) (U : Type 0) (start now : Streams) (code : ℕ) (o : Outcome revives s0 U start now code) where
+module _ (lives : ℕ) (U : Type 0) (start now : Streams) (code : ℕ) (r : Ran (λ e. EndsBy revives (opening lives) U e start now) start now code) (o : Outcome revives (opening lives) U start now code) where
   abbrev Wrote : List ℕ → Type 0
   Wrote text = Appends start.output.taken now.output.taken text
 
-  all_by : WroteAll revives s0 start now → AreSame start now → AllRevived lives start now
+  all_by : WroteAll revives (opening lives) start now → AreSame start now → AllRevived lives start now
   all_by w s =
-      let c = w.says lives first in
+      let c = w.says lives refl in
       record { got = w.got; reads = w.reads; all_read = w.all; played = c.played; written = subst Wrote c.text_is w.written; no_failure = s }
 
   abbrev Reported : ℕ → Type 0
-  Reported n = LineReported revives s0 start now n
+  Reported n = LineReported revives (opening lives) start now n
 
   -- a line that ends it is a fault
   stops_by : (lines : List Piece) (e : Ending) (text : List ℕ) → IsOfLine e → Says lives lines e text → Stops lives lines e text × (code_of e ≡ 2)
@@ -147,7 +122,7 @@ module _ (lives : ℕ) (s0 : State) (first : s0 ≡ opening lives) (U : Type 0) 
   stops_by lines endings.TooLong text i s = absurd i
 
   the_fault : (n : ℕ) (r : Reported n) → Stops lives r.wrote.lines r.ending r.wrote.text × (code_of r.ending ≡ 2)
-  the_fault n r = stops_by r.wrote.lines r.ending r.wrote.text r.of_line (r.wrote.says lives first)
+  the_fault n r = stops_by r.wrote.lines r.ending r.wrote.text r.of_line (r.wrote.says lives refl)
 
   reported : (n : ℕ) → Reported n → FaultReported lives start now
   reported n r =
@@ -167,7 +142,7 @@ module _ (lives : ℕ) (s0 : State) (first : s0 ≡ opening lives) (U : Type 0) 
   no_other : code ≡ 1 → ⊥
   no_other z = let n = reported_code 1 (o.found z) in cc
 
-  abbrev pub whole_by : (w : (ending : Ending) × (least : ℕ) × WroteWhole revives s0 ending least start now) → Closes lives (whole 131072 w.2.got) w.2.text → WholeRevived lives start now
+  abbrev pub whole_by : (w : (ending : Ending) × (least : ℕ) × WroteWhole revives (opening lives) ending least start now) → Closes lives (whole 131072 w.2.got) w.2.text → WholeRevived lives start now
   whole_by w c = record {
     got = w.2.got;
     reads = w.2.reads;
@@ -201,9 +176,9 @@ module _ (lives : ℕ) (s0 : State) (first : s0 ≡ opening lives) (U : Type 0) 
   of_says lines endings.NoMemory text r s = absurd s
   of_says lines endings.WritingFailed text r s = absurd s
 
-  of_text : (lines : List Piece) (text : List ℕ) → AreRead start now lines → IsText revives s0 lines text → Front text
-  of_text lines text r (inl p) = let h = p.1 lives first in (lines, r, h.played, h.text_is)
-  of_text lines text r (inr p) = of_says lines p.0 text r (p.1 lives first)
+  of_text : (lines : List Piece) (text : List ℕ) → AreRead start now lines → IsText revives (opening lives) lines text → Front text
+  of_text lines text r (inl p) = let h = p.1 lives refl in (lines, r, h.played, h.text_is)
+  of_text lines text r (inr p) = of_says lines p.0 text r (p.1 lives refl)
 
   front_of : (text : List ℕ) (front : ℕ) → Front text → Wrote (take front text) → FrontRevived lives start now
   front_of text front f w = record {
@@ -214,17 +189,17 @@ module _ (lives : ℕ) (s0 : State) (first : s0 ≡ opening lives) (U : Type 0) 
     written = subst (λ (t : List ℕ). Wrote (take front t)) f.3 w;
   }
 
-  front_by : WroteFront revives s0 start now ⊎ WroteLast revives s0 start now → FrontRevived lives start now
+  front_by : WroteFront revives (opening lives) start now ⊎ WroteLast revives (opening lives) start now → FrontRevived lives start now
   front_by (inl w) = front_of w.text w.front (of_text w.lines w.text w.read w.is_text) w.written
-  front_by (inr w) = front_of w.text (length w.text) (of_says w.lines w.ending w.text w.read (w.says lives first)) (subst Wrote (sym (take-length w.text)) w.written)
+  front_by (inr w) = front_of w.text (length w.text) (of_says w.lines w.ending w.text w.read (w.says lives refl)) (subst Wrote (sym (take-length w.text)) w.written)
 
-  writing : U ⊎ WroteFront revives s0 start now ⊎ WroteLast revives s0 start now → U ⊎ FrontRevived lives start now
+  writing : U ⊎ WroteFront revives (opening lives) start now ⊎ WroteLast revives (opening lives) start now → U ⊎ FrontRevived lives start now
   writing (inl u) = inl u
   writing (inr p) = inr (front_by p)
 
   complete : CompletesRevival lives start now code
   complete x e l s = of (o.complete x e l s) where
-    of : ((code ≡ 0) × WroteAll revives s0 start now) ⊎ LineReported revives s0 start now code ⊎ (code ≡ 3)
+    of : ((code ≡ 0) × WroteAll revives (opening lives) start now) ⊎ LineReported revives (opening lives) start now code ⊎ (code ≡ 3)
         → ((code ≡ 0) × AllRevived lives start now) ⊎ ((code ≡ 2) × FaultReported lives start now) ⊎ (code ≡ 3)
     of (inl p) = inl (p.0, all_by p.1 (o.done p.0).1)
     of (inr (inl r)) = inr (inl (reported_code code r, reported code r))
@@ -249,14 +224,35 @@ module _ (lives : ℕ) (s0 : State) (first : s0 ≡ opening lives) (U : Type 0) 
 
   pub revived_by : Revived lives U start now code
   revived_by = record {
+    ended = r;
     all_revived = λ z. let d = o.done z in all_by d.0 d.1;
     no_other = no_other;
     fault_reported = λ z. reported 2 (o.fault z);
     memory = λ z. o.memory z;
-    reading_failed = λ z. let p = o.reading z in (p.0, whole_by (endings.ReadingFailed, 0, p.1) (p.1.says lives first));
+    reading_failed = λ z. let p = o.reading z in (p.0, whole_by (endings.ReadingFailed, 0, p.1) (p.1.says lives refl));
     writing_failed = λ z. let p = o.writing z in (p.0, writing p.1);
-    too_long = λ z. let w = o.too_long z in record { whole_lines = whole_by (endings.TooLong, 2 ^ 32, w) (w.says lives first); least = w.least_is };
+    too_long = λ z. let w = o.too_long z in record { whole_lines = whole_by (endings.TooLong, 2 ^ 32, w) (w.says lives refl); least = w.least_is };
     complete = complete;
     plays_all = plays_all;
     again = again;
   }
+
+-- WITHOUT MEMORY
+
+memory_ran : (lives : ℕ) (U : Type 0) (start now : Streams) (code : ℕ) → U → now.input ≡ start.input → now.output ≡ start.output → Told code 3 (tail_of endings.NoMemory) start.diag now.diag
+    → Ran (λ e. EndsBy revives (opening lives) U e start now) start now code
+memory_ran lives U start now code u i o t = record {
+  ending = endings.NoMemory;
+  ends = u;
+  tells = t;
+  reading = λ z. cc;
+  writing = λ z. cc;
+  read = λ a b. ap (λ (x : Supplied). x.faults) i;
+  written = λ a. ap (λ (x : Received). x.faults) o;
+}
+
+pub want_of_memory : (lives : ℕ) (U : Type 0) (start now : Streams) (code : ℕ) → U → now.input ≡ start.input → now.output ≡ start.output → Told code 3 (tail_of endings.NoMemory) start.diag now.diag → Revived lives U start now code
+want_of_memory lives U start now code u i o t = revived_by lives U start now code r (outcome revives (opening lives) U start now code r)
+  where
+    r : Ran (λ e. EndsBy revives (opening lives) U e start now) start now code
+    r = memory_ran lives U start now code u i o t

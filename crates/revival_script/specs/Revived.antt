@@ -9,12 +9,14 @@ use Rattle.script_lines.specs.Marks.{Happens}
 use Rattle.script_lines.specs.Scripts.{AreSpelled}
 use Rattle.command_endings.specs.declared.ending.Ending.{Ending}
 use Rattle.command_endings.specs.Diagnostics.{diagnostic}
-use Rattle.command_endings.specs.Ran.{WritingBroke}
+use Rattle.command_endings.specs.Ran.{Ran, WritingBroke}
 use Rattle.command_endings.specs.Reads.{AreFirst, AreRead, Got, IsAll}
 use Rattle.command_endings.specs.Streams.{Streams, AreSame, IsSteady}
+use Rattle.line_scribe.specs.Scribed.{EndsBy}
 use Rattle.engine_revival.specs.Script.{AllMayHappen, revival_script}
 use Rattle.engine_revival.specs.Steps.{opening}
 use Rattle.revival_script.specs.Played.{ArePlayed, IsFault, revived}
+use Rattle.revival_script.specs.Reviving.{revives}
 
 -- All of the input was read and played, what is written for it was written, and no stream failed.
 pub record AllRevived (lives : ℕ) (before after : Streams) : Type 0 where
@@ -81,6 +83,8 @@ RevivesAgain lives before after code =
 -- `Untouched` says that the input and the output are just as they were.
 pub record Revived (lives : ℕ) (Untouched : Type 0) (before after : Streams)
     (code : ℕ) : Type 0 where
+  pub ended : Ran (λ ending. EndsBy revives (opening lives) Untouched ending before after)
+      before after code
   -- what each status says
   pub all_revived : code ≡ 0 → AllRevived lives before after
   pub no_other : code ≡ 1 → ⊥

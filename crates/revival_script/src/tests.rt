@@ -72,6 +72,9 @@ fn revive(
     script: &[u8],
     piece: usize,
 ) -> Result<(), Fail> {
+    if piece == 0 {
+        return Err(Fail::from("a piece has bytes"));
+    }
     let mut input = MemSource::make(alloc, script, piece, &[])?;
     let mut output = MemSink::make(alloc, 1_000, &[])?;
     let mut diag = MemSink::make(alloc, 100, &[])?;
