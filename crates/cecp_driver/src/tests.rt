@@ -1,5 +1,6 @@
 // Sessions, call by call: what each gives up to the interface, and to the engine.
-use crate::{Both, Driver};
+use crate::{Both, Driver, EVENT_ROOM, LINE_LIMIT, put_marks, searches_are_on_the_ordered_game};
+use line_io::{Event, Out};
 use std::test::Fail;
 
 /// Whose line it is.
@@ -118,5 +119,46 @@ fn a_position_is_analysed(rt: HostRuntime) -> Result<(), Fail> {
         order(b"quit", b"", b"quit\n"),
     ];
     assert!(rt; plays(&mut driver, &rows));
+    Ok(())
+}
+
+fn plays_line(driver: &mut Driver, line: &'static [u8], text: &mut Out) -> bool {
+    let event = Event::Iface(line);
+    if line.len() > LINE_LIMIT || !driver.may_come(&event) || text.spare() < EVENT_ROOM {
+        return false;
+    }
+    driver.play(&event, text);
+    true
+}
+
+fn takes_end(driver: &mut Driver) -> bool {
+    let event = Event::EngineEnd;
+    if !driver.may_come(&event) {
+        return false;
+    }
+    driver.take(&event);
+    true
+}
+
+#[test]
+fn events_are_played(rt: HostRuntime) -> Result<(), Fail> {
+    let mut driver = Driver::make(rt.alloc())?;
+    let mut text = Out::make(rt.alloc(), 2 * EVENT_ROOM)?;
+    assert!(rt; plays_line(&mut driver, b"uci", &mut text));
+    assert_eq!(rt; text.bytes(), b"x uci\nU xboard\nU protover 2\n".as_slice());
+    assert!(rt; takes_end(&mut driver));
+    assert!(rt; !takes_end(&mut driver));
+    assert!(rt; !driver.may_come(&Event::IfaceLong));
+    assert!(rt; plays_line(&mut driver, b"isready", &mut text));
+    assert_eq!(rt; driver.lines().up, b"readyok\n".as_slice());
+    searches_are_on_the_ordered_game();
+    Ok(())
+}
+
+#[test]
+fn marks_are_put(rt: HostRuntime) -> Result<(), Fail> {
+    let mut text = Out::make(rt.alloc(), EVENT_ROOM)?;
+    put_marks(&Event::EngineEnd, b"readyok\n", b"quit\n", &mut text);
+    assert_eq!(rt; text.bytes(), b"u.\nX readyok\nU quit\n".as_slice());
     Ok(())
 }
