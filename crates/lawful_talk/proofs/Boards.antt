@@ -1,5 +1,5 @@
 -- A position that was read from a text is one.
-use Rattle.std.proofs.Common.{◌≡◌, ℕ, ◌+◌, ◌-◌, ◌*◌, ◌<◌, ◌≤◌, length, List, [], ◌∷◌, ◌++◌, Bool, true, false, ◌&&◌, cond, ◌==◌, Option, Some, None, Result, Ok, Err, refl, sym, ap, subst, ◌∙◌, arith, length-append}
+use Rattle.std.proofs.Common.{◌≡◌, ℕ, ◌+◌, ◌-◌, ◌*◌, ◌<◌, length, List, [], ◌∷◌, Bool, true, false, cond, ◌==◌, Option, Some, None, Result, Ok, Err, refl, ap, subst, arith, length-append}
 use Rattle.std.specs.Prelude.{IfSome}
 use Rattle.std.specs.List.{slice_get}
 use Rattle.std.specs.Option.{option_and_then}
@@ -12,10 +12,9 @@ use Rattle.chess_board.specs.Position.{Position}
 use Rattle.chess_board.specs.Play.{IsPosition, built, fits_board}
 use Rattle.chess_board.proofs.Built.{built-is}
 use Rattle.peer_words.specs.Tokens.{tokens}
-use Rattle.fen_text.specs.declared.fault.FenFault.{FenFault}
 use Rattle.fen_text.specs.Squares.{joined, exactly, squares_in, rank_of, men_of, ranks_in, placed, fitting, board_of}
-use Rattle.fen_text.specs.Fields.{side_of, rights_of, passant_of, is_passed, count_or}
-use Rattle.fen_text.specs.Fen.{or_fault, spelled, position_of_fields, position_of}
+use Rattle.fen_text.specs.Fields.{passant_of, is_passed}
+use Rattle.fen_text.specs.Fen.{or_fault, spelled, position_of}
 
 -- so many squares, if they are there
 abbrev Has : ℕ → Option Men → Type 0

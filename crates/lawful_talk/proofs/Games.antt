@@ -1,5 +1,5 @@
 -- The game of each lawful trace is one, and its `position` line leads to where it stands.
-use Rattle.std.proofs.Common.{◌≡◌, ◌⊎◌, inl, inr, ℕ, zero, suc, ◌+◌, ◌-◌, ◌^◌, ◌<◌, not, ltb, length, List, [], ◌∷◌, ◌++◌, map, take, drop, Bool, true, false, cond, Option, Some, None, Result, Ok, Err, codes, decimal, refl, sym, ap, subst, ◌∙◌, arith, lit<, append_assoc, append-nil}
+use Rattle.std.proofs.Common.{◌≡◌, ◌⊎◌, inl, inr, ℕ, zero, suc, ◌+◌, ◌-◌, ◌^◌, ◌<◌, not, ltb, length, List, [], ◌∷◌, ◌++◌, map, take, drop, Bool, true, false, cond, Some, None, Result, Ok, Err, codes, decimal, refl, sym, ap, subst, ◌∙◌, arith, lit<, append_assoc, append-nil}
 use Rattle.std.specs.List.{join_with_byte, list_all, AllByRecursion}
 use Rattle.std.proofs.lemmas.List.{map-append}
 use Rattle.std.proofs.lemmas.Bool.Decides.{nat_tests}
@@ -24,12 +24,12 @@ use Rattle.fen_text.proofs.Back.{reads_back}
 use Rattle.cecp_lines.specs.Messages.{IfaceMsg}
 use Rattle.cecp_lines.specs.Messages as says
 use Rattle.uci_lines.specs.Orders.{position_text}
-use Rattle.game_record.specs.Game.{Ply, Game, ply_of, plies_of, IsPlayable, AreLegal, played, now_after, now_of, begun, with_ply, without_last}
+use Rattle.game_record.specs.Game.{Ply, Game, ply_of, plies_of, IsPlayable, AreLegal, played, now_after, now_of, begun, without_last}
 use Rattle.game_record.specs.Line.{ply_text, is_standard}
 use Rattle.game_record.proofs.Lines.{standard-law}
 use Rattle.game_record.proofs.Replays.{legal-append, legal-take}
 use Rattle.uci_talk.specs.Lines.{Line, line_of}
-use Rattle.uci_talk.specs.Speaks.{Leads, Starts, Speaks}
+use Rattle.uci_talk.specs.Speaks.{Leads, Starts}
 use Rattle.uci_talk.proofs.Saying.{speaks_line}
 use Rattle.desk_rules.specs.Orders.{start_of}
 use Rattle.desk_rules.specs.declared.desk.Desk.{Desk}
@@ -216,8 +216,7 @@ by_start false p ms e q l = says_so p ms (codes "fen" ∷ fields_text p) _ (Star
 -- the line of a game leads to where it stands
 pub line_leads : (g : Game) → IsGame g → (said : Line) × (line_of (position_text (start_of g.start) (join_with_byte 32 (map ply_text g.moves))) ≡ Some said) × (said.end ≡ now_of g)
 line_leads g i =
-    let l = subst (AreLegal g.start) i.moves_are i.legal in
-    (
+    let l = subst (AreLegal g.start) i.moves_are i.legal in (
       said g.start i.moves,
       ap (λ ts. line_of (position_text (start_of g.start) (join_with_byte 32 ts))) (ap (map ply_text) i.moves_are ∙ texts_are i.moves) ∙ by_start (is_standard g.start) g.start i.moves refl i.start l,
       ap (now_after g.start) (sym i.moves_are),

@@ -1,5 +1,5 @@
 -- Events and replies that a judge hears.
-use Rattle.std.proofs.Common.{◌≡◌, ℕ, List, [], ◌∷◌, ◌++◌, map, Bool, true, false, not, ◌&&◌, cond, eqb, Option, Some, None, refl, sym, ap, subst, ◌∙◌, arith}
+use Rattle.std.proofs.Common.{◌≡◌, ℕ, List, [], ◌∷◌, map, Bool, true, false, cond, eqb, Option, Some, None, refl, sym, ap, subst, ◌∙◌, arith}
 use Rattle.std.specs.Option.{option_eq}
 use Rattle.std.proofs.lemmas.Bool.Decides.{nat_tests}
 use Rattle.line_io.specs.Event.{Event}
@@ -38,7 +38,7 @@ use Rattle.session_judge.specs.declared.talk.Stage.TheVariants as stages
 use Rattle.session_judge.specs.declared.talk.Talk.{Talk}
 use Rattle.session_judge.specs.Deeds.{deed_of, answer_told, shows}
 use Rattle.session_judge.specs.Rules.{broken, is_answer}
-use Rattle.session_judge.specs.Talks.{after, engine_after, stage_after, placed_after, answer_after}
+use Rattle.session_judge.specs.Talks.{after, engine_after, stage_after, placed_after}
 use Rattle.lawful_talk.specs.Logs.{event_marks, iface_mark}
 use Rattle.lawful_talk.proofs.Runs.{Runs, first_runs}
 use Rattle.lawful_talk.proofs.Texts.{shows_none, reply_deed}

@@ -1,29 +1,25 @@
 -- The marks that a script spells are those of its trace.
-use Rattle.std.proofs.Common.{◌≡◌, ℕ, List, [], ◌∷◌, ◌++◌, map, length, Bool, true, false, not, ◌&&◌, nat_le, Some, refl, sym, ap, ◌∙◌, append_assoc, append-nil}
+use Rattle.std.proofs.Common.{◌≡◌, ℕ, List, [], ◌∷◌, ◌++◌, map, length, Bool, true, false, not, nat_le, Some, refl, sym, ap, ◌∙◌, append_assoc}
 use Rattle.std.specs.Option.{option_to_list}
 use Rattle.std.specs.List.{AllByRecursion}
-use Rattle.std.proofs.lemmas.List.{map-append}
 use Rattle.line_io.specs.Event.{Event, has_feed}
 use Rattle.line_io.specs.Event as events
 use Rattle.line_io.specs.Lines.{parts}
 use Rattle.cecp_lines.specs.Replies.{Reply, reply_text}
 use Rattle.uci_lines.specs.Orders.{Order, order_text}
-use Rattle.option_map.specs.Held.{order_line}
-use Rattle.feature_talk.specs.Features.{reply_line, reply_lines}
+use Rattle.feature_talk.specs.Features.{reply_lines}
 use Rattle.desk_rules.specs.Texts.{order_lines}
 use Rattle.policy_rules.specs.declared.settings.Settings.{Settings}
-use Rattle.policy_rules.specs.Policy.{IsProper}
 use Rattle.script_lines.specs.Marks.{Mark, Happens, ToIface, ToEngine, event_text, is_written, mark_of}
 use Rattle.script_lines.specs.Header.{header_text}
 use Rattle.script_lines.proofs.Spelled.{spelled_read}
 use Rattle.script_lines.proofs.Scripts.{parts_line}
 use Rattle.script_lines.proofs.Headers.{header_words}
-use Rattle.adapter_core.specs.Trace.{Step, Lawful, iface_text, engine_text}
+use Rattle.adapter_core.specs.Trace.{Step, iface_text, engine_text}
 use Rattle.adapter_core.proofs.Closing.{second_true}
-use Rattle.session_script.specs.Script.{script1, script2}
 use Rattle.session_script.proofs.Lines.{behind, event_lines, written_lines, IsTold, step_lines, lines_of, AreTold, script1_lines}
 use Rattle.session_script.proofs.Scripts.{all_told}
-use Rattle.session_script.proofs.Numbered.{number_line, numbered_lines, lines_of2, script2_lines}
+use Rattle.session_script.proofs.Numbered.{number_line, numbered_lines, script2_lines}
 use Rattle.lawful_talk.specs.Logs.{event_marks, iface_mark, engine_mark, step_marks, marks_of}
 use Rattle.lawful_talk.specs.Scripts.{marks_told, CanBeMarked, AllCanBeMarked, Scripts1AreClean, Scripts2AreClean}
 use Rattle.lawful_talk.proofs.Scripts.{logs_are_clean}

@@ -1,5 +1,5 @@
 -- In the log of each lawful trace no mark breaks a rule.
-use Rattle.std.proofs.Common.{◌≡◌, List, [], ◌∷◌, ◌++◌, map, Bool, true, false, None, refl, sym, ap, subst, ◌∙◌}
+use Rattle.std.proofs.Common.{◌≡◌, List, [], ◌∷◌, map, Bool, true, false, None, refl, sym, ap, subst, ◌∙◌}
 use Rattle.line_io.specs.Event.{Event}
 use Rattle.line_io.specs.Event as events
 use Rattle.script_lines.specs.Marks.{Mark}

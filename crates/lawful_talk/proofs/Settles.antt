@@ -1,5 +1,5 @@
 -- The orders of a step after which the session is open.
-use Rattle.std.proofs.Common.{◌≡◌, ℕ, ◌+◌, ◌<◌, ◌≤◌, List, [], ◌∷◌, map, Bool, true, false, not, cond, ◌&&◌, ◌||◌, ◌==◌, Option, Some, None, refl, sym, ap, subst, ◌∙◌, arith}
+use Rattle.std.proofs.Common.{◌≡◌, ℕ, ◌+◌, ◌≤◌, List, [], ◌∷◌, map, Bool, true, false, not, cond, ◌&&◌, ◌||◌, ◌==◌, Option, Some, None, refl, sym, ap, subst, ◌∙◌, arith}
 use Rattle.std.specs.Prelude.{IfSome}
 use Rattle.std.specs.List.{join_with_byte}
 use Rattle.std.specs.Option.{option_eq}
@@ -18,7 +18,6 @@ use Rattle.cecp_lines.specs.Messages.{IfaceMsg}
 use Rattle.cecp_lines.specs.Messages as says
 use Rattle.uci_lines.specs.declared.orders.GoControl.TheVariants.{Infinite}
 use Rattle.uci_lines.specs.Orders.{Order}
-use Rattle.uci_lines.specs.Orders as orders
 use Rattle.game_record.specs.Game.{Ply, Game, ply_of, with_ply, IsPlayable, now_of}
 use Rattle.game_record.specs.Line.{ply_text}
 use Rattle.clock_map.specs.declared.clocks.Clocks.{Clocks}
@@ -37,7 +36,7 @@ use Rattle.desk_rules.specs.Desk as desks
 use Rattle.desk_rules.specs.Desk.{Situation, is_boot, is_gone, owes_move, on_move, plies}
 use Rattle.desk_rules.specs.Lines.{asks, change, is_epoch_line}
 use Rattle.desk_rules.specs.Steps.{Effect, Accepts, Boots, Readies, Shows, Forfeits, Answers, Dies, what_of, what_accepted, begins_epoch, desk_after_effect, searched_by, is_death}
-use Rattle.desk_rules.specs.Orders.{kind_named, word_of, start_of, position_order, searched, search_orders}
+use Rattle.desk_rules.specs.Orders.{kind_named, word_of, start_of, searched, search_orders}
 use Rattle.desk_rules.specs.Fits.{IsSound}
 use Rattle.desk_rules.proofs.Hints.{hint_kept, call_hint}
 use Rattle.desk_rules.proofs.Sound.{step_sound}
@@ -47,7 +46,6 @@ use Rattle.adapter_core.proofs.Traces.{lasts, fits}
 use Rattle.session_judge.specs.declared.deed.Order.TheVariants as hears
 use Rattle.session_judge.specs.declared.talk.Talk.{Talk}
 use Rattle.session_judge.specs.Deeds.{end_of}
-use Rattle.uci_talk.specs.Lines.{line_of}
 use Rattle.lawful_talk.specs.Logs.{engine_mark}
 use Rattle.lawful_talk.proofs.Runs.{Runs, more_runs}
 use Rattle.lawful_talk.proofs.Texts.{as_order, kind_heard}

@@ -1,7 +1,6 @@
 -- The marks of one step.
-use Rattle.std.proofs.Common.{◌≡◌, ℕ, ◌+◌, ◌<◌, ◌≤◌, List, [], ◌∷◌, ◌++◌, map, Bool, true, false, not, cond, ◌&&◌, ◌||◌, ◌==◌, Option, Some, None, refl, sym, ap, subst, ◌∙◌, arith}
+use Rattle.std.proofs.Common.{◌≡◌, ℕ, List, [], ◌∷◌, ◌++◌, map, Bool, true, false, Option, Some, refl, sym, ap, subst, ◌∙◌}
 use Rattle.std.specs.Prelude.{Contains}
-use Rattle.std.proofs.lemmas.Bool.Decides.{nat_tests}
 use Rattle.std.proofs.lemmas.List.Elements.{Contains-append_left, Contains-push}
 use Rattle.line_io.specs.Event.{Event}
 use Rattle.line_io.specs.Event as events
@@ -15,30 +14,26 @@ use Rattle.cecp_lines.specs.Replies.{Reply}
 use Rattle.cecp_lines.specs.Replies as told
 use Rattle.uci_lines.specs.Orders.{Order}
 use Rattle.uci_lines.specs.Orders as orders
-use Rattle.uci_lines.specs.Messages as says
-use Rattle.uci_lines.specs.Engine.{engine_message}
-use Rattle.game_record.specs.Game.{Game, now_of}
+use Rattle.game_record.specs.Game.{now_of}
 use Rattle.policy_rules.specs.declared.settings.Settings.{Settings}
 use Rattle.search_epochs.specs.Tickets as talks
 use Rattle.search_epochs.specs.Tickets.{Engine, Ticketed, heard, said_of, sent_all, is_move}
 use Rattle.search_epochs.specs.Dialogue.{forget}
 use Rattle.desk_rules.specs.Desk.{Situation, is_gone}
-use Rattle.desk_rules.specs.Steps.{Effect, Shows, classify, what_of, is_death, searched_by}
+use Rattle.desk_rules.specs.Steps.{Effect, Shows, classify, searched_by}
 use Rattle.desk_rules.specs.Orders.{word_of}
-use Rattle.desk_rules.specs.Replies.{replies_of, row, shown_row}
-use Rattle.adapter_core.specs.Ends.{is_open, may, ends_after}
-use Rattle.adapter_core.specs.Trace.{State, Step, IsLawful, Lawful, state, state_after, situation, effect, mid, owing, closed_after, gone_after, last_orders, replies}
+use Rattle.desk_rules.specs.Replies.{replies_of, row}
+use Rattle.adapter_core.specs.Ends.{is_open}
+use Rattle.adapter_core.specs.Trace.{State, Step, Lawful, state, state_after, situation, effect, mid, owing, closed_after, gone_after, last_orders}
 use Rattle.adapter_core.specs.Shown.{Answers, moves_told}
-use Rattle.adapter_core.proofs.Closing.{open_before, opened_later, closed_stays}
+use Rattle.adapter_core.proofs.Closing.{open_before, closed_stays}
 use Rattle.adapter_core.proofs.Shown.{shown_by, open_shows, shown as shown_in_time}
-use Rattle.adapter_core.proofs.Traces.{Lasts, lasts, gone_is, fits}
+use Rattle.adapter_core.proofs.Traces.{Lasts, lasts, gone_is}
 use Rattle.dialogue_laws.specs.Wire.{said_by}
 use Rattle.dialogue_laws.proofs.Heard as hearing
 use Rattle.session_judge.specs.declared.deed.Order.TheVariants as hears
-use Rattle.session_judge.specs.declared.deed.Deed.{Deed}
 use Rattle.session_judge.specs.declared.deed.Deed.TheVariants as deeds
 use Rattle.session_judge.specs.declared.talk.Answer.{Answer}
-use Rattle.session_judge.specs.declared.talk.Engine.{Engine as Wire}
 use Rattle.session_judge.specs.declared.talk.Engine.TheVariants as wires
 use Rattle.session_judge.specs.declared.talk.Stage.TheVariants as stages
 use Rattle.session_judge.specs.declared.talk.Talk.{Talk}
@@ -61,7 +56,7 @@ pub parts_run : (t : Talk) (step : Step) (A B P : Talk → Type 0)
 parts_run t step A B P e r o =
     let others = map iface_mark step.replies ++ map engine_mark step.orders in
     both_run t (event_marks step.event) others P (more_runs t (event_marks step.event) A (λ u. Runs u others P) e (λ u a.
-      both_run u (map iface_mark step.replies) (map engine_mark step.orders) P (more_runs u (map iface_mark step.replies) B (λ v. Runs v (map engine_mark step.orders) P) (r u a) o)
+    both_run u (map iface_mark step.replies) (map engine_mark step.orders) P (more_runs u (map iface_mark step.replies) B (λ v. Runs v (map engine_mark step.orders) P) (r u a) o)
     ))
 
 -- the position of a current search

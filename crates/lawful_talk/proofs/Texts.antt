@@ -1,18 +1,15 @@
 -- What the texts of orders and of replies are to a judge.
-use Rattle.std.proofs.Common.{◌≡◌, ℕ, zero, suc, ◌+◌, ◌/◌, ◌%◌, ◌<◌, ◌≤◌, List, [], ◌∷◌, ◌++◌, length, Bool, true, false, not, ◌&&◌, ◌||◌, cond, ◌==◌, ltb, Option, Some, None, decimal, codes, refl, sym, ap, subst, ◌∙◌, arith, append_assoc, append-nil}
+use Rattle.std.proofs.Common.{◌≡◌, ℕ, zero, suc, ◌/◌, ◌%◌, ◌<◌, List, [], ◌∷◌, ◌++◌, length, Bool, true, false, not, ◌||◌, cond, ◌==◌, ltb, Option, Some, None, decimal, codes, refl, sym, ap, ◌∙◌, arith, append_assoc, append-nil}
 use Rattle.std.specs.List.{list_all}
 use Rattle.std.specs.Char.{is_ascii_digit}
-use Rattle.std.specs.Str.{bytes_eq}
 use Rattle.std.specs.Fmt.{digits, digits_onto, digit_glyph, signed_decimal}
 use Rattle.std.proofs.lemmas.Bool.Decides.{nat_tests}
-use Rattle.peer_words.specs.declared.kinds.GoKind.{GoKind}
 use Rattle.peer_words.specs.declared.kinds.GoKind.TheVariants as kinds
 use Rattle.peer_words.specs.Tokens.{is_white, is_token, tokens}
 use Rattle.peer_words.proofs.Trims.{and_true}
 use Rattle.peer_words.proofs.TokenLists.{tokens_more, tokens_alone, tokens_white}
 use Rattle.cecp_lines.specs.Replies.{Reply, reply_text, hint_text}
 use Rattle.cecp_lines.specs.Replies as told
-use Rattle.cecp_lines.specs.declared.reply.Reason.{Reason}
 use Rattle.cecp_lines.specs.declared.reply.UserError.TheVariants as tells
 use Rattle.cecp_lines.specs.declared.reply.Outcome.TheVariants as outcomes
 use Rattle.uci_lines.specs.declared.orders.GoControl.{GoControl}
@@ -27,7 +24,6 @@ use Rattle.uci_talk.specs.Lines.{line_of}
 use Rattle.desk_rules.specs.Orders.{kind_named}
 use Rattle.session_judge.specs.declared.deed.Order.{Order as Heard}
 use Rattle.session_judge.specs.declared.deed.Order.TheVariants as hears
-use Rattle.session_judge.specs.declared.deed.Deed.{Deed}
 use Rattle.session_judge.specs.declared.deed.Deed.TheVariants as deeds
 use Rattle.session_judge.specs.Deeds.{deed_of, end_of, shown_by, told_move}
 use Rattle.lawful_talk.specs.Logs.{iface_mark, engine_mark}

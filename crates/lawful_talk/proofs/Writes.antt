@@ -1,9 +1,8 @@
 -- Orders that a judge hears.
-use Rattle.std.proofs.Common.{◌≡◌, ℕ, List, [], ◌∷◌, ◌++◌, map, Bool, true, false, Option, Some, None, refl, sym, ap, subst, ◌∙◌}
+use Rattle.std.proofs.Common.{◌≡◌, ℕ, List, [], ◌∷◌, map, Bool, true, false, Option, Some, None, refl, sym, ap, subst, ◌∙◌}
 use Rattle.peer_words.specs.declared.kinds.GoKind.{GoKind}
 use Rattle.peer_words.specs.declared.kinds.GoKind.TheVariants as kinds
 use Rattle.chess_board.specs.Position.{Position as Place}
-use Rattle.script_lines.specs.Marks.{Mark}
 use Rattle.uci_lines.specs.Orders.{Order}
 use Rattle.uci_lines.specs.Orders as orders
 use Rattle.search_epochs.specs.Tickets as talks
@@ -14,11 +13,10 @@ use Rattle.session_judge.specs.declared.deed.Order.TheVariants as hears
 use Rattle.session_judge.specs.declared.deed.Deed.TheVariants as deeds
 use Rattle.session_judge.specs.declared.talk.Engine.{Engine as Wire}
 use Rattle.session_judge.specs.declared.talk.Engine.TheVariants as wires
-use Rattle.session_judge.specs.declared.talk.Stage.{Stage}
 use Rattle.session_judge.specs.declared.talk.Stage.TheVariants as stages
 use Rattle.session_judge.specs.declared.talk.Talk.{Talk}
 use Rattle.session_judge.specs.Rules.{broken}
-use Rattle.session_judge.specs.Talks.{after, engine_after}
+use Rattle.session_judge.specs.Talks.{after}
 use Rattle.lawful_talk.specs.Logs.{engine_mark}
 use Rattle.lawful_talk.proofs.Runs.{Runs, first_runs}
 use Rattle.lawful_talk.proofs.Texts.{as_order, order_deed}
@@ -144,8 +142,8 @@ plain_runs n e (o ∷ os) t p a m r g q =
     let k = plain_first e o os m.0 r g q in
     let x = takes n e o t k.plain a.engine a.stage m.0 in
     first_runs t (engine_mark o) (map engine_mark os) (λ u. Agrees u (sent_all n e (map word_of (o ∷ os))) p) (deeds.Writes (as_order o)) (order_deed o) x.passes (λ line.
-      let b = x.leads line in
-      plain_runs n (sent n e (word_of o)) os (after t line (deeds.Writes (as_order o))) p (record { engine = b.engine; stage = b.stage; placed = b.placed ∙ a.placed }) m.1 k.paired k.no_go k.no_quit
+    let b = x.leads line in
+    plain_runs n (sent n e (word_of o)) os (after t line (deeds.Writes (as_order o))) p (record { engine = b.engine; stage = b.stage; placed = b.placed ∙ a.placed }) m.1 k.paired k.no_go k.no_quit
     )
 
 -- THE ORDERS FOR A SEARCH
@@ -158,8 +156,8 @@ search_runs n fen moves go k t p q a x y =
     let second = deeds.Writes (hears.Go k) in
     let P : Talk → Type 0 = λ u. Agrees u (talks.Search k n false) q in
     first_runs t (engine_mark (orders.Position fen moves)) (engine_mark go ∷ []) P first (order_deed (orders.Position fen moves) ∙ ap deeds.Writes x) (rw (a.stage, a.engine) refl) (λ line.
-      first_runs (after t line first) (engine_mark go) [] P second (order_deed go ∙ ap deeds.Writes y) (rw (a.stage, a.engine) refl)
-          (λ line'. record { engine = rw a.engine refl; stage = rw a.stage refl; placed = refl })
+    first_runs (after t line first) (engine_mark go) [] P second (order_deed go ∙ ap deeds.Writes y) (rw (a.stage, a.engine) refl)
+    (λ line'. record { engine = rw a.engine refl; stage = rw a.stage refl; placed = refl })
     )
 
 -- `quit`
