@@ -1,0 +1,6 @@
+mod Gone
+mod Loops
+mod Runs
+mod Starts
+mod Told
+mod Took

@@ -1,0 +1,5 @@
+pub mod Looped
+pub mod Reached
+pub mod Ran
+pub mod Parts
+pub mod Driven

@@ -1,0 +1,181 @@
+// Two readers beside the loop.
+ghost use Rattle.std.specs.Prelude.{◌≡◌, ◌≤◌, [], is_some};
+ghost use Rattle.cecp_driver.specs.Driver.{opening};
+ghost use Rattle.event_pipe.specs.Arrivals.{Arrived};
+ghost use Rattle.event_pipe.specs.Ends.{IsFreshSender, IsFreshTaker, KeepsSender, KeepsTaker, AreOne, sent, taken};
+ghost use Rattle.event_pipe.specs.declared.message.Peer.TheVariants as peers;
+ghost use Rattle.sink_offers.specs.Streams.{sinks, streams, log_state};
+ghost use Rattle.driver_runner.specs.Looped.{Looped};
+ghost use Rattle.cecp_driver.specs.declared.script.TheConstants.{EVENT_ROOM};
+ghost use Rattle.driver_runner.specs.Ran.{Ran};
+ghost use denote.Param.Send.{IsSync};
+
+use crate::drive_loop;
+use cecp_driver::Driver;
+use event_pipe::{Pipe, PipeSend, PipeTake, ReadEnd, read_pipe};
+use line_io::{Out, Sink, Source};
+use sink_offers::LoopEnd;
+use std::alloc::Global;
+use std::sync::Wait;
+use std::thread::{Threads, join_mut};
+
+/// What the two readers and the loop answered.
+#[derive(Clone, Copy, Debug, PartialEq, Eq)]
+pub struct RunEnd {
+    pub iface: ReadEnd,
+    pub engine: ReadEnd,
+    pub done: LoopEnd,
+}
+
+// The engine's reader beside the loop.
+fn run_engine<
+    S: Source + Send,
+    O: Sink + Send,
+    E: Sink + Send,
+    L: Sink + Send,
+    R: Threads + Wait + Sync,
+>(
+    rt: &R,
+    alloc: Global,
+    driver: &mut Driver,
+    child: &mut PipeSend,
+    taker: &mut PipeTake,
+    source: &mut S,
+    output: &mut O,
+    engine: &mut E,
+    log: &mut Option<L>,
+    text: &mut Out,
+) -> (ReadEnd, LoopEnd)
+    requires driver { driver.old ≡ opening }
+    requires room { EVENT_ROOM ≤ text.old.room }
+    requires child { IsFreshSender child.old peers.Engine }
+    requires taker { IsFreshTaker taker.old }
+    ensures child { KeepsSender child.old child.new }
+    ensures taker { KeepsTaker taker.old taker.new }
+    ensures arrived { Arrived peers.Engine (S.state source.old) (S.state source.new)
+        (sent child.new) result.0 }
+    ensures kept { is_some log.new ≡ is_some log.old }
+    ensures looped { Looped (taken taker.new)
+        (sinks (O.state output.old) (E.state engine.old) (log_state L.state log.old))
+        (sinks (O.state output.new) (E.state engine.new) (log_state L.state log.new))
+        result.1 }
+{
+    join_mut(
+        rt,
+        &mut ||
+            requires { IsFreshSender child.now peers.Engine }
+        { read_pipe(rt, alloc, source, child) },
+        &mut ||
+            requires { (driver.now ≡ opening) × IsFreshTaker taker.now
+                × (EVENT_ROOM ≤ text.now.room) }
+        { drive_loop(rt, driver, taker, output, engine, log, text) },
+    )
+}
+
+// Both readers beside the loop.
+fn run_both<
+    I: Source + Send,
+    S: Source + Send,
+    O: Sink + Send,
+    E: Sink + Send,
+    L: Sink + Send,
+    R: Threads + Wait + Sync,
+>(
+    rt: &R,
+    alloc: Global,
+    driver: &mut Driver,
+    iface: &mut PipeSend,
+    child: &mut PipeSend,
+    taker: &mut PipeTake,
+    input: &mut I,
+    source: &mut S,
+    output: &mut O,
+    engine: &mut E,
+    log: &mut Option<L>,
+    text: &mut Out,
+) -> (ReadEnd, (ReadEnd, LoopEnd))
+    requires driver { driver.old ≡ opening }
+    requires room { EVENT_ROOM ≤ text.old.room }
+    requires iface { IsFreshSender iface.old peers.Iface }
+    requires child { IsFreshSender child.old peers.Engine }
+    requires taker { IsFreshTaker taker.old }
+    ensures iface { KeepsSender iface.old iface.new }
+    ensures child { KeepsSender child.old child.new }
+    ensures taker { KeepsTaker taker.old taker.new }
+    ensures iface_arrived { Arrived peers.Iface (I.state input.old) (I.state input.new)
+        (sent iface.new) result.0 }
+    ensures arrived { Arrived peers.Engine (S.state source.old) (S.state source.new)
+        (sent child.new) result.1.0 }
+    ensures kept { is_some log.new ≡ is_some log.old }
+    ensures looped { Looped (taken taker.new)
+        (sinks (O.state output.old) (E.state engine.old) (log_state L.state log.old))
+        (sinks (O.state output.new) (E.state engine.new) (log_state L.state log.new))
+        result.1.1 }
+{
+    join_mut(
+        rt,
+        &mut ||
+            requires { IsFreshSender iface.now peers.Iface }
+        { read_pipe(rt, alloc, input, iface) },
+        &mut ||
+            requires { IsSync R.row × (driver.now ≡ opening)
+                × (EVENT_ROOM ≤ text.now.room)
+                × IsFreshSender child.now peers.Engine × IsFreshTaker taker.now }
+        {
+            run_engine(
+                rt, alloc, driver, child, taker, source, output, engine, log, text,
+            )
+        },
+    )
+}
+
+/// Reads both peers beside the loop, until both sides have ended.
+pub fn run_driver_pipes<
+    I: Source + Send,
+    S: Source + Send,
+    O: Sink + Send,
+    E: Sink + Send,
+    L: Sink + Send,
+    R: Threads + Wait + Sync,
+>(
+    rt: &R,
+    alloc: Global,
+    driver: &mut Driver,
+    iface: PipeSend,
+    child: PipeSend,
+    taker: PipeTake,
+    input: &mut I,
+    source: &mut S,
+    output: &mut O,
+    engine: &mut E,
+    log: &mut Option<L>,
+    text: &mut Out,
+) -> RunEnd
+    requires driver { driver.old ≡ opening }
+    requires room { EVENT_ROOM ≤ text.old.room }
+    requires iface { IsFreshSender iface peers.Iface }
+    requires child { IsFreshSender child peers.Engine }
+    requires taker { IsFreshTaker taker }
+    requires one { AreOne iface child taker }
+    ensures kept { is_some log.new ≡ is_some log.old }
+    ensures ran { Ran
+        (streams (I.state input.old) (S.state source.old)
+        (sinks (O.state output.old) (E.state engine.old) (log_state L.state log.old)))
+        (streams (I.state input.new) (S.state source.new)
+        (sinks (O.state output.new) (E.state engine.new) (log_state L.state log.new)))
+        result }
+{
+    let mut iface = iface;
+    let mut child = child;
+    let mut taker = taker;
+    let (first, (second, done)) = run_both(
+        rt, alloc, driver, &mut iface, &mut child, &mut taker, input, source, output, engine, log,
+        text,
+    );
+    Pipe::finish(iface, child, taker);
+    RunEnd {
+        iface: first,
+        engine: second,
+        done,
+    }
+}
