@@ -8,8 +8,6 @@ mod fault;
 mod fields;
 mod read;
 mod squares;
-#[cfg(test)]
-mod tests;
 mod write;
 
 pub use fault::FenFault;

@@ -8,8 +8,6 @@ mod ending;
 mod game;
 mod laws;
 mod line;
-#[cfg(test)]
-mod tests;
 
 pub use ending::End;
 pub use game::{Game, MOST_PLIES, NoMove, PushFault};

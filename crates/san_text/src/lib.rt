@@ -15,6 +15,3 @@ pub use fault::SanFault;
 pub use laws::texts_tell_moves_apart;
 pub use reading::read_san;
 pub use writing::write_san;
-
-#[cfg(test)]
-mod tests;

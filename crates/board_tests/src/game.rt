@@ -1,9 +1,10 @@
+// Games: repetitions, endings, moves taken back, and the lines that tell them.
 ghost use Rattle.std.specs.Prelude.{◌≡◌, ◌+◌, ◌≤◌, length, IfSome};
 ghost use Rattle.game_record.specs.Game.{ply_of, IsPlayable, now_of};
 
-use crate::{End, Game, NoMove, PushFault};
 use chess_board::{Move, Position, read_move};
 use fen_text::read_fen;
+use game_record::{End, Game, NoMove, PushFault};
 use line_io::Out;
 use std::process::Abort;
 use std::test::Fail;

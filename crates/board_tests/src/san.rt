@@ -1,6 +1,6 @@
 //! Moves whose texts were worked out by hand.
-use crate::{SanFault, read_san, write_san};
 use chess_board::{Kind, Position, Rights, Side, Square, equal_moves, read_move};
+use san_text::{SanFault, read_san, write_san};
 use std::process::Abort;
 use std::test::Fail;
 

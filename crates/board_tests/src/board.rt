@@ -1,5 +1,5 @@
 //! Move counts that are known of the rules, and each public function once.
-use crate::{
+use chess_board::{
     BuildFault, Kind, Move, Position, Rights, Side, Square, State, equal_moves, equal_positions,
     read_move, write_move,
 };

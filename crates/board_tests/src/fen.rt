@@ -1,5 +1,6 @@
-use crate::{FenFault, read_fen, write_fen};
+// Positions as texts: how each is written, and the first fault of texts that are none.
 use chess_board::Position;
+use fen_text::{FenFault, read_fen, write_fen};
 
 const START: &str = "rnbqkbnr/pppppppp/8/8/8/8/PPPPPPPP/RNBQKBNR w KQkq - 0 1";
 
