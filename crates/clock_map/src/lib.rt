@@ -3,8 +3,6 @@
 
 mod clocks;
 mod laws;
-#[cfg(test)]
-mod tests;
 
 pub use clocks::Clocks;
 pub use laws::{clocks_stay_short, searches_are_short};

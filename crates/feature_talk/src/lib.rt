@@ -5,8 +5,6 @@
 mod features;
 mod laws;
 mod talk;
-#[cfg(test)]
-mod tests;
 
 pub use features::{shown_name, write_bare_list, write_list};
 pub use laws::feature_lists_are_short;

@@ -16,8 +16,6 @@ mod order;
 mod setting;
 mod stored;
 mod storing;
-#[cfg(test)]
-mod tests;
 mod translate;
 
 pub use declared::Declared;

@@ -4,8 +4,6 @@
 mod laws;
 mod line;
 mod seen;
-#[cfg(test)]
-mod tests;
 mod value;
 
 pub use laws::{current_stays_writable, thinking_lines_are_short};

@@ -4,7 +4,7 @@ use Rattle.cecp_lines.specs.Replies.{Reply, reply_text}
 use Rattle.uci_lines.specs.Info.{info_of}
 use Rattle.think_text.specs.Line.{thinking_line, HasRoom}
 use Rattle.think_text.proofs.Short.{lines_short}
-use Rattle.think_text.proofs.tests.show.Goals as goal
+use Rattle.table_tests.proofs.thinking.show.Goals as goal
 
 -- a line of at most n bytes fits if there is room for n
 room_for : (out : Text) (told : Option Reply) (n : ℕ) → ((t : Reply) → told ≡ Some t → length (reply_text t) ≤ n) → length out.text + n ≤ out.room → HasRoom out told

@@ -4,7 +4,7 @@ use Rattle.cecp_lines.specs.Reading.{CanBeRead}
 use Rattle.clock_map.specs.declared.clocks.Clocks.{Clocks}
 use Rattle.clock_map.specs.Clocks.{AreShort}
 use Rattle.clock_map.proofs.Messages.{stay_short}
-use Rattle.clock_map.proofs.tests.hear.Goals as goal
+use Rattle.table_tests.proofs.clocks.hear.Goals as goal
 
 pub set-requires : goal.set-requires
 set-requires c = (c.args.line.now, (c.in-Ok.ensures.spelled (message_of c.in-Ok.msg)).0 refl)

@@ -1,5 +1,5 @@
 //! Engines by their options, and the features that are offered of them.
-use crate::{Say, Talk, feature_lists_are_short, shown_name, write_bare_list, write_list};
+use feature_talk::{Say, Talk, feature_lists_are_short, shown_name, write_bare_list, write_list};
 use line_io::Out;
 use option_map::{Declared, Options};
 use std::alloc::Global;

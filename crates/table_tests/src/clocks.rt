@@ -1,9 +1,9 @@
-// Worked lines.
+// Clocks after lines of the interface, and the `go` lines that they give.
 ghost use Rattle.clock_map.specs.Clocks.{AreShort};
 
-use crate::{Clocks, clocks_stay_short, searches_are_short};
 use cecp_lines::read_iface;
 use chess_board::Side;
+use clock_map::{Clocks, clocks_stay_short, searches_are_short};
 use line_io::Out;
 use peer_words::GoKind;
 use std::test::Fail;

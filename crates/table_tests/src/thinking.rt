@@ -2,11 +2,10 @@
 ghost use Rattle.std.specs.Prelude.{IfSome};
 ghost use Rattle.cecp_lines.specs.Replies.{IsWritable};
 
-use crate::value::{is_legal, play};
-use crate::{Seen, current_stays_writable, stat01, thinking, thinking_lines_are_short};
 use chess_board::{Position, read_move};
 use line_io::Out;
 use std::test::Fail;
+use think_text::{Seen, current_stays_writable, stat01, thinking, thinking_lines_are_short};
 use uci_lines::{EngineMsg, read_engine};
 
 /// The position after moves from the standard start. None if one is illegal.
@@ -14,10 +13,10 @@ fn after(moves: &[&str]) -> Option<Position> {
     let mut at = Position::start();
     for text in moves {
         let m = read_move(text.as_bytes())?;
-        if !is_legal(&at, m) {
+        if !at.legal(m) {
             return None;
         }
-        at = play(&at, m);
+        at = at.play(m);
     }
     Some(at)
 }
