@@ -5,8 +5,6 @@ mod ends;
 mod laws;
 mod session;
 mod steps;
-#[cfg(test)]
-mod tests;
 
 pub use ends::Ends;
 pub use laws::{interface_alone, moves_are_shown_in_time};

@@ -15,8 +15,6 @@ mod orders;
 mod pings;
 mod refuse;
 mod sizes;
-#[cfg(test)]
-mod tests;
 
 pub use answers::put_pongs;
 pub use call::is_gone;

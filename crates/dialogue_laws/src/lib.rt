@@ -4,8 +4,6 @@
 mod pings;
 mod searches;
 mod settings;
-#[cfg(test)]
-mod tests;
 mod traces;
 mod wire;
 

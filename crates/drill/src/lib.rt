@@ -12,6 +12,3 @@ mod tally;
 
 pub use laws::drills_are_one;
 pub use run::drill_line;
-
-#[cfg(test)]
-mod tests;

@@ -14,16 +14,3 @@ pub fn scripts_have_one_trace(settings: Settings)
 {
     one_dialogue(settings);
 }
-
-#[cfg(test)]
-mod tests {
-    use super::scripts_have_one_trace;
-    use policy_rules::Settings;
-    use std::test::Fail;
-
-    #[test]
-    fn laws_can_be_called(_rt: HostRuntime) -> Result<(), Fail> {
-        scripts_have_one_trace(Settings::usual());
-        Ok(())
-    }
-}

@@ -1,5 +1,5 @@
 // Drills by hand.
-use crate::{drill_line, drills_are_one};
+use drill::{drill_line, drills_are_one};
 use std::test::Fail;
 
 #[test]

@@ -3,7 +3,7 @@ use Rattle.desk_rules.specs.Desk.{at}
 use Rattle.desk_rules.specs.Steps.{effect_of}
 use Rattle.desk_rules.specs.Fits.{IsSound}
 use Rattle.desk_rules.proofs.Sound.{stays_sound}
-use Rattle.desk_rules.proofs.tests.Bench.follow.Goals as goal
+use Rattle.dialogue_tests.proofs.desk.Bench.follow.Goals as goal
 
 pub call-call-requires : goal.call-call-requires
 call-call-requires c =

@@ -1,4 +1,5 @@
-use crate::{
+// The laws of lawful traces.
+use dialogue_laws::{
     cores_within_limits, engine_on_wire, last_settings_stand, order_places, pings_get_pongs,
     searches_end_once, searches_serve, traces_are_dialogues, traces_exist,
 };

@@ -1,7 +1,7 @@
 // Turns of the dialogue, as the desk sees them.
 use super::{Bench, MOVE, SIGHT, STALE, Turn, check_turns};
-use crate::{Context, Mode};
 use chess_board::{Side, read_move};
+use desk_rules::{Context, Mode};
 use line_io::Event;
 use peer_words::GoKind;
 use search_epochs::Call::{Analyse, Move, Nothing, Ponder};

@@ -4,7 +4,7 @@ ghost use Rattle.line_io.specs.Event.{event_of};
 ghost use Rattle.policy_rules.specs.Policy.{IsProper};
 ghost use Rattle.desk_rules.specs.Steps.{quits as quits_by};
 
-use crate::{
+use adapter_core::{
     Core, Ends, ended_sides_get_nothing, interface_alone, moves_are_shown_in_time, one_dialogue,
 };
 use cecp_lines::is_quit;

@@ -1,7 +1,10 @@
 // Worked sessions: what comes in each step after the opening, and the orders that it writes.
-use super::*;
-use crate::{open_search, order_places, served_call, whole_dialogue, whole_turn};
-use chess_board::read_move;
+use chess_board::{Move, read_move};
+use peer_words::GoKind;
+use search_epochs::{
+    Call, Dialogue, EngineState, Heard, Orders, Said, open_search, order_places, served_call,
+    whole_dialogue, whole_turn,
+};
 use std::process::Abort;
 
 #[derive(Clone, Copy)]

@@ -11,7 +11,7 @@ ghost use Rattle.desk_rules.specs.Fits.{IsSound, IsHintPlayable, IsServed, IsLin
 mod calls;
 mod turns;
 
-use crate::{Context, Desk, Effect, Ruling, is_gone};
+use desk_rules::{Context, Desk, Effect, Ruling, is_gone};
 use line_io::{Event, NoMemory, Out};
 use option_map::Held;
 use peer_words::GoKind;

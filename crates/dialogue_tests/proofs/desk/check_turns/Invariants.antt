@@ -1,5 +1,5 @@
 use Rattle.desk_rules.specs.Fits.{IsSound}
-use Rattle.desk_rules.proofs.tests.check_turns.Given as goal
+use Rattle.dialogue_tests.proofs.desk.check_turns.Given as goal
 
 -- the desk stays sound
 abbrev pub invariant-loop-turn : goal.invariant-loop-turn

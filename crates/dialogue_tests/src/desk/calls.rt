@@ -3,13 +3,13 @@ ghost use Rattle.std.specs.Prelude.{◌≡◌, true};
 ghost use Rattle.desk_rules.specs.Fits.{IsSound, CanSearch, CanWrite};
 
 use super::{Bench, MOVE, SIGHT, STALE, check_turns};
-use crate::change::clears_scores;
-use crate::{Desk, EngineName, Pings, is_gone, put_chosen, put_pongs};
-use cecp_lines::read_iface;
+use cecp_lines::{IfaceMsg, read_iface};
 use chess_board::read_move;
+use desk_rules::{Desk, Effect, EngineName, Pings, is_gone, put_chosen, put_pongs};
 use game_record::Game;
 use line_io::Out;
 use option_map::Held;
+use policy_rules::{Scores, Settings};
 use search_epochs::{Call, EngineState, Orders};
 use std::process::Abort;
 use std::test::Fail;
@@ -122,6 +122,20 @@ fn answers_pings_in_turn(rt: HostRuntime) -> Result<(), Fail> {
     Ok(())
 }
 
+/// Whether the score of a shown move, by which the policy resigns, is forgotten after a line.
+fn clears_scores(rt: &impl Abort, message: IfaceMsg) -> bool {
+    let one_is_lost = Settings {
+        resign: true,
+        resign_moves: 1,
+        ..Settings::usual()
+    };
+    let mut scores = Scores::new(&one_is_lost);
+    scores.shown(Some(-700));
+    assert!(rt; scores.resigns());
+    Effect::Accepts(message).count(&mut scores, None);
+    !scores.resigns()
+}
+
 #[test]
 fn clears_scores_by_lines(rt: HostRuntime) -> Result<(), Fail> {
     let lines = [
@@ -141,7 +155,7 @@ fn clears_scores_by_lines(rt: HostRuntime) -> Result<(), Fail> {
     ];
     for (line, want) in lines {
         let message = read_iface(line.as_bytes()).expect(&rt, "a message");
-        assert_eq!(rt; clears_scores(&message), want, "{line}");
+        assert_eq!(rt; clears_scores(&rt, message), want, "{line}");
     }
     Ok(())
 }

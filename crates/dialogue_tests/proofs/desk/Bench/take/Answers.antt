@@ -7,7 +7,7 @@ use Rattle.desk_rules.specs.Orders.{AllJoin}
 use Rattle.desk_rules.specs.Fits.{Fits}
 use Rattle.desk_rules.proofs.Effects.{comes_fits}
 use Rattle.desk_rules.proofs.Joins.{asked_join}
-use Rattle.desk_rules.proofs.tests.Bench.take.Goals as goal
+use Rattle.dialogue_tests.proofs.desk.Bench.take.Goals as goal
 
 pub hold-requires : goal.hold-requires
 hold-requires g c =
