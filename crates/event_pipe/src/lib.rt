@@ -12,6 +12,3 @@ pub use pipe::{
     SplitIface, Taking,
 };
 pub use reader::{ReadEnd, read_pipe};
-
-#[cfg(test)]
-mod tests;

@@ -12,6 +12,3 @@ mod script;
 pub use ending::Ending;
 pub use run::scripted_main;
 pub use script::{ScriptFault, Scripted};
-
-#[cfg(test)]
-mod tests;

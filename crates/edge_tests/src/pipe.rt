@@ -1,5 +1,5 @@
 // Lines on their way through the channel.
-use crate::{Pipe, ReadEnd, Sent, read_pipe};
+use event_pipe::{Pipe, ReadEnd, Sent, read_pipe};
 use line_io::{Event, MemSource, ReadFault};
 use std::process::Abort;
 use std::test::Fail;
