@@ -10,6 +10,3 @@ mod write;
 pub use laws::written_messages_are_read_again;
 pub use reply_read::read_reply;
 pub use write::write_iface;
-
-#[cfg(test)]
-mod tests;

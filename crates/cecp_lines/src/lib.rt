@@ -14,6 +14,3 @@ pub use laws::{lines_are_unambiguous, replies_are_short};
 pub use read::{is_quit, read_iface};
 pub use reply::{Outcome, Reason, Reply, UserError};
 pub use reply_write::write_reply;
-
-#[cfg(test)]
-mod tests;

@@ -4,8 +4,6 @@
 
 mod canonical;
 mod laws;
-#[cfg(test)]
-mod tests;
 
 pub use canonical::write_engine;
 pub use laws::{written_messages_are_read_again, written_messages_fit_the_line};

@@ -12,8 +12,6 @@ mod option;
 mod order_read;
 mod orders;
 mod range;
-#[cfg(test)]
-mod tests;
 mod words;
 mod written;
 

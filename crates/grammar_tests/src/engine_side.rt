@@ -1,8 +1,10 @@
 // Lines as engines print them.
-use crate::{write_engine, written_messages_are_read_again, written_messages_fit_the_line};
 use chess_board::{Move, Square};
 use line_io::Out;
 use std::test::Fail;
+use uci_engine_side::{
+    write_engine, written_messages_are_read_again, written_messages_fit_the_line,
+};
 use uci_lines::{EngineMsg, OptionKind, OptionMsg};
 
 const E2E4: Move = Move {
@@ -12,7 +14,7 @@ const E2E4: Move = Move {
 };
 
 #[test]
-#[tactic(auto, unfolding(crate::specs::Said::said_text))]
+#[tactic(auto, unfolding(uci_engine_side::specs::Said::said_text))]
 fn writes_what_an_engine_says(rt: HostRuntime) -> Result<(), Fail> {
     written_messages_are_read_again();
     written_messages_fit_the_line();

@@ -1,5 +1,5 @@
 // What no clause says: that the definitions mean the lines that real interfaces and engines write.
-use crate::{
+use cecp_lines::{
     IfaceFault, IfaceMsg, Outcome, Reply, lines_are_unambiguous, read_iface, replies_are_short,
     write_reply,
 };

@@ -1,5 +1,5 @@
 // What no clause says: that the definitions mean the lines that real engines write.
-use crate::{read_reply, write_iface, written_messages_are_read_again};
+use cecp_iface_side::{read_reply, write_iface, written_messages_are_read_again};
 use cecp_lines::{IfaceMsg, Outcome, Reason, Reply, UserError};
 use chess_board::{Kind, Move, Square};
 use line_io::Out;

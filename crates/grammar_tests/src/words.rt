@@ -1,5 +1,5 @@
 // Tokens and numbers as both protocols have them.
-use crate::{
+use peer_words::{
     is_white, named, read_centis, read_count, read_digits, read_number, read_seconds, read_signed,
     split_token, trim, trim_end, trim_start,
 };

@@ -1,12 +1,12 @@
 // Lines as engines print them and lines spelled out by hand, with what each means.
-use crate::{
+use chess_board::read_move;
+use line_io::Out;
+use std::test::Fail;
+use uci_lines::{
     BadOrder, EngineMsg, GoControl, Info, OptionKind, OptionMsg, Order, Score,
     lines_say_one_message, next_move, next_value, positions_may_stand, read_engine, read_order,
     write_order,
 };
-use chess_board::read_move;
-use line_io::Out;
-use std::test::Fail;
 
 const NO_INFO: Info<'static> = Info {
     depth: None,
@@ -346,7 +346,7 @@ fn orders(rt: HostRuntime) {
 }
 
 #[test]
-#[tactic(auto, unfolding(crate::specs::Orders::order_text))]
+#[tactic(auto, unfolding(uci_lines::specs::Orders::order_text))]
 fn lists_and_texts(rt: HostRuntime) -> Result<(), Fail> {
     positions_may_stand();
     lines_say_one_message();

@@ -1,10 +1,11 @@
-use crate::{
+// Marks, headers, step lines and the texts of steps.
+use line_io::{Event, Out};
+use policy_rules::Settings;
+use script_lines::{
     Mark, STEP_ROOM, lines_are_of_one_kind, next_number, put_numbered_step, put_step, put_written,
     read_header, read_mark, read_step, scripts_are_read_back, write_header, write_mark,
     write_mark_line, write_step,
 };
-use line_io::{Event, Out};
-use policy_rules::Settings;
 use std::test::Fail;
 
 #[test]
