@@ -12,6 +12,8 @@ use Rattle.replay_tool.specs.Replayed.{Replayed}
 use Rattle.command_endings.specs.Streams.{Streams}
 use Rattle.judge_report.specs.Judged.{Judged}
 use Rattle.script_migration.specs.Migrated.{Migrated}
+use Rattle.revival_script.specs.Revived.{Revived}
+use Rattle.driver_script.specs.Driven.{Driven}
 use Rattle.session_games.specs.GamesWritten.{GamesWritten}
 use Rattle.script_player.specs.Versions.{First}
 use Rattle.replay_tool.proofs.Answers as ran
@@ -46,6 +48,12 @@ module _ (unread kept silent : Type 0) (start now : Streams) (code : ℕ) where
   pub judged : (command : Option Asked) → D command → command ≡ Some asked.Judge → Judged (unread × kept) start now code
   judged command d e = subst D e d
 
+  pub revived : (command : Option Asked) → D command → (lives : ℕ) → command ≡ Some (asked.Revive lives) → Revived lives (unread × kept) start now code
+  revived command d lives e = subst D e d
+
+  pub driven : (command : Option Asked) → D command → command ≡ Some asked.Drive → Driven (unread × kept) start now code
+  driven command d e = subst D e d
+
   pub games_written : (command : Option Asked) → D command → (o : Settings) → command ≡ Some (asked.Games o) → GamesWritten o unread kept start now code
   games_written command d o e = subst D e d
 
@@ -61,6 +69,8 @@ module _ (unread kept silent : Type 0) (start now : Streams) (code : ℕ) where
   memory (Some (asked.Check o)) d z = checks.memory o unread kept start now d.0 code d.1 z
   memory (Some (asked.Migrate o)) d z = d.memory z
   memory (Some asked.Judge) d z = d.memory z
+  memory (Some (asked.Revive lives)) d z = d.memory z
+  memory (Some asked.Drive) d z = d.memory z
   memory (Some (asked.Games o)) d z = d.memory z
   memory (Some (asked.Drill number count)) d z = (d.0, drilling.wants _ _ _ _ _ _ _ _ _ d.1 z)
   memory (Some (asked.Moves text)) d z = (d.0, listing.wants _ _ _ _ _ _ _ _ d.1 z)

@@ -9,13 +9,15 @@ use Rattle.policy_rules.specs.Policy.{IsProper}
 use Rattle.replay_tool.specs.Moves.{fen_of}
 use Rattle.replay_tool.specs.Words.{number_of, settings_of}
 
--- what is asked for: a replay, a check, a migration or the games with settings, a drill, or the moves
--- of what a text spells
+-- what is asked for: a replay, a check, a migration or the games with settings, a judgement, a script played to an
+-- engine of so many lives or to a driver, a drill, or the moves of what a text spells
 pub data Asked : Type 0 where
   Replay : (settings : Settings) → Asked
   Check : (settings : Settings) → Asked
   Migrate : (settings : Settings) → Asked
   Judge : Asked
+  Revive : (lives : ℕ) → Asked
+  Drive : Asked
   Games : (settings : Settings) → Asked
   Drill : (number : ℕ) → (count : ℕ) → Asked
   Moves : (text : List ℕ) → Asked
@@ -34,24 +36,31 @@ drill_of (number ∷ count ∷ []) = drill_by (number_of 10 0 2147483647 number)
     (number_of 10 0 100000 count)
 drill_of words = None
 
+-- how many lives may be begun: one digit from 1 to 9
+abbrev pub revive_of : List (List ℕ) → Option Asked
+revive_of (lives ∷ []) = option_map (λ n. Revive n) (number_of 1 1 9 lives)
+revive_of words = None
+
 -- a command that takes no words
 abbrev pub alone : Asked → List (List ℕ) → Option Asked
 alone command [] = Some command
 alone command (word ∷ words) = None
 
 -- the command of this name with these words: settings stand behind `replay`, `check`,
--- `migrate` and `games`, none behind `judge`, one or more words behind `moves`, and two numbers
--- behind `drill`
+-- `migrate` and `games`, none behind `judge` and `drive`, one digit behind `revive`, one or more words
+-- behind `moves`, and two numbers behind `drill`
 abbrev pub command_named : List ℕ → List (List ℕ) → Option Asked
 command_named name words =
     if bytes_eq name (codes "replay") then option_map (λ s. Replay s) (settings_of words)
     else (if bytes_eq name (codes "check") then option_map (λ s. Check s) (settings_of words)
     else (if bytes_eq name (codes "migrate") then option_map (λ s. Migrate s) (settings_of words)
     else (if bytes_eq name (codes "judge") then alone Judge words
+    else (if bytes_eq name (codes "revive") then revive_of words
+    else (if bytes_eq name (codes "drive") then alone Drive words
     else (if bytes_eq name (codes "games") then option_map (λ s. Games s) (settings_of words)
     else (if bytes_eq name (codes "drill") then drill_of words
     else (if bytes_eq name (codes "moves") && nat_lt 0 (length words) then Some (Moves
-    (fen_of words)) else None))))))
+    (fen_of words)) else None))))))))
 
 -- the command of the words, where they fit one
 abbrev pub command_of : List (List ℕ) → Option Asked
@@ -64,6 +73,8 @@ asked (commands.Replay s) = Replay s
 asked (commands.Check s) = Check s
 asked (commands.Migrate s) = Migrate s
 asked commands.Judge = Judge
+asked (commands.Revive lives) = Revive lives
+asked commands.Drive = Drive
 asked (commands.Games s) = Games s
 asked (commands.Drill number count) = Drill number count
 asked (commands.Moves words) = Moves (fen_of (texts words.now))

@@ -12,6 +12,8 @@ use Rattle.replay_tool.specs.Replay.{EndsAs}
 use Rattle.command_endings.specs.Streams.{Streams}
 use Rattle.script_migration.specs.Migrated.{Migrated}
 use Rattle.judge_report.specs.Judged.{Judged}
+use Rattle.revival_script.specs.Revived.{Revived}
+use Rattle.driver_script.specs.Driven.{Driven}
 use Rattle.session_games.specs.GamesWritten.{GamesWritten}
 
 abbrev pub Does : Option Asked → Type 0 → Type 0 → Type 0 → Streams → Streams → ℕ → Type 0
@@ -22,6 +24,8 @@ Does (Some (asked.Check o)) unread kept silent before after code =
     HaveLaws o × Ran (λ e. ChecksAs o unread kept e before after) before after code
 Does (Some (asked.Migrate o)) unread kept silent before after code = Migrated o unread kept before after code
 Does (Some asked.Judge) unread kept silent before after code = Judged (unread × kept) before after code
+Does (Some (asked.Revive lives)) unread kept silent before after code = Revived lives (unread × kept) before after code
+Does (Some asked.Drive) unread kept silent before after code = Driven (unread × kept) before after code
 Does (Some (asked.Games o)) unread kept silent before after code = GamesWritten o unread kept before after code
 Does (Some (asked.Moves text)) unread kept silent before after code =
     unread × Lists (position_of text) kept silent code before.output after.output before.diag

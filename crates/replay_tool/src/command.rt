@@ -1,7 +1,7 @@
 // The commands of the program.
 ghost use Rattle.std.specs.Prelude.{◌≡◌, IfSome};
 ghost use Rattle.std.specs.Option.{option_map};
-ghost use Rattle.replay_tool.specs.Commands.{Judge, HasProper, alone, asked, command_of, command_named, drill_of, texts};
+ghost use Rattle.replay_tool.specs.Commands.{Drive, Judge, HasProper, alone, asked, command_of, command_named, drill_of, revive_of, texts};
 
 use crate::settings::{read_number, read_settings};
 use policy_rules::Settings;
@@ -17,6 +17,10 @@ pub enum Command<'a> {
     Migrate(Settings),
     /// Judges the log of any bridge.
     Judge,
+    /// Plays the input to an engine that is started again, of which so many lives may be begun.
+    Revive { lives: u32 },
+    /// Plays the input to a driver between a UCI interface and a CECP engine.
+    Drive,
     /// Writes the games of the session in the input, with these settings.
     Games(Settings),
     /// Plays the drill of a number, with so many rounds.
@@ -49,6 +53,29 @@ fn read_judge<'a>(words: &[Vec<u8>]) -> Option<Command<'a>>
     }
 }
 
+/// The command `drive`, which takes no words.
+fn read_drive<'a>(words: &[Vec<u8>]) -> Option<Command<'a>>
+    ensures value { option_map asked result ≡ alone Drive (texts words.now) }
+    ensures proper { IfSome result (λ command. HasProper command) }
+{
+    match words {
+        [] => Some(Command::Drive),
+        _ => None,
+    }
+}
+
+fn read_revive(words: &[Vec<u8>]) -> Option<Command>
+    ensures value { option_map asked result ≡ revive_of (texts words.now) }
+    ensures proper { IfSome result (λ command. HasProper command) }
+{
+    let [lives] = words else {
+        return None;
+    };
+    Some(Command::Revive {
+        lives: read_number(lives.as_slice(), 1, 1, 9)?,
+    })
+}
+
 fn read_named<'a>(name: &[u8], words: &'a [Vec<u8>]) -> Option<Command<'a>>
     ensures value { option_map asked result ≡ command_named name.now (texts words.now) }
     ensures proper { IfSome result (λ command. HasProper command) }
@@ -61,6 +88,10 @@ fn read_named<'a>(name: &[u8], words: &'a [Vec<u8>]) -> Option<Command<'a>>
         Some(Command::Migrate(read_settings(words)?))
     } else if name == b"judge".as_slice() {
         read_judge(words)
+    } else if name == b"revive".as_slice() {
+        read_revive(words)
+    } else if name == b"drive".as_slice() {
+        read_drive(words)
     } else if name == b"games".as_slice() {
         Some(Command::Games(read_settings(words)?))
     } else if name == b"drill".as_slice() {

@@ -19,6 +19,8 @@ ghost use Rattle.command_endings.specs.Streams.{streams};
 ghost use Rattle.replay_tool.specs.Walked.{IsUnread};
 ghost use Rattle.judge_report.specs.Judged.{Judged};
 ghost use Rattle.script_migration.specs.Migrated.{Migrated};
+ghost use Rattle.revival_script.specs.Revived.{Revived};
+ghost use Rattle.driver_script.specs.Driven.{Driven};
 ghost use Rattle.session_games.specs.GamesWritten.{GamesWritten};
 
 use crate::check::Checker;
@@ -28,9 +30,11 @@ use crate::play::play_drill;
 use crate::run::Run;
 use crate::verdict::write_verdict;
 use command_endings::{Ending, tell, tell_short};
+use driver_script::run_drive;
 use judge_report::run_judge;
 use line_io::{NoMemory, Out, Sink, Source, Status};
 use policy_rules::Settings;
+use revival_script::run_revive;
 use script_migration::migrate;
 use session_games::write_games;
 use std::alloc::Global;
@@ -121,6 +125,8 @@ fn run_words<I: Source, O: Sink, D: Sink>(
         }
         Some(Command::Migrate(settings)) => migrate(alloc, &settings, input, output, diag),
         Some(Command::Judge) => run_judge(alloc, input, output, diag),
+        Some(Command::Revive { lives }) => run_revive(alloc, lives, input, output, diag),
+        Some(Command::Drive) => run_drive(alloc, input, output, diag),
         Some(Command::Games(settings)) => write_games(alloc, &settings, input, output, diag),
         Some(Command::Drill { number, count }) => play_drill(alloc, number, count, output, diag),
         Some(Command::Moves(words)) => list_moves(alloc, words, output, diag),
@@ -145,6 +151,11 @@ fn run_words<I: Source, O: Sink, D: Sink>(
 /// The word `games`, with the same words behind it, reads a script as `replay` does and writes the
 /// games of the session, one a line, each where the interface begins another or the session ends: its
 /// movetext (PGN standard, section 8.2), and before it the `FEN` tag, if it has another beginning.
+///
+/// The word `revive` with one digit from 1 to 9 reads a script of version 1 and plays it to an
+/// engine of which so many lives may be begun; the word `drive` plays it to a driver between a UCI
+/// interface and a CECP engine. Both write the marks of its events and of the lines that come of
+/// them.
 ///
 /// The word `moves` joins the words behind it by blanks, as the text of a position (PGN standard,
 /// section 16.1), and writes its legal moves, one a line, in the byte order of their texts; it reads
@@ -184,6 +195,14 @@ pub fn replay_main<I: Source, O: Sink, D: Sink>(
         (streams (I.state input.new) (O.state output.new) (D.state diag.new)) result.code }
     ensures judge { command_of (texts words.now) ≡ Some asked.Judge
         → Judged ((input.new ≡ input.old) × (output.new ≡ output.old))
+        (streams (I.state input.old) (O.state output.old) (D.state diag.old))
+        (streams (I.state input.new) (O.state output.new) (D.state diag.new)) result.code }
+    ensures revive { (lives : ℕ) → command_of (texts words.now) ≡ Some (asked.Revive lives)
+        → Revived lives ((input.new ≡ input.old) × (output.new ≡ output.old))
+        (streams (I.state input.old) (O.state output.old) (D.state diag.old))
+        (streams (I.state input.new) (O.state output.new) (D.state diag.new)) result.code }
+    ensures drive { command_of (texts words.now) ≡ Some asked.Drive
+        → Driven ((input.new ≡ input.old) × (output.new ≡ output.old))
         (streams (I.state input.old) (O.state output.old) (D.state diag.old))
         (streams (I.state input.new) (O.state output.new) (D.state diag.new)) result.code }
     ensures games { (settings : AnySettings)

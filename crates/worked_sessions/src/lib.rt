@@ -14,6 +14,8 @@ mod moves;
 #[cfg(test)]
 mod numbered;
 #[cfg(test)]
+mod played;
+#[cfg(test)]
 mod pondering;
 #[cfg(test)]
 mod results;

@@ -19,6 +19,12 @@ returns-clause-migrate g c = does.migrated _ _ _ _ _ _ _ (does.at_code _ _ _ _ _
 pub returns-clause-judge : goal.returns-clause-judge
 returns-clause-judge g c = does.judged _ _ _ _ _ _ _ (does.at_code _ _ _ _ _ _ _ _ c.code.ensures c.run_words.ensures)
 
+pub returns-clause-revive : goal.returns-clause-revive
+returns-clause-revive g c = does.revived _ _ _ _ _ _ _ (does.at_code _ _ _ _ _ _ _ _ c.code.ensures c.run_words.ensures)
+
+pub returns-clause-drive : goal.returns-clause-drive
+returns-clause-drive g c = does.driven _ _ _ _ _ _ _ (does.at_code _ _ _ _ _ _ _ _ c.code.ensures c.run_words.ensures)
+
 pub returns-clause-games : goal.returns-clause-games
 returns-clause-games g c = does.games_written _ _ _ _ _ _ _ (does.at_code _ _ _ _ _ _ _ _ c.code.ensures c.run_words.ensures)
 

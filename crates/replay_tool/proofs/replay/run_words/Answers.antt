@@ -29,6 +29,18 @@ returns-in-Some-Judge g c =
     (sym c.read_command.ensures.value ∙ ap (option_map asked) (c.in-Some-Judge.is ∙ ap (λ (k : Command). Some k) c.in-Some-Judge.field-0-is))
     c.run_judge.ensures
 
+pub returns-in-Some-Revive : goal.returns-in-Some-Revive
+returns-in-Some-Revive g c =
+    is_done _ _ _ _ _ _ _ _
+    (sym c.read_command.ensures.value ∙ ap (option_map asked) (c.in-Some-Revive.is ∙ ap (λ (k : Command). Some k) c.in-Some-Revive.field-0-is))
+    c.run_revive.ensures
+
+pub returns-in-Some-Drive : goal.returns-in-Some-Drive
+returns-in-Some-Drive g c =
+    is_done _ _ _ _ _ _ _ _
+    (sym c.read_command.ensures.value ∙ ap (option_map asked) (c.in-Some-Drive.is ∙ ap (λ (k : Command). Some k) c.in-Some-Drive.field-0-is))
+    c.run_drive.ensures
+
 pub returns-in-Some-Games : goal.returns-in-Some-Games
 returns-in-Some-Games g c =
     is_done _ _ _ _ _ _ _ _
