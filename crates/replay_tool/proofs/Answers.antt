@@ -1,34 +1,31 @@
 -- What the program answers.
-use Rattle.std.proofs.Common.{true, ◌≡◌, ℕ, ◌+◌, take, ◌^◌, ◌<◌, ◌≤◌, List, [], length, Option, Some, None, refl, sym, ap, subst, ◌∙◌, ◌⊎◌, inl, inr, arith, length-append, ◌≢◌, append-nil}
+use Rattle.std.proofs.Common.{true, ◌≡◌, ℕ, ◌+◌, take, map, ◌^◌, ◌<◌, ◌≤◌, List, [], ◌∷◌, length, Option, Some, None, refl, sym, ap, subst, ◌∙◌, ◌⊎◌, inl, inr, arith, length-append, ◌≢◌, append-nil}
 use Rattle.std.specs.Io.KnownBytes.{Appends, Consumes}
 use Rattle.line_io.specs.Causes.{Rose}
-use Rattle.line_io.specs.Lines.{Piece, items}
+use Rattle.line_io.specs.Lines.{Piece, items, piece_of}
 use Rattle.line_io.specs.Runs.{whole}
 use Rattle.command_endings.specs.declared.ending.Ending.{Ending}
 use Rattle.command_endings.specs.declared.ending.Ending.TheVariants as endings
 use Rattle.command_endings.specs.Diagnostics.{code_of, diagnostic}
 use Rattle.std.proofs.KnownBytes.{Appends-nil, Appends-trans}
 use Rattle.policy_rules.specs.declared.settings.Settings.{Settings}
-use Rattle.script_player.specs.Versions.{Version, script_by, script_events, script_fault, settings_by, version_in}
-use Rattle.line_io.specs.Event.{Event}
+use Rattle.script_player.specs.Versions.{Version, beginning, behind_header, events_by, events_of, fault_by, script_by, script_events, script_fault, settings_by, version_in}
+use Rattle.line_io.specs.Event.{Event, Open}
 use Rattle.adapter_core.specs.Trace.{Step, Lawful, state}
-use Rattle.adapter_core.specs.Stands.{IsOneDialogue}
 use Rattle.adapter_core.proofs.Unique.{unique}
 use Rattle.std.proofs.Math.Seq.{take-append-add}
-use Rattle.session_script.specs.Script.{script1 as whole_script}
 use Rattle.session_script.proofs.Scripts.{all_told, same_trace}
-use Rattle.replay_tool.specs.Reading.{opened}
-use Rattle.replay_tool.proofs.Plain.{first_version, front_version, plain_events, plain_fault}
-use Rattle.replay_tool.proofs.Replayed.{replays_lines, faultless_marked, no_fault_in}
+use Rattle.replay_tool.proofs.HeaderLines.{fault_version, script_behind, script_version}
+use Rattle.replay_tool.proofs.Replayed.{all_read, lines_behind, no_fault_in}
 use Rattle.command_endings.specs.Told.{Told}
 use Rattle.command_endings.specs.Reads.{AreFirst, AreRead, IsAll}
 use Rattle.replay_tool.specs.Replay.{EndsAs, IsScripted, ReplaysAll, ReplaysTo, ReplaysWhole, ReplaysMuch, CutShort}
 use Rattle.command_endings.specs.Ran.{Ran, WritingBroke}
 use Rattle.command_endings.specs.Streams.{Streams, AreSame, IsSteady}
-use Rattle.replay_tool.specs.Replayed.{IsTheSession, WritesScript, AllReplayed, FaultReported, WholeReplayed, MuchReplayed, FrontWritten, CompletesReplay, TellsFault, WritesItAgain, Replayed}
+use Rattle.replay_tool.specs.Replayed.{IsTheSession, WritesScript, AllReplayed, FaultReported, WholeReplayed, MuchReplayed, FrontWritten, CompletesReplay, TellsFault, IsProperIn, WritesItAgain, Replayed}
 use Rattle.replay_tool.specs.Laws.{HaveLaws}
 use Rattle.session_script.specs.Script.{events}
-use Rattle.script_player.proofs.VersionLines.{script_fault_stays}
+use Rattle.script_player.proofs.VersionLines.{behind_more, script_fault_stays}
 use Rattle.command_endings.proofs.Readings.{few_got, whole_first}
 
 not_none : (a : Option Ending) (f : Ending) → a ≡ None → a ≡ Some f → ⊥
@@ -48,7 +45,7 @@ same_fault l0 lines x f a e i =
 no_fault : (l0 : Option (List ℕ)) (got x : List ℕ) → IsAll l0 got → l0 ≡ Some x → script_fault (items 131072 got) ≡ None → script_fault (items 131072 x) ≡ None
 no_fault l0 got x a e n = ap (λ (l : List ℕ). script_fault (items 131072 l)) (subst (λ (l : Option (List ℕ)). IsAll l got) e a) ∙ n
 
-module _ (o : Settings) (unread kept : Type 0) (start now : Streams) (one : IsOneDialogue o) where
+module _ (o : Settings) (unread kept : Type 0) (start now : Streams) where
   abbrev untouched : Type 0
   untouched = unread × kept
 
@@ -311,28 +308,39 @@ module _ (o : Settings) (unread kept : Type 0) (start now : Streams) (one : IsOn
 
   -- A SCRIPT THAT IS REPLAYED
 
-  module _ (t : List Step) (lawful : Lawful o t) (op : (state o t).ends.opened ≡ true) (input : start.input.left ≡ Some (whole_script t)) where
-    whole_again : ReplaysAll o start now → Appends start.output.taken now.output.taken (whole_script t)
+  module _ (v : Version) (proper : IsProperIn v) (t : List Step) (lawful : Lawful (settings_by v o) t) (op : (state (settings_by v o) t).ends.opened ≡ true) (input : start.input.left ≡ Some (script_by v t)) where
+    abbrev q : Settings
+    q = settings_by v o
+
+    abbrev script_lines : List Piece
+    script_lines = items 131072 (script_by v t)
+
+    is_version : version_in script_lines ≡ v
+    is_version = script_version v proper t (all_told q t lawful)
+
+    behind : behind_header v script_lines ≡ map (piece_of 131072) (lines_behind v t)
+    behind = script_behind v proper t (all_told q t lawful)
+
+    whole_again : ReplaysAll o start now → Appends start.output.taken now.output.taken (script_by v t)
     whole_again r =
-        let got : r.got ≡ whole_script t = sym (subst (λ (l : Option (List ℕ)). IsAll l r.got) input r.all) in
-        let lines_are : items 131072 r.got ≡ items 131072 (whole_script t) = ap (items 131072) got in
-        let s = subst (IsScripted o start now) lines_are r.scripted in
-        let free : script_fault (items 131072 (whole_script t)) ≡ None = ap script_fault (sym lines_are) ∙ r.fine in
-        let v = first_version t (all_told o t lawful) in
-        let told = (replays_lines o t lawful op (faultless_marked 1 opened (items 131072 (whole_script t)) (sym (plain_fault (items 131072 (whole_script t)) v) ∙ free))).1 in
-        let lawful' = subst (λ (x : Version). Lawful (settings_by x o) s.trace) v s.lawful in
-        let same = same_trace o one s.trace t lawful' lawful (s.events_are ∙ plain_events (items 131072 (whole_script t)) v ∙ told) in
-        subst (Appends start.output.taken now.output.taken) (sym (append-nil s.written) ∙ s.script_is ∙ ap (λ (x : Version). script_by x s.trace) v ∙ ap whole_script same) s.appended
+        let got : r.got ≡ script_by v t = sym (subst (λ (l : Option (List ℕ)). IsAll l r.got) input r.all) in
+        let s = subst (IsScripted o start now) (ap (items 131072) got) r.scripted in
+        let lawful' = subst (λ (x : Version). Lawful (settings_by x o) s.trace) is_version s.lawful in
+        let told = s.events_are ∙ ap (λ (x : Version). events_by x script_lines) is_version ∙ ap (λ (ls : List Piece). Open ∷ events_of (beginning v) ls) behind in
+        let same = same_trace q (unique q) s.trace t lawful' lawful (all_read o v (unique q) s.trace t lawful' s.short lawful op told) in
+        subst (Appends start.output.taken now.output.taken) (sym (append-nil s.written) ∙ s.script_is ∙ ap (λ (x : Version). script_by x s.trace) is_version ∙ ap (script_by v) same) s.appended
 
     -- a fault is none
     no_fault_to : (fault : Ending) → ReplaysTo o fault start now → ⊥
     no_fault_to fault p =
         let first = subst (λ (l : Option (List ℕ)). AreFirst l p.lines) input p.read.of_left in
-        let v = front_version p.lines first.0 (sym (ap version_in first.1) ∙ first_version t (all_told o t lawful)) in
-        no_fault_in o one p.scripted.trace t (subst (λ (x : Version). Lawful (settings_by x o) p.scripted.trace) v p.scripted.lawful) p.scripted.short lawful op p.lines first.0 fault
-        (sym (plain_fault p.lines v) ∙ p.is_fault) (p.scripted.events_are ∙ plain_events p.lines v) first.1
+        let w : version_in p.lines ≡ v = fault_version p.lines first.0 fault p.is_fault ∙ sym (ap version_in first.1) ∙ is_version in
+        let s = p.scripted in
+        no_fault_in o v (unique q) s.trace t (subst (λ (x : Version). Lawful (settings_by x o) s.trace) w s.lawful) s.short lawful op (behind_header v p.lines) first.0 fault
+        (sym (ap (λ (x : Version). fault_by x p.lines) w) ∙ p.is_fault) (s.events_are ∙ ap (λ (x : Version). events_by x p.lines) w)
+        (sym behind ∙ ap (behind_header v) first.1 ∙ behind_more v p.lines first.0 w)
 
-    again_of : (e : Ending) → Ends e → (code : ℕ) → code ≡ code_of e → code ≢ 3 → code ≢ 4 → code ≢ 5 → code ≢ 6 → (code ≡ 0) × Appends start.output.taken now.output.taken (whole_script t)
+    again_of : (e : Ending) → Ends e → (code : ℕ) → code ≡ code_of e → code ≢ 3 → code ≢ 4 → code ≢ 5 → code ≢ 6 → (code ≡ 0) × Appends start.output.taken now.output.taken (script_by v t)
     again_of endings.Done p code c n3 n4 n5 n6 = (c, whole_again p)
     again_of (endings.Differs k) p code c n3 n4 n5 n6 = absurd p
     again_of (endings.Unlawful k) p code c n3 n4 n5 n6 = absurd p
@@ -347,7 +355,7 @@ module _ (o : Settings) (unread kept : Type 0) (start now : Streams) (one : IsOn
     again_of endings.TooLong p code c n3 n4 n5 n6 = absurd (n6 c)
 
   again : (code : ℕ) → R code → WritesItAgain o start now code
-  again code r t l op e n3 n4 n5 n6 = again_of t l op e r.ending r.ends code (code_is code r.ending r.tells n5).0 n3 n4 n5 n6
+  again code r v t p l op e n3 n4 n5 n6 = again_of v p t l op e r.ending r.ends code (code_is code r.ending r.tells n5).0 n3 n4 n5 n6
 
   pub replayed : (code : ℕ) → HaveLaws o → R code → Replayed o unread kept start now code
   replayed code laws r = record {

@@ -1,15 +1,10 @@
--- What a turn of a check comes to.
-use Rattle.std.proofs.Common.{◌≡◌, ◌⊎◌, inl, inr, ℕ, suc, ◌+◌, ◌≤◌, List, [], ◌∷◌, ◌++◌, map, length, Bool, true, false, Option, Some, None, IsTrue, Result, Ok, Err, refl, ap, sym, subst, ◌∙◌, arith, append_assoc, append-nil, length-append}
-use Rattle.std.proofs.KnownBytes.{Appends-nil, Consumes-nil}
-use Rattle.line_io.specs.declared.lines.Item.{Item}
-use Rattle.line_io.specs.declared.lines.Item.TheVariants as answers
-use Rattle.line_io.specs.declared.faults.ReadFault.{ReadFault}
+-- What a line shows in a check.
+use Rattle.std.proofs.Common.{◌≡◌, ◌⊎◌, inl, inr, ℕ, ◌+◌, ◌^◌, ◌≤◌, List, [], ◌∷◌, ◌++◌, map, length, Option, Some, None, refl, ap, sym, subst, ◌∙◌, arith, append_assoc, length-append}
 use Rattle.line_io.specs.Event.{Event, Open}
-use Rattle.line_io.specs.Lending.{outcome}
-use Rattle.line_io.specs.Lines.{Piece, Whole, TooLong, Held, Given, Gave, parts, items, IsWaiting, flag}
-use Rattle.line_io.specs.Runs.{Runs, begins as runs_begin, goes, goes_on, pieces_of, Call, whole}
-use Rattle.line_io.proofs.Runs.{at_end, at_fault, at_wait, few_calls}
-use Rattle.line_io.specs.Source.{Supplied}
+use Rattle.line_io.specs.Lines.{Piece, Whole, TooLong, parts, items}
+use Rattle.line_io.specs.Runs.{Runs, whole}
+use Rattle.line_io.specs.Taken.{IsOpenStill}
+use Rattle.line_io.specs.Takers.{Then}
 use Rattle.script_lines.specs.Header.{header_of, header_text}
 use Rattle.script_lines.specs.StepLine.{step_line}
 use Rattle.script_lines.proofs.Headers.{header_spelled}
@@ -29,11 +24,12 @@ use Rattle.script_player.specs.declared.stage.Stage.TheVariants as stages
 use Rattle.replay_tool.specs.declared.check.Checker.{Checker}
 use Rattle.replay_tool.specs.Check.{lines_by, AreScript, BeginScript, ScriptBy, BeginBy, Parts, ByLine, AtEnd, BeginsWhole, BeginsMuch, Finds, kind_in}
 use Rattle.script_player.specs.Versions.{Version, First, Second, version_by, version_in, HasNone}
-use Rattle.replay_tool.specs.Walked.{Fills, Heads, TakesFirst, TakesLater, TakesAny, OpensAtEnd, EndsAt, IsUnread, Standing, Placed, Walked, Examined}
-use Rattle.command_endings.specs.Streams.{Streams, with_input}
-use Rattle.command_endings.specs.Reads.{Got, IsAll, AreRead, AreFirst}
-use Rattle.replay_tool.proofs.Turns.{Next, got_more, no_more, are_first, are_read}
-use Rattle.command_endings.proofs.Readings.{all_got}
+use Rattle.replay_tool.specs.Walked.{Fills, Heads, TakesFirst, TakesLater, TakesAny, OpensAtEnd, EndsAt, IsUnread, MayTake, Standing, Placed, Shown, Walked, checks}
+use Rattle.command_endings.specs.Streams.{Streams}
+use Rattle.command_endings.specs.Reads.{Got, IsAll, AreRead}
+use Rattle.command_endings.proofs.Readings.{whole_lines_read}
+use Rattle.replay_tool.proofs.Opens.{settings_at_first}
+use Rattle.replay_tool.proofs.StageLines.{unread_takes}
 use Rattle.script_player.proofs.VersionLines.{version_stays}
 use Rattle.replay_tool.proofs.Checks.{lines_are, longer_lines, IsSomeIn, no_whole, begin_number}
 use Rattle.replay_tool.proofs.Places.{Taken, Goes, Unmarked, MayNot, Other, shows_begin, shows_end, taken_plain, written_is, written_still}
@@ -144,141 +140,42 @@ opens_numbered o s core due line h f =
       );
     }
 
--- A TURN
+-- A LINE MORE
 
-module _ (o : Settings) (checker : Checker) (start before : Streams) (calls : ℕ) (w : Walked o checker start before calls) where
-  begin_of : (lines : List Piece) → Placed o checker.core checker.stage checker.due lines → BeginScript o lines
-  begin_of [] p = record { trace = []; lawful = tt; later = []; goes_on = refl }
-  begin_of (l ∷ ls) p = standing_begins o (version_in (l ∷ ls)) checker.core checker.stage checker.due (l ∷ ls) p (some_lines (version_in (l ∷ ls)) l ls)
+begin_of : (o : Settings) (core : AnyParts) (stage : Stage) (due : List ℕ) (lines : List Piece) → Placed o core stage due lines → BeginScript o lines
+begin_of o core stage due [] p = record { trace = []; lawful = tt; later = []; goes_on = refl }
+begin_of o core stage due (l ∷ ls) p = standing_begins o (version_in (l ∷ ls)) core stage due (l ∷ ls) p (some_lines (version_in (l ∷ ls)) l ls)
 
-  begin : BeginScript o w.lines
-  begin = begin_of w.lines w.placed
+-- what was made of lines, where the check is now so
+abbrev pub Examined : Settings → List Piece → Option Ending → Checker → Type 0
+Examined o lines None checker = Walked o checker lines
+Examined o lines (Some ending) checker = Shown o ending lines
 
-  -- no whole line is left to be taken
-  on_whole : (now : Streams) (got : List ℕ) → Got start now got → w.lines ≡ whole 131072 got → BeginsWhole o start now
-  on_whole now got g same = record {
-    got = got;
-    reads = g;
-    of_left = subst (AreFirst start.input.left) same (are_first start before checker.lines w.got w.lines calls w.runs w.reads w.ended);
-    begins = subst (BeginScript o) same begin;
-  }
+pub then_by : {O : Type 0} → (checker0 : Checker) (output0 : O) (lines : List Piece) (result : Option Ending) (checker : Checker) (output : O) → ((o : Settings) → IsUnread o checker0 → Examined o lines result checker) → Then checks checker0 output0 lines result checker output
+then_by checker0 output0 lines None checker output f = f
+then_by checker0 output0 lines (Some ending) checker output f = f
 
-  pub on_many : IsWaiting checker.lines → 8589934592 ≤ calls → BeginsMuch o start before
-  unfolding on_whole
-  on_many wait l =
-      let few = few_calls 131072 calls checker.lines w.got w.lines w.runs in
-      let live : flag checker.lines.ended ≡ 0 = ap flag wait.1 in
-      let same = at_wait 131072 calls checker.lines w.got w.lines w.runs wait in
-      record {
-        begins = on_whole before w.got w.reads same;
-        least = omega arith;
-        held = checker.lines;
-        calls = calls;
-        runs = subst (λ (ls : List Piece). Runs 131072 checker.lines w.got ls calls) same w.runs;
-        waits = wait;
-      }
+module _ (o : Settings) (checker : Checker) (before : List Piece) (w : Walked o checker before) where
+  begin : BeginScript o before
+  begin = begin_of o checker.core checker.stage checker.due before w.placed
 
-  module _ (new : Held) (input : Supplied) (result : Result Item ReadFault) (n : Next checker.lines new before (with_input before input) result) where
-    abbrev now : Streams
-    now = with_input before input
-
-    abbrev all : List ℕ
-    all = w.got ++ n.0
-
-    got : Got start now all
-    got = got_more start before now w.got n.0 w.reads n.1
-
-    call : Call checker.lines new n.0 result
-    call = record { advances = n.2; answers = n.4 }
-
-    ended : new.ended ≡ true → IsAll start.input.left all
-    ended e = was checker.lines.ended refl where
-      was : (b : Bool) → checker.lines.ended ≡ b → IsAll start.input.left all
-      was true x = no_more start.input.left w.got n.0 ((n.2).idle (inr x)) (w.ended x)
-      was false x = all_got start.input.left input.left all (got.left) (n.3 (x, e))
-
-  -- More: no line
-  pub on_more : (new : Held) (input : Supplied) → Next checker.lines new before (with_input before input) (Ok answers.More) → Walked o (record checker { lines = new }) start (with_input before input) (suc calls)
-  on_more new input n = record {
-    got = w.got ++ n.0;
-    lines = w.lines;
-    runs = subst (λ (x : List Piece). Runs 131072 new (w.got ++ n.0) x (suc calls)) (append-nil w.lines) (goes w.runs (call new input (Ok answers.More) n) refl);
-    reads = got new input (Ok answers.More) n;
-    ended = ended new input (Ok answers.More) n;
-    number = w.number;
-    placed = w.placed;
-  }
-
-  -- a fault of the input
-  pub on_fault : (new : Held) (input : Supplied) (f : ReadFault) → Next checker.lines new before (with_input before input) (Err f) → BeginsWhole o start (with_input before input)
-  on_fault new input f n =
-      on_whole (with_input before input) (w.got ++ n.0) (got new input (Err f) n) (at_fault 131072 calls checker.lines new w.got n.0 w.lines (Err f) w.runs (call new input (Err f) n) refl)
-
-  ended_of : (lines : List Piece) → Placed o checker.core checker.stage checker.due lines → (n : ℕ) (answer : Ending) → EndsAt checker.core checker.stage checker.due n answer → Ended o (version_in lines) lines n answer
-  ended_of [] p n answer e = opened (subst (λ (x : Stage). EndsAt checker.core x checker.due n answer) p.1 e) where
-    opened : OpensAtEnd checker.core n answer → Ended o First [] n answer
-    opened x = shows_end o First x.core stages.Plain x.lines [] (opens_plain o checker.core x.core x.lines p.0 x.opens) tt ((opens_plain o checker.core x.core x.lines p.0 x.opens).at) n answer x.ending
-  ended_of (l ∷ ls) p n answer e = standing_ends o (version_in (l ∷ ls)) checker.core checker.stage checker.due (l ∷ ls) p (some_lines (version_in (l ∷ ls)) l ls) n answer e
-
-  -- the end of the input
-  pub on_end : (new : Held) (input : Supplied) → Next checker.lines new before (with_input before input) (Ok answers.End) → (answer : Ending) → EndsAt checker.core checker.stage checker.due checker.number answer
-      → Finds o answer start (with_input before input)
-  on_end new input n answer e = by (ended_of w.lines w.placed checker.number answer e) where
-    now' : Streams
-    now' = with_input before input
-
-    c : Call checker.lines new n.0 (Ok answers.End)
-    c = call new input (Ok answers.End) n
-
-    same : w.lines ≡ items 131072 (w.got ++ n.0)
-    same = at_end 131072 calls checker.lines new w.got n.0 w.lines (Ok answers.End) w.runs c refl
-
-    by : Ended o (version_in w.lines) w.lines checker.number answer → Finds o answer start (with_input before input)
-    by (inl x) = subst (λ (a : Ending). Finds o a start (with_input before input)) (sym x.0) (record {
-      got = w.got ++ n.0;
-      reads = got new input (Ok answers.End) n;
-      all = ended new input (Ok answers.End) n ((c.answers.end.0 refl).0);
-      script = subst (AreScript o) same x.1;
-    })
-    by (inr x) = subst (λ (a : Ending). Finds o a start (with_input before input)) (sym x.0) (AtEnd (record {
-      got = w.got ++ n.0;
-      reads = got new input (Ok answers.End) n;
-      all = ended new input (Ok answers.End) n ((c.answers.end.0 refl).0);
-      number_is = ap (λ k. k + 1) w.number ∙ ap (λ (ls : List Piece). length ls + 1) same;
-      begins = subst (BeginScript o) same begin;
-      lacks = λ a. x.1 (subst (AreScript o) (sym same) a);
-    }))
-
-  -- a line, or a long one
-  module _ (new : Held) (input : Supplied) (item : Item) (p : Piece) (n : Next checker.lines new before (with_input before input) (Ok item)) (is : outcome (Ok item) ≡ Gave p) (on : IsTrue (goes_on (Ok item))) where
-    abbrev then : Streams
-    then = with_input before input
-
+  module _ (p : Piece) (number : ℕ) (number_is : number ≡ length before + 1) where
     abbrev more : List Piece
-    more = w.lines ++ p ∷ []
+    more = before ++ p ∷ []
 
-    runs_on : Runs 131072 new (w.got ++ n.0) more (suc calls)
-    runs_on = subst (λ (g : Given). Runs 131072 new (w.got ++ n.0) (w.lines ++ pieces_of g) (suc calls)) is (goes w.runs (call new input (Ok item) n) on)
-
-    read_on : AreRead start then more
-    read_on = are_read start then new (w.got ++ n.0) more (suc calls) runs_on (got new input (Ok item) n) (ended new input (Ok item) n)
-
-    abbrev parts_at : (BeginScript o more → ⊥) → Parts o (checker.number + 1) start then
-    parts_at never = record { before = w.lines; line = p; read = read_on; number_is = ap (λ k. k + 1) w.number; begins = begin; differs = never }
+    -- the line is the first up to which the lines begin no script
+    abbrev parts_at : (BeginScript o more → ⊥) → (start now : Streams) → AreRead start now more → Parts o number start now
+    parts_at never start now read = record { before = before; line = p; read = read; number_is = number_is; begins = begin; differs = never }
 
     abbrev checker_with : AnyParts → Stage → List ℕ → Checker
-    checker_with core stage due = record { core = core; lines = new; stage = stage; due = due; number = checker.number + 1 }
+    checker_with core stage due = record { core = core; stage = stage; due = due; number = number }
 
     -- the lines with this one stand
-    goes_to : (core : AnyParts) (stage : Stage) (due : List ℕ) → Placed o core stage due more → Walked o (checker_with core stage due) start then (suc calls)
-    goes_to core stage due placed = record {
-      got = w.got ++ n.0;
-      lines = more;
-      runs = runs_on;
-      reads = got new input (Ok item) n;
-      ended = ended new input (Ok item) n;
-      number = let z : checker.number + 1 ≡ length more = omega (arith, length-append w.lines (p ∷ []), w.number) in z;
+    goes_to : (core : AnyParts) (stage : Stage) (due : List ℕ) → MayTake core stage → Placed o core stage due more → Walked o (checker_with core stage due) more
+    goes_to core stage due may placed = record {
+      number = let z : number ≡ length more = omega (arith, length-append before (p ∷ []), number_is) in z;
       placed = placed;
+      may = may;
     }
 
     place_more : (ls : List Piece) (core : AnyParts) (stage : Stage) (due : List ℕ) → Standing o (version_in (ls ++ p ∷ [])) core stage due (ls ++ p ∷ []) → Placed o core stage due (ls ++ p ∷ [])
@@ -286,26 +183,29 @@ module _ (o : Settings) (checker : Checker) (start before : Streams) (calls : �
     place_more (l ∷ ls) core stage due st = st
 
     -- what the line came to, where it does not tell another version
-    on_taken : version_in more ≡ version_in w.lines → (answer : Option Ending) (core : AnyParts) (stage : Stage) (due : List ℕ) → Taken o (version_in w.lines) w.lines p (checker.number + 1) answer core stage due
-        → Examined o answer (checker_with core stage due) start then calls
-    on_taken v answer core stage due (Goes e st) =
-        subst (λ (x : Option Ending). Examined o x (checker_with core stage due) start then calls) (sym e)
-        (goes_to core stage due (place_more w.lines core stage due (subst (λ (x : Version). Standing o x core stage due more) (sym v) st)))
-    on_taken v answer core stage due (Unmarked e never u) =
-        subst (λ (x : Option Ending). Examined o x (checker_with core stage due) start then calls) (sym e)
-        (record { parts = parts_at (λ b. never (subst (λ (x : Version). BeginBy o x more) v b)); unmarked = u })
-    on_taken v answer core stage due (MayNot e never event k a m) =
-        subst (λ (x : Option Ending). Examined o x (checker_with core stage due) start then calls) (sym e)
-        (record { parts = parts_at (λ b. never (subst (λ (x : Version). BeginBy o x more) v b)); event = event; is_event = k; awaited = a; may_not = m })
-    on_taken v answer core stage due (Other e never k a) =
-        subst (λ (x : Option Ending). Examined o x (checker_with core stage due) start then calls) (sym e)
-        (ByLine (record { parts = parts_at (λ b. never (subst (λ (x : Version). BeginBy o x more) v b)); is_marked = k; other = a }))
+    on_taken : version_in more ≡ version_in before → (answer : Option Ending) (core : AnyParts) (stage : Stage) (due : List ℕ) → MayTake core stage → Taken o (version_in before) before p number answer core stage due
+        → Examined o more answer (checker_with core stage due)
+    on_taken v answer core stage due may (Goes e st) =
+        subst (λ (x : Option Ending). Examined o more x (checker_with core stage due)) (sym e)
+        (goes_to core stage due may (place_more before core stage due (subst (λ (x : Version). Standing o x core stage due more) (sym v) st)))
+    on_taken v answer core stage due may (Unmarked e never u) =
+        subst (λ (x : Option Ending). Examined o more x (checker_with core stage due)) (sym e)
+        (record { finds = λ start now read. record { parts = parts_at (λ b. never (subst (λ (x : Version). BeginBy o x more) v b)) start now read; unmarked = u }; of_line = λ h. cc })
+    on_taken v answer core stage due may (MayNot e never event k a m) =
+        subst (λ (x : Option Ending). Examined o more x (checker_with core stage due)) (sym e)
+        (record { finds = λ start now read. record { parts = parts_at (λ b. never (subst (λ (x : Version). BeginBy o x more) v b)) start now read; event = event; is_event = k; awaited = a; may_not = m }; of_line = λ h. cc })
+    on_taken v answer core stage due may (Other e never k a) =
+        subst (λ (x : Option Ending). Examined o more x (checker_with core stage due)) (sym e)
+        (record { finds = λ start now read. ByLine (record { parts = parts_at (λ b. never (subst (λ (x : Version). BeginBy o x more) v b)) start now read; is_marked = k; other = a }); of_line = λ h. cc })
 
     -- a line that is too long
-    pub on_long : p ≡ TooLong → Finds o (endings.NoMark (checker.number + 1)) start then
+    pub on_long : p ≡ TooLong → Shown o (endings.NoMark number) more
     on_long e = record {
-      parts = parts_at (λ b. none_long (version_in more) b);
-      unmarked = ap (kind_in (version_in w.lines)) e ∙ bare (version_in w.lines);
+      finds = λ start now read. record {
+        parts = parts_at (λ b. none_long (version_in more) b) start now read;
+        unmarked = ap (kind_in (version_in before)) e ∙ bare (version_in before);
+      };
+      of_line = λ h. cc;
     } where
       bare : (v : Version) → kind_in v TooLong ≡ HasNone
       bare First = refl
@@ -318,47 +218,93 @@ module _ (o : Settings) (checker : Checker) (start before : Streams) (calls : �
       never (x ∷ xs) (l ∷ ls) ms h = never xs ls ms (let z : map Whole xs ≡ ls ++ TooLong ∷ ms = cc in z)
 
       none_long : (v : Version) → BeginBy o v more → ⊥
-      none_long v b = never _ w.lines b.later (b.goes_on ∙ append_assoc w.lines (p ∷ []) b.later ∙ ap (λ (x : Piece). w.lines ++ x ∷ b.later) e)
+      none_long v b = never _ before b.later (b.goes_on ∙ append_assoc before (p ∷ []) b.later ∙ ap (λ (x : Piece). before ++ x ∷ b.later) e)
 
-    module _ (line : List ℕ) (line_is : p ≡ Whole line) (answer : Option Ending) (core : AnyParts) (stage : Stage) (due : List ℕ) where
+    module _ (line : List ℕ) (line_is : p ≡ Whole line) (answer : Option Ending) (core : AnyParts) (stage : Stage) (due : List ℕ) (may : MayTake core stage) where
       abbrev Came : Type 0
-      Came = Examined o answer (checker_with core stage due) start then calls
+      Came = Examined o more answer (checker_with core stage due)
 
-      more_is : {ls : List Piece} → w.lines ≡ ls → more ≡ ls ++ Whole line ∷ []
+      more_is : {ls : List Piece} → before ≡ ls → more ≡ ls ++ Whole line ∷ []
       more_is {ls} h = ap (λ (x : List Piece). x ++ p ∷ []) h ∙ ap (λ (x : Piece). ls ++ x ∷ []) line_is
 
-      on_first : w.lines ≡ [] → (header : Option Settings) → header_of line ≡ header → Stands o checker.core [] → TakesFirst header checker.core (checker.number + 1) line answer core stage due → Came
+      on_first : before ≡ [] → (header : Option Settings) → header_of line ≡ header → Stands o checker.core [] → TakesFirst header checker.core number line answer core stage due → Came
       on_first h None none st x =
-          let taken = taken_plain o x.core x.lines [] (opens_plain o checker.core x.core x.lines st x.opens) line (checker.number + 1) core stage due answer x.ending x.follows in
-          on_taken (ap version_in (more_is h) ∙ ap version_by none ∙ sym (ap version_in h)) answer core stage due
-          (subst (λ (ls : List Piece). Taken o (version_in ls) ls p (checker.number + 1) answer core stage due) (sym h)
-          (subst (λ (x : Piece). Taken o First [] x (checker.number + 1) answer core stage due) (sym line_is) taken))
+          let taken = taken_plain o x.core x.lines [] (opens_plain o checker.core x.core x.lines st x.opens) line number core stage due answer x.ending x.follows in
+          on_taken (ap version_in (more_is h) ∙ ap version_by none ∙ sym (ap version_in h)) answer core stage due may
+          (subst (λ (ls : List Piece). Taken o (version_in ls) ls p number answer core stage due) (sym h)
+          (subst (λ (x : Piece). Taken o First [] x number answer core stage due) (sym line_is) taken))
       on_first h (Some s) is st x =
           let opened = opens_numbered o s core due line is x.0 in
           let placed : Placed o core (stages.Told 0) due (Whole line ∷ []) = subst (λ (v : Version). Standing o v core (stages.Told 0) due (Whole line ∷ [])) (sym (ap version_by is)) opened in
-          subst (λ (a : Option Ending). Examined o a (checker_with core stage due) start then calls) (sym x.2)
-          (goes_to core stage due (subst (λ (y : Stage). Placed o core y due more) (sym x.1) (subst (λ (ls : List Piece). Placed o core (stages.Told 0) due ls) (sym (more_is h)) placed)))
+          subst (λ (a : Option Ending). Examined o more a (checker_with core stage due)) (sym x.2)
+          (goes_to core stage due may (subst (λ (y : Stage). Placed o core y due more) (sym x.1) (subst (λ (ls : List Piece). Placed o core (stages.Told 0) due ls) (sym (more_is h)) placed)))
 
-      pub on_line : TakesAny checker.core checker.stage checker.due (checker.number + 1) line answer core stage due → Came
-      on_line k = by w.lines refl w.placed where
-        by : (ls : List Piece) → w.lines ≡ ls → Placed o checker.core checker.stage checker.due ls → Came
-        by [] h placed = on_first h (header_of line) refl placed.0 (subst (λ (x : Stage). TakesAny checker.core x checker.due (checker.number + 1) line answer core stage due) placed.1 k)
+      pub on_line : TakesAny checker.core checker.stage checker.due number line answer core stage due → Came
+      on_line k = by before refl w.placed where
+        by : (ls : List Piece) → before ≡ ls → Placed o checker.core checker.stage checker.due ls → Came
+        by [] h placed = on_first h (header_of line) refl placed.0 (subst (λ (x : Stage). TakesAny checker.core x checker.due number line answer core stage due) placed.1 k)
         by (l ∷ ls) h st =
             let v = version_in (l ∷ ls) in
-            let later = started o v checker.core checker.stage checker.due (l ∷ ls) st line (checker.number + 1) answer core stage due k in
-            let taken = standing_takes o v checker.core checker.stage checker.due (l ∷ ls) st (some_lines v l ls) line (checker.number + 1) answer core stage due later in
-            on_taken (ap version_in (more_is h) ∙ version_stays l ls (Whole line ∷ []) ∙ sym (ap version_in h)) answer core stage due
-            (subst (λ (x : List Piece). Taken o (version_in x) x p (checker.number + 1) answer core stage due) (sym h)
-            (subst (λ (x : Piece). Taken o v (l ∷ ls) x (checker.number + 1) answer core stage due) (sym line_is) taken))
+            let later = started o v checker.core checker.stage checker.due (l ∷ ls) st line number answer core stage due k in
+            let taken = standing_takes o v checker.core checker.stage checker.due (l ∷ ls) st (some_lines v l ls) line number answer core stage due later in
+            on_taken (ap version_in (more_is h) ∙ version_stays l ls (Whole line ∷ []) ∙ sym (ap version_in h)) answer core stage due may
+            (subst (λ (x : List Piece). Taken o (version_in x) x p number answer core stage due) (sym h)
+            (subst (λ (x : Piece). Taken o v (l ∷ ls) x number answer core stage due) (sym line_is) taken))
+
+  -- THE END
+
+  ended_of : (lines : List Piece) → Placed o checker.core checker.stage checker.due lines → (n : ℕ) (answer : Ending) → EndsAt checker.core checker.stage checker.due n answer → Ended o (version_in lines) lines n answer
+  ended_of [] p n answer e = opened (subst (λ (x : Stage). EndsAt checker.core x checker.due n answer) p.1 e) where
+    opened : OpensAtEnd checker.core n answer → Ended o First [] n answer
+    opened x = shows_end o First x.core stages.Plain x.lines [] (opens_plain o checker.core x.core x.lines p.0 x.opens) tt ((opens_plain o checker.core x.core x.lines p.0 x.opens).at) n answer x.ending
+  ended_of (l ∷ ls) p n answer e = standing_ends o (version_in (l ∷ ls)) checker.core checker.stage checker.due (l ∷ ls) p (some_lines (version_in (l ∷ ls)) l ls) n answer e
+
+  module _ (start now : Streams) (got : List ℕ) (reads : Got start now got) where
+    -- all lines were taken, up to the end of the input
+    pub at_end : IsAll start.input.left got → before ≡ items 131072 got → (answer : Ending) → EndsAt checker.core checker.stage checker.due checker.number answer → Finds o answer start now
+    at_end all same answer e = by (ended_of before w.placed checker.number answer e) where
+      by : Ended o (version_in before) before checker.number answer → Finds o answer start now
+      by (inl x) = subst (λ (a : Ending). Finds o a start now) (sym x.0) (record {
+        got = got;
+        reads = reads;
+        all = all;
+        script = subst (AreScript o) same x.1;
+      })
+      by (inr x) = subst (λ (a : Ending). Finds o a start now) (sym x.0) (AtEnd (record {
+        got = got;
+        reads = reads;
+        all = all;
+        number_is = ap (λ k. k + 1) w.number ∙ ap (λ (ls : List Piece). length ls + 1) same;
+        begins = subst (BeginScript o) same begin;
+        lacks = λ a. x.1 (subst (AreScript o) (sym same) a);
+      }))
+
+    -- no whole line is left to be taken
+    pub at_whole : before ≡ whole 131072 got → BeginsWhole o start now
+    at_whole same = record {
+      got = got;
+      reads = reads;
+      of_left = (whole_lines_read start now got reads).of_left;
+      begins = subst (BeginScript o) same begin;
+    }
+
+    -- and the input is too long
+    pub at_many : before ≡ whole 131072 got → 2 ^ 32 ≤ length got → IsOpenStill 131072 got before → BeginsMuch o start now
+    unfolding at_whole
+    at_many same many still =
+        record {
+          begins = at_whole same;
+          least = many;
+          held = still.held;
+          calls = still.calls;
+          runs = subst (λ (ls : List Piece). Runs 131072 still.held got ls still.calls) same still.runs;
+          waits = still.waits;
+        }
 
 -- before the first line
-pub first_walk : (o : Settings) (checker : Checker) (start now : Streams) (input : Supplied) → IsUnread o checker → Walked o checker (with_input start input) (with_input now input) 0
-first_walk o checker start now input new = record {
-  got = [];
-  lines = [];
-  runs = subst (λ (held : Held). Runs 131072 held [] [] 0) (sym new.lines) runs_begin;
-  reads = record { given = Appends-nil input.given; left = Consumes-nil input.left };
-  ended = λ x. let e = sym (ap (λ (held : Held). held.ended) new.lines) ∙ x in cc;
+pub first_walk : (o : Settings) (checker : Checker) → IsUnread o checker → Walked o checker []
+first_walk o checker new = record {
   number = new.number;
   placed = (new.core, new.stage);
+  may = unread_takes checker.core checker.stage (subst (λ (s : Settings). Stands s checker.core []) (sym (settings_at_first o checker.core new.core)) new.core) new.stage;
 }

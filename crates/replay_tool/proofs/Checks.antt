@@ -21,7 +21,7 @@ use Rattle.session_script.proofs.Lines.{lines_of, event_lines, step_lines, AreTo
 use Rattle.session_script.proofs.Numbered.{number_line, lines_of2, script2_lines, script2_told, numbered_added, numbered_lines_added, NextNumbered, next_numbered}
 use Rattle.session_script.proofs.Scripts.{Next, added, later_events, script_told, all_told, some_opened, events_later, goes_on, same_trace, lines_added, next_line, event_line}
 use Rattle.replay_tool.specs.Check.{lines_by, ScriptBy, BeginBy, AwaitBy, mark_in}
-use Rattle.replay_tool.specs.Walked.{IsProperIn}
+use Rattle.replay_tool.specs.Replayed.{IsProperIn}
 use Rattle.script_player.specs.Versions.{Version, First, Second, settings_by, script_by, Tells, Numbers, kind_by, kind_of}
 use Rattle.replay_tool.proofs.StageLines.{some_may}
 

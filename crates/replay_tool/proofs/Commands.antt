@@ -15,7 +15,6 @@ use Rattle.script_migration.specs.Migrated.{Migrated}
 use Rattle.revival_script.specs.Revived.{Revived}
 use Rattle.driver_script.specs.Driven.{Driven}
 use Rattle.session_games.specs.GamesWritten.{GamesWritten}
-use Rattle.script_player.specs.Versions.{First}
 use Rattle.replay_tool.proofs.Answers as ran
 use Rattle.replay_tool.proofs.Verdicts as checks
 use Rattle.replay_tool.proofs.Listing as listing
@@ -37,7 +36,7 @@ module _ (unread kept silent : Type 0) (start now : Streams) (code : ℕ) where
   usage command d e = subst D e d
 
   pub replayed : (command : Option Asked) → D command → (o : Settings) → command ≡ Some (asked.Replay o) → Replayed o unread kept start now code
-  replayed command d o e = let x : D (Some (asked.Replay o)) = subst D e d in ran.replayed o unread kept start now (x.0 First).one_dialogue code x.0 x.1
+  replayed command d o e = let x : D (Some (asked.Replay o)) = subst D e d in ran.replayed o unread kept start now code x.0 x.1
 
   pub checked : (command : Option Asked) → D command → (o : Settings) → command ≡ Some (asked.Check o) → Checked o unread kept start now code
   checked command d o e = let x : D (Some (asked.Check o)) = subst D e d in checks.checked o unread kept start now x.0 code x.1
@@ -65,7 +64,7 @@ module _ (unread kept silent : Type 0) (start now : Streams) (code : ℕ) where
 
   pub memory : (command : Option Asked) → D command → code ≡ 3 → unread × kept
   memory None d z = absurd (told.no_told code start.diag now.diag 2 _ 3 (λ e. cc) (λ e. cc) d.told z)
-  memory (Some (asked.Replay o)) d z = ran.memory o unread kept start now (d.0 First).one_dialogue code d.1 z
+  memory (Some (asked.Replay o)) d z = ran.memory o unread kept start now code d.1 z
   memory (Some (asked.Check o)) d z = checks.memory o unread kept start now d.0 code d.1 z
   memory (Some (asked.Migrate o)) d z = d.memory z
   memory (Some asked.Judge) d z = d.memory z

@@ -18,7 +18,7 @@ use Rattle.script_player.specs.declared.stage.Stage.{Stage}
 use Rattle.script_player.specs.declared.stage.Stage.TheVariants as stages
 use Rattle.replay_tool.specs.Check.{lines_by, BeginBy, BeginScript, AwaitBy, AwaitEvent, kind_in, kind_under}
 use Rattle.script_player.specs.Versions.{Kind, Tells, Writes, Numbers, HasNone, kind_by, kind_of, Version, First, Second, version_by, version_in, behind_header, header_lines, settings_by, Place, Said, Comes, Passes, Starts, HasNoMark, IsOutOfStep, Cannot, kind_says, line_says, place_said, place_over, stage_told, fault_said, or_later, first_fault, opened, beginning, fault_by, script_fault}
-use Rattle.replay_tool.specs.Walked.{IsProperIn}
+use Rattle.replay_tool.specs.Replayed.{IsProperIn}
 use Rattle.script_player.proofs.VersionLines.{no_earlier, version_stays, behind_more}
 use Rattle.replay_tool.proofs.Checks.{reply_of, all_told_of, both_told, tells, lines_are}
 

@@ -1,6 +1,3 @@
-mod Marks
-mod Lines
-mod Turns
 mod Opens
 mod Answers
 mod Listing
@@ -12,10 +9,11 @@ mod Checks
 mod Places
 mod Numbers
 mod Checkers
+mod Audits
 mod Faults
 mod Verdicts
 mod Replayed
 mod Ended
 pub mod Drilling
 mod Finishes
-mod Plain
+mod HeaderLines

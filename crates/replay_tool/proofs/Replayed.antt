@@ -1,194 +1,88 @@
 -- A script that is replayed.
-use Rattle.std.proofs.Common.{◌≡◌, ℕ, suc, ◌+◌, List, [], ◌∷◌, ◌++◌, map, length, Bool, true, false, cond, nat_le, Option, Some, None, is_some, refl, ap, sym, subst, ◌∙◌, arith, append_assoc, ◌⊎◌, inl, inr}
+use Rattle.std.proofs.Common.{◌≡◌, ◌⊎◌, inl, inr, ℕ, suc, ◌+◌, ◌≤◌, ◌==◌, List, [], ◌∷◌, ◌++◌, map, length, Bool, true, false, cond, nat_le, Option, Some, None, is_some, refl, ap, sym, subst, ◌∙◌, arith, append_assoc, append-nil}
+use Rattle.std.specs.List.{AllByRecursion}
 use Rattle.std.proofs.lemmas.List.{map-append}
+use Rattle.std.proofs.lemmas.Bool.Decides.{nat_tests}
 use Rattle.line_io.specs.Event.{Event, Open}
-use Rattle.line_io.specs.Lines.{Piece, Whole, TooLong, parts, items, piece_of}
+use Rattle.line_io.specs.Lines.{Piece, Whole, TooLong, parts, piece_of}
 use Rattle.script_lines.specs.Marks.{Mark, Happens, ToIface, ToEngine, IsSpelled, is_written, mark_of, mark_text, event_text}
+use Rattle.script_lines.specs.StepLine.{step_number, step_of}
+use Rattle.script_lines.proofs.Numerals.{number_below, number_next, step_length}
+use Rattle.script_lines.proofs.Scripts.{has_lines, has_short_lines}
+use Rattle.script_lines.proofs.Spelled.{read_spelled}
 use Rattle.policy_rules.specs.declared.settings.Settings.{Settings}
 use Rattle.adapter_core.specs.declared.ends.Ends.{Ends}
-use Rattle.adapter_core.specs.Ends.{may, ends_after}
+use Rattle.adapter_core.specs.Ends.{may, ends_after, at_start}
 use Rattle.adapter_core.specs.Trace.{Step, Lawful, state, iface_text, engine_text}
 use Rattle.adapter_core.specs.Stands.{IsOneDialogue}
 use Rattle.session_script.specs.OneWay.{IsOpened}
-use Rattle.session_script.specs.Script.{script1, events, IsShortText, AreShort}
-use Rattle.session_script.proofs.Short.{HaveMarks, both_marked, written_marked}
+use Rattle.session_script.specs.Script.{events, IsShortText, AreShort}
+use Rattle.session_script.proofs.Short.{HaveMarks, written_marked}
 use Rattle.session_script.proofs.Lines.{behind, written_lines, event_lines, step_lines, lines_of}
-use Rattle.session_script.proofs.Lines as lines
-use Rattle.session_script.proofs.Scripts.{all_told, goes_on, added, lines_added, later_event, later_events, some_opened, events_later, event_line, one_later, only_open}
-use Rattle.script_lines.proofs.Spelled.{read_spelled}
-use Rattle.script_lines.proofs.Scripts.{has_lines, has_short_lines}
-use Rattle.replay_tool.specs.Check.{mark_in, AreMarked}
+use Rattle.session_script.proofs.Numbered.{number_line, numbered_lines, numbered_lines_added}
+use Rattle.session_script.proofs.Scripts.{goes_on, lines_added, later_event, later_events, some_opened, events_later, event_line, one_later, only_open}
 use Rattle.command_endings.specs.declared.ending.Ending.{Ending}
-use Rattle.replay_tool.specs.Reading.{Said, Comes, Passes, HasNoMark, Cannot, mark_says, line_says, ends_said, ends_over, fault_said, or_later, first_fault, events_said, events_of, opened}
-use Rattle.replay_tool.proofs.Lines.{no_earlier}
+use Rattle.script_player.specs.declared.stage.Stage.{Stage}
+use Rattle.script_player.specs.declared.stage.Stage.TheVariants as stages
+use Rattle.script_player.specs.Versions.{Kind, Tells, Writes, Numbers, kind_by, kind_of, Version, First, Second, header_lines, settings_by, Place, Said, Comes, Passes, Starts, IsOutOfStep, Cannot, kind_says, line_says, place_said, place_over, fault_said, or_later, first_fault, events_said, events_of, opened, beginning}
+use Rattle.script_player.proofs.VersionLines.{no_earlier, said_more}
+use Rattle.replay_tool.proofs.Checks.{more_in, event_kind, number_kind}
 
 -- LINES BEHIND LINES WITHOUT A FAULT
 
-ends_both : (ends : Ends) (ls ms : List Piece) → ends_over ends (ls ++ ms) ≡ ends_over (ends_over ends ls) ms
-ends_both ends [] ms = refl
-ends_both ends (l ∷ ls) ms = ends_both (ends_said ends (line_says ends l)) ls ms
+over_both : (place : Place) (ls ms : List Piece) → place_over place (ls ++ ms) ≡ place_over (place_over place ls) ms
+over_both place [] ms = refl
+over_both place (l ∷ ls) ms = over_both (place_said place (line_says place l)) ls ms
 
-fault_both : (n : ℕ) (ends : Ends) (ls ms : List Piece) → first_fault n ends ls ≡ None → first_fault (n + length ls) (ends_over ends ls) ms ≡ None → first_fault n ends (ls ++ ms) ≡ None
-fault_both n ends [] ms e f = subst (λ k. first_fault k ends ms ≡ None) (let z : n + 0 ≡ n = omega arith in z) f
-fault_both n ends (l ∷ ls) ms e f =
-    let p = no_earlier (fault_said n (line_says ends l)) (first_fault (n + 1) (ends_said ends (line_says ends l)) ls) e in
-    ap (λ a. or_later a (first_fault (n + 1) (ends_said ends (line_says ends l)) (ls ++ ms))) p.0
-    ∙ fault_both (n + 1) (ends_said ends (line_says ends l)) ls ms p.1 (subst (λ k. first_fault k (ends_over ends (l ∷ ls)) ms ≡ None) (let z : n + suc (length ls) ≡ n + 1 + length ls = omega arith in z) f)
+fault_both : (n : ℕ) (place : Place) (ls ms : List Piece) → first_fault n place ls ≡ None → first_fault (n + length ls) (place_over place ls) ms ≡ None → first_fault n place (ls ++ ms) ≡ None
+fault_both n place [] ms e f = subst (λ k. first_fault k place ms ≡ None) (let z : n + 0 ≡ n = omega arith in z) f
+fault_both n place (l ∷ ls) ms e f =
+    let p = no_earlier (fault_said n (line_says place l)) (first_fault (n + 1) (place_said place (line_says place l)) ls) e in
+    ap (λ a. or_later a (first_fault (n + 1) (place_said place (line_says place l)) (ls ++ ms))) p.0
+    ∙ fault_both (n + 1) (place_said place (line_says place l)) ls ms p.1 (subst (λ k. first_fault k (place_over place (l ∷ ls)) ms ≡ None) (let z : n + suc (length ls) ≡ n + 1 + length ls = omega arith in z) f)
 
-said_both : (n : ℕ) (s : Said) (es fs : List Event) → fault_said n s ≡ None → events_said s (es ++ fs) ≡ events_said s es ++ fs
-said_both n (Comes e) es fs f = refl
-said_both n Passes es fs f = refl
-said_both n HasNoMark es fs f = cc
-said_both n Cannot es fs f = cc
+-- without the lines behind
+fault_front : (n : ℕ) (place : Place) (ls ms : List Piece) → first_fault n place (ls ++ ms) ≡ None → first_fault n place ls ≡ None
+fault_front n place [] ms e = refl
+fault_front n place (l ∷ ls) ms e =
+    let p = no_earlier (fault_said n (line_says place l)) (first_fault (n + 1) (place_said place (line_says place l)) (ls ++ ms)) e in
+    ap (λ a. or_later a (first_fault (n + 1) (place_said place (line_says place l)) ls)) p.0
+    ∙ fault_front (n + 1) (place_said place (line_says place l)) ls ms p.1
 
-events_both : (n : ℕ) (ends : Ends) (ls ms : List Piece) → first_fault n ends ls ≡ None → events_of ends (ls ++ ms) ≡ events_of ends ls ++ events_of (ends_over ends ls) ms
-events_both n ends [] ms e = refl
-events_both n ends (l ∷ ls) ms e =
-    let p = no_earlier (fault_said n (line_says ends l)) (first_fault (n + 1) (ends_said ends (line_says ends l)) ls) e in
-    ap (events_said (line_says ends l)) (events_both (n + 1) (ends_said ends (line_says ends l)) ls ms p.1)
-    ∙ said_both n (line_says ends l) (events_of (ends_said ends (line_says ends l)) ls) (events_of (ends_over ends (l ∷ ls)) ms) p.0
+events_both : (n : ℕ) (place : Place) (ls ms : List Piece) → first_fault n place ls ≡ None → events_of place (ls ++ ms) ≡ events_of place ls ++ events_of (place_over place ls) ms
+events_both n place [] ms e = refl
+events_both n place (l ∷ ls) ms e =
+    let p = no_earlier (fault_said n (line_says place l)) (first_fault (n + 1) (place_said place (line_says place l)) ls) e in
+    ap (events_said (line_says place l)) (events_both (n + 1) (place_said place (line_says place l)) ls ms p.1)
+    ∙ said_more n (line_says place l) (events_of (place_said place (line_says place l)) ls) (events_of (place_over place (l ∷ ls)) ms) p.0
 
--- lines that were read without a fault: the events, and the sides after them
-pub record Fine (n : ℕ) (ends : Ends) (ls : List Piece) (es : List Event) (ends' : Ends) : Type 0 where
-  pub faultless : first_fault n ends ls ≡ None
-  pub events_are : events_of ends ls ≡ es
-  pub ends_are : ends_over ends ls ≡ ends'
+-- lines that were read without a fault: the events, and where the reading stands behind them
+pub record Fine (n : ℕ) (place : Place) (ls : List Piece) (es : List Event) (place' : Place) : Type 0 where
+  pub faultless : first_fault n place ls ≡ None
+  pub events_are : events_of place ls ≡ es
+  pub place_is : place_over place ls ≡ place'
 
-fine_both : (n : ℕ) (ends ends' ends'' : Ends) (ls ms : List Piece) (es fs : List Event) → Fine n ends ls es ends' → Fine (n + length ls) ends' ms fs ends'' → Fine n ends (ls ++ ms) (es ++ fs) ends''
-fine_both n ends ends' ends'' ls ms es fs f g = record {
-  faultless = fault_both n ends ls ms f.faultless (subst (λ (x : Ends). first_fault (n + length ls) x ms ≡ None) (sym f.ends_are) g.faultless);
-  events_are = events_both n ends ls ms f.faultless ∙ ap (λ (xs : List Event). xs ++ events_of (ends_over ends ls) ms) f.events_are ∙ ap (λ (x : Ends). es ++ events_of x ms) f.ends_are ∙ ap (λ (xs : List Event). es ++ xs) g.events_are;
-  ends_are = ends_both ends ls ms ∙ ap (λ (x : Ends). ends_over x ms) f.ends_are ∙ g.ends_are;
+fine_both : (n : ℕ) (place place' place'' : Place) (ls ms : List Piece) (es fs : List Event) → Fine n place ls es place' → Fine (n + length ls) place' ms fs place'' → Fine n place (ls ++ ms) (es ++ fs) place''
+fine_both n place place' place'' ls ms es fs f g = record {
+  faultless = fault_both n place ls ms f.faultless (subst (λ (x : Place). first_fault (n + length ls) x ms ≡ None) (sym f.place_is) g.faultless);
+  events_are = events_both n place ls ms f.faultless ∙ ap (λ (xs : List Event). xs ++ events_of (place_over place ls) ms) f.events_are ∙ ap (λ (x : Place). es ++ events_of x ms) f.place_is ∙ ap (λ (xs : List Event). es ++ xs) g.events_are;
+  place_is = over_both place ls ms ∙ ap (λ (x : Place). place_over x ms) f.place_is ∙ g.place_is;
 }
+
+none_fine : (n : ℕ) (place : Place) → Fine n place [] [] place
+none_fine n place = record { faultless = refl; events_are = refl; place_is = refl }
 
 -- ONE LINE
 
-one_comes : (n : ℕ) (ends : Ends) (l : Piece) (e : Event) → line_says ends l ≡ Comes e → Fine n ends (l ∷ []) (e ∷ []) (ends_after ends e)
-one_comes n ends l e says = record {
-  faultless = ap (λ (s : Said). or_later (fault_said n s) None) says;
-  events_are = ap (λ (s : Said). events_said s []) says;
-  ends_are = ap (ends_said ends) says;
+one_fine : (n : ℕ) (place : Place) (l : Piece) (s : Said) (es : List Event) → line_says place l ≡ s → fault_said n s ≡ None → events_said s [] ≡ es → Fine n place (l ∷ []) es (place_said place s)
+one_fine n place l s es says f e = record {
+  faultless = ap (λ (x : Said). or_later (fault_said n x) None) says ∙ ap (λ (a : Option Ending). or_later a None) f;
+  events_are = ap (λ (x : Said). events_said x []) says ∙ e;
+  place_is = ap (place_said place) says;
 }
 
-one_passes : (n : ℕ) (ends : Ends) (l : Piece) → line_says ends l ≡ Passes → Fine n ends (l ∷ []) [] ends
-one_passes n ends l says = record {
-  faultless = ap (λ (s : Said). or_later (fault_said n s) None) says;
-  events_are = ap (λ (s : Said). events_said s []) says;
-  ends_are = ap (ends_said ends) says;
-}
-
-none_fine : (n : ℕ) (ends : Ends) → Fine n ends [] [] ends
-none_fine n ends = record { faultless = refl; events_are = refl; ends_are = refl }
-
--- the mark of an event that may come
-comes : (ends : Ends) (e : Event) (p : Piece) → p ≡ Whole (event_text e) → mark_of (event_text e) ≡ Some (Happens e) → may ends e ≡ true → line_says ends p ≡ Comes e
-comes ends e p w m c = ap (line_says ends) w ∙ ap (mark_says ends) m ∙ ap (λ (b : Bool). cond b (Comes e) Cannot) c
-
--- a line that has a mark is not too long
-marked_whole : (line : List ℕ) → is_some (mark_in (piece_of 131072 line)) ≡ true → piece_of 131072 line ≡ Whole line
-marked_whole line = by (nat_le (length line) 131072) where
-  by : (b : Bool) → is_some (mark_in (cond b (Whole line) TooLong)) ≡ true → cond b (Whole line) TooLong ≡ Whole line
-  by true h = refl
-  by false h = cc
-
-iface_passes : (ends : Ends) (line : List ℕ) → is_some (mark_in (piece_of 131072 (behind 88 line))) ≡ true → line_says ends (piece_of 131072 (behind 88 line)) ≡ Passes
-iface_passes ends line h = let w = marked_whole (behind 88 line) h in ap (line_says ends) w ∙ by (is_written line) (ap (λ (p : Piece). is_some (mark_in p)) (sym w) ∙ h) where
-  by : (b : Bool) → is_some (cond b (Some (ToIface line)) None) ≡ true → mark_says ends (cond b (Some (ToIface line)) None) ≡ Passes
-  by true h = refl
-  by false h = cc
-
-engine_passes : (ends : Ends) (line : List ℕ) → is_some (mark_in (piece_of 131072 (behind 85 line))) ≡ true → line_says ends (piece_of 131072 (behind 85 line)) ≡ Passes
-engine_passes ends line h = let w = marked_whole (behind 85 line) h in ap (line_says ends) w ∙ by (is_written line) (ap (λ (p : Piece). is_some (mark_in p)) (sym w) ∙ h) where
-  by : (b : Bool) → is_some (cond b (Some (ToEngine line)) None) ≡ true → mark_says ends (cond b (Some (ToEngine line)) None) ≡ Passes
-  by true h = refl
-  by false h = cc
-
-abbrev pieces : List (List ℕ) → List Piece
-pieces ls = map (piece_of 131072) ls
-
-marked_both : (ls ms : List (List ℕ)) → AreMarked (pieces (ls ++ ms)) → AreMarked (pieces ls) × AreMarked (pieces ms)
-marked_both [] ms a = (tt, a)
-marked_both (l ∷ ls) ms a = let b = marked_both ls ms a.1 in ((a.0, b.0), b.1)
-
-iface_fine : (n : ℕ) (ends : Ends) (ps : List (List ℕ)) → AreMarked (pieces (map (behind 88) ps)) → Fine n ends (pieces (map (behind 88) ps)) [] ends
-iface_fine n ends [] a = none_fine n ends
-iface_fine n ends (p ∷ ps) a = fine_both n ends ends ends (piece_of 131072 (behind 88 p) ∷ []) (pieces (map (behind 88) ps)) [] [] (one_passes n ends _ (iface_passes ends p a.0)) (iface_fine (n + 1) ends ps a.1)
-
-engine_fine : (n : ℕ) (ends : Ends) (ps : List (List ℕ)) → AreMarked (pieces (map (behind 85) ps)) → Fine n ends (pieces (map (behind 85) ps)) [] ends
-engine_fine n ends [] a = none_fine n ends
-engine_fine n ends (p ∷ ps) a = fine_both n ends ends ends (piece_of 131072 (behind 85 p) ∷ []) (pieces (map (behind 85) ps)) [] [] (one_passes n ends _ (engine_passes ends p a.0)) (engine_fine (n + 1) ends ps a.1)
-
-pieces_both : (ls ms : List (List ℕ)) → pieces (ls ++ ms) ≡ pieces ls ++ pieces ms
-pieces_both ls ms = map-append (piece_of 131072) ls ms
-
--- the lines that a step wrote are passed over
-written_fine : (n : ℕ) (ends : Ends) (iface engine : List ℕ) → AreMarked (pieces (written_lines iface engine)) → Fine n ends (pieces (written_lines iface engine)) [] ends
-written_fine n ends iface engine a =
-    let xs = map (behind 88) (parts iface) in
-    let ys = map (behind 85) (parts engine) in
-    let m = marked_both xs ys a in
-    subst (λ (ls : List Piece). Fine n ends ls [] ends) (sym (pieces_both xs ys))
-    (fine_both n ends ends ends (pieces xs) (pieces ys) [] [] (iface_fine n ends (parts iface) m.0) (engine_fine (n + length (pieces xs)) ends (parts engine) m.1))
-
--- THE LINES OF A SCRIPT
-
-script_fine : (o : Settings) (t : List Step) → Lawful o t → IsOpened o t → AreMarked (pieces (lines_of t)) → Fine 1 opened (pieces (lines_of t)) (later_events t) (state o t).ends
-script_fine o [] l op a = cc
-script_fine o (s ∷ []) l op a =
-    let e = only_open s.event l.1.may_come in
-    let w = written_lines (iface_text s) (engine_text s) in
-    let lines : event_lines s.event ++ w ≡ w = ap (λ (x : Event). event_lines x ++ w) e in
-    let f = written_fine 1 opened (iface_text s) (engine_text s) (subst (λ (ls : List (List ℕ)). AreMarked (pieces ls)) lines a) in
-    record {
-      faultless = ap (λ (ls : List (List ℕ)). first_fault 1 opened (pieces ls)) lines ∙ f.faultless;
-      events_are = ap (λ (ls : List (List ℕ)). events_of opened (pieces ls)) lines ∙ f.events_are ∙ ap later_event (sym e);
-      ends_are = ap (λ (ls : List (List ℕ)). ends_over opened (pieces ls)) lines ∙ f.ends_are ∙ ap (λ (x : Event). ends_after (state o []).ends x) (sym e);
-    }
-script_fine o (s ∷ r ∷ t) l op a = next (script_fine o (r ∷ t) l.0 before m.0) where
-  before : IsOpened o (r ∷ t)
-  before = some_opened o r t l.0
-
-  m : AreMarked (pieces (lines_of (r ∷ t))) × AreMarked (pieces (step_lines s))
-  m = marked_both (lines_of (r ∷ t)) (step_lines s) a
-
-  ends : Ends
-  ends = (state o (r ∷ t)).ends
-
-  shown : (event_lines s.event ≡ event_text s.event ∷ []) × (mark_of (event_text s.event) ≡ Some (Happens s.event))
-  shown = event_line ends s.event before l.1.may_come
-
-  w : List (List ℕ)
-  w = written_lines (iface_text s) (engine_text s)
-
-  step_is : step_lines s ≡ event_text s.event ∷ w
-  step_is = ap (λ ls. ls ++ w) shown.0
-
-  next : Fine 1 opened (pieces (lines_of (r ∷ t))) (later_events (r ∷ t)) ends → Fine 1 opened (pieces (lines_of (s ∷ r ∷ t))) (later_events (s ∷ r ∷ t)) (ends_after ends s.event)
-  next f =
-      let k = subst (λ (ls : List (List ℕ)). AreMarked (pieces ls)) step_is m.1 in
-      let n = 1 + length (pieces (lines_of (r ∷ t))) in
-      let one = one_comes n ends (piece_of 131072 (event_text s.event)) s.event (comes ends s.event _ (marked_whole (event_text s.event) k.0) shown.1 l.1.may_come) in
-      let both = fine_both n ends (ends_after ends s.event) (ends_after ends s.event) (piece_of 131072 (event_text s.event) ∷ []) (pieces w) (s.event ∷ []) [] one (written_fine (n + 1) (ends_after ends s.event) (iface_text s) (engine_text s) k.1) in
-      let g = subst (λ (ls : List (List ℕ)). Fine n ends (pieces ls) (s.event ∷ []) (ends_after ends s.event)) (sym step_is) both in
-      subst (λ (es : List Event). Fine 1 opened (pieces (lines_of (s ∷ r ∷ t))) (later_events (r ∷ t) ++ es) (ends_after ends s.event)) (sym (one_later ends s.event before l.1.may_come))
-      (subst (λ (ls : List Piece). Fine 1 opened ls (later_events (r ∷ t) ++ s.event ∷ []) (ends_after ends s.event)) (sym (pieces_both (lines_of (r ∷ t)) (step_lines s)))
-      (fine_both 1 opened ends (ends_after ends s.event) (pieces (lines_of (r ∷ t))) (pieces (step_lines s)) (later_events (r ∷ t)) (s.event ∷ []) f g))
-
--- every line of the script of a lawful trace is read without a fault, and they tell its events
-pub replays_lines : (o : Settings) (t : List Step) → Lawful o t → IsOpened o t → AreMarked (items 131072 (script1 t)) → (first_fault 1 opened (items 131072 (script1 t)) ≡ None) × (Open ∷ events_of opened (items 131072 (script1 t)) ≡ events t)
-replays_lines o t l op a =
-    let same : items 131072 (script1 t) ≡ pieces (lines_of t) = ap (map (piece_of 131072)) (lines.script1_lines t (all_told o t l)) in
-    let f = script_fine o t l op (subst AreMarked same a) in
-    (ap (first_fault 1 opened) same ∙ f.faultless, ap (λ (ls : List Piece). Open ∷ events_of opened ls) same ∙ ap (λ (es : List Event). Open ∷ es) f.events_are ∙ sym (events_later o t l op))
-
--- WHERE LINES STAND BEHIND A SCRIPT
-
-has_mark : (n : ℕ) (ends : Ends) (l : Piece) → fault_said n (line_says ends l) ≡ None → is_some (mark_in l) ≡ true
-has_mark n ends TooLong e = cc
-has_mark n ends (Whole line) e = by (mark_of line) e where
-  by : (m : Option Mark) → fault_said n (mark_says ends m) ≡ None → is_some m ≡ true
-  by None h = cc
-  by (Some m) h = refl
+pub short_whole : (line : List ℕ) → length line ≤ 131072 → piece_of 131072 line ≡ Whole line
+short_whole line l = let t : nat_le (length line) 131072 ≡ true = grind (arith, nat_tests) in ap (λ b. cond b (Whole line) TooLong) t
 
 whole_mark : (m : Mark) → IsSpelled m → piece_of 131072 (mark_text m) ≡ Whole (mark_text m)
 whole_mark m s = let z : piece_of 131072 (mark_text m) ∷ [] ≡ Whole (mark_text m) ∷ [] = ap (map (piece_of 131072)) (sym (has_lines (m ∷ []) (s, tt))) ∙ has_short_lines (m ∷ []) (s, tt) in cc
@@ -200,113 +94,272 @@ marked_piece line h = by (mark_of line) refl h where
   by None e h = cc
   by (Some m) e h = let s = read_spelled line m e in ap (piece_of 131072) s.1 ∙ whole_mark m s.0 ∙ ap Whole (sym s.1)
 
--- lines without a fault have marks
-pub faultless_marked : (n : ℕ) (ends : Ends) (ls : List Piece) → first_fault n ends ls ≡ None → AreMarked ls
-faultless_marked n ends [] e = tt
-faultless_marked n ends (l ∷ ls) e =
-    let p = no_earlier (fault_said n (line_says ends l)) (first_fault (n + 1) (ends_said ends (line_says ends l)) ls) e in
-    (has_mark n ends l p.0, faultless_marked (n + 1) (ends_said ends (line_says ends l)) ls p.1)
+-- WHAT A STEP WROTE
 
--- without the lines behind
-fault_front : (n : ℕ) (ends : Ends) (ls ms : List Piece) → first_fault n ends (ls ++ ms) ≡ None → (first_fault n ends ls ≡ None) × (first_fault (n + length ls) (ends_over ends ls) ms ≡ None)
-fault_front n ends [] ms e = (refl, subst (λ k. first_fault k ends ms ≡ None) (let z : n ≡ n + 0 = omega arith in z) e)
-fault_front n ends (l ∷ ls) ms e =
-    let p = no_earlier (fault_said n (line_says ends l)) (first_fault (n + 1) (ends_said ends (line_says ends l)) (ls ++ ms)) e in
-    let q = fault_front (n + 1) (ends_said ends (line_says ends l)) ls ms p.1 in (
-      ap (λ a. or_later a (first_fault (n + 1) (ends_said ends (line_says ends l)) ls)) p.0 ∙ q.0,
-      subst (λ k. first_fault k (ends_over ends (l ∷ ls)) ms ≡ None) (let z : n + 1 + length ls ≡ n + suc (length ls) = omega arith in z) q.1,
-    )
+abbrev pieces : List (List ℕ) → List Piece
+pieces ls = map (piece_of 131072) ls
 
--- A RUN OVER THE SCRIPT OF A LAWFUL TRACE
+pieces_both : (ls ms : List (List ℕ)) → pieces (ls ++ ms) ≡ pieces ls ++ pieces ms
+pieces_both ls ms = map-append (piece_of 131072) ls ms
 
-marked_pieces : (ls : List (List ℕ)) → HaveMarks ls → AreMarked (pieces ls)
-marked_pieces [] a = tt
-marked_pieces (l ∷ ls) a = (ap (λ (p : Piece). is_some (mark_in p)) (marked_piece l a.0) ∙ a.0, marked_pieces ls a.1)
+marks_of : (ls ms : List (List ℕ)) → HaveMarks (ls ++ ms) → HaveMarks ls × HaveMarks ms
+marks_of [] ms a = (tt, a)
+marks_of (l ∷ ls) ms a = let b = marks_of ls ms a.1 in ((a.0, b.0), b.1)
 
--- of two fronts of one list, one is a front of the other
-fronts : (xs ys cs bs : List Piece) → xs ++ ys ≡ cs ++ bs → ((m : List Piece) × (cs ≡ xs ++ m)) ⊎ ((m : List Piece) × (xs ≡ cs ++ m))
-fronts [] ys cs bs e = inl (cs, refl)
-fronts (x ∷ xs) ys [] bs e = inr (x ∷ xs, refl)
-fronts (x ∷ xs) ys (a ∷ cs) bs e = onto (fronts xs ys cs bs (let z : xs ++ ys ≡ cs ++ bs = cc in z)) (let z : x ≡ a = cc in z) where
-  onto : ((m : List Piece) × (cs ≡ xs ++ m)) ⊎ ((m : List Piece) × (xs ≡ cs ++ m)) → x ≡ a → ((m : List Piece) × (a ∷ cs ≡ x ∷ xs ++ m)) ⊎ ((m : List Piece) × (x ∷ xs ≡ a ∷ cs ++ m))
-  onto (inl p) h = inl (p.0, ap (λ y. y ∷ cs) (sym h) ∙ ap (λ l. x ∷ l) p.1)
-  onto (inr p) h = inr (p.0, ap (λ y. y ∷ xs) h ∙ ap (λ l. a ∷ l) p.1)
+-- where lines that were written are passed over
+abbrev Passing : Place → Type 0
+Passing place = kind_says place.stage place.ends Writes ≡ Passes
 
-short_in : (newer : List Step) (s : Step) (t : List Step) → AreShort (newer ++ s ∷ t) → IsShortText (iface_text s) × IsShortText (engine_text s)
-short_in [] s t a = a.0
-short_in (x ∷ newer) s t a = short_in newer s t a.1
+iface_kind : (line : List ℕ) → is_some (mark_of (behind 88 line)) ≡ true → kind_of (Whole (behind 88 line)) ≡ Writes
+iface_kind line h = by (is_written line) h where
+  by : (b : Bool) → is_some (cond b (Some (ToIface line)) None) ≡ true → kind_by (cond b (Some (ToIface line)) None) (step_of (behind 88 line)) ≡ Writes
+  by true h = refl
+  by false h = cc
 
-module _ (o : Settings) (one : IsOneDialogue o) (run : List Step) (ran : Lawful o run) (short : AreShort run) (read ahead : List Piece) (fault : Ending) (is_fault : first_fault 1 opened read ≡ Some fault) (told : events run ≡ Open ∷ events_of opened read) where
-  -- a step that the run took
-  taken : (s : Step) (t : List Step) → Lawful o (s ∷ t) → (more : List Event) → events run ≡ events (s ∷ t) ++ more → HaveMarks (written_lines (iface_text s) (engine_text s))
-  taken s t l more e =
-      let n = goes_on o one (s ∷ t) run l ran more e in
-      let k = short_in n.0 s t (subst AreShort n.1 short) in
-      written_marked (iface_text s) (engine_text s) k.0 k.1
+engine_kind : (line : List ℕ) → is_some (mark_of (behind 85 line)) ≡ true → kind_of (Whole (behind 85 line)) ≡ Writes
+engine_kind line h = by (is_written line) h where
+  by : (b : Bool) → is_some (cond b (Some (ToEngine line)) None) ≡ true → kind_by (cond b (Some (ToEngine line)) None) (step_of (behind 85 line)) ≡ Writes
+  by true h = refl
+  by false h = cc
 
-  no_front : (ls m : List Piece) → first_fault 1 opened ls ≡ None → ls ≡ read ++ m → ⊥
-  no_front ls m e h =
-      let f = (fault_front 1 opened read m (ap (first_fault 1 opened) (sym h) ∙ e)).0 in
-      let z = sym f ∙ is_fault in cc
+one_passes : (n : ℕ) (place : Place) → Passing place → (line : List ℕ) → is_some (mark_of line) ≡ true → kind_of (Whole line) ≡ Writes → Fine n place (piece_of 131072 line ∷ []) [] place
+one_passes n place pass line h k = one_fine n place (piece_of 131072 line) Passes [] (ap (line_says place) (marked_piece line h) ∙ ap (kind_says place.stage place.ends) k ∙ pass) refl refl
 
-  -- the read up to the mark of a step's event were read, so the run took the step
-  next_marked : (s r : Step) (t : List Step) → Lawful o (s ∷ r ∷ t) → Fine 1 opened (pieces (lines_of (r ∷ t))) (later_events (r ∷ t)) (state o (r ∷ t)).ends
-      → (behind_it : List Piece) → pieces (lines_of (r ∷ t)) ++ Whole (event_text s.event) ∷ behind_it ≡ read ++ ahead → HaveMarks (written_lines (iface_text s) (engine_text s))
-  next_marked s r t l f behind_it e = by (fronts read ahead front behind_it (sym e ∙ sym (append_assoc (pieces (lines_of (r ∷ t))) (Whole (event_text s.event) ∷ []) behind_it))) where
-    ends : Ends
-    ends = (state o (r ∷ t)).ends
+iface_fine : (n : ℕ) (place : Place) → Passing place → (ps : List (List ℕ)) → HaveMarks (map (behind 88) ps) → Fine n place (pieces (map (behind 88) ps)) [] place
+iface_fine n place pass [] a = none_fine n place
+iface_fine n place pass (p ∷ ps) a =
+    fine_both n place place place (piece_of 131072 (behind 88 p) ∷ []) (pieces (map (behind 88) ps)) [] []
+    (one_passes n place pass (behind 88 p) a.0 (iface_kind p a.0)) (iface_fine (n + 1) place pass ps a.1)
 
-    before : IsOpened o (r ∷ t)
-    before = some_opened o r t l.0
+engine_fine : (n : ℕ) (place : Place) → Passing place → (ps : List (List ℕ)) → HaveMarks (map (behind 85) ps) → Fine n place (pieces (map (behind 85) ps)) [] place
+engine_fine n place pass [] a = none_fine n place
+engine_fine n place pass (p ∷ ps) a =
+    fine_both n place place place (piece_of 131072 (behind 85 p) ∷ []) (pieces (map (behind 85) ps)) [] []
+    (one_passes n place pass (behind 85 p) a.0 (engine_kind p a.0)) (engine_fine (n + 1) place pass ps a.1)
 
-    front : List Piece
-    front = pieces (lines_of (r ∷ t)) ++ Whole (event_text s.event) ∷ []
+abbrev wrote : Step → List (List ℕ)
+wrote s = written_lines (iface_text s) (engine_text s)
 
-    shown : (event_lines s.event ≡ event_text s.event ∷ []) × (mark_of (event_text s.event) ≡ Some (Happens s.event))
-    shown = event_line ends s.event before l.1.may_come
+-- the lines that a step wrote are passed over
+wrote_fine : (n : ℕ) (place : Place) → Passing place → (s : Step) → HaveMarks (wrote s) → Fine n place (pieces (wrote s)) [] place
+wrote_fine n place pass s a =
+    let xs = map (behind 88) (parts (iface_text s)) in
+    let ys = map (behind 85) (parts (engine_text s)) in
+    let m = marks_of xs ys a in
+    subst (λ (ls : List Piece). Fine n place ls [] place) (sym (pieces_both xs ys))
+    (fine_both n place place place (pieces xs) (pieces ys) [] [] (iface_fine n place pass (parts (iface_text s)) m.0) (engine_fine (n + length (pieces xs)) place pass (parts (engine_text s)) m.1))
 
-    g : Fine 1 opened front (later_events (r ∷ t) ++ s.event ∷ []) (ends_after ends s.event)
-    g = fine_both 1 opened ends (ends_after ends s.event) (pieces (lines_of (r ∷ t))) (Whole (event_text s.event) ∷ []) (later_events (r ∷ t)) (s.event ∷ []) f
-        (one_comes (1 + length (pieces (lines_of (r ∷ t)))) ends (Whole (event_text s.event)) s.event (comes ends s.event (Whole (event_text s.event)) refl shown.1 l.1.may_come))
+-- THE LINES OF A SCRIPT
 
-    events_are : events (s ∷ r ∷ t) ≡ Open ∷ (later_events (r ∷ t) ++ s.event ∷ [])
-    events_are = ap (λ (es : List Event). es ++ s.event ∷ []) (events_later o (r ∷ t) l.0 before)
+-- the lines behind the header
+abbrev pub lines_behind : Version → List Step → List (List ℕ)
+lines_behind First t = lines_of t
+lines_behind (Second s) t = numbered_lines t
 
-    by : ((m : List Piece) × (front ≡ read ++ m)) ⊎ ((m : List Piece) × (read ≡ front ++ m)) → HaveMarks (written_lines (iface_text s) (engine_text s))
-    by (inl p) = absurd (no_front front p.0 g.faultless p.1)
-    by (inr p) =
-        let more = events_of (ends_over opened front) p.0 in
+-- those of step k before the lines that it wrote
+abbrev head_lines : Version → ℕ → Event → List (List ℕ)
+head_lines First k e = event_lines e
+head_lines (Second s) k e = number_line k ∷ event_lines e
+
+first_behind : (v : Version) (s : Step) → lines_behind v (s ∷ []) ≡ head_lines v 0 s.event ++ wrote s
+first_behind First s = refl
+first_behind (Second x) s = refl
+
+next_behind : (v : Version) (s : Step) (t : List Step) → lines_behind v (s ∷ t) ≡ lines_behind v t ++ (head_lines v (length t) s.event ++ wrote s)
+next_behind First s t = refl
+next_behind (Second x) s t = refl
+
+both_behind : (v : Version) (newer t : List Step) → lines_behind v (newer ++ t) ≡ lines_behind v t ++ more_in v newer t
+both_behind First newer t = lines_added newer t
+both_behind (Second s) newer t = numbered_lines_added newer t
+
+-- where the reading stands behind step k
+abbrev stage_behind : Version → ℕ → Stage
+stage_behind First k = stages.Plain
+stage_behind (Second s) k = stages.Told (step_number k)
+
+abbrev place_behind : Version → ℕ → Ends → Place
+place_behind v k ends = record { stage = stage_behind v k; ends = ends }
+
+pass_behind : (v : Version) (k : ℕ) (ends : Ends) → Passing (place_behind v k ends)
+pass_behind First k ends = refl
+pass_behind (Second s) k ends = refl
+
+same_number : (x y : ℕ) → x ≡ y → (x == y) ≡ true
+same_number x y e = grind (arith, nat_tests)
+
+number_fine : (n : ℕ) (place : Place) (k : ℕ) → kind_says place.stage place.ends (Numbers (step_number k)) ≡ Starts (step_number k) → Fine n place (piece_of 131072 (number_line k) ∷ []) [] (place_said place (Starts (step_number k)))
+number_fine n place k says =
+    let l : length (number_line k) ≤ 131072 = let s = step_length (step_number k) (number_below k) in omega (arith, s) in
+    one_fine n place (piece_of 131072 (number_line k)) (Starts (step_number k)) []
+    (ap (line_says place) (short_whole (number_line k) l) ∙ ap (kind_says place.stage place.ends) (number_kind (Whole (number_line k)) k refl) ∙ says) refl refl
+
+-- Open has no mark
+first_head : (v : Version) (n : ℕ) → Fine n (beginning v) (pieces (head_lines v 0 Open)) [] (place_behind v 0 opened)
+first_head First n = none_fine n (beginning First)
+first_head (Second s) n = number_fine n (beginning (Second s)) 0 refl
+
+-- the mark of an event that may come
+event_fine : (n : ℕ) (place : Place) (e : Event) → event_lines e ≡ event_text e ∷ [] → mark_of (event_text e) ≡ Some (Happens e) → kind_says place.stage place.ends (Tells e) ≡ Comes e → Fine n place (pieces (event_lines e)) (e ∷ []) (place_said place (Comes e))
+event_fine n place e lines m says =
+    let w = marked_piece (event_text e) (ap is_some m) in
+    subst (λ (ls : List (List ℕ)). Fine n place (pieces ls) (e ∷ []) (place_said place (Comes e))) (sym lines)
+    (one_fine n place (piece_of 131072 (event_text e)) (Comes e) (e ∷ [])
+    (ap (line_says place) w ∙ ap (kind_says place.stage place.ends) (event_kind (Whole (event_text e)) e refl m) ∙ says) refl refl)
+
+next_head : (v : Version) (n k : ℕ) (ends : Ends) (e : Event) → event_lines e ≡ event_text e ∷ [] → mark_of (event_text e) ≡ Some (Happens e) → may ends e ≡ true
+    → Fine n (place_behind v k ends) (pieces (head_lines v (suc k) e)) (e ∷ []) (place_behind v (suc k) (ends_after ends e))
+next_head First n k ends e lines m c = event_fine n (place_behind First k ends) e lines m (ap (λ (b : Bool). cond b (Comes e) Cannot) c)
+next_head (Second s) n k ends e lines m c =
+    let started : Place = record { stage = stages.Numbered (step_number (suc k)); ends = ends } in
+    let due : (step_number (suc k) == step_number (step_number k + 1)) ≡ true = same_number (step_number (suc k)) (step_number (step_number k + 1)) (sym (number_next (step_number k) k refl)) in
+    fine_both n (place_behind (Second s) k ends) started (place_behind (Second s) (suc k) (ends_after ends e)) (piece_of 131072 (number_line (suc k)) ∷ []) (pieces (event_lines e)) [] (e ∷ [])
+    (number_fine n (place_behind (Second s) k ends) (suc k) (ap (λ (b : Bool). cond b (Starts (step_number (suc k))) IsOutOfStep) due))
+    (event_fine (n + 1) started e lines m (ap (λ (b : Bool). cond b (Comes e) Cannot) c))
+
+-- the lines that were written have marks
+abbrev AreMarked : List Step → Type 0
+AreMarked t = AllByRecursion (λ s. HaveMarks (wrote s)) t
+
+module _ (o : Settings) (v : Version) where
+  abbrev q : Settings
+  q = settings_by v o
+
+  abbrev first : ℕ
+  first = 1 + header_lines v
+
+  -- the lines of a lawful trace, the last step of which has number k, are read without a fault, and tell its events
+  abbrev ReadsTo : List Step → ℕ → Type 0
+  ReadsTo t k = Fine first (beginning v) (pieces (lines_behind v t)) (later_events t) (place_behind v k (state q t).ends)
+
+  first_reads : (s : Step) → s.event ≡ Open → HaveMarks (wrote s) → ReadsTo (s ∷ []) 0
+  first_reads s e a =
+      let h = head_lines v 0 Open in
+      let w = wrote_fine (first + length (pieces h)) (place_behind v 0 opened) (pass_behind v 0 opened) s a in
+      let f = fine_both first (beginning v) (place_behind v 0 opened) (place_behind v 0 opened) (pieces h) (pieces (wrote s)) [] [] (first_head v first) w in
+      subst (λ (ls : List (List ℕ)). Fine first (beginning v) (pieces ls) (later_events (s ∷ [])) (place_behind v 0 (state q (s ∷ [])).ends)) (sym (first_behind v s))
+      (subst (λ (x : Event). Fine first (beginning v) (pieces (head_lines v 0 x ++ wrote s)) (later_event x) (place_behind v 0 (ends_after at_start x))) (sym e)
+      (subst (λ (ls : List Piece). Fine first (beginning v) ls [] (place_behind v 0 opened)) (sym (pieces_both h (wrote s))) f))
+
+  -- with the next step's number and event
+  head_reads : (s r : Step) (t : List Step) → Lawful q (s ∷ r ∷ t) → ReadsTo (r ∷ t) (length t)
+      → Fine first (beginning v) (pieces (lines_behind v (r ∷ t)) ++ pieces (head_lines v (length (r ∷ t)) s.event)) (later_events (r ∷ t) ++ s.event ∷ []) (place_behind v (length (r ∷ t)) (state q (s ∷ r ∷ t)).ends)
+  head_reads s r t l f =
+      let ends = (state q (r ∷ t)).ends in
+      let shown = event_line ends s.event (some_opened q r t l.0) l.1.may_come in
+      let old = pieces (lines_behind v (r ∷ t)) in
+      fine_both first (beginning v) (place_behind v (length t) ends) (place_behind v (length (r ∷ t)) (ends_after ends s.event)) old (pieces (head_lines v (length (r ∷ t)) s.event)) (later_events (r ∷ t)) (s.event ∷ []) f
+      (next_head v (first + length old) (length t) ends s.event shown.0 shown.1 l.1.may_come)
+
+  next_reads : (s r : Step) (t : List Step) → Lawful q (s ∷ r ∷ t) → HaveMarks (wrote s) → ReadsTo (r ∷ t) (length t) → ReadsTo (s ∷ r ∷ t) (length (r ∷ t))
+  next_reads s r t l a f =
+      let ends = (state q (r ∷ t)).ends in
+      let k = length (r ∷ t) in
+      let place = place_behind v k (ends_after ends s.event) in
+      let old = lines_behind v (r ∷ t) in
+      let head = head_lines v k s.event in
+      let front = pieces old ++ pieces head in
+      let es = later_events (r ∷ t) ++ s.event ∷ [] in
+      let w = wrote_fine (first + length front) place (pass_behind v k (ends_after ends s.event)) s a in
+      let g = fine_both first (beginning v) place place front (pieces (wrote s)) es [] (head_reads s r t l f) w in
+      let lines : front ++ pieces (wrote s) ≡ pieces (lines_behind v (s ∷ r ∷ t)) =
+      append_assoc (pieces old) (pieces head) (pieces (wrote s)) ∙ ap (λ ls. pieces old ++ ls) (sym (pieces_both head (wrote s))) ∙ sym (pieces_both old (head ++ wrote s)) ∙ ap pieces (sym (next_behind v s (r ∷ t))) in
+      let told : es ++ [] ≡ later_events (s ∷ r ∷ t) =
+      append-nil es ∙ ap (λ (x : List Event). later_events (r ∷ t) ++ x) (sym (one_later ends s.event (some_opened q r t l.0) l.1.may_come)) in
+      subst (λ (x : List Event). Fine first (beginning v) (pieces (lines_behind v (s ∷ r ∷ t))) x place) told
+      (subst (λ (ls : List Piece). Fine first (beginning v) ls (es ++ []) place) lines g)
+
+  abbrev last : List Step → ℕ
+  last [] = 0
+  last (s ∷ t) = length t
+
+  script_reads : (t : List Step) → Lawful q t → IsOpened q t → AreMarked t → ReadsTo t (last t)
+  script_reads [] l op a = cc
+  script_reads (s ∷ []) l op a = first_reads s (only_open s.event l.1.may_come) a.0
+  script_reads (s ∷ r ∷ t) l op a = next_reads s r t l a.0 (script_reads (r ∷ t) l.0 (some_opened q r t l.0) a.1)
+
+  -- A RUN OVER THE SCRIPT OF A LAWFUL TRACE
+
+  short_in : (newer : List Step) (s : Step) (t : List Step) → AreShort (newer ++ s ∷ t) → IsShortText (iface_text s) × IsShortText (engine_text s)
+  short_in [] s t a = a.0
+  short_in (x ∷ newer) s t a = short_in newer s t a.1
+
+  -- The run took the events of the lines READ, which are as many of the script as stand before its first fault: it wrote short lines,
+  -- so those of the trace, of which it took each step that was read, have marks.
+  module _ (one : IsOneDialogue q) (run : List Step) (ran : Lawful q run) (short : AreShort run) (read ahead : List Piece) (told : events run ≡ Open ∷ events_of (beginning v) read)
+      (reached : (front later : List Piece) → front ++ later ≡ read ++ ahead → first_fault first (beginning v) front ≡ None → (more : List Piece) × (read ≡ front ++ more)) where
+    -- a step that the run took
+    taken : (s : Step) (t : List Step) → Lawful q (s ∷ t) → (more : List Event) → events run ≡ events (s ∷ t) ++ more → HaveMarks (wrote s)
+    taken s t l more e =
+        let n = goes_on q one (s ∷ t) run l ran more e in
+        let k = short_in n.0 s t (subst AreShort n.1 short) in
+        written_marked (iface_text s) (engine_text s) k.0 k.1
+
+    -- the lines up to the mark of a step's event were read, so the run took the step
+    next_marked : (s r : Step) (t : List Step) → Lawful q (s ∷ r ∷ t) → ReadsTo (r ∷ t) (length t) → (later : List Piece)
+        → (pieces (lines_behind v (r ∷ t)) ++ pieces (head_lines v (length (r ∷ t)) s.event)) ++ later ≡ read ++ ahead → HaveMarks (wrote s)
+    next_marked s r t l f later e =
+        let front = pieces (lines_behind v (r ∷ t)) ++ pieces (head_lines v (length (r ∷ t)) s.event) in
+        let g = head_reads s r t l f in
+        let m = reached front later e g.faultless in
+        let more = events_of (place_over (beginning v) front) m.0 in
+        let events_are : events (s ∷ r ∷ t) ≡ Open ∷ (later_events (r ∷ t) ++ s.event ∷ []) = ap (λ (es : List Event). es ++ s.event ∷ []) (events_later q (r ∷ t) l.0 (some_opened q r t l.0)) in
         taken s (r ∷ t) l more (
-        told ∙ ap (λ (ls : List Piece). Open ∷ events_of opened ls) p.1 ∙ ap (λ (es : List Event). Open ∷ es) (events_both 1 opened front p.0 g.faultless ∙ ap (λ (es : List Event). es ++ more) g.events_are)
+        told ∙ ap (λ (ls : List Piece). Open ∷ events_of (beginning v) ls) m.1
+        ∙ ap (λ (es : List Event). Open ∷ es) (events_both first (beginning v) front m.0 g.faultless ∙ ap (λ (es : List Event). es ++ more) g.events_are)
         ∙ ap (λ (es : List Event). es ++ more) (sym events_are))
 
-  -- all read of the script have marks
-  all_marked : (t newer : List Step) → Lawful o t → pieces (lines_of (newer ++ t)) ≡ read ++ ahead → HaveMarks (lines_of t)
-  all_marked [] newer l e = tt
-  all_marked (s ∷ []) newer l e =
-      let open_is = only_open s.event l.1.may_come in
-      let marks = taken s [] l (events_of opened read) (told ∙ ap (λ (x : Event). x ∷ events_of opened read) (sym open_is)) in
-      subst (λ (x : Event). HaveMarks (event_lines x ++ written_lines (iface_text s) (engine_text s))) (sym open_is) marks
-  all_marked (s ∷ r ∷ t) newer l e =
-      let old = all_marked (r ∷ t) (newer ++ s ∷ []) l.0 (ap (λ (x : List Step). pieces (lines_of x)) (append_assoc newer (s ∷ []) (r ∷ t)) ∙ e) in
-      let before = some_opened o r t l.0 in
-      let shown = event_line (state o (r ∷ t)).ends s.event before l.1.may_come in
-      let w = written_lines (iface_text s) (engine_text s) in
-      let f = script_fine o (r ∷ t) l.0 before (marked_pieces (lines_of (r ∷ t)) old) in
-      let event_whole = marked_piece (event_text s.event) (ap is_some shown.1) in
-      let lines_are : lines_of (newer ++ s ∷ r ∷ t) ≡ lines_of (r ∷ t) ++ (event_text s.event ∷ (w ++ added newer)) =
-      lines_added newer (s ∷ r ∷ t) ∙ append_assoc (lines_of (r ∷ t)) (step_lines s) (added newer)
-      ∙ ap (λ ls. lines_of (r ∷ t) ++ ((ls ++ w) ++ added newer)) shown.0 in
-      let pieces_are = pieces_both (lines_of (r ∷ t)) (event_text s.event ∷ (w ++ added newer)) in
-      let marks = next_marked s r t l f (pieces (w ++ added newer))
-      (ap (λ (p : Piece). pieces (lines_of (r ∷ t)) ++ p ∷ pieces (w ++ added newer)) (sym event_whole) ∙ sym pieces_are ∙ ap pieces (sym lines_are) ∙ e) in
-      both_marked (lines_of (r ∷ t)) (step_lines s) old (subst HaveMarks (sym (ap (λ ls. ls ++ w) shown.0)) (ap is_some shown.1, marks))
+    all_marked : (t newer : List Step) → Lawful q t → pieces (lines_behind v (newer ++ t)) ≡ read ++ ahead → AreMarked t
+    all_marked [] newer l e = tt
+    all_marked (s ∷ []) newer l e =
+        let open_is = only_open s.event l.1.may_come in
+        (taken s [] l (events_of (beginning v) read) (told ∙ ap (λ (x : Event). x ∷ events_of (beginning v) read) (sym open_is)), tt)
+    all_marked (s ∷ r ∷ t) newer l e =
+        let old = all_marked (r ∷ t) (newer ++ s ∷ []) l.0 (ap (λ (x : List Step). pieces (lines_behind v x)) (append_assoc newer (s ∷ []) (r ∷ t)) ∙ e) in
+        let f = script_reads (r ∷ t) l.0 (some_opened q r t l.0) old in
+        let before = lines_behind v (r ∷ t) in
+        let head = head_lines v (length (r ∷ t)) s.event in
+        let more = more_in v newer (s ∷ r ∷ t) in
+        let lines : lines_behind v (newer ++ s ∷ r ∷ t) ≡ (before ++ head) ++ (wrote s ++ more) =
+        both_behind v newer (s ∷ r ∷ t) ∙ ap (λ ls. ls ++ more) (next_behind v s (r ∷ t) ∙ sym (append_assoc before head (wrote s))) ∙ append_assoc (before ++ head) (wrote s) more in
+        let front : (pieces before ++ pieces head) ++ pieces (wrote s ++ more) ≡ pieces (lines_behind v (newer ++ s ∷ r ∷ t)) =
+        ap (λ ls. ls ++ pieces (wrote s ++ more)) (sym (pieces_both before head)) ∙ sym (pieces_both (before ++ head) (wrote s ++ more)) ∙ ap pieces (sym lines) in
+        (next_marked s r t l f (pieces (wrote s ++ more)) (front ∙ e), old)
 
--- so no line of it is a fault
-pub no_fault_in : (o : Settings) → IsOneDialogue o → (run t : List Step) → Lawful o run → AreShort run → Lawful o t → IsOpened o t → (read ahead : List Piece) (fault : Ending) → first_fault 1 opened read ≡ Some fault
-    → events run ≡ Open ∷ events_of opened read → items 131072 (script1 t) ≡ read ++ ahead → ⊥
-no_fault_in o one run t ran short l op read ahead fault is_fault told input =
-    let same : items 131072 (script1 t) ≡ pieces (lines_of t) = ap (map (piece_of 131072)) (lines.script1_lines t (all_told o t l)) in
-    let marks = all_marked o one run ran short read ahead fault is_fault told t [] l (sym same ∙ input) in
-    let f = script_fine o t l op (marked_pieces (lines_of t) marks) in
-    no_front o one run ran short read ahead fault is_fault told (pieces (lines_of t)) ahead f.faultless (sym same ∙ input)
+    run_reads : (t : List Step) → Lawful q t → IsOpened q t → pieces (lines_behind v t) ≡ read ++ ahead → ReadsTo t (last t)
+    run_reads t l op e = script_reads t l op (all_marked t [] l e)
+
+  -- of two fronts of one list, one is a front of the other
+  fronts : (xs ys cs bs : List Piece) → xs ++ ys ≡ cs ++ bs → ((m : List Piece) × (cs ≡ xs ++ m)) ⊎ ((m : List Piece) × (xs ≡ cs ++ m))
+  fronts [] ys cs bs e = inl (cs, refl)
+  fronts (x ∷ xs) ys [] bs e = inr (x ∷ xs, refl)
+  fronts (x ∷ xs) ys (a ∷ cs) bs e = onto (fronts xs ys cs bs (let z : xs ++ ys ≡ cs ++ bs = cc in z)) (let z : x ≡ a = cc in z) where
+    onto : ((m : List Piece) × (cs ≡ xs ++ m)) ⊎ ((m : List Piece) × (xs ≡ cs ++ m)) → x ≡ a → ((m : List Piece) × (a ∷ cs ≡ x ∷ xs ++ m)) ⊎ ((m : List Piece) × (x ∷ xs ≡ a ∷ cs ++ m))
+    onto (inl p) h = inl (p.0, ap (λ y. y ∷ cs) (sym h) ∙ ap (λ l. x ∷ l) p.1)
+    onto (inr p) h = inr (p.0, ap (λ y. y ∷ xs) h ∙ ap (λ l. a ∷ l) p.1)
+
+  module _ (one : IsOneDialogue q) (run t : List Step) (ran : Lawful q run) (short : AreShort run) (l : Lawful q t) (op : IsOpened q t) where
+    -- a run that read all of the script took the events of the trace
+    pub all_read : events run ≡ Open ∷ events_of (beginning v) (pieces (lines_behind v t)) → events run ≡ events t
+    all_read told =
+        let read = pieces (lines_behind v t) in
+        let f = run_reads one run ran short read [] told (λ front later e c. (later, sym (append-nil read) ∙ sym e)) t l op (sym (append-nil read)) in
+        told ∙ ap (λ (es : List Event). Open ∷ es) f.events_are ∙ sym (events_later q t l op)
+
+    -- and no line of the script is a fault
+    pub no_fault_in : (read ahead : List Piece) (fault : Ending) → first_fault first (beginning v) read ≡ Some fault
+        → events run ≡ Open ∷ events_of (beginning v) read → pieces (lines_behind v t) ≡ read ++ ahead → ⊥
+    no_fault_in read ahead fault is_fault told input = no_front (pieces (lines_behind v t)) ahead f.faultless input where
+      no_front : (ls m : List Piece) → first_fault first (beginning v) ls ≡ None → ls ≡ read ++ m → ⊥
+      no_front ls m e h =
+          let f = fault_front first (beginning v) read m (ap (first_fault first (beginning v)) (sym h) ∙ e) in
+          let z = sym f ∙ is_fault in cc
+
+      reached : (front later : List Piece) → front ++ later ≡ read ++ ahead → first_fault first (beginning v) front ≡ None → (more : List Piece) × (read ≡ front ++ more)
+      reached front later e c = by (fronts read ahead front later (sym e)) where
+        by : ((m : List Piece) × (front ≡ read ++ m)) ⊎ ((m : List Piece) × (read ≡ front ++ m)) → (more : List Piece) × (read ≡ front ++ more)
+        by (inl p) = absurd (no_front front p.0 c p.1)
+        by (inr p) = p
+
+      f : ReadsTo t (last t)
+      f = run_reads one run ran short read ahead told reached t l op input

@@ -9,17 +9,10 @@ use Rattle.adapter_core.specs.declared.ends.Ends.{Ends}
 use Rattle.adapter_core.specs.Ends.{may, is_over}
 use Rattle.adapter_core.specs.Parts.{Parts}
 use Rattle.adapter_core.specs.Stands.{Stands}
-use Rattle.command_endings.specs.declared.ending.Ending.TheVariants as endings
 use Rattle.script_player.specs.declared.stage.Stage.{Stage}
 use Rattle.script_player.specs.declared.stage.Stage.TheVariants as stages
-use Rattle.replay_tool.specs.Walked.{IsOpen, MayTake, said_other}
+use Rattle.replay_tool.specs.Walked.{IsOpen, MayTake}
 use Rattle.script_player.specs.Versions.{Kind, Tells, Writes, Numbers, HasNone, Said, Comes, Passes, Starts, HasNoMark, IsOutOfStep, Cannot, event_says, number_says, kind_says, stage_started}
-
-no_start : (due n : ℕ) (e : Event) → number_says due n ≡ Comes e → ⊥
-no_start due n e h = by (n == due) h where
-  by : (b : Bool) → cond b (Starts n) IsOutOfStep ≡ Comes e → ⊥
-  by true h = cc
-  by false h = cc
 
 no_event : (ends : Ends) (e : Event) (n : ℕ) → event_says ends e ≡ Starts n → ⊥
 no_event ends e n h = by (may ends e) h where
@@ -32,32 +25,6 @@ is_due due n m h = by (n == due) refl h where
   by : (b : Bool) → (n == due) ≡ b → cond b (Starts n) IsOutOfStep ≡ Starts m → m ≡ due
   by true t h = let x : n ≡ m = cc in let y : n ≡ due = grind (arith, nat_tests) in sym x ∙ y
   by false t h = cc
-
-event_may : (ends : Ends) (x e : Event) → event_says ends x ≡ Comes e → may ends e ≡ true
-event_may ends x e h = by (may ends x) refl h where
-  by : (b : Bool) → may ends x ≡ b → cond b (Comes x) Cannot ≡ Comes e → may ends e ≡ true
-  by true t h = let y : x ≡ e = cc in ap (may ends) (sym y) ∙ t
-  by false t h = cc
-
--- an event that comes may come
-pub comes_may : (stage : Stage) (ends : Ends) (kind : Kind) (e : Event) → kind_says stage ends kind ≡ Comes e → may ends e ≡ true
-comes_may stages.Start ends kind e h = cc
-comes_may stages.Plain ends (Tells x) e h = event_may ends x e h
-comes_may stages.Plain ends Writes e h = cc
-comes_may stages.Plain ends (Numbers n) e h = cc
-comes_may stages.Plain ends HasNone e h = cc
-comes_may stages.Headed ends (Tells x) e h = cc
-comes_may stages.Headed ends Writes e h = cc
-comes_may stages.Headed ends (Numbers n) e h = absurd (no_start 0 n e h)
-comes_may stages.Headed ends HasNone e h = cc
-comes_may (stages.Told last) ends (Tells x) e h = cc
-comes_may (stages.Told last) ends Writes e h = cc
-comes_may (stages.Told last) ends (Numbers n) e h = absurd (no_start (step_number (last + 1)) n e h)
-comes_may (stages.Told last) ends HasNone e h = cc
-comes_may (stages.Numbered n) ends (Tells x) e h = event_may ends x e h
-comes_may (stages.Numbered n) ends Writes e h = cc
-comes_may (stages.Numbered n) ends (Numbers k) e h = cc
-comes_may (stages.Numbered n) ends HasNone e h = cc
 
 due_below : (k n m : ℕ) → number_says (step_number k) n ≡ Starts m → m < 10 ^ 18
 due_below k n m h = let e = is_due (step_number k) n m h in let b = number_below k in omega (arith, e, b)
@@ -89,15 +56,6 @@ open_takes core (stages.Numbered n) o = o
 
 pub unread_takes : (core : Parts) (stage : Stage) → Stands core.settings core [] → stage ≡ stages.Start → MayTake core stage
 unread_takes core stage st e = subst (MayTake core) (sym e) st
-
--- no line is a failure of reading
-pub not_reading : (n : ℕ) (s : Said) → said_other n s ≡ endings.ReadingFailed → ⊥
-not_reading n HasNoMark e = cc
-not_reading n (Comes x) e = cc
-not_reading n (Starts k) e = cc
-not_reading n Cannot e = cc
-not_reading n Passes e = cc
-not_reading n IsOutOfStep e = cc
 
 -- WHERE BOTH SIDES HAVE ENDED
 

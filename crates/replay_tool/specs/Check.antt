@@ -1,6 +1,5 @@
 -- What `check` finds.
-use Rattle.std.specs.Prelude.{◌≡◌, ◌≢◌, ℕ, ◌+◌, ◌^◌, ◌≤◌, List, [], ◌∷◌, ◌++◌, length, map, true, false, Option, None, is_some}
-use Rattle.std.specs.List.{AllByRecursion}
+use Rattle.std.specs.Prelude.{◌≡◌, ◌≢◌, ℕ, ◌+◌, ◌^◌, ◌≤◌, List, [], ◌∷◌, ◌++◌, length, map, true, false, Option, None}
 use Rattle.std.specs.Io.KnownBytes.{Appends}
 use Rattle.line_io.specs.Event.{Event}
 use Rattle.line_io.specs.Lines.{Piece, Whole, TooLong, Held, IsWaiting, items, parts}
@@ -63,10 +62,6 @@ AwaitEvent o lines = AwaitBy o (version_in lines) lines
 abbrev pub mark_in : Piece → Option Mark
 mark_in (Whole line) = mark_of line
 mark_in TooLong = None
-
--- each line has a mark
-abbrev pub AreMarked : List Piece → Type 0
-AreMarked lines = AllByRecursion (λ line. is_some (mark_in line) ≡ true) lines
 
 -- a step line counts only behind a header
 abbrev pub kind_under : Version → Kind → Kind

@@ -6,7 +6,6 @@ pub mod Drilled
 pub mod Laws
 pub mod Listed
 pub mod Moves
-pub mod Reading
 pub mod Replay
 pub mod Replayed
 pub mod Verdict

@@ -1,14 +1,15 @@
 -- What the command `replay` promises.
-use Rattle.std.specs.Prelude.{◌≡◌, ◌≢◌, ◌⊎◌, ℕ, ◌^◌, ◌≤◌, ◌<◌, List, length, take, true, Some, None}
+use Rattle.std.specs.Prelude.{◌≡◌, ◌≢◌, ◌⊎◌, ⊤, ℕ, ◌^◌, ◌≤◌, ◌<◌, List, length, take, true, Some, None}
 use Rattle.std.specs.Io.KnownBytes.{Appends}
 use Rattle.line_io.specs.Causes.{Rose}
 use Rattle.line_io.specs.Event.{Event}
 use Rattle.line_io.specs.Lines.{Piece, items}
 use Rattle.line_io.specs.Runs.{whole}
 use Rattle.line_io.specs.Taken.{IsOpenStill}
+use Rattle.policy_rules.specs.Policy.{IsProper}
 use Rattle.policy_rules.specs.declared.settings.Settings.{Settings}
 use Rattle.adapter_core.specs.Trace.{Step, Lawful, state}
-use Rattle.session_script.specs.Script.{script1, events, AreShort}
+use Rattle.session_script.specs.Script.{events, AreShort}
 use Rattle.command_endings.specs.declared.ending.Ending.{Ending}
 use Rattle.command_endings.specs.Diagnostics.{diagnostic}
 use Rattle.replay_tool.specs.Laws.{HaveLaws}
@@ -16,7 +17,7 @@ use Rattle.command_endings.specs.Ran.{Ran, WritingBroke}
 use Rattle.command_endings.specs.Reads.{AreFirst, AreRead, Got, IsAll}
 use Rattle.replay_tool.specs.Replay.{EndsAs}
 use Rattle.command_endings.specs.Streams.{Streams, AreSame, IsSteady}
-use Rattle.script_player.specs.Versions.{script_by, script_events, script_fault, settings_by, version_in}
+use Rattle.script_player.specs.Versions.{Version, First, Second, script_by, script_events, script_fault, settings_by, version_in}
 
 -- The trace is the lawful one with these settings and these events: there is no other.
 pub record IsTheSession (o : Settings) (happened : List Event) (trace : List Step) : Type 0 where
@@ -89,13 +90,21 @@ TellsFault before after code =
     → script_fault (items 131072 x) ≡ Some fault → IsSteady before after
     → ((code ≡ 2) × Appends before.diag.taken after.diag.taken (diagnostic fault)) ⊎ (code ≡ 3)
 
--- Where the input is the script of version 1 of a lawful trace that has its Open step, that script was written, but for
--- want of memory and failures.
+-- a header of version 2 states proper settings
+abbrev pub IsProperIn : Version → Type 0
+IsProperIn First = ⊤
+IsProperIn (Second settings) = IsProper settings
+
+-- Where the input is the script, of either version, of a lawful trace that has its Open step, that script was written, but
+-- for want of memory and failures.
 abbrev pub WritesItAgain : Settings → Streams → Streams → ℕ → Type 0
 WritesItAgain o before after code =
-    (trace : List Step) → Lawful o trace → (state o trace).ends.opened ≡ true
-    → before.input.left ≡ Some (script1 trace) → code ≢ 3 → code ≢ 4 → code ≢ 5 → code ≢ 6
-    → (code ≡ 0) × Appends before.output.taken after.output.taken (script1 trace)
+    (version : Version) (trace : List Step) → IsProperIn version
+    → Lawful (settings_by version o) trace
+    → (state (settings_by version o) trace).ends.opened ≡ true
+    → before.input.left ≡ Some (script_by version trace)
+    → code ≢ 3 → code ≢ 4 → code ≢ 5 → code ≢ 6
+    → (code ≡ 0) × Appends before.output.taken after.output.taken (script_by version trace)
 
 -- `Unread` and `Kept` say that the input and the output are just as they were.
 pub record Replayed (o : Settings) (Unread Kept : Type 0) (before after : Streams)

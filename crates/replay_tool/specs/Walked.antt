@@ -1,13 +1,12 @@
 -- Where a check has come to.
-use Rattle.std.specs.Prelude.{◌≡◌, ⊤, ℕ, suc, ◌+◌, ◌<◌, ◌^◌, List, [], ◌∷◌, ◌++◌, length, map, true, false, if◌then◌else◌, ◌==◌, Option, Some, None}
+use Rattle.std.specs.Prelude.{◌≡◌, ◌≢◌, ⊤, ℕ, suc, ◌+◌, ◌<◌, ◌^◌, List, [], ◌∷◌, ◌++◌, length, map, true, false, if◌then◌else◌, ◌==◌, Option, Some, None}
 use Rattle.std.specs.List.{before_first, after_first}
 use Rattle.std.specs.Str.{bytes_eq}
 use Rattle.line_io.specs.Event.{Event, Open}
-use Rattle.line_io.specs.Lines.{Piece, Whole, is_feed, parts, unread}
-use Rattle.line_io.specs.Runs.{Runs}
+use Rattle.line_io.specs.Lines.{Piece, Whole, is_feed, parts}
+use Rattle.line_io.specs.Takers.{Meaning}
 use Rattle.script_lines.specs.Header.{header_of}
 use Rattle.script_lines.specs.StepLine.{step_line, step_number}
-use Rattle.policy_rules.specs.Policy.{IsProper}
 use Rattle.policy_rules.specs.declared.settings.Settings.{Settings}
 use Rattle.adapter_core.specs.declared.ends.Ends.{Ends}
 use Rattle.adapter_core.specs.Ends.{is_over}
@@ -21,9 +20,10 @@ use Rattle.replay_tool.specs.declared.check.Checker.{Checker}
 use Rattle.script_player.specs.declared.stage.Stage.{Stage}
 use Rattle.script_player.specs.declared.stage.Stage.TheVariants as stages
 use Rattle.replay_tool.specs.Check.{Finds, lines_by}
+use Rattle.replay_tool.specs.Replayed.{IsProperIn}
 use Rattle.script_player.specs.Playing.{Adds}
 use Rattle.command_endings.specs.Streams.{Streams}
-use Rattle.command_endings.specs.Reads.{Got, IsAll}
+use Rattle.command_endings.specs.Reads.{AreRead}
 use Rattle.script_player.specs.Versions.{Said, Comes, Passes, Starts, HasNoMark, IsOutOfStep, Cannot, Version, First, Second, kind_of, kind_says, settings_by, stage_started, stage_told, version_in}
 
 -- what a line is: the event that may come where nothing is due, the number of the next step, the line that is due, or another
@@ -157,7 +157,6 @@ MayTake core (stages.Numbered number) = number < 10 ^ 18
 pub record IsUnread (o : Settings) (checker : Checker) : Type 0 where
   pub core : Stands o checker.core []
   pub stage : checker.stage ≡ stages.Start
-  pub lines : checker.lines ≡ unread 131072
   pub number : checker.number ≡ 0
 
 -- the lines and those that are due are a script, and only written lines and the first step line are due
@@ -185,10 +184,6 @@ AreAt (Second settings) ends (stages.Told number) trace due lines = Shows (Secon
 AreAt (Second settings) ends (stages.Numbered number) trace due lines = IsNext (Second settings) ends trace number due lines
 AreAt version ends stage trace due lines = ⊥
 
-abbrev pub IsProperIn : Version → Type 0
-IsProperIn First = ⊤
-IsProperIn (Second settings) = IsProper settings
-
 -- The lines were taken, and they and those that are due are a lawful script.
 pub record Standing (o : Settings) (version : Version) (core : Parts) (stage : Stage) (due : List ℕ) (lines : List Piece) : Type 0 where
   pub proper : IsProperIn version
@@ -203,17 +198,22 @@ abbrev pub Placed : Settings → Parts → Stage → List ℕ → List Piece →
 Placed o core stage due [] = Stands o core [] × (stage ≡ stages.Start)
 Placed o core stage due (line ∷ lines) = Standing o (version_in (line ∷ lines)) core stage due (line ∷ lines)
 
--- So many calls of the reader were made, none of which ended it, and the lines that they gave and those that are due are a lawful script.
-pub record Walked (o : Settings) (checker : Checker) (start now : Streams) (calls : ℕ) : Type 0 where
-  pub got : List ℕ
-  pub lines : List Piece
-  pub runs : Runs 131072 checker.lines got lines calls
-  pub reads : Got start now got
-  pub ended : checker.lines.ended ≡ true → IsAll start.input.left got
+-- These lines were taken, and they and those that are due are a lawful script.
+pub record Walked (o : Settings) (checker : Checker) (lines : List Piece) : Type 0 where
   pub number : checker.number ≡ length lines
   pub placed : Placed o checker.core checker.stage checker.due lines
+  pub may : MayTake checker.core checker.stage
 
--- what a turn came to
-abbrev pub Examined : Settings → Option Ending → Checker → Streams → Streams → ℕ → Type 0
-Examined o None checker start now calls = Walked o checker start now (suc calls)
-Examined o (Some ending) checker start now calls = Finds o ending start now
+-- The last of these lines shows this, wherever they are read.
+pub record Shown (o : Settings) (ending : Ending) (lines : List Piece) : Type 0 where
+  pub finds : (start now : Streams) → AreRead start now lines → Finds o ending start now
+  pub of_line : ending ≢ endings.ReadingFailed
+
+-- what a check of lines means
+abbrev pub checks : {O : Type 0} → Meaning Checker O Ending
+checks {O} = record {
+  took = λ checker0 output0 lines checker output. (o : Settings) → IsUnread o checker0 → Walked o checker lines;
+  stopped = λ checker0 output0 lines ending checker output. (o : Settings) → IsUnread o checker0 → Shown o ending lines;
+  may = λ checker. MayTake checker.core checker.stage;
+  is_written = λ checker. ⊤;
+}

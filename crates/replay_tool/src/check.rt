@@ -1,23 +1,22 @@
 // A run of the command `check`.
-ghost use Rattle.std.specs.Prelude.{◌≡◌, ◌≢◌, ℕ, ◌+◌, ◌≤◌, ◌<◌, length, [], Option, List, Some, None, IfOk, true};
+ghost use Rattle.std.specs.Prelude.{◌≡◌, ◌≢◌, ◌<◌, [], IfOk, true};
 ghost use Rattle.line_io.specs.Causes.{Rose};
 ghost use Rattle.line_io.specs.Event.{event_of};
-ghost use Rattle.line_io.specs.Lines.{IsReady, weight, flag};
+ghost use Rattle.line_io.specs.Lines.{unread};
 ghost use Rattle.script_lines.specs.Header.{header_of};
 ghost use Rattle.policy_rules.specs.Policy.{IsProper};
-ghost use Rattle.policy_rules.specs.declared.settings.Settings.{Settings as SpecSettings};
+ghost use Rattle.policy_rules.specs.declared.settings.Settings.{Settings as AnySettings};
 ghost use Rattle.adapter_core.specs.Ends.{may};
 ghost use Rattle.adapter_core.specs.Stands.{Stands};
 ghost use Rattle.command_endings.specs.declared.ending.Ending.TheVariants as endings;
 ghost use Rattle.replay_tool.specs.Check.{Finds};
 ghost use Rattle.command_endings.specs.Streams.{Streams, with_input};
-ghost use Rattle.replay_tool.specs.Walked.{Examined, EndsAt, Fills, Followed, Heads, IsOpen, IsUnread, MayTake, TakesAny, TakesFirst, Walked, fault_in, fit, number_undue, undue};
+ghost use Rattle.replay_tool.specs.Walked.{EndsAt, Fills, Followed, Heads, IsOpen, IsUnread, MayTake, TakesAny, TakesFirst, fault_in, fit, number_undue, undue};
 
 use crate::expected_lines::ExpectedLines;
-use crate::limits::{LAST_TURNS, TURNS};
 use adapter_core::Core;
 use command_endings::{Ending, LINE_LIMIT};
-use line_io::{Event, Item, Lines, NoMemory, Source};
+use line_io::{Event, Lines, LinesEnd, NoMemory, Source, TakesLines, take_lines};
 use policy_rules::Settings;
 use script_lines::read_header;
 use script_player::{Said, Stage};
@@ -25,12 +24,11 @@ use std::alloc::Global;
 
 // A session, the lines of a log, where the reading stands, and the lines that are due in it.
 #[derive(Drop)]
-pub(crate) struct Checker {
+struct Checker {
     core: Core,
-    lines: Lines,
     stage: Stage,
     due: ExpectedLines,
-    /// How many lines were taken.
+    // how many lines were taken
     number: u64,
 }
 
@@ -68,7 +66,6 @@ fn take_undue(
         (undue stage.old core.old.ends number line.now)
         core.new stage.new due.new }
     ensures open { IsOpen stage.new }
-    ensures unread { result ≢ Some endings.ReadingFailed }
 {
     match stage.says(core, line) {
         Said::Comes(event) => {
@@ -114,7 +111,6 @@ fn take_line(
         (fit stage.old core.old.ends due.old number line.now)
         core.new stage.new due.new }
     ensures open { IsOpen stage.new }
-    ensures unread { result ≢ Some endings.ReadingFailed }
 {
     if due.is_empty() {
         return take_undue(core, stage, number, line, due);
@@ -139,7 +135,6 @@ fn take_first(
     ensures taken { TakesFirst
         (header_of line.now) core.old number line.now result core.new stage.new due.new }
     ensures open { IsOpen stage.new }
-    ensures unread { result ≢ Some endings.ReadingFailed }
 {
     match read_header(line) {
         Some(settings) => {
@@ -167,7 +162,6 @@ fn take_any(
     ensures taken { TakesAny core.old stage.old due.old number line.now result
         core.new stage.new due.new }
     ensures open { IsOpen stage.new }
-    ensures unread { result ≢ Some endings.ReadingFailed }
 {
     match *stage {
         Stage::Start => take_first(core, stage, number, line, due),
@@ -191,116 +185,94 @@ fn ending_at(due: &ExpectedLines, number: u64) -> Ending
 ghost use Rattle.replay_tool.specs.Walked.{at_end};
 
 // The end of the input: no line that is due, and no event of a step, is to be missing.
-fn end_of(core: &mut Core, stage: Stage, number: u64, due: &mut ExpectedLines) -> Ending
-    requires may { MayTake core.old stage }
-    requires number { number < 18446744073709551615 }
-    ensures { EndsAt core.old stage due.old number result }
+fn end_of(checker: &mut Checker) -> Ending
+    requires may { MayTake checker.old.core checker.old.stage }
+    requires number { checker.old.number < 18446744073709551615 }
+    ensures { EndsAt checker.old.core checker.old.stage checker.old.due checker.old.number result }
 {
-    match stage {
+    match checker.stage {
         Stage::Start => {
-            step(core, &Event::Open, due);
-            ending_at(due, number)
+            step(&mut checker.core, &Event::Open, &mut checker.due);
+            ending_at(&checker.due, checker.number)
         }
-        Stage::Plain | Stage::Told(_) => ending_at(due, number),
-        Stage::Headed | Stage::Numbered(_) => Ending::Differs(number + 1),
+        Stage::Plain | Stage::Told(_) => ending_at(&checker.due, checker.number),
+        Stage::Headed | Stage::Numbered(_) => Ending::Differs(checker.number + 1),
     }
 }
 
 impl Checker {
-    /// An audit before its first line. It takes all memory that it ever uses.
-    pub fn make(alloc: Global, settings: &Settings) -> Result<Checker, NoMemory>
+    fn make(alloc: Global, settings: &Settings) -> Result<Checker, NoMemory>
         requires { IsProper settings.now }
-        ensures unread { IfOk result (λ checker. IsUnread checker.core.settings checker) }
-        ensures settings { IfOk result (λ checker. checker.core.settings ≡ settings.now) }
+        ensures { IfOk result (λ checker. IsUnread settings.now checker) }
     {
         Ok(Checker {
             core: Core::make(alloc, settings)?,
-            lines: Lines::make(alloc, LINE_LIMIT)?,
             stage: Stage::Start,
             due: ExpectedLines::make(alloc)?,
             number: 0,
         })
     }
+}
 
-    // Takes the next line, or what a read gave.
-    fn turn<I: Source>(&mut self, input: &mut I) -> Option<Ending>
-        requires may { MayTake self.old.core self.old.stage }
-        requires number { self.old.number < 18446744073709551615 }
-        ensures audited { (o : SpecSettings) (start now : Streams) (calls : ℕ)
-            → Walked o self.old start (with_input now (I.state input.old)) calls
-            → Examined o result self.new start (with_input now (I.state input.new)) calls }
-        ensures may { result ≡ None → MayTake self.new.core self.new.stage }
-        ensures same { result ≢ Some endings.ReadingFailed → (I.state input.new).faults ≡
-            (I.state input.old).faults }
-        ensures cause { result ≡ Some endings.ReadingFailed → Rose (I.state input.old).faults
-            (I.state input.new).faults }
-        ensures idle { IsReady self.old.lines → result ≡ None
-            → weight self.new.lines + flag self.old.lines.ended + 1 ≤ weight self.old.lines + flag
-            self.new.lines.ended }
-        ensures number { self.new.number ≤ self.old.number + 1 }
-    {
-        match self.lines.next(input) {
-            Err(_) => Some(Ending::ReadingFailed),
-            Ok(Item::More) => None,
-            Ok(Item::End) => Some(end_of(&mut self.core, self.stage, self.number, &mut self.due)),
-            Ok(Item::Long) => {
-                self.number += 1;
-                Some(Ending::NoMark(self.number))
-            }
-            Ok(Item::Line(line)) => {
-                self.number += 1;
-                take_any(
-                    &mut self.core,
-                    &mut self.stage,
-                    self.number,
-                    line,
-                    &mut self.due,
-                )
-            }
-        }
+impl TakesLines<()> for Checker {
+    ghost use Rattle.replay_tool.specs.Walked.{checks};
+
+    type Stop = Ending;
+
+    ghost means = { checks };
+
+    fn line(&mut self, number: u64, line: &[u8], _output: &mut ()) -> Option<Ending> {
+        self.number = number;
+        take_any(&mut self.core, &mut self.stage, number, line, &mut self.due)
     }
 
-    // Takes the whole lines that are held, after so many turns that the input is too long.
-    fn drain<I: Source>(&mut self, input: &mut I) -> Ending
-        requires may { MayTake self.old.core self.old.stage }
-        requires number { self.old.number ≤ 8589934592 }
-        requires held { weight self.old.lines ≤ 135169 }
-        ensures finds { (o : SpecSettings) (start now : Streams)
-            → Walked o self.old start (with_input now (I.state input.old)) 8589934592
-            → Finds o result start (with_input now (I.state input.new)) }
-        ensures same { result ≢ endings.ReadingFailed → (I.state input.new).faults ≡
-            (I.state input.old).faults }
-        ensures cause { result ≡ endings.ReadingFailed → Rose (I.state input.old).faults
-            (I.state input.new).faults }
+    fn long(&mut self, number: u64, _output: &mut ()) -> Option<Ending> {
+        Some(Ending::NoMark(number))
+    }
+
+    // The verdict is written at the end.
+    fn flush(&mut self, _output: &mut ()) -> Option<Ending> {
+        None
+    }
+}
+
+/// A check of an input.
+#[derive(Drop)]
+pub(crate) struct Audit {
+    checker: Checker,
+    lines: Lines,
+}
+
+impl Audit {
+    /// An audit before its first line. It takes all memory that it ever uses.
+    pub fn make(alloc: Global, settings: &Settings) -> Result<Audit, NoMemory>
+        requires { IsProper settings.now }
+        ensures checker { IfOk result (λ audit. IsUnread settings.now audit.checker) }
+        ensures lines { IfOk result (λ audit. audit.lines ≡ unread 131072) }
     {
-        for _ in 0..LAST_TURNS {
-            if !self.lines.is_ready() {
-                return Ending::TooLong;
-            }
-            if let Some(ending) = self.turn(input) {
-                return ending;
-            }
-        }
-        Ending::TooLong
+        Ok(Audit {
+            checker: Checker::make(alloc, settings)?,
+            lines: Lines::make(alloc, LINE_LIMIT)?,
+        })
     }
 
     /// Compares the input with the lawful script of its events.
     pub fn go<I: Source>(&mut self, input: &mut I) -> Ending
-        requires unread { IsUnread self.old.core.settings self.old }
-        ensures finds { (start now : Streams)
-            → Finds self.old.core.settings result
+        requires checker { IsUnread self.old.checker.core.settings self.old.checker }
+        requires lines { self.old.lines ≡ unread 131072 }
+        ensures finds { (o : AnySettings) (start now : Streams) → IsUnread o self.old.checker
+            → Finds o result
             (with_input start (I.state input.old)) (with_input now (I.state input.new)) }
         ensures same { result ≢ endings.ReadingFailed → (I.state input.new).faults ≡
             (I.state input.old).faults }
         ensures cause { result ≡ endings.ReadingFailed → Rose (I.state input.old).faults
             (I.state input.new).faults }
     {
-        for _ in 0..TURNS {
-            if let Some(ending) = self.turn(input) {
-                return ending;
-            }
+        match take_lines(&mut self.lines, input, &mut self.checker, &mut ()) {
+            LinesEnd::Stopped(ending) => ending,
+            LinesEnd::Ended => end_of(&mut self.checker),
+            LinesEnd::ReadFailed => Ending::ReadingFailed,
+            LinesEnd::Endless => Ending::TooLong,
         }
-        let _ = self.lines.saw_end();
-        self.drain(input)
     }
 }

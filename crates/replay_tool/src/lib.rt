@@ -4,7 +4,6 @@
 mod check;
 mod command;
 mod expected_lines;
-mod limits;
 mod moves;
 mod play;
 mod replay;

@@ -1,5 +1,6 @@
 // The program.
 ghost use Rattle.std.specs.Prelude.{◌≡◌, ℕ, List, Some, None, IfOk};
+ghost use Rattle.line_io.specs.Lines.{unread};
 ghost use Rattle.line_io.specs.Out.{empty};
 ghost use Rattle.policy_rules.specs.Policy.{IsProper};
 ghost use Rattle.policy_rules.specs.declared.settings.Settings.{Settings as AnySettings};
@@ -23,7 +24,7 @@ ghost use Rattle.revival_script.specs.Revived.{Revived};
 ghost use Rattle.driver_script.specs.Driven.{Driven};
 ghost use Rattle.session_games.specs.GamesWritten.{GamesWritten};
 
-use crate::check::Checker;
+use crate::check::Audit;
 use crate::command::{Command, read_command};
 use crate::moves::list_moves;
 use crate::play::play_drill;
@@ -68,14 +69,14 @@ fn run_replay<I: Source, O: Sink, D: Sink>(
     run.tell(ending, diag)
 }
 
-// The memory of a check: its session, and room for one line.
-fn make_check(alloc: Global, settings: &Settings) -> Result<(Checker, Out), NoMemory>
+// The memory of a check, and room for one line.
+fn make_check(alloc: Global, settings: &Settings) -> Result<(Audit, Out), NoMemory>
     requires { IsProper settings.now }
-    ensures unread { IfOk result (λ made. IsUnread made.0.core.settings made.0) }
-    ensures settings { IfOk result (λ made. made.0.core.settings ≡ settings.now) }
+    ensures checker { IfOk result (λ made. IsUnread settings.now made.0.checker) }
+    ensures lines { IfOk result (λ made. made.0.lines ≡ unread 131072) }
     ensures room { IfOk result (λ made. made.1 ≡ empty 80) }
 {
-    Ok((Checker::make(alloc, settings)?, Out::make(alloc, 80)?))
+    Ok((Audit::make(alloc, settings)?, Out::make(alloc, 80)?))
 }
 
 // Checks the input.
@@ -93,10 +94,10 @@ fn run_check<I: Source, O: Sink, D: Sink>(
         (streams (I.state input.old) (O.state output.old) (D.state diag.old))
         (streams (I.state input.new) (O.state output.new) (D.state diag.new)) (code_of result) }
 {
-    let Ok((mut checker, mut text)) = make_check(alloc, settings) else {
+    let Ok((mut audit, mut text)) = make_check(alloc, settings) else {
         return tell_short(Ending::NoMemory, diag);
     };
-    let found = checker.go(input);
+    let found = audit.go(input);
     let ending = write_verdict(found, &mut text, output);
     tell(ending, &mut text, diag)
 }

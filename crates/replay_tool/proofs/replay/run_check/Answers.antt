@@ -1,7 +1,5 @@
-use Rattle.std.proofs.Common.{refl, subst}
-use Rattle.policy_rules.specs.declared.settings.Settings.{Settings}
+use Rattle.std.proofs.Common.{refl}
 use Rattle.command_endings.specs.declared.ending.Ending.TheVariants as endings
-use Rattle.replay_tool.specs.Check.{Finds}
 use Rattle.command_endings.specs.Streams.{Streams, streams}
 use Rattle.replay_tool.proofs.Verdicts.{ran}
 use Rattle.replay_tool.proofs.replay.run_check.Goals as goal
@@ -22,5 +20,5 @@ returns g c =
     let start : Streams = streams (g.I.Source.state c.args.input.now) (g.O.Sink.state c.args.output.now) (g.D.Sink.state c.args.diag.now) in
     let now : Streams = streams (g.I.Source.state c.go-found.new.input) (g.O.Sink.state c.write_verdict-ending.new.output) (g.D.Sink.state c.tell.new.diag) in
     ran c.args.settings.now _ _ start now _ c.go-found.result c.write_verdict-ending.result
-    (subst (λ (s : Settings). Finds s c.go-found.result start now) (let s = c.in-Ok.ensures.settings in let a = c.in-Ok.checker-is in let i = c.in-Ok.is in cc) (c.go-found.ensures.finds start now))
+    (c.go-found.ensures.finds c.args.settings.now start now c.in-Ok.ensures.checker)
     c.write_verdict-ending.ensures.wrote c.tell.ensures c.go-found.ensures.cause c.go-found.ensures.same
