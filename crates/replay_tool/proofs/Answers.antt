@@ -1,6 +1,6 @@
 -- What the program answers.
-use Rattle.std.proofs.Common.{true, ◌≡◌, ℕ, ◌+◌, take, map, ◌^◌, ◌<◌, ◌≤◌, List, [], ◌∷◌, length, Option, Some, None, refl, sym, ap, subst, ◌∙◌, ◌⊎◌, inl, inr, arith, length-append, ◌≢◌, append-nil}
-use Rattle.std.specs.Io.KnownBytes.{Appends, Consumes}
+use Rattle.std.proofs.Common.{true, ◌≡◌, ℕ, ◌+◌, take, map, ◌^◌, ◌<◌, List, [], ◌∷◌, length, Option, Some, None, refl, sym, ap, subst, ◌∙◌, ◌⊎◌, inl, inr, arith, ◌≢◌, append-nil}
+use Rattle.std.specs.Io.KnownBytes.{Appends}
 use Rattle.line_io.specs.Causes.{Rose}
 use Rattle.line_io.specs.Lines.{Piece, items, piece_of}
 use Rattle.line_io.specs.Runs.{whole}

@@ -1,6 +1,5 @@
 -- How a check ends.
-use Rattle.std.proofs.Common.{◌≡◌, ℕ, ◌+◌, ◌^◌, ◌<◌, ◌≤◌, ◌==◌, List, length, Bool, true, false, cond, sym, ◌∙◌, arith}
-use Rattle.line_io.specs.Lines.{Piece}
+use Rattle.std.proofs.Common.{◌≡◌, ℕ, ◌+◌, ◌<◌, ◌==◌, List, length, Bool, true, false, cond, sym, ◌∙◌, arith}
 use Rattle.line_io.specs.Taken.{Place, Taken}
 use Rattle.line_io.specs.declared.taker.LinesEnd.TheVariants as ends
 use Rattle.policy_rules.specs.declared.settings.Settings.{Settings}

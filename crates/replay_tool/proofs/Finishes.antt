@@ -1,15 +1,10 @@
 -- How a replay stops.
-use Rattle.std.proofs.Common.{◌≡◌, ◌≢◌, ◌⊎◌, inl, inr, ℕ, zero, suc, ◌+◌, ◌≤◌, zero-add, List, [], ◌∷◌, ◌++◌, map, take, length, Bool, true, false, cond, Option, Some, None, IfSome, refl, sym, ap, subst, ◌∙◌, arith, append_assoc, append-nil}
-use Rattle.std.specs.Bool.{⊤}
-use Rattle.std.specs.List.{onto_first, count_by}
-use Rattle.std.proofs.lemmas.List.Sums.{sum_by-cons}
-use Rattle.std.proofs.lemmas.List.{map-append}
-use Rattle.std.specs.Io.KnownBytes.{Consumes, IsAtEnd}
+use Rattle.std.proofs.Common.{◌≡◌, ◌≢◌, inl, inr, ℕ, ◌≤◌, List, [], ◌∷◌, length, None, refl, sym, ap, subst, ◌∙◌, arith}
 use Rattle.line_io.specs.Causes.{Rose}
-use Rattle.line_io.specs.Lines.{Piece, Reads, parts, is_feed, items, piece_of}
-use Rattle.line_io.specs.Runs.{closed_parts, whole}
+use Rattle.line_io.specs.Lines.{Piece, Reads}
+use Rattle.line_io.specs.Runs.{whole}
 use Rattle.line_io.specs.Source.{Received, Supplied}
-use Rattle.line_io.specs.Taken.{Place, Taken, IsOver, IsOpenStill}
+use Rattle.line_io.specs.Taken.{Place, Taken, IsOpenStill}
 use Rattle.line_io.specs.declared.taker.LinesEnd.TheVariants as ends
 use Rattle.policy_rules.specs.declared.settings.Settings.{Settings}
 use Rattle.adapter_core.specs.Parts.{Parts}
@@ -18,9 +13,9 @@ use Rattle.command_endings.specs.declared.ending.Ending.TheVariants as endings
 use Rattle.script_player.specs.declared.player.Player.{Player}
 use Rattle.script_player.specs.declared.stage.Stage.{Stage}
 use Rattle.command_endings.specs.Streams.{Streams, streams}
-use Rattle.script_player.specs.Versions.{Said, Comes, Passes, Starts, HasNoMark, IsOutOfStep, Cannot, fault_said, first_fault, or_later, line_says, place_said, Place as ReadingPlace, script_fault, version_in, beginning, behind_header, header_lines}
+use Rattle.script_player.specs.Versions.{script_fault}
 use Rattle.script_player.specs.Playing.{Scripted, Took}
-use Rattle.script_player.specs.Replaying.{IsFresh, Broke, Faulted, Halted, Finished, Left, is_cut, replays}
+use Rattle.script_player.specs.Replaying.{IsFresh, Broke, Finished, Left, replays}
 use Rattle.command_endings.specs.Reads.{AreFirst, AreRead, IsAll}
 use Rattle.command_endings.specs.Ran.{Causes}
 use Rattle.replay_tool.specs.Replay.{ReplaysTo, ReplaysWhole, Stopped}

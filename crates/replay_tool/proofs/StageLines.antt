@@ -12,7 +12,7 @@ use Rattle.adapter_core.specs.Stands.{Stands}
 use Rattle.script_player.specs.declared.stage.Stage.{Stage}
 use Rattle.script_player.specs.declared.stage.Stage.TheVariants as stages
 use Rattle.replay_tool.specs.Walked.{IsOpen, MayTake}
-use Rattle.script_player.specs.Versions.{Kind, Tells, Writes, Numbers, HasNone, Said, Comes, Passes, Starts, HasNoMark, IsOutOfStep, Cannot, event_says, number_says, kind_says, stage_started}
+use Rattle.script_player.specs.Versions.{Kind, Tells, Writes, Numbers, HasNone, Comes, Starts, IsOutOfStep, Cannot, event_says, number_says, kind_says, stage_started}
 
 no_event : (ends : Ends) (e : Event) (n : ℕ) → event_says ends e ≡ Starts n → ⊥
 no_event ends e n h = by (may ends e) h where

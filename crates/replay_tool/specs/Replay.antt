@@ -1,11 +1,9 @@
 -- What a replay leaves.
-use Rattle.std.specs.Prelude.{◌≡◌, ◌≢◌, ℕ, ◌^◌, ◌≤◌, List, [], ◌++◌, length, take, Option, Some, None, IfSome}
+use Rattle.std.specs.Prelude.{◌≡◌, ℕ, ◌^◌, ◌≤◌, List, [], length, take, Some, None}
 use Rattle.std.specs.Io.KnownBytes.{Appends}
-use Rattle.line_io.specs.Causes.{Rose}
-use Rattle.line_io.specs.Lines.{Piece, Reads, items}
+use Rattle.line_io.specs.Lines.{Piece, items}
 use Rattle.line_io.specs.Runs.{whole}
 use Rattle.line_io.specs.Taken.{IsOpenStill}
-use Rattle.line_io.specs.Source.{Supplied, Received}
 use Rattle.policy_rules.specs.declared.settings.Settings.{Settings}
 use Rattle.adapter_core.specs.Trace.{Step, Lawful}
 use Rattle.session_script.specs.Script.{events}
