@@ -75,16 +75,23 @@ def main():
             sys.exit(f"after {' '.join(moves)}: {move} is not legal")
         moves.append(move)
         position = chess.play(position, move)
-    # an analysis, which ends by `stop`
-    start = chess.read_fen(chess.START)
-    ours.order("position startpos")
+    # an analysis of the position that was reached, beyond any book, which ends by `stop`
+    while not chess.legal_moves(position):
+        moves.pop()
+        position = chess.read_fen(chess.START)
+        for move in moves:
+            position = chess.play(position, move)
+    ours.order("position startpos moves " + " ".join(moves))
     ours.order("go infinite")
     threading.Event().wait(1.5)
     ours.order("stop")
     line, before = ours.wait_for("bestmove")
-    if line.split()[1] not in chess.legal_moves(start):
+    if line.split()[1] not in chess.legal_moves(position):
         sys.exit(f"the analysis ended with {line}")
-    print(len(moves), "plies;", sum(it.startswith("info ") for it in before), "lines of analysis")
+    shown = sum(it.startswith("info ") for it in before)
+    if shown == 0:
+        sys.exit("the analysis showed no line")
+    print(len(moves), "plies;", shown, "lines of analysis")
     ours.order("quit")
     theirs.order("quit")
     if ours.process.wait(timeout=20) != 0:
