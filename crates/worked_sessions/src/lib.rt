@@ -8,6 +8,8 @@ mod checks;
 #[cfg(test)]
 mod drills;
 #[cfg(test)]
+mod games;
+#[cfg(test)]
 mod logs;
 #[cfg(test)]
 mod moves;
