@@ -1,0 +1,15 @@
+//! Sessions of the running driver: its readers beside its loop, and the whole program.
+#![tactic(auto)]
+
+#[cfg(test)]
+mod loops;
+#[cfg(test)]
+mod program;
+#[cfg(test)]
+mod ready;
+#[cfg(test)]
+mod sessions;
+#[cfg(test)]
+mod talk;
+#[cfg(test)]
+mod talking_host;

@@ -1,0 +1,127 @@
+// Whole sessions of the program: the interface and the engine wait for one another, so a program
+// that reads one of them to its end before the other never ends.
+use crate::program::words_of;
+use crate::talk::{ANALYSING_ENGINE, ANALYST, Due, PLAYER, PLAYING_ENGINE, Telling, Waiting};
+use crate::talking_host::TalkingHost;
+use driver_app::drive_main;
+use line_io::MemSink;
+use std::alloc::Global;
+use std::sync::Wait;
+use std::sync::atomic::AtomicU64;
+use std::test::Fail;
+use std::thread::Threads;
+
+const PLAYED: &[u8] = b"\
+    x uci\n\
+    U xboard\n\
+    U protover 2\n\
+    u feature ping=1 setboard=1 usermove=1 analyze=1 myname=\"Old\" done=1\n\
+    X id name Old\n\
+    X uciok\n\
+    U accepted ping\n\
+    U accepted setboard\n\
+    U accepted usermove\n\
+    U accepted analyze\n\
+    U accepted myname\n\
+    U accepted done\n\
+    x position startpos moves e2e4\n\
+    x go movetime 1500\n\
+    U new\n\
+    U force\n\
+    U post\n\
+    U usermove e2e4\n\
+    U st 2\n\
+    U go\n\
+    u move e7e5\n\
+    X bestmove e7e5\n\
+    x position startpos moves e2e4 e7e5 g1f3\n\
+    x go movetime 1500\n\
+    U force\n\
+    U usermove g1f3\n\
+    U st 2\n\
+    U go\n\
+    x quit\n\
+    U quit\n\
+    u.\n";
+
+const ANALYSED: &[u8] = b"\
+    x uci\n\
+    U xboard\n\
+    U protover 2\n\
+    u feature ping=1 setboard=1 usermove=1 analyze=1 myname=\"Old\" done=1\n\
+    X id name Old\n\
+    X uciok\n\
+    U accepted ping\n\
+    U accepted setboard\n\
+    U accepted usermove\n\
+    U accepted analyze\n\
+    U accepted myname\n\
+    U accepted done\n\
+    x position startpos\n\
+    x go infinite\n\
+    U new\n\
+    U force\n\
+    U post\n\
+    U analyze\n\
+    u 9 25 100 5000 e4 e5\n\
+    X info depth 9 score cp 25 time 1000 nodes 5000 pv e2e4\n\
+    x stop\n\
+    U exit\n\
+    U ping 1\n\
+    u pong 1\n\
+    X bestmove e2e4\n\
+    x.\n\
+    U quit\n\
+    u.\n";
+
+// Runs the program between an interface and an engine, and compares its log.
+fn logs<R: Threads + Wait + Sync>(
+    rt: &R,
+    alloc: Global,
+    iface: &'static [Due],
+    engine: &'static [Due],
+    log: &[u8],
+) -> Result<bool, Fail> {
+    let written = AtomicU64::new(0);
+    let words = words_of(alloc, &[b"d.log", b"engine"])?;
+    let mut host = TalkingHost::make(alloc, &written, engine)?;
+    let mut input = Waiting::new(&written, iface);
+    let mut output = Telling::new(&written);
+    let mut diag = MemSink::make(alloc, 100, &[])?;
+    let status = drive_main(
+        rt,
+        alloc,
+        words.as_slice(),
+        &mut input,
+        &mut output,
+        &mut host,
+        &mut diag,
+    );
+    Ok(status.code == 0 && diag.taken().is_empty() && host.logged() == log)
+}
+
+#[test]
+fn an_engine_plays(rt: HostRuntime) -> Result<(), Fail> {
+    let same = logs(
+        &rt,
+        rt.alloc(),
+        PLAYER.as_slice(),
+        PLAYING_ENGINE.as_slice(),
+        PLAYED,
+    )?;
+    assert!(rt; same);
+    Ok(())
+}
+
+#[test]
+fn an_engine_analyses(rt: HostRuntime) -> Result<(), Fail> {
+    let same = logs(
+        &rt,
+        rt.alloc(),
+        ANALYST.as_slice(),
+        ANALYSING_ENGINE.as_slice(),
+        ANALYSED,
+    )?;
+    assert!(rt; same);
+    Ok(())
+}
