@@ -1,28 +1,17 @@
--- No man goes beyond what it could on an empty board.
-use Rattle.std.proofs.Common.{◌≡◌, ◌<◌, ℕ, Bool, true, false, ◌&&◌, not, refl, sym, ap, ◌∙◌, Option, Some, None}
+-- Where a man goes, by where it could go on an empty board.
+use Rattle.std.proofs.Common.{◌≡◌, ◌<◌, ◌==◌, ◌||◌, ℕ, Bool, true, false, ◌&&◌, not, nat_lt, refl, sym, ap, ◌∙◌, Option, Some, None}
+use Rattle.std.proofs.lemmas.Nat.Bits.{bit_at-zero}
 use Rattle.std.proofs.lemmas.Bool.{false_from_ne_true, false≢true}
 use Rattle.chess_board.specs.declared.board.Kind.{Kind}
+use Rattle.chess_board.specs.declared.board.Kind.TheVariants.{Pawn, Knight, Bishop, Rook, Queen, King}
 use Rattle.chess_board.specs.declared.board.Side.{Side}
-use Rattle.chess_board.specs.Board.{Man, man_at, same_side, is_of, is_king, other}
-use Rattle.chess_board.specs.Attack.{is_checked}
+use Rattle.chess_board.specs.Board.{Man, man_at, same_side, is_of, is_king, other, distance}
+use Rattle.chess_board.specs.Attack.{is_checked, is_clear, is_diagonal, is_straight, IsLine}
 use Rattle.chess_board.specs.Position.{Position}
-use Rattle.chess_board.specs.Reach.{form, has, IsSetOf, Bounds}
+use Rattle.chess_board.specs.Reach.{form, has, could_go, goes_as, is_slider, IsSetOf, AreWays, Bounds}
 use Rattle.chess_board.specs.Rules.{reaches_to, reaches_to_as, may_land, goes, promotes, men_after, is_legal, is_legal_of}
-use Rattle.chess_board.proofs.Bools.{both, not_false, same_side-is}
+use Rattle.chess_board.proofs.Bools.{both, same_side-is}
 use Rattle.chess_board.proofs.Total.{goes_form}
-
--- where no man stands
-pub bounds_none : (p : Position) (from set : ℕ) → man_at p.men from ≡ None → Bounds p from set
-unfolding reaches_to
-bounds_none p from set none to low e = ap (λ (man : Man). reaches_to_as p man from to) none
-
--- by the form of the man's moves
-pub bounds_form : (p : Position) (owner : Side) (piece : Kind) (from set : ℕ) → man_at p.men from ≡ Some (owner, piece) → IsSetOf (form p.side piece from) set → Bounds p from set
-unfolding reaches_to
-bounds_form p owner piece from set man is to low e = false_from_ne_true _ (λ h.
-    let here : (same_side owner p.side && (may_land p.side (man_at p.men to) && goes p piece from to)) ≡ true = sym (ap (λ (m : Man). reaches_to_as p m from to) man) ∙ h in
-    let way = (both (may_land p.side (man_at p.men to)) (goes p piece from to) (both (same_side owner p.side) (may_land p.side (man_at p.men to) && goes p piece from to) here).1).1 in
-    false≢true (sym e ∙ (is to low ∙ goes_form p piece from to way)))
 
 -- a move of a man that may go so is legal where it promotes rightly and leaves its king unattacked
 pub legal_reach : (p : Position) (owner : Side) (piece : Kind) (from to : ℕ) (promo : Option Kind) → man_at p.men from ≡ Some (owner, piece) → reaches_to p from to ≡ true →
@@ -38,25 +27,89 @@ pub never_none : (p : Position) (from to : ℕ) → man_at p.men from ≡ None �
 unfolding reaches_to
 never_none p from to none = ap (λ (man : Man). reaches_to_as p man from to) none
 
--- nor on a man of its side
-pub bounds_less : (p : Position) (owner : Side) (piece : Kind) (from ways own set : ℕ) → man_at p.men from ≡ Some (owner, piece) → IsSetOf (form p.side piece from) ways →
-    IsSetOf (λ s. is_of p.side (man_at p.men s)) own → ((s : ℕ) → s < 64 → has set s ≡ (has ways s && not (has own s))) → Bounds p from set
-unfolding reaches_to
-bounds_less p owner piece from ways own set man is mine less to low e =
-    elim (has ways to) as (λ v. has ways to ≡ v → reaches_to p from to ≡ false) [
-      | false ↦ λ out. bounds_form p owner piece from ways man is to low out
-      | true ↦ λ way.
-          let here : has own to ≡ true = not_false (has own to) (sym (less to low ∙ ap (λ (v : Bool). v && not (has own to)) way) ∙ e) in
-          let land : may_land p.side (man_at p.men to) ≡ false = ap (λ (v : Bool). not v && not (is_king (other p.side) (man_at p.men to))) (sym (mine to low) ∙ here) in
-          elim (man_at p.men from) as (λ m. reaches_to_as p m from to ≡ false) [
-            | None ↦ refl
-            | Some m ↦ and_none (same_side m.0 p.side) (may_land p.side (man_at p.men to)) (goes p m.1 from to) land
-          ]
-    ] refl
+either_left : (a b : Bool) → a ≡ true → (a || b) ≡ true
+either_left true b e = refl
+either_left false b e = absurd (cc)
+
+either_right : (a b : Bool) → b ≡ true → (a || b) ≡ true
+either_right true b e = refl
+either_right false b e = e
+
+-- the squares to which a man could go, by the sets of his ways, of the men of his side and of the other king
+pub ways_none : (p : Position) (from : ℕ) → man_at p.men from ≡ None → AreWays p from 0
+ways_none p from none to low = ap (λ (n : ℕ). n == 1) (bit_at-zero to) ∙ sym (ap (λ (man : Man). could_go p man from to) none)
+
+pub ways_some : (p : Position) (owner : Side) (piece : Kind) (from ways own king others set : ℕ) → man_at p.men from ≡ Some (owner, piece) → IsSetOf (form p.side piece from) ways →
+    IsSetOf (λ s. is_of p.side (man_at p.men s)) own → IsSetOf (λ s. is_king (other p.side) (man_at p.men s)) king → ((s : ℕ) → s < 64 → has others s ≡ (has ways s && not (has own s))) →
+    ((s : ℕ) → s < 64 → has set s ≡ (has others s && not (has king s))) → AreWays p from set
+ways_some p owner piece from ways own king others set man is mine kings less less' to low =
+    less' to low ∙ ap (λ (v : Bool). v && not (has king to)) (less to low) ∙ turn (has ways to) (has own to) (has king to)
+    ∙ ap (λ (v : Bool). (not v && not (has king to)) && has ways to) (mine to low) ∙ ap (λ (v : Bool). (not (is_of p.side (man_at p.men to)) && not v) && has ways to) (kings to low)
+    ∙ ap (λ (v : Bool). may_land p.side (man_at p.men to) && v) (is to low) ∙ sym (ap (λ (m : Man). could_go p m from to) man)
   where
-    and_none : (a b c : Bool) → b ≡ false → (a && (b && c)) ≡ false
-    and_none true b c e = rw e refl
-    and_none false b c e = refl
+    turn : (w o k : Bool) → ((w && not o) && not k) ≡ ((not o && not k) && w)
+    turn true true k = refl
+    turn true false true = refl
+    turn true false false = refl
+    turn false true k = refl
+    turn false false true = refl
+    turn false false false = refl
+
+-- no man goes to another square
+pub ways_bound : (p : Position) (from ways : ℕ) → AreWays p from ways → Bounds p from ways
+unfolding reaches_to
+ways_bound p from ways is to low out =
+    false_from_ne_true _ (λ h. no (man_at p.men from) (sym (is to low) ∙ out) h)
+  where
+    no : (stands : Man) → could_go p stands from to ≡ false → reaches_to_as p stands from to ≡ true → ⊥
+    no None e h = false≢true h
+    no (Some man) e h =
+        let parts = both (may_land p.side (man_at p.men to)) (goes p man.1 from to) (both (same_side man.0 p.side) (may_land p.side (man_at p.men to) && goes p man.1 from to) h).1 in
+        false≢true (sym e ∙ rw (parts.0, goes_form p man.1 from to parts.1) refl)
+
+-- what a man could do on an empty board, he does where a slider's way is clear
+pub slider_goes : (p : Position) (piece : Kind) (from to : ℕ) → is_slider piece ≡ true → form p.side piece from to ≡ true → is_clear p.men from to ≡ goes p piece from to
+slider_goes p Bishop from to is e = sym (ap (λ (v : Bool). v && is_clear p.men from to) e)
+slider_goes p Rook from to is e = sym (ap (λ (v : Bool). v && is_clear p.men from to) e)
+slider_goes p Queen from to is e = sym (ap (λ (v : Bool). v && is_clear p.men from to) e)
+slider_goes p Pawn from to is e = absurd (cc)
+slider_goes p Knight from to is e = absurd (cc)
+slider_goes p King from to is e = absurd (cc)
+
+pub slider_line : (side : Side) (piece : Kind) (from to : ℕ) → is_slider piece ≡ true → form side piece from to ≡ true → IsLine from to
+slider_line side Bishop from to is e = either_left (is_diagonal from to) (is_straight from to) (both (nat_lt 0 (distance from to)) (is_diagonal from to) e).1
+slider_line side Rook from to is e = either_right (is_diagonal from to) (is_straight from to) (both (nat_lt 0 (distance from to)) (is_straight from to) e).1
+slider_line side Queen from to is e = (both (nat_lt 0 (distance from to)) (is_diagonal from to || is_straight from to) e).1
+slider_line side Pawn from to is e = absurd (cc)
+slider_line side Knight from to is e = absurd (cc)
+slider_line side King from to is e = absurd (cc)
+
+-- a man reaches the squares to which it could go, and goes
+pub reach_by : (p : Position) (from to : ℕ) → reaches_to p from to ≡ (could_go p (man_at p.men from) from to && goes_as p (man_at p.men from) from to)
+unfolding reaches_to
+reach_by p from to = by_man (man_at p.men from)
+  where
+    turn : (s l : Bool) → (s && (l && true)) ≡ ((l && true) && (s && true))
+    turn true true = refl
+    turn true false = refl
+    turn false true = refl
+    turn false false = refl
+
+    none : (s l f : Bool) → (s && (l && false)) ≡ ((l && f) && (s && false))
+    none true true true = refl
+    none true true false = refl
+    none true false f = refl
+    none false true true = refl
+    none false true false = refl
+    none false false f = refl
+
+    shuffle : (s l f g : Bool) → (g ≡ true → f ≡ true) → (s && (l && g)) ≡ ((l && f) && (s && g))
+    shuffle s l f true h = turn s l ∙ ap (λ (v : Bool). (l && v) && (s && true)) (sym (h refl))
+    shuffle s l f false h = none s l f
+
+    by_man : (stands : Man) → reaches_to_as p stands from to ≡ (could_go p stands from to && goes_as p stands from to)
+    by_man None = refl
+    by_man (Some man) = shuffle (same_side man.0 p.side) (may_land p.side (man_at p.men to)) (form p.side man.1 from to) (goes p man.1 from to) (goes_form p man.1 from to)
 
 -- a man that goes somewhere is of the side on move
 pub reach_owner : (p : Position) (owner : Side) (piece : Kind) (from to : ℕ) → man_at p.men from ≡ Some (owner, piece) → reaches_to p from to ≡ true → owner ≡ p.side

@@ -119,12 +119,12 @@ turned : (a b : ℕ) → gap a b ≡ gap b a
 turned a b = omega arith
 
 -- a man of the side that attacks a square stands where its kind could on an empty board
-near_hit : (men : Men) (side : Side) (from at : ℕ) → attacks men side from at ≡ true →
-    (((((form White Knight at from && is_a Knight (man_at men from)) || (form White Bishop at from && (is_a Bishop (man_at men from) || is_a Queen (man_at men from))))
-    || (form White Rook at from && (is_a Rook (man_at men from) || is_a Queen (man_at men from))))
-    || (form White King at from && (is_a King (man_at men from) || is_a Pawn (man_at men from)))) && is_of side (man_at men from)) ≡ true
-near_hit men side from at e =
-    elim (man_at men from) as (λ m. attacks_as men side from at m ≡ true →
+near_hit : (men : Men) (side : Side) (from at : ℕ) (stands : Man) → attacks_as men side from at stands ≡ true →
+    (((((form White Knight at from && is_a Knight stands) || (form White Bishop at from && (is_a Bishop stands || is_a Queen stands)))
+    || (form White Rook at from && (is_a Rook stands || is_a Queen stands)))
+    || (form White King at from && (is_a King stands || is_a Pawn stands))) && is_of side stands) ≡ true
+near_hit men side from at stands e =
+    elim stands as (λ m. attacks_as men side from at m ≡ true →
     (((((form White Knight at from && is_a Knight m) || (form White Bishop at from && (is_a Bishop m || is_a Queen m)))
     || (form White Rook at from && (is_a Rook m || is_a Queen m)))
     || (form White King at from && (is_a King m || is_a Pawn m))) && is_of side m) ≡ true) [
@@ -137,13 +137,13 @@ near_hit men side from at e =
           rw (here, parts.0) refl
     ] e
 
--- beyond the set that is so put together nothing attacks
-pub near_attacks : (men : Men) (side : Side) (at s j d l n knights bishops rooks queens kings pawns own : ℕ) → s < 64 → IsSetOf (form White Knight at) j → IsSetOf (form White Bishop at) d → IsSetOf (form White Rook at) l → IsSetOf (form White King at) n →
+-- beyond the set that is so put together nothing attacks, wherever the other men stand
+pub near_attacks : (men others : Men) (side : Side) (at s j d l n knights bishops rooks queens kings pawns own : ℕ) → s < 64 → IsSetOf (form White Knight at) j → IsSetOf (form White Bishop at) d → IsSetOf (form White Rook at) l → IsSetOf (form White King at) n →
     IsSetOf (λ i. is_a Knight (man_at men i)) knights → IsSetOf (λ i. is_a Bishop (man_at men i)) bishops → IsSetOf (λ i. is_a Rook (man_at men i)) rooks → IsSetOf (λ i. is_a Queen (man_at men i)) queens →
     IsSetOf (λ i. is_a King (man_at men i)) kings → IsSetOf (λ i. is_a Pawn (man_at men i)) pawns → IsSetOf (λ i. is_of side (man_at men i)) own →
-    has (bit_and (bit_or (bit_or (bit_or (bit_and j knights) (bit_and d (bit_or bishops queens))) (bit_and l (bit_or rooks queens))) (bit_and n (bit_or kings pawns))) own) s ≡ false →
-    attacks men side s at ≡ false
-near_attacks men side at s j d l n knights bishops rooks queens kings pawns own low ij id il in' ik ib ir iq ig ip io out =
+    has (bit_and (bit_or (bit_or (bit_or (bit_and j knights) (bit_and d (bit_or bishops queens))) (bit_and l (bit_or rooks queens))) (bit_and n (bit_or kings pawns))) own) s ≡ false → man_at others s ≡ man_at men s →
+    attacks others side s at ≡ false
+near_attacks men others side at s j d l n knights bishops rooks queens kings pawns own low ij id il in' ik ib ir iq ig ip io out same =
     let a = has-both j knights s ∙ (ap (λ (v : Bool). v && has knights s) (ij s low) ∙ ap (λ (v : Bool). form White Knight at s && v) (ik s low)) in
     let bq = has-either bishops queens s ∙ (ap (λ (v : Bool). v || has queens s) (ib s low) ∙ ap (λ (v : Bool). is_a Bishop (man_at men s) || v) (iq s low)) in
     let b = has-both d (bit_or bishops queens) s ∙ (ap (λ (v : Bool). v && has (bit_or bishops queens) s) (id s low) ∙ ap (λ (v : Bool). form White Bishop at s && v) bq) in
@@ -156,7 +156,7 @@ near_attacks men side at s j d l n knights bishops rooks queens kings pawns own 
     let abck = has-either (bit_or (bit_or (bit_and j knights) (bit_and d (bit_or bishops queens))) (bit_and l (bit_or rooks queens))) (bit_and n (bit_or kings pawns)) s in
     let whole = has-both (bit_or (bit_or (bit_or (bit_and j knights) (bit_and d (bit_or bishops queens))) (bit_and l (bit_or rooks queens))) (bit_and n (bit_or kings pawns))) own s in
     false_from_ne_true _ (λ hit.
-    let there = near_hit men side s at hit in
+    let there = near_hit others side s at (man_at men s) (subst (λ (m : Man). attacks_as others side s at m ≡ true) same hit) in
     let inside : has (bit_and (bit_or (bit_or (bit_or (bit_and j knights) (bit_and d (bit_or bishops queens))) (bit_and l (bit_or rooks queens))) (bit_and n (bit_or kings pawns))) own) s ≡ true =
     whole ∙ rw (abck, abc, ab, a, b, c, k, io s low) there in
     false≢true (sym out ∙ inside))

@@ -1,9 +1,7 @@
 -- The men of a board and its sets: each gives the other.
-use Rattle.std.proofs.Common.{◌≡◌, ◌≢◌, ◌^◌, ◌%◌, ◌*◌, ◌<◌, ◌+◌, ◌-◌, ◌==◌, ◌||◌, ◌&&◌, ℕ, zero, suc, Bool, true, false, cond, if◌then◌else◌, refl, sym, ap, subst, arith, ◌∙◌, ⊎_elim, Option, Some, None, List, [], ◌∷◌, map, length, get_or, set, get_or-set_other, w64, max, min, not, count_by, count_ones}
-use Rattle.std.specs.List.{range_with_len}
+use Rattle.std.proofs.Common.{◌≡◌, ◌≢◌, ◌^◌, ◌%◌, ◌*◌, ◌<◌, ◌-◌, ◌==◌, ◌||◌, ◌&&◌, ℕ, zero, suc, Bool, true, false, cond, if◌then◌else◌, refl, sym, ap, subst, arith, ◌∙◌, ⊎_elim, Some, None, [], ◌∷◌, map, length, get_or, set, get_or-set_other, w64, max, min, not, count_by, count_ones}
 use Rattle.std.specs.Int.{bit_at}
 use Rattle.std.specs.Int.Bits.{bit_or, bit_and}
-use Rattle.std.specs.Simd.Lanes.{mask_l}
 use Rattle.std.proofs.lemmas.List.{same_lists, get_or-set_same, length-map, length-set}
 use Rattle.std.proofs.Math.ListN.{get_or-map}
 use Rattle.std.proofs.lemmas.List.FromFn.{get_or-map-range_with_len, length-map-range_with_len}
@@ -12,7 +10,6 @@ use Rattle.std.proofs.lemmas.Simd.{bit_mask_l, mask_l-lt, ones-mask_l}
 use Rattle.std.proofs.lemmas.Bool.{eq-eqb, eqb-true, cases_eq, false_from_ne_true}
 use Rattle.chess_board.specs.declared.board.Side.{Side}
 use Rattle.chess_board.specs.declared.board.Side.TheVariants.{White, Black}
-use Rattle.chess_board.specs.declared.board.Kind.{Kind}
 use Rattle.chess_board.specs.declared.board.Kind.TheVariants.{Pawn, Knight, Bishop, Rook, Queen, King}
 use Rattle.chess_board.specs.declared.men.Board.TheInside.{Inside}
 use Rattle.chess_board.specs.Board.{Man, Men, man_at, is_of, is_king, squares}

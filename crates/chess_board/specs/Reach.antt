@@ -1,14 +1,13 @@
 -- Where a man could go on an empty board, and sets of squares by the bits of a number.
-use Rattle.std.specs.Prelude.{ℕ, ◌≡◌, ◌<◌, Bool, true, false, ◌&&◌, ◌||◌, ◌==◌, Option, Some, max, nat_lt, nat_le}
+use Rattle.std.specs.Prelude.{ℕ, ◌≡◌, ◌<◌, Bool, true, false, ◌&&◌, ◌||◌, ◌==◌, Option, Some, None, max, nat_lt, nat_le, ◌≢◌, slice_set}
 use Rattle.std.specs.Int.{bit_at}
 use Rattle.chess_board.specs.declared.board.Side.{Side}
-use Rattle.chess_board.specs.declared.board.Side.TheVariants.{White}
 use Rattle.chess_board.specs.declared.board.Kind.{Kind}
 use Rattle.chess_board.specs.declared.board.Kind.TheVariants.{Pawn, Knight, Bishop, Rook, Queen, King}
-use Rattle.chess_board.specs.Board.{Man, Men, man_at, gap, files_apart, rank_of}
-use Rattle.chess_board.specs.Attack.{is_ahead, is_checked}
+use Rattle.chess_board.specs.Board.{Man, Men, man_at, same_side, gap, files_apart, rank_of}
+use Rattle.chess_board.specs.Attack.{is_ahead, attacks, is_checked}
 use Rattle.chess_board.specs.Position.{Position}
-use Rattle.chess_board.specs.Rules.{reaches_to, promotes, men_after}
+use Rattle.chess_board.specs.Rules.{reaches_to, may_land, goes, promotes, men_after}
 
 -- what a man's move looks like on an empty board: by how many files, from which rank to which
 abbrev pub shape : Side → Kind → ℕ → ℕ → ℕ → Bool
@@ -31,9 +30,39 @@ has set s = bit_at set s == 1
 abbrev pub IsSetOf : (ℕ → Bool) → ℕ → Type 0
 IsSetOf test set = (s : ℕ) → s < 64 → has set s ≡ test s
 
+-- whether the man on a square could go to another on an empty board, and may land there
+abbrev pub could_go : Position → Man → ℕ → ℕ → Bool
+could_go p None from to = false
+could_go p (Some man) from to = may_land p.side (man_at p.men to) && form p.side man.1 from to
+
+-- the squares to which the man on a square could go
+abbrev pub AreWays : Position → ℕ → ℕ → Type 0
+AreWays p from set = IsSetOf (could_go p (man_at p.men from) from) set
+
+-- whether the man on a square is of the side on move and goes to another, whatever it lands on
+abbrev pub goes_as : Position → Man → ℕ → ℕ → Bool
+goes_as p None from to = false
+goes_as p (Some man) from to = same_side man.0 p.side && goes p man.1 from to
+
+-- whether a man of the kind goes any way along a line
+abbrev pub is_slider : Kind → Bool
+is_slider Bishop = true
+is_slider Rook = true
+is_slider Queen = true
+is_slider _ = false
+
 -- from a square no man goes to a square outside the set
 abbrev pub Bounds : Position → ℕ → ℕ → Type 0
 Bounds p from set = (to : ℕ) → to < 64 → has set to ≡ false → reaches_to p from to ≡ false
+
+-- no man of the side that stands outside the set attacks the square, wherever the other men stand
+abbrev pub Nears : Men → Side → ℕ → ℕ → Type 0
+Nears men side at set = (others : Men) (s : ℕ) → s < 64 → has set s ≡ false → man_at others s ≡ man_at men s → attacks others side s at ≡ false
+
+-- no man that stands outside the set shields a square from an attack: with him away, what attacks it from another square did before
+abbrev pub Shields : Men → Side → ℕ → ℕ → ℕ → Type 0
+Shields men side from at set =
+    (s : ℕ) → s < 64 → from ≢ s → has set s ≡ false → attacks (slice_set men s None) side from at ≡ true → attacks men side from at ≡ true
 
 -- a man that leaves a square outside the set leaves its king unattacked
 abbrev pub Frees : Position → ℕ → Type 0

@@ -1,4 +1,4 @@
-use Rattle.std.proofs.Common.{sym, ◌∙◌, arith, ◌≡◌, true, false, length, ap, lit<, ◌<◌, ◌≤◌, ◌+◌, ◌*◌, ◌++◌, ◌∷◌, [], ℕ, subst}
+use Rattle.std.proofs.Common.{sym, ◌∙◌, arith, ◌≡◌, true, false, length, ap, lit<, ◌<◌, ◌+◌, ◌*◌, ◌++◌, ◌∷◌, [], ℕ, subst}
 use Rattle.chess_board.specs.declared.board.Move.{Move}
 use Rattle.chess_board.specs.Rules.{is_legal, reaches_to}
 use Rattle.chess_board.specs.Place.{IsDone, promotion, legal, legal_at, ordered_square}

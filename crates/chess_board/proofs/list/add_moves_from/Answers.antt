@@ -1,6 +1,7 @@
 use Rattle.std.proofs.Common.{sym, ◌∙◌, arith, ◌≡◌, true, false, ap, ◌+◌, ◌*◌, ℕ, subst}
 use Rattle.chess_board.specs.Rules.{reaches_to}
 use Rattle.chess_board.specs.Place.{IsDone, ordered_square}
+use Rattle.chess_board.proofs.Bounded.{ways_bound}
 use Rattle.chess_board.proofs.Places.{skip_to, skips_to, reach_off}
 use Rattle.chess_board.proofs.list.add_moves_from.Goals as goal
 use Rattle.chess_board.proofs.list.add_moves_from.Goals.{then-may_reach_in, else-may_reach_in}
@@ -14,7 +15,7 @@ loop-to_place-init c =
     let high = c.next_place-to_place.ensures.on.1 in (
       high,
       skips_to p c.args.moves.now.items f 0 u c.requires.place (omega arith) high (subst (λ (i : ℕ). IsDone p c.args.moves.now.items i) (sym begin) c.requires.done)
-          (λ k low less. reach_off p c.ways_from-ways.result f k c.square_in_order-from.result.index c.square_in_order-from.ensures c.ways_from-ways.ensures (omega arith) (c.next_place-to_place.ensures.passed k low less)),
+          (λ k low less. reach_off p c.ways_from-ways.result f k c.square_in_order-from.result.index c.square_in_order-from.ensures (ways_bound p c.square_in_order-from.result.index c.ways_from-ways.result c.ways_from-ways.ensures) (omega arith) (c.next_place-to_place.ensures.passed k low less)),
     )
 
 pub loop-to_place-preserved : goal.loop-to_place-preserved
@@ -39,7 +40,7 @@ loop-to_place-preserved c =
     let high = c.next_place-to_place-in-loop-to_place.ensures.on.1 in (
       high,
       skips_to p after f (t + 1) u c.requires.place c.next_place-to_place-in-loop-to_place.ensures.on.0 high done
-          (λ k low less. reach_off p c.ways_from-ways.result f k c.square_in_order-from.result.index c.square_in_order-from.ensures c.ways_from-ways.ensures (omega arith) (c.next_place-to_place-in-loop-to_place.ensures.passed k low less)),
+          (λ k low less. reach_off p c.ways_from-ways.result f k c.square_in_order-from.result.index c.square_in_order-from.ensures (ways_bound p c.square_in_order-from.result.index c.ways_from-ways.result c.ways_from-ways.ensures) (omega arith) (c.next_place-to_place-in-loop-to_place.ensures.passed k low less)),
     )
 
 pub returns : goal.returns

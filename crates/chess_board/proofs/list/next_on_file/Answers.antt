@@ -1,8 +1,7 @@
-use Rattle.std.proofs.Common.{◌≡◌, ◌<◌, ◌≤◌, ◌+◌, ◌*◌, ◌/◌, ◌%◌, ◌^◌, ℕ, false, arith, sym, ap, subst, ◌∙◌}
+use Rattle.std.proofs.Common.{◌≡◌, ◌<◌, ◌+◌, ◌*◌, ◌/◌, ◌%◌, ◌^◌, ℕ, false, arith, sym, subst}
 use Rattle.std.specs.Int.Bits.{bit_and}
 use Rattle.std.proofs.lemmas.Nat.{and_le_r}
 use Rattle.chess_board.specs.Reach.{has}
-use Rattle.chess_board.specs.Place.{ordered_square}
 use Rattle.chess_board.proofs.Scan.{none_left, next_low, next_passed, on_file}
 use Rattle.chess_board.proofs.list.next_on_file.Goals as goal
 

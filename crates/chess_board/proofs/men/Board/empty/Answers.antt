@@ -1,4 +1,4 @@
-use Rattle.std.proofs.Common.{◌≡◌, refl}
+use Rattle.std.proofs.Common.{refl}
 use Rattle.chess_board.specs.Board.{squares}
 use Rattle.chess_board.proofs.Sets.{length-men_of}
 use Rattle.chess_board.proofs.men.Board.empty.Goals as goal

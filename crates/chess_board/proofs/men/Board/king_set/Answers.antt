@@ -1,6 +1,6 @@
 use Rattle.std.proofs.Common.{◌≡◌, ◌&&◌, Bool, length, sym, ap, ◌∙◌}
 use Rattle.chess_board.specs.declared.board.Kind.TheVariants.{King}
-use Rattle.chess_board.specs.Board.{Men, man_at, is_of}
+use Rattle.chess_board.specs.Board.{Men, man_at}
 use Rattle.chess_board.specs.Reach.{has}
 use Rattle.chess_board.specs.Sets.{is_a}
 use Rattle.chess_board.proofs.Sets.{length-men_of, kings-has, has-both, king_man}

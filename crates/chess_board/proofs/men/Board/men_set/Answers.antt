@@ -1,5 +1,5 @@
-use Rattle.std.proofs.Common.{◌≡◌, ◌||◌, Bool, length, sym, ap, ◌∙◌}
-use Rattle.chess_board.specs.declared.board.Side.TheVariants.{White, Black}
+use Rattle.std.proofs.Common.{◌||◌, Bool, length, sym, ap, ◌∙◌}
+use Rattle.chess_board.specs.declared.board.Side.TheVariants.{White}
 use Rattle.chess_board.specs.Board.{Men, man_at, is_of}
 use Rattle.chess_board.specs.Play.{is_man}
 use Rattle.chess_board.specs.Reach.{has}

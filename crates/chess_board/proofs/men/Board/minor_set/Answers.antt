@@ -1,5 +1,5 @@
-use Rattle.std.proofs.Common.{◌≡◌, ◌||◌, Bool, length, sym, ap, ◌∙◌}
-use Rattle.chess_board.specs.declared.board.Kind.TheVariants.{Knight, Bishop}
+use Rattle.std.proofs.Common.{◌||◌, Bool, length, sym, ap, ◌∙◌}
+use Rattle.chess_board.specs.declared.board.Kind.TheVariants.{Knight}
 use Rattle.chess_board.specs.Board.{Men, man_at}
 use Rattle.chess_board.specs.Play.{is_minor}
 use Rattle.chess_board.specs.Reach.{has}

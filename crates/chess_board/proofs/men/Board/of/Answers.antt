@@ -1,6 +1,5 @@
-use Rattle.std.proofs.Common.{◌≡◌, ◌<◌, length, sym, arith, subst, Some, None, ℕ, ◌∙◌}
+use Rattle.std.proofs.Common.{◌≡◌, ◌<◌, length, sym, arith, None, ◌∙◌}
 use Rattle.std.proofs.lemmas.List.{same_lists}
-use Rattle.chess_board.specs.Board.{man_at}
 use Rattle.chess_board.proofs.Sets.{get_or-other}
 use Rattle.chess_board.proofs.men.Board.of.Goals as goal
 

@@ -1,4 +1,4 @@
-use Rattle.std.proofs.Common.{◌≡◌, ◌<◌, ◌^◌, ℕ, Bool, arith, subst, ◌∙◌, ap, set}
+use Rattle.std.proofs.Common.{Bool, arith, subst, ◌∙◌, ap, set}
 use Rattle.chess_board.specs.declared.men.Board.TheInside.{Inside}
 use Rattle.chess_board.specs.Board.{Men}
 use Rattle.chess_board.proofs.Sets.{IsPlaced, PutSets, put_sets}
