@@ -4,7 +4,7 @@ use Rattle.std.proofs.lemmas.Bool.{ltb-true}
 use Rattle.chess_board.specs.declared.board.Square.{Square}
 use Rattle.chess_board.specs.declared.board.Move.{Move}
 use Rattle.chess_board.specs.declared.board.Kind.{Kind}
-use Rattle.chess_board.specs.Text.{promotion_of}
+use Rattle.chess_board.specs.Text.{promotion_of, letter_a, letter_h, digit_one, digit_eight}
 
 -- the square of a number, where it is on the board
 abbrev pub square_if : (n : ℕ) (within : Bool) → nat_lt n 64 ≡ within → Option Square
@@ -14,8 +14,9 @@ square_if n false e = None
 -- the square that a letter and a digit name
 abbrev pub square_named : ℕ → ℕ → Option Square
 square_named file rank =
-    if nat_le 97 file && nat_le file 104 && nat_le 49 rank && nat_le rank 56
-    then square_if ((rank - 49) * 8 + (file - 97)) (nat_lt ((rank - 49) * 8 + (file - 97)) 64) refl
+    if nat_le letter_a file && nat_le file letter_h && nat_le digit_one rank && nat_le rank digit_eight
+    then square_if ((rank - digit_one) * 8 + (file - letter_a))
+    (nat_lt ((rank - digit_one) * 8 + (file - letter_a)) 64) refl
     else None
 
 abbrev pub move_from : Option Square → Option Square → Option Kind → Option Move

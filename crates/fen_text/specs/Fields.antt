@@ -6,6 +6,8 @@ use Rattle.chess_board.specs.declared.board.Side.TheVariants.{White, Black}
 use Rattle.chess_board.specs.declared.board.Rights.{Rights}
 use Rattle.chess_board.specs.Board.{square_at}
 use Rattle.peer_words.specs.Numbers.{digits}
+use Rattle.peer_words.specs.Bytes.{dash}
+use Rattle.chess_board.specs.Text.{letter_a, letter_h, digit_one}
 
 -- w, b
 abbrev pub side_of : List ℕ → Option Side
@@ -39,17 +41,24 @@ letters_of field =
 -- a dash, or such letters
 abbrev pub rights_of : List ℕ → Option Rights
 rights_of [] = None
-rights_of (byte ∷ []) = if byte == 45 then Some no_rights else letters_of (byte ∷ [])
+rights_of (byte ∷ []) = if byte == dash then Some no_rights else letters_of (byte ∷ [])
 rights_of (byte ∷ next ∷ bytes) = letters_of (byte ∷ next ∷ bytes)
+
+abbrev pub digit_three : ℕ
+digit_three = 51
+
+abbrev pub digit_six : ℕ
+digit_six = 54
 
 -- a file from a to h, and rank 3 or 6
 abbrev pub is_passed : ℕ → ℕ → Bool
-is_passed file rank = (nat_le 97 file && nat_le file 104) && (rank == 51 || rank == 54)
+is_passed file rank = (nat_le letter_a file && nat_le file letter_h) && (rank == digit_three || rank == digit_six)
 
 -- a dash, or a square that a pawn may have passed
 abbrev pub passant_of : List ℕ → Option (Option ℕ)
-passant_of (byte ∷ []) = if byte == 45 then Some None else None
-passant_of (file ∷ rank ∷ []) = if is_passed file rank then Some (Some (square_at (file - 97) (rank - 49))) else None
+passant_of (byte ∷ []) = if byte == dash then Some None else None
+passant_of (file ∷ rank ∷ []) =
+    if is_passed file rank then Some (Some (square_at (file - letter_a) (rank - digit_one))) else None
 passant_of _ = None
 
 -- 1 to 5 digits

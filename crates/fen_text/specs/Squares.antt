@@ -8,6 +8,8 @@ use Rattle.chess_board.specs.declared.board.Kind.{Kind}
 use Rattle.chess_board.specs.declared.board.Kind.TheVariants.{Pawn, Knight, Bishop, Rook, Queen, King}
 use Rattle.chess_board.specs.Board.{Men}
 use Rattle.chess_board.specs.Play.{fits_board}
+use Rattle.chess_board.specs.Text.{letter_a, digit_one, digit_eight}
+use Rattle.peer_words.specs.Bytes.{digit_zero, slash}
 
 -- the kind that a capital letter of PNBRQK names
 abbrev pub kind_of : ℕ → Option Kind
@@ -19,16 +21,20 @@ kind_of letter =
     else (if letter == 81 then Some Queen
     else (if letter == 75 then Some King else None)))))
 
--- White's men have capital letters, and Black's the small ones, 32 further on.
+-- how far a small letter stands behind its capital one
+abbrev pub case_step : ℕ
+case_step = 32
+
+-- White's men have capital letters, and Black's the small ones.
 abbrev pub man_of : ℕ → Option (Side × Kind)
 man_of letter =
-    if nat_lt letter 97 then option_map (λ kind. (White, kind)) (kind_of letter)
-    else option_map (λ kind. (Black, kind)) (kind_of (letter - 32))
+    if nat_lt letter letter_a then option_map (λ kind. (White, kind)) (kind_of letter)
+    else option_map (λ kind. (Black, kind)) (kind_of (letter - case_step))
 
 -- what a byte of a rank stands for: a digit for one to eight empty squares, a letter for a man
 abbrev pub squares_of : ℕ → Option Men
 squares_of byte =
-    if nat_le 49 byte && nat_le byte 56 then Some (replicate (byte - 48) None)
+    if nat_le digit_one byte && nat_le byte digit_eight then Some (replicate (byte - digit_zero) None)
     else option_map (λ man. Some man ∷ []) (man_of byte)
 
 -- one after the other, if both are there
@@ -62,7 +68,7 @@ men_of [] = Some []
 men_of (upper ∷ lower) = joined (men_of lower) (rank_of upper)
 
 abbrev pub is_slash : ℕ → Bool
-is_slash byte = byte == 47
+is_slash byte = byte == slash
 
 abbrev pub ranks_in : List ℕ → List (List ℕ)
 ranks_in field = slice_split is_slash field

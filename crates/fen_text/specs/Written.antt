@@ -10,6 +10,9 @@ use Rattle.chess_board.specs.Board.{Men, file_of, rank_of}
 use Rattle.chess_board.specs.Position.{Position}
 use Rattle.chess_board.specs.Play.{IsPosition}
 use Rattle.fen_text.specs.Fen.{position_of}
+use Rattle.fen_text.specs.Squares.{case_step}
+use Rattle.peer_words.specs.Bytes.{digit_zero, slash, dash, blank}
+use Rattle.chess_board.specs.Text.{letter_a, digit_one}
 
 abbrev pub kind_letter : Kind → ℕ
 kind_letter Pawn = 80
@@ -21,11 +24,11 @@ kind_letter King = 75
 
 abbrev pub letter_of : Side → Kind → ℕ
 letter_of White kind = kind_letter kind
-letter_of Black kind = kind_letter kind + 32
+letter_of Black kind = kind_letter kind + case_step
 
 -- the digit of a run of empty squares, if there are some
 abbrev pub run : ℕ → List ℕ
-run empty = if nat_lt 0 empty then (48 + empty) ∷ [] else []
+run empty = if nat_lt 0 empty then (digit_zero + empty) ∷ [] else []
 
 -- the squares of a rank, behind a run of empty ones: each run is one digit
 abbrev pub rank_text : ℕ → Men → List ℕ
@@ -40,7 +43,7 @@ row men rank = take 8 (drop (8 * rank) men)
 -- the ranks below this one, each behind a slash, the upper one first
 abbrev pub lower_ranks : Men → ℕ → List ℕ
 lower_ranks men zero = []
-lower_ranks men (suc rank) = 47 ∷ (rank_text 0 (row men rank) ++ lower_ranks men rank)
+lower_ranks men (suc rank) = slash ∷ (rank_text 0 (row men rank) ++ lower_ranks men rank)
 
 -- the ranks below the top one; kept closed, since the recursion would unfold
 unfoldable pub top_rank : ℕ
@@ -61,11 +64,11 @@ abbrev pub rights_text : Rights → List ℕ
 rights_text rights =
     if (rights.wk || rights.wq) || (rights.bk || rights.bq)
     then letter_if rights.wk 75 ++ (letter_if rights.wq 81 ++ (letter_if rights.bk 107 ++ letter_if rights.bq 113))
-    else 45 ∷ []
+    else dash ∷ []
 
 abbrev pub passant_text : Option ℕ → List ℕ
-passant_text None = 45 ∷ []
-passant_text (Some at) = (97 + file_of at) ∷ (49 + rank_of at) ∷ []
+passant_text None = dash ∷ []
+passant_text (Some at) = (letter_a + file_of at) ∷ (digit_one + rank_of at) ∷ []
 
 abbrev pub fields_text : Position → List (List ℕ)
 fields_text p =
@@ -73,7 +76,7 @@ fields_text p =
 
 -- the text of a position
 unfoldable pub written : Position → List ℕ
-written p = join_with_byte 32 (fields_text p)
+written p = join_with_byte blank (fields_text p)
 
 -- the text of a position is short
 abbrev pub IsShort : Type 0

@@ -2,7 +2,7 @@
 ghost use Rattle.std.specs.Prelude.{◌≡◌, ◌+◌, ◌*◌, ◌<◌, ◌≤◌, ◌∷◌, ◌++◌, [], length, Ok, decimal};
 ghost use Rattle.std.specs.Option.{option_map};
 ghost use Rattle.chess_board.specs.Board.{Men};
-ghost use Rattle.chess_board.specs.Play.{IsPosition};
+ghost use Rattle.chess_board.specs.Play.{IsPosition, top_count};
 ghost use Rattle.fen_text.specs.Fen.{position_of};
 ghost use Rattle.fen_text.specs.Written.{letter_of, run, rank_text, row, board_text, side_text, letter_if, rights_text, passant_text, written, IsShort, ReadsBack};
 
@@ -142,7 +142,7 @@ fn write_passant(passant: Option<Square>, text: &mut Text)
 }
 
 fn write_count(count: u32, text: &mut Text)
-    requires small { count ≤ 99999 }
+    requires small { count ≤ top_count }
     requires room { length text.old.items + 5 ≤ 96 }
     ensures text { text.new.items ≡ text.old.items ++ decimal count }
     ensures short { length text.new.items ≤ length text.old.items + 5 }

@@ -4,6 +4,8 @@ use Rattle.std.specs.List.{list_all}
 use Rattle.std.specs.Option.{option_map}
 use Rattle.std.specs.Char.{is_ascii_digit}
 use Rattle.std.specs.Str.Parse.{digits_value, starts_with_minus}
+use Rattle.peer_words.specs.Bytes.{digit_zero, point}
+use Rattle.peer_words.specs.declared.numbers.TheConstants.{SECOND}
 
 -- one decimal digit or more, and no more than so many
 abbrev pub is_digits : ℕ → List ℕ → Bool
@@ -37,7 +39,7 @@ abbrev pub centis : List ℕ → Option ℤ
 centis text = if starts_with_minus text then negative (number (drop 1 text)) else positive (number text)
 
 abbrev pub is_point : ℕ → Bool
-is_point b = b == 46
+is_point b = b == point
 
 -- 1 to 3 digits after the point, in thousandths
 abbrev pub thousandths : List ℕ → Option ℕ
@@ -45,7 +47,7 @@ thousandths text = option_map (λ n. n * 10 ^ (3 - length text)) (digits 3 text)
 
 -- whole seconds and thousandths, in milliseconds
 abbrev pub milliseconds : Option ℕ → Option ℕ → Option ℕ
-milliseconds (Some whole) (Some part) = Some (whole * 1000 + part)
+milliseconds (Some whole) (Some part) = Some (whole * SECOND + part)
 milliseconds (Some whole) None = None
 milliseconds None part = None
 
@@ -60,8 +62,10 @@ seconds text = seconds_at (position is_point text) text
 
 -- a number below 1000 with three digits
 abbrev pub three_digits : ℕ → List ℕ
-three_digits n = (48 + n / 100) ∷ (48 + n / 10 % 10) ∷ (48 + n % 10) ∷ []
+three_digits n = (digit_zero + n / 100) ∷ (digit_zero + n / 10 % 10) ∷ (digit_zero + n % 10) ∷ []
 
 -- milliseconds written as seconds: whole ones, and three decimals if they are needed
 abbrev pub seconds_text : ℕ → List ℕ
-seconds_text ms = if ms % 1000 == 0 then decimal (ms / 1000) else decimal (ms / 1000) ++ (46 ∷ three_digits (ms % 1000))
+seconds_text ms =
+    if ms % SECOND == 0 then decimal (ms / SECOND)
+    else decimal (ms / SECOND) ++ (point ∷ three_digits (ms % SECOND))

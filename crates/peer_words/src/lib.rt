@@ -7,6 +7,8 @@ mod tables;
 mod tokens;
 
 pub use kinds::GoKind;
-pub use numbers::{read_centis, read_count, read_digits, read_number, read_seconds, read_signed};
+pub use numbers::{
+    MINUTE, SECOND, read_centis, read_count, read_digits, read_number, read_seconds, read_signed,
+};
 pub use tables::named;
 pub use tokens::{is_white, split_token, trim, trim_end, trim_start};

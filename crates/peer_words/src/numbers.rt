@@ -2,6 +2,13 @@
 ghost use Rattle.std.specs.Prelude.{◌≡◌, ◌≤◌, ◌+◌, ◌-◌, ◌*◌, ◌<◌, ◌^◌, length, drop, Some, None, IfSome, position};
 ghost use Rattle.std.specs.List.{before_first, after_first};
 ghost use Rattle.peer_words.specs.Numbers.{digits, number, count, signed, centis, thousandths, seconds, is_point};
+ghost use Rattle.peer_words.specs.declared.numbers.TheConstants.{SECOND};
+
+/// A second in milliseconds.
+pub const SECOND: u64 = 1_000;
+
+/// A minute in milliseconds.
+pub const MINUTE: u64 = 60 * SECOND;
 
 /// The number that 1 to `most` decimal digits write.
 pub fn read_digits(text: &[u8], most: usize) -> Option<u64>
@@ -62,7 +69,7 @@ pub fn read_centis(text: &[u8]) -> Option<i64>
 /// 1 to 3 digits after a point, as thousandths.
 fn read_thousandths(text: &[u8]) -> Option<u64>
     ensures value { result ≡ thousandths text.now }
-    ensures below { IfSome result (λ n. n < 1000) }
+    ensures below { IfSome result (λ n. n < SECOND) }
 {
     let n = read_digits(text, 3)?;
     match text.len() {
@@ -87,8 +94,8 @@ pub fn read_seconds(text: &[u8]) -> Option<u64>
         Some(at) => {
             let whole = read_digits(&text[..at], 6)?;
             let part = read_thousandths(&text[at + 1..])?;
-            Some(whole * 1000 + part)
+            Some(whole * SECOND + part)
         }
-        None => Some(read_digits(text, 6)? * 1000),
+        None => Some(read_digits(text, 6)? * SECOND),
     }
 }

@@ -1,10 +1,10 @@
 -- The settings.
 use Rattle.std.specs.Prelude.{◌≤◌, true, false}
 use Rattle.policy_rules.specs.declared.settings.Settings.{Settings}
-use Rattle.policy_rules.specs.declared.settings.TheConstants.{MOST_MOVES, MOST_SCORE}
+use Rattle.policy_rules.specs.declared.settings.TheConstants.{MOST_MOVES, MOST_SCORE, USUAL_MOVES, USUAL_SCORE}
 
 abbrev pub usual : Settings
-usual = record { resign = false; resign_moves = 3; resign_score = 600; show_ponder = true }
+usual = record { resign = false; resign_moves = USUAL_MOVES; resign_score = USUAL_SCORE; show_ponder = true }
 
 -- the numbers are within their ranges
 pub record IsProper (s : Settings) : Type 0 where

@@ -7,4 +7,4 @@ mod settings;
 
 pub use laws::counts_decide;
 pub use scores::Scores;
-pub use settings::{MOST_MOVES, MOST_SCORE, Settings};
+pub use settings::{MOST_MOVES, MOST_SCORE, Settings, USUAL_MOVES, USUAL_SCORE};

@@ -8,6 +8,12 @@ pub const MOST_MOVES: u32 = 1_000;
 /// The worst score that may be asked for, in hundredths of a pawn.
 pub const MOST_SCORE: u32 = 100_000;
 
+/// How many scores in a row usually decide.
+pub const USUAL_MOVES: u32 = 3;
+
+/// How bad each of them usually is at least.
+pub const USUAL_SCORE: u32 = 600;
+
 /// What the words of a program choose.
 #[derive(Clone, Copy, Debug, PartialEq, Eq)]
 pub struct Settings {
@@ -29,8 +35,8 @@ impl Settings {
     {
         Settings {
             resign: false,
-            resign_moves: 3,
-            resign_score: 600,
+            resign_moves: USUAL_MOVES,
+            resign_score: USUAL_SCORE,
             show_ponder: true,
         }
     }

@@ -4,10 +4,9 @@ use Rattle.std.specs.List.{before_first, after_first}
 use Rattle.std.specs.Str.{bytes_eq}
 use Rattle.policy_rules.specs.declared.settings.Settings.{Settings}
 use Rattle.policy_rules.specs.Policy.{IsProper}
-use Rattle.script_lines.specs.StepLine.{blank, numeral}
-
-abbrev pub equals : ℕ
-equals = 61
+use Rattle.peer_words.specs.Bytes.{blank, equals}
+use Rattle.script_lines.specs.StepLine.{numeral}
+use Rattle.policy_rules.specs.declared.settings.TheConstants.{MOST_MOVES, MOST_SCORE}
 
 abbrev pub truth_text : Bool → List ℕ
 truth_text true = codes "true"
@@ -74,8 +73,8 @@ word_at n text = before blank (words_from n text)
 unfoldable pub settings_in : List ℕ → Option Settings
 settings_in words = with_all
     (truth_of (value_of (codes "Resign") (word_at 0 words)))
-    (number_of 1 1000 (value_of (codes "ResignMoves") (word_at 1 words)))
-    (number_of 0 100000 (value_of (codes "ResignScore") (word_at 2 words)))
+    (number_of 1 MOST_MOVES (value_of (codes "ResignMoves") (word_at 1 words)))
+    (number_of 0 MOST_SCORE (value_of (codes "ResignScore") (word_at 2 words)))
     (truth_of (value_of (codes "ShowPonder") (words_from 3 words)))
 
 -- the settings that a line tells as a header

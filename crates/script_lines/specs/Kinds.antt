@@ -6,6 +6,7 @@ use Rattle.policy_rules.specs.Policy.{IsProper}
 use Rattle.script_lines.specs.Header.{SpellsHeader, header_text}
 use Rattle.script_lines.specs.Marks.{SpellsNone}
 use Rattle.script_lines.specs.StepLine.{SpellsStep, step_line}
+use Rattle.line_io.specs.declared.limits.TheConstants.{SCRIPT_LINE}
 
 -- The line is spelled by one of the three grammars at most.
 pub record IsOfOneKind (line : List ℕ) : Type 0 where
@@ -17,10 +18,10 @@ pub record IsOfOneKind (line : List ℕ) : Type 0 where
 abbrev pub LinesAreOfOneKind : Type 0
 LinesAreOfOneKind = (line : List ℕ) → IsOfOneKind line
 
--- The text stands on one line, of at most 131,072 bytes.
+-- The text stands on one line, short enough for a script.
 pub record IsShortLine (text : List ℕ) : Type 0 where
   pub one_line : has_feed text ≡ false
-  pub short : length text ≤ 131072
+  pub short : length text ≤ SCRIPT_LINE
 
 abbrev pub HeadersAreLines : Type 0
 HeadersAreLines = (settings : Settings) → IsProper settings → IsShortLine (header_text settings)

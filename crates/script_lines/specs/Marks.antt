@@ -1,10 +1,13 @@
 -- Marks: the lines of a script.
-use Rattle.std.specs.Prelude.{◌≡◌, ℕ, List, [], ◌∷◌, ◌++◌, length, Bool, not, ◌&&◌, if◌then◌else◌, ◌==◌, nat_le, Option, Some, None, Result, Ok, Err, codes, IsTrue}
+use Rattle.std.specs.Prelude.{◌≡◌, ℕ, List, [], ◌∷◌, ◌++◌, length, Bool, not, ◌&&◌, if◌then◌else◌, ◌==◌, ◌-◌, nat_le, Option, Some, None, Result, Ok, Err, codes, IsTrue}
 use Rattle.line_io.specs.Event.{Event, Open, Iface, IfaceLong, IfaceEnd, IfaceLost, Engine, EngineLong, EngineEnd, EngineLost, event_of, is_line, has_feed}
 use Rattle.line_io.specs.declared.events.Event as event
 use Rattle.script_lines.specs.declared.marks.BadMark.{BadMark}
 use Rattle.script_lines.specs.declared.marks.Mark as code
 use Rattle.script_lines.specs.declared.marks.Mark.TheVariants as marks
+use Rattle.line_io.specs.declared.limits.TheConstants.{SCRIPT_LINE}
+use Rattle.peer_words.specs.Bytes.{blank, exclamation_mark, point, question_mark}
+use Rattle.line_io.specs.Lines.{line_feed}
 
 -- a mark, whatever memory its line lies in
 pub data Mark : Type 0 where
@@ -26,9 +29,9 @@ abbrev pub told : Option event.Event → Option Event
 told (Some e) = Some (event_of e)
 told None = None
 
--- a line that was written, and whose mark has at most 131,072 bytes
+-- a line that was written, and whose mark is a line of a script
 abbrev pub is_written : List ℕ → Bool
-is_written line = nat_le (length line) 131070 && not (has_feed line)
+is_written line = nat_le (length line) (SCRIPT_LINE - 2) && not (has_feed line)
 
 -- the text of an event's mark: Open has none
 abbrev pub event_text : Event → List ℕ
@@ -69,35 +72,48 @@ is_empty bytes = length bytes == 0
 -- the event of the interface that a sign and what follows it tell
 abbrev pub iface_event : ℕ → List ℕ → Option Event
 iface_event sign rest =
-    if sign == 32 && is_line rest then Some (Iface rest)
-    else (if sign == 33 && is_empty rest then Some IfaceLong
-    else (if sign == 46 && is_empty rest then Some IfaceEnd
-    else (if sign == 63 && is_empty rest then Some IfaceLost else None)))
+    if sign == blank && is_line rest then Some (Iface rest)
+    else (if sign == exclamation_mark && is_empty rest then Some IfaceLong
+    else (if sign == point && is_empty rest then Some IfaceEnd
+    else (if sign == question_mark && is_empty rest then Some IfaceLost else None)))
 
 abbrev pub engine_event : ℕ → List ℕ → Option Event
 engine_event sign rest =
-    if sign == 32 && is_line rest then Some (Engine rest)
-    else (if sign == 33 && is_empty rest then Some EngineLong
-    else (if sign == 46 && is_empty rest then Some EngineEnd
-    else (if sign == 63 && is_empty rest then Some EngineLost else None)))
+    if sign == blank && is_line rest then Some (Engine rest)
+    else (if sign == exclamation_mark && is_empty rest then Some EngineLong
+    else (if sign == point && is_empty rest then Some EngineEnd
+    else (if sign == question_mark && is_empty rest then Some EngineLost else None)))
 
 abbrev pub happens : Option Event → Option Mark
 happens (Some e) = Some (Happens e)
 happens None = None
 
+-- the letters of what a peer does, and of a line that was written to it
+abbrev pub iface_event_letter : ℕ
+iface_event_letter = 120
+
+abbrev pub engine_event_letter : ℕ
+engine_event_letter = 117
+
+abbrev pub iface_line_letter : ℕ
+iface_line_letter = 88
+
+abbrev pub engine_line_letter : ℕ
+engine_line_letter = 85
+
 -- the mark that a line spells
 abbrev pub mark_of : List ℕ → Option Mark
 mark_of (letter ∷ sign ∷ rest) =
-    if letter == 120 then happens (iface_event sign rest)
-    else (if letter == 117 then happens (engine_event sign rest)
-    else (if letter == 88 && (sign == 32 && is_written rest) then Some (ToIface rest)
-    else (if letter == 85 && (sign == 32 && is_written rest) then Some (ToEngine rest) else None)))
+    if letter == iface_event_letter then happens (iface_event sign rest)
+    else (if letter == engine_event_letter then happens (engine_event sign rest)
+    else (if letter == iface_line_letter && (sign == blank && is_written rest) then Some (ToIface rest)
+    else (if letter == engine_line_letter && (sign == blank && is_written rest) then Some (ToEngine rest) else None)))
 mark_of line = None
 
 -- what stands behind a mark's text in a script
 abbrev pub line_end : Mark → List ℕ
 line_end (Happens Open) = []
-line_end mark = 10 ∷ []
+line_end mark = line_feed ∷ []
 
 -- a mark as a line of a script: Open has none
 abbrev pub mark_line : Mark → List ℕ
@@ -108,4 +124,4 @@ event_marked event = mark_line (Happens event)
 
 -- a line that was written, behind the letter of its mark
 abbrev pub line_marked : ℕ → List ℕ → List ℕ
-line_marked letter line = letter ∷ 32 ∷ line ++ 10 ∷ []
+line_marked letter line = letter ∷ blank ∷ line ++ line_feed ∷ []

@@ -3,6 +3,7 @@ use Rattle.std.specs.Prelude.{◌≡◌, ◌↔◌, ℕ, List, map, Option, Some
 use Rattle.std.specs.List.{flat_map, AllByRecursion}
 use Rattle.line_io.specs.Lines.{Whole, parts, items}
 use Rattle.script_lines.specs.Marks.{Mark, IsSpelled, SpellsMark, mark_of, mark_text, mark_line}
+use Rattle.line_io.specs.declared.limits.TheConstants.{SCRIPT_LINE}
 
 -- the text of marks, each on a line
 abbrev pub script_of : List Mark → List ℕ
@@ -23,7 +24,7 @@ HasLines = (marks : List Mark) → AreSpelled marks → parts (script_of marks) 
 abbrev pub HasShortLines : Type 0
 HasShortLines =
     (marks : List Mark) → AreSpelled marks
-    → items 131072 (script_of marks) ≡ map (λ mark. Whole (mark_text mark)) marks
+    → items SCRIPT_LINE (script_of marks) ≡ map (λ mark. Whole (mark_text mark)) marks
 
 -- what the lines of a script spell
 abbrev pub marks_of : List ℕ → List (Option Mark)

@@ -1,13 +1,11 @@
 -- Step lines: the lines that number the steps of a script of version 2.
 use Rattle.std.specs.Prelude.{◌≡◌, ℕ, ◌%◌, ◌^◌, ◌<◌, List, ◌∷◌, ◌++◌, ◌==◌, ◌&&◌, codes, decimal, if◌then◌else◌, Option, Some, None}
 use Rattle.std.specs.Str.{bytes_eq}
+use Rattle.peer_words.specs.Bytes.{blank}
 use Rattle.peer_words.specs.Numbers.{digits}
 
 abbrev pub hash : ℕ
 hash = 35
-
-abbrev pub blank : ℕ
-blank = 32
 
 -- the line that numbers a step, without its line feed
 abbrev pub step_line : ℕ → List ℕ

@@ -9,7 +9,7 @@ ghost use Rattle.script_lines.specs.Header.{SpellsHeader, before, behind, header
 use crate::step_line::read_numeral;
 use itoa::Buffer;
 use line_io::Out;
-use policy_rules::Settings;
+use policy_rules::{MOST_MOVES, MOST_SCORE, Settings};
 
 fn byte_at(byte: u8, text: &[u8]) -> Option<usize>
     ensures { result ≡ position (λ b. b == byte) text.now }
@@ -69,8 +69,8 @@ fn read_settings(words: &[u8]) -> Option<Settings>
     let (score, ponder) = split_at_byte(words, b' ');
     Some(Settings {
         resign: read_truth(b"Resign", resign)?,
-        resign_moves: read_number(b"ResignMoves", moves, 1, 1_000)?,
-        resign_score: read_number(b"ResignScore", score, 0, 100_000)?,
+        resign_moves: read_number(b"ResignMoves", moves, 1, MOST_MOVES)?,
+        resign_score: read_number(b"ResignScore", score, 0, MOST_SCORE)?,
         show_ponder: read_truth(b"ShowPonder", ponder)?,
     })
 }

@@ -4,7 +4,7 @@ ghost use Rattle.line_io.specs.Event.{is_line};
 ghost use Rattle.script_lines.specs.Marks.{IsSpelled, SpellsMark, SpellsNone, is_written, iface_event, engine_event, told, plain, marked, mark_of, mark_text, line_end, mark_line};
 ghost use Rattle.line_io.specs.Out.{with};
 
-use line_io::{Event, Out};
+use line_io::{Event, Out, PEER_LINE, SCRIPT_LINE};
 
 /// A line that spells no mark.
 #[derive(Clone, Copy, Debug, PartialEq, Eq)]
@@ -26,14 +26,14 @@ pub enum Mark<'a> {
 fn is_line(line: &[u8]) -> bool
     ensures { result ≡ is_line line.now }
 {
-    line.len() <= 65_536 && !line.contains(&b'\n')
+    line.len() <= PEER_LINE && !line.contains(&b'\n')
 }
 
-// A line that was written, and whose mark has at most 131,072 bytes.
+// A line that was written, and whose mark is a line of a script.
 fn is_written(line: &[u8]) -> bool
     ensures { result ≡ is_written line.now }
 {
-    line.len() <= 131_070 && !line.contains(&b'\n')
+    line.len() <= SCRIPT_LINE - 2 && !line.contains(&b'\n')
 }
 
 fn iface_event(sign: u8, rest: &[u8]) -> Option<Event<'_>>

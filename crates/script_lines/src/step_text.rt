@@ -6,12 +6,14 @@ ghost use Rattle.line_io.specs.Out.{with};
 ghost use Rattle.script_lines.specs.StepLine.{step_line};
 ghost use Rattle.script_lines.specs.StepText.{lines_marked, numbered_marks, step_marks, written_marks};
 ghost use Rattle.script_lines.specs.declared.step_text.TheConstants.{STEP_ROOM};
+ghost use Rattle.line_io.specs.Lines.{line_feed};
+ghost use Rattle.line_io.specs.declared.limits.TheConstants.{PEER_LINE, SCRIPT_LINE};
 
 use crate::{Mark, write_mark_line, write_step};
-use line_io::{Event, Out, split_line};
+use line_io::{Event, Out, SCRIPT_LINE, split_line};
 
 /// Room for the text of any step.
-pub const STEP_ROOM: usize = 2_097_152;
+pub const STEP_ROOM: usize = 16 * SCRIPT_LINE;
 
 fn put_line(letter: u8, line: &[u8], out: &mut Out)
     requires { length out.old.text + length line.now + 3 ≤ out.old.room }
@@ -48,7 +50,7 @@ pub fn put_written(iface: &[u8], engine: &[u8], out: &mut Out)
 fn put_step_line(number: u64, out: &mut Out)
     requires number { number < 10 ^ 18 }
     requires room { length out.old.text + 21 ≤ out.old.room }
-    ensures written { out.new ≡ with out.old (step_line number ++ 10 ∷ []) }
+    ensures written { out.new ≡ with out.old (step_line number ++ line_feed ∷ []) }
     ensures few { length out.new.text ≤ length out.old.text + 21 }
 {
     write_step(number, out);
@@ -56,10 +58,10 @@ fn put_step_line(number: u64, out: &mut Out)
 }
 
 fn put_marks(event: &Event, iface: &[u8], engine: &[u8], out: &mut Out)
-    requires mark { length (event_marked (event_of event.now)) ≤ 65539 }
-    requires iface { length iface.now ≤ 131072 }
-    requires engine { length engine.now ≤ 131072 }
-    requires room { length out.old.text + 1114115 ≤ out.old.room }
+    requires mark { length (event_marked (event_of event.now)) ≤ PEER_LINE + 3 }
+    requires iface { length iface.now ≤ SCRIPT_LINE }
+    requires engine { length engine.now ≤ SCRIPT_LINE }
+    requires room { length out.old.text + (PEER_LINE + 3 + 8 * SCRIPT_LINE) ≤ out.old.room }
     ensures { out.new ≡ with out.old (step_marks (event_of event.now) iface.now engine.now) }
 {
     write_mark_line(&Mark::Event(*event), out);
@@ -69,9 +71,9 @@ fn put_marks(event: &Event, iface: &[u8], engine: &[u8], out: &mut Out)
 /// Puts the marks of a step: that of its event, and those of the lines in the texts that it wrote
 /// to the interface and to the engine.
 pub fn put_step(event: &Event, iface: &[u8], engine: &[u8], out: &mut Out)
-    requires mark { length (event_marked (event_of event.now)) ≤ 65539 }
-    requires iface { length iface.now ≤ 131072 }
-    requires engine { length engine.now ≤ 131072 }
+    requires mark { length (event_marked (event_of event.now)) ≤ PEER_LINE + 3 }
+    requires iface { length iface.now ≤ SCRIPT_LINE }
+    requires engine { length engine.now ≤ SCRIPT_LINE }
     requires room { length out.old.text + STEP_ROOM ≤ out.old.room }
     ensures written { out.new
         ≡ with out.old (step_marks (event_of event.now) iface.now engine.now) }
@@ -82,9 +84,9 @@ pub fn put_step(event: &Event, iface: &[u8], engine: &[u8], out: &mut Out)
 /// Puts a step of a script of version 2: the line with its number, and its marks.
 pub fn put_numbered_step(number: u64, event: &Event, iface: &[u8], engine: &[u8], out: &mut Out)
     requires number { number < 10 ^ 18 }
-    requires mark { length (event_marked (event_of event.now)) ≤ 65539 }
-    requires iface { length iface.now ≤ 131072 }
-    requires engine { length engine.now ≤ 131072 }
+    requires mark { length (event_marked (event_of event.now)) ≤ PEER_LINE + 3 }
+    requires iface { length iface.now ≤ SCRIPT_LINE }
+    requires engine { length engine.now ≤ SCRIPT_LINE }
     requires room { length out.old.text + STEP_ROOM ≤ out.old.room }
     ensures written { out.new
         ≡ with out.old (numbered_marks number (event_of event.now) iface.now engine.now) }

@@ -12,6 +12,8 @@ use Rattle.fen_text.specs.Fen.{position_of}
 use Rattle.fen_text.specs.Written.{written}
 use Rattle.uci_lines.specs.Behind.{after}
 use Rattle.chess_board.specs.Spelling.{move_of}
+use Rattle.peer_words.specs.Bytes.{blank}
+use Rattle.chess_board.specs.Play.{top_count}
 
 -- a text that is not empty and neither begins nor ends with white space
 abbrev pub is_text : List ℕ → Bool
@@ -41,14 +43,14 @@ abbrev pub is_written_move : List ℕ → Bool
 is_written_move text = written_by (move_of text) text
 
 abbrev pub is_blank_byte : ℕ → Bool
-is_blank_byte b = b == 32
+is_blank_byte b = b == blank
 
 -- one written move or more, with one blank between
 abbrev pub is_moves : List ℕ → Bool
 is_moves text = list_all is_written_move (slice_split is_blank_byte text)
 
 abbrev pub fen_by : Result Position FenFault → List ℕ → Bool
-fen_by (Ok p) text = bytes_eq (written p) text && nat_le p.half 99999 && nat_le p.full 99999
+fen_by (Ok p) text = bytes_eq (written p) text && nat_le p.half top_count && nat_le p.full top_count
 fen_by (Err fault) text = false
 
 -- the text of a position as it is written, with counts of at most five digits, as each position has
@@ -62,8 +64,8 @@ split_onto b halves = (b ∷ halves.0, halves.1)
 -- the sixth blank.
 abbrev pub fields_before : ℕ → List ℕ → List ℕ × List ℕ
 fields_before blanks [] = ([], [])
-fields_before zero (b ∷ bs) = if b == 32 then ([], b ∷ bs) else split_onto b (fields_before zero bs)
-fields_before (suc blanks) (b ∷ bs) = split_onto b (fields_before (if b == 32 then blanks else suc blanks) bs)
+fields_before zero (b ∷ bs) = if b == blank then ([], b ∷ bs) else split_onto b (fields_before zero bs)
+fields_before (suc blanks) (b ∷ bs) = split_onto b (fields_before (if b == blank then blanks else suc blanks) bs)
 
 -- a count that is written with at most 18 digits
 abbrev pub is_count : ℕ → Bool
