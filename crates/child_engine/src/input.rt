@@ -3,8 +3,23 @@ ghost use Rattle.std.specs.Prelude.{◌≡◌, ◌<◌, ◌≤◌, length, take,
 ghost use Rattle.std.specs.Io.KnownBytes.{WriteAppends};
 ghost use Rattle.line_io.specs.Causes.{HasCause};
 
-use line_io::{Failed, Sink};
+use line_io::{Failed, MemSink, NullSink, Sink};
 use std::io::Write;
+
+/// A sink that can let go of what it writes to, so that an engine that reads there meets the end of
+/// its input. What the sink shows stays as it is. Nothing is to be written to it from then on.
+pub trait LetGo: Sink {
+    fn let_go(&mut self)
+        ensures { Self.state self.new ≡ Self.state self.old };
+}
+
+impl LetGo for MemSink {
+    fn let_go(&mut self) {}
+}
+
+impl LetGo for NullSink {
+    fn let_go(&mut self) {}
+}
 
 /// The input of an engine, over a writer that is let go once it took the line `quit`.
 ///
@@ -107,5 +122,17 @@ impl<W: Write + Drop> Sink for EngineInput<W> {
                 Err(fault)
             }
         }
+    }
+}
+
+impl<W: Write + Drop> LetGo for EngineInput<W> {
+    ghost use Rattle.std.specs.Prelude.{◌≡◌};
+    ghost use Rattle.child_engine.specs.Input.{shown_by, is_open};
+
+    fn let_go(&mut self)
+        ensures shown { shown_by self.new ≡ shown_by self.old }
+        ensures shut { is_open self.new ≡ false }
+    {
+        drop(self.writer.take());
     }
 }

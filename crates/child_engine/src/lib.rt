@@ -8,7 +8,7 @@ mod real;
 mod steady;
 
 pub use host::{Faults, Host, HostFault, Started};
-pub use input::EngineInput;
+pub use input::{EngineInput, LetGo};
 pub use memory::{Fails, MemHost};
 pub use real::RealHost;
 pub use steady::SteadyHost;

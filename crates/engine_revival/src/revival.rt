@@ -190,6 +190,14 @@ impl Revival {
         self.parts.state.is_full()
     }
 
+    /// Whether `quit` was accepted. No order is accepted from then on, and nothing is written to the
+    /// life behind it.
+    pub fn has_quit(&self) -> bool
+        ensures { result ≡ self.now.state.quit }
+    {
+        self.parts.state.has_quit()
+    }
+
     /// Whether a life is begun and has not ended.
     pub fn is_alive(&self) -> bool
         ensures { result ≡ is_alive self.now.state.life }

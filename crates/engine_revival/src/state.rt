@@ -478,6 +478,12 @@ impl State {
         matches!(self.life, LifeState::Ended)
     }
 
+    pub(crate) fn has_quit(&self) -> bool
+        ensures { result ≡ self.now.quit }
+    {
+        self.quit
+    }
+
     pub(crate) fn is_full(&self) -> bool
         ensures { result ≡ self.now.full }
     {
