@@ -4,10 +4,11 @@ use Rattle.chess_board.specs.Position.{Position}
 use Rattle.game_record.specs.Game.{Ply, played, later, AreLegal}
 use Rattle.game_record.specs.Ending.{stood_in, ended_of}
 use Rattle.game_record.specs.declared.ending.End.{End}
+use Rattle.game_record.specs.declared.game.TheConstants.{MOST_PLIES}
 
 -- the most moves of a game
 abbrev pub most_plies : ℕ
-most_plies = 12000
+most_plies = MOST_PLIES
 
 -- how often the position after each move then stood, where these stood before the first
 abbrev pub times_of : List Position → Position → List Ply → List ℕ

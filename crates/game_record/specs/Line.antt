@@ -4,18 +4,21 @@ use Rattle.std.specs.Option.{option_to_list}
 use Rattle.chess_board.specs.Board.{file_of, rank_of}
 use Rattle.chess_board.specs.Position.{Position}
 use Rattle.chess_board.specs.Play.{start_position, IsPosition}
-use Rattle.chess_board.specs.Text.{promotion_text}
+use Rattle.chess_board.specs.Text.{promotion_text, letter_a, digit_one}
 use Rattle.fen_text.specs.Written.{written}
 use Rattle.game_record.specs.Game.{Ply, Game}
 use Rattle.game_record.specs.Ending.{is_same}
+use Rattle.peer_words.specs.Bytes.{blank}
 
 abbrev pub ply_text : Ply → List ℕ
-ply_text m = (97 + file_of m.from) ∷ (49 + rank_of m.from) ∷ (97 + file_of m.to) ∷ (49 + rank_of m.to) ∷ promotion_text m.promo
+ply_text m =
+    (letter_a + file_of m.from) ∷ (digit_one + rank_of m.from)
+    ∷ (letter_a + file_of m.to) ∷ (digit_one + rank_of m.to) ∷ promotion_text m.promo
 
 -- each move behind a blank
 abbrev pub spaced : List Ply → List ℕ
 spaced [] = []
-spaced (m ∷ moves) = 32 ∷ (ply_text m ++ spaced moves)
+spaced (m ∷ moves) = blank ∷ (ply_text m ++ spaced moves)
 
 -- the moves, and one that may follow
 abbrev pub told : List Ply → Option Ply → List Ply

@@ -6,6 +6,7 @@ ghost use Rattle.game_record.specs.Game.{Game as AnyGame, Ply, ply_of, plies_of,
 ghost use Rattle.game_record.specs.Line.{position_text};
 ghost use Rattle.game_record.specs.Ending.{stood_in, repeats_of, ended_of};
 ghost use Rattle.game_record.specs.Keeps.{AreTimes, times_of, left_behind};
+ghost use Rattle.game_record.specs.declared.game.TheConstants.{MOST_PLIES, POSITION_TEXT};
 
 use crate::ending::{End, ended_by, is_same, state_of};
 use chess_board::{Move, Position};
@@ -15,6 +16,9 @@ use std::marker::Model;
 
 /// The most moves, of both sides, that a game has room for.
 pub const MOST_PLIES: usize = 12_000;
+
+/// The longest line that tells a game with a move that may follow, without its line feed.
+pub const POSITION_TEXT: usize = 120 + 6 * (MOST_PLIES + 1);
 
 /// Why a move is not taken.
 #[derive(Clone, Copy, Debug, PartialEq, Eq)]
@@ -90,7 +94,7 @@ impl Game {
         ensures illegal { (result ≡ Err PushFault.Illegal)
             ↔ (¬ IsPlayable (now_of self.old) (ply_of m)) }
         ensures long { (result ≡ Err PushFault.TooLong)
-            ↔ (IsPlayable (now_of self.old) (ply_of m) × (length self.old.moves ≡ 12000)) }
+            ↔ (IsPlayable (now_of self.old) (ply_of m) × (length self.old.moves ≡ MOST_PLIES)) }
         ensures ok { OnOk result (self.new ≡ with_ply self.old (ply_of m)) }
         ensures err { OnErr result (self.new ≡ self.old) }
     {
@@ -154,7 +158,7 @@ impl Game {
     /// How many moves of both sides were played.
     pub fn plies(&self) -> u32
         ensures value { result ≡ length self.now.moves }
-        ensures most { result ≤ 12000 }
+        ensures most { result ≤ MOST_PLIES }
     {
         self.moves.len() as u32
     }
@@ -163,9 +167,10 @@ impl Game {
     pub fn facts(&self)
         ensures start { IsPosition self.now.start }
         ensures legal { AreLegal self.now.start self.now.moves }
-        ensures few { length self.now.moves ≤ 12000 }
-        ensures short { (hint : Option Ply) → length (position_text self.now hint) ≤ 72126 }
+        ensures few { length self.now.moves ≤ MOST_PLIES }
+        ensures short { (hint : Option Ply) → length (position_text self.now hint) ≤ POSITION_TEXT }
     {
+        // Read for the proof alone, which then has what holds of the fields.
         let _moves = self.moves.len();
         self.start.facts();
     }
@@ -175,7 +180,7 @@ impl Game {
         requires legal { IsPlayable (now_of self.now) (ply_of m) }
         requires after { after.now ≡ played (now_of self.now) (ply_of m) }
         ensures value { result ≡ stood_in after.now (positions_of self.now) }
-        ensures few { result ≤ 12001 }
+        ensures few { result ≤ MOST_PLIES + 1 }
     {
         self.start.facts();
         last_stood(

@@ -10,7 +10,7 @@ mod laws;
 mod line;
 
 pub use ending::End;
-pub use game::{Game, MOST_PLIES, NoMove, PushFault};
+pub use game::{Game, MOST_PLIES, NoMove, POSITION_TEXT, PushFault};
 pub use laws::{
     endings_are_lawful, position_lines_are_short, sameness_is_lawful, standard_start_is_one,
     states_are_lawful,

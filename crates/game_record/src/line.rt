@@ -6,6 +6,7 @@ ghost use Rattle.chess_board.specs.Text.{IsOfficer, text_of};
 ghost use Rattle.line_io.specs.Out.{with};
 ghost use Rattle.game_record.specs.Game.{ply_of, plies_of, IsPlayable, now_of};
 ghost use Rattle.game_record.specs.Line.{is_standard, start_text, spaced, told, moves_text, position_text};
+ghost use Rattle.peer_words.specs.Bytes.{blank};
 
 use crate::ending::is_same;
 use crate::game::Game;
@@ -36,8 +37,8 @@ fn write_start(p: &Position, out: &mut Out)
 /// Writes a move behind a blank.
 fn write_spaced(m: Move, out: &mut Out)
     requires officer { IsOfficer m.promo }
-    requires room { length out.old.text + length (32 ∷ text_of m) ≤ out.old.room }
-    ensures { out.new ≡ with out.old (32 ∷ text_of m) }
+    requires room { length out.old.text + length (blank ∷ text_of m) ≤ out.old.room }
+    ensures { out.new ≡ with out.old (blank ∷ text_of m) }
 {
     out.put(b" ");
     out.put(write_move(m).as_slice());
