@@ -16,6 +16,8 @@ use Rattle.cecp_lines.specs.Messages as says
 use Rattle.cecp_lines.specs.Messages.{IfaceMsg, message_of}
 use Rattle.chess_board.specs.Spelling.{move_of}
 use Rattle.cecp_lines.specs.Words.{is_ignored, command_of}
+use Rattle.peer_words.specs.Bytes.{colon, equals}
+use Rattle.peer_words.specs.declared.numbers.TheConstants.{MINUTE, SECOND}
 
 abbrev pub is_empty : List ℕ → Bool
 is_empty text = bytes_eq text []
@@ -32,16 +34,16 @@ abbrev pub protover : List ℕ → Option IfaceMsg
 protover text = option_and_then version (option_and_then number (only_token text))
 
 abbrev pub is_colon : ℕ → Bool
-is_colon b = b == 58
+is_colon b = b == colon
 
 -- minutes and seconds, of which there are at most 59, in milliseconds
 abbrev pub minutes_seconds : Option ℕ → Option ℕ → Option ℕ
-minutes_seconds (Some m) (Some s) = if nat_le s 59 then Some (m * 60000 + s * 1000) else None
+minutes_seconds (Some m) (Some s) = if nat_le s 59 then Some (m * MINUTE + s * SECOND) else None
 minutes_seconds (Some m) None = None
 minutes_seconds None s = None
 
 abbrev pub base_at : Option ℕ → List ℕ → Option ℕ
-base_at None text = option_map (λ m. m * 60000) (digits 4 text)
+base_at None text = option_map (λ m. m * MINUTE) (digits 4 text)
 base_at (Some at) text = minutes_seconds (digits 4 (take at text)) (digits 2 (drop (at + 1) text))
 
 -- 1 to 4 digits, and perhaps a colon and 1 or 2 digits more: minutes and seconds, as a number of milliseconds
@@ -58,7 +60,7 @@ abbrev pub level : List ℕ → Option IfaceMsg
 level text = level_of (digits 4 (first_token text)) (base_time (first_token (rest text))) (option_and_then seconds (only_token (rest (rest text))))
 
 abbrev pub is_equals : ℕ → Bool
-is_equals b = b == 61
+is_equals b = b == equals
 
 -- a text is split at its first `=`
 abbrev pub name_at : Option ℕ → List ℕ → List ℕ

@@ -15,6 +15,7 @@ use Rattle.cecp_lines.specs.declared.reply.Outcome.{Outcome}
 use Rattle.cecp_lines.specs.declared.reply.Outcome.TheVariants as outcomes
 use Rattle.cecp_lines.specs.declared.reply.Reply.{Reply as CodeReply}
 use Rattle.cecp_lines.specs.declared.reply.Reply.TheVariants as replies
+use Rattle.peer_words.specs.Bytes.{blank, left_parenthesis, right_parenthesis, equals}
 
 pub data Reply : Type 0 where
   Feature : (name value : List ℕ) → Reply
@@ -73,16 +74,16 @@ outcome_text outcomes.Fifty = codes "1/2-1/2 {Draw by fifty-move rule}"
 
 -- a number and a blank
 abbrev pub field : List ℕ → List ℕ
-field number = number ++ (32 ∷ [])
+field number = number ++ (blank ∷ [])
 
 -- the hint of a ponder search, in parentheses and before a blank
 abbrev pub hint_text : Option AnyMove → List ℕ
 hint_text None = []
-hint_text (Some m) = 40 ∷ (text_of m ++ (41 ∷ 32 ∷ []))
+hint_text (Some m) = left_parenthesis ∷ (text_of m ++ (right_parenthesis ∷ blank ∷ []))
 
 abbrev pub current_text : Option AnyMove → List ℕ
 current_text None = []
-current_text (Some m) = 32 ∷ text_of m
+current_text (Some m) = blank ∷ text_of m
 
 -- the text of a reply, without its line feed
 abbrev pub reply_text : Reply → List ℕ
@@ -104,7 +105,7 @@ reply_text (Stat01 time nodes depth left all current) =
 
 -- neither empty, nor with white space or `=` in it
 abbrev pub is_name_byte : ℕ → Bool
-is_name_byte b = not (is_white b || b == 61)
+is_name_byte b = not (is_white b || b == equals)
 
 abbrev pub is_feature_name : List ℕ → Bool
 is_feature_name name = nat_lt 0 (length name) && list_all is_name_byte name
@@ -117,7 +118,7 @@ pub record AreMoves (pv : List ℕ) : Type 0 where
   pub moves : List AnyMove
   pub some : 0 < length moves
   pub writable : AllByRecursion IsWritable moves
-  pub text : pv ≡ join_with_byte 32 (map text_of moves)
+  pub text : pv ≡ join_with_byte blank (map text_of moves)
 
 -- the line that a refusal repeats is trimmed, and one that was too long is not repeated
 abbrev pub IsRepeated : Reason → List ℕ → Type 0

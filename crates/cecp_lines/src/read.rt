@@ -8,7 +8,9 @@ ghost use Rattle.cecp_lines.specs.Reading.{reading, Spells, IsUnknown, IsBad, on
 use crate::iface::{IfaceFault, IfaceMsg};
 use crate::words::{Command, Verb, command_named};
 use chess_board::read_move;
-use peer_words::{read_centis, read_digits, read_number, read_seconds, split_token, trim};
+use peer_words::{
+    MINUTE, SECOND, read_centis, read_digits, read_number, read_seconds, split_token, trim,
+};
 
 /// The one token of a text of one token.
 fn lone_token(text: &[u8]) -> Option<&[u8]>
@@ -62,7 +64,7 @@ fn read_base(text: &[u8]) -> Option<u64>
             let minutes = read_digits(&text[..at], 4)?;
             let seconds = read_digits(&text[at + 1..], 2)?;
             if seconds <= 59 {
-                Some(minutes * 60000 + seconds * 1000)
+                Some(minutes * MINUTE + seconds * SECOND)
             } else {
                 None
             }

@@ -5,17 +5,20 @@ use Rattle.cecp_lines.specs.Replies.{Reply, Feature, reply_text}
 use Rattle.option_map.specs.Names.{holds, is_hidden}
 use Rattle.option_map.specs.Settings.{Setting, kind_text, text_size}
 use Rattle.option_map.specs.Shown.{takes_memory, takes_cores, takes_tables}
+use Rattle.feature_talk.specs.declared.features.TheConstants.{MOST_NAME, COMMON_BYTES}
+use Rattle.peer_words.specs.Bytes.{quote}
+use Rattle.line_io.specs.Lines.{line_feed}
 
 -- a name of an engine that cannot be shown
 abbrev pub is_unfit : List ℕ → Bool
-is_unfit name = nat_lt (length name) 1 || nat_lt 256 (length name) || holds 34 name
+is_unfit name = nat_lt (length name) 1 || nat_lt MOST_NAME (length name) || holds quote name
 
 -- the name that is shown
 abbrev pub shown_name : List ℕ → List ℕ
 shown_name said = if is_unfit said then codes "UCI engine" else said
 
 abbrev pub in_quotes : List ℕ → List ℕ
-in_quotes text = 34 ∷ text ++ 34 ∷ []
+in_quotes text = quote ∷ text ++ quote ∷ []
 
 abbrev pub bit : Bool → List ℕ
 bit true = codes "1"
@@ -54,14 +57,14 @@ feature_list os said =
 
 -- a reply as it is written, with its line feed
 abbrev pub reply_line : Reply → List ℕ
-reply_line reply = reply_text reply ++ 10 ∷ []
+reply_line reply = reply_text reply ++ line_feed ∷ []
 
 abbrev pub reply_lines : List Reply → List ℕ
 reply_lines replies = flat_map reply_line replies
 
 -- how long the list may be
 abbrev pub IsShort : Type 0
-IsShort = (os : List Setting) (said : List ℕ) → length (reply_lines (feature_list os said)) ≤ 1000 + text_size os + length os
+IsShort = (os : List Setting) (said : List ℕ) → length (reply_lines (feature_list os said)) ≤ COMMON_BYTES + text_size os + length os
 
 -- The name that is shown is shown again.
 abbrev pub ShowsAgain : Type 0

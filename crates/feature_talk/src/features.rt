@@ -3,17 +3,24 @@ ghost use Rattle.std.specs.Prelude.{◌≡◌, ◌≤◌, ◌+◌, ◌∷◌, []
 ghost use Rattle.line_io.specs.Out.{with};
 ghost use Rattle.cecp_lines.specs.Replies.{Feature};
 ghost use Rattle.feature_talk.specs.Features.{shown_name, in_quotes, bit, fixed, tables, by_options, feature_list, reply_line, reply_lines};
+ghost use Rattle.feature_talk.specs.declared.features.TheConstants.{MOST_NAME};
 
 use line_io::Out;
 use option_map::Options;
 
+/// The longest name of an engine that is shown.
+pub const MOST_NAME: usize = 256;
+
+// How long the list is at most beside what it says of the options.
+const COMMON_BYTES: usize = 1_000;
+
 /// The name that is shown of an engine: what it said last, or `UCI engine` if it said nothing or a name
-/// that is empty, has more than 256 bytes or holds a quote.
+/// that is empty, has more than `MOST_NAME` bytes or holds a quote.
 pub fn shown_name(said: &[u8]) -> &[u8]
     ensures name { result.now ≡ shown_name said.now }
-    ensures short { length result.now ≤ 256 }
+    ensures short { length result.now ≤ MOST_NAME }
 {
-    if said.is_empty() || said.len() > 256 || said.contains(&b'"') {
+    if said.is_empty() || said.len() > MOST_NAME || said.contains(&b'"') {
         b"UCI engine"
     } else {
         said

@@ -6,6 +6,6 @@ mod features;
 mod laws;
 mod talk;
 
-pub use features::{shown_name, write_bare_list, write_list};
+pub use features::{MOST_NAME, shown_name, write_bare_list, write_list};
 pub use laws::feature_lists_are_short;
 pub use talk::{Say, Talk};

@@ -22,5 +22,5 @@ pub use declared::Declared;
 pub use fault::OptFault;
 pub use held::{Held, MOST_BYTES, MOST_ORDERS};
 pub use laws::{asked_orders_are_spelled, last_orders_are_held};
-pub use options::Options;
-pub use order::{Asked, Setup, Value};
+pub use options::{FEATURE_BYTES, MOST_OPTIONS, Options};
+pub use order::{Asked, ORDER_BYTES, Setup, Value};

@@ -8,13 +8,16 @@ ghost use Rattle.option_map.specs.Held.{are_for_same, order_line};
 
 use crate::held::MOST_BYTES;
 use itoa::Buffer;
-use line_io::Out;
+use line_io::{Out, PEER_LINE};
 use uci_lines::{Order, write_order};
 
 /// The bytes of an order beside the name that it sets, and beside name and value.
 const BUTTON_BYTES: usize = 15;
 
 const SETTING_BYTES: usize = 22;
+
+/// How long the order that a line asks for is at most.
+pub const ORDER_BYTES: usize = PEER_LINE + 164;
 
 /// What an option is set to.
 #[derive(Clone, Copy, Debug, PartialEq, Eq)]

@@ -15,6 +15,7 @@ use Rattle.uci_lines.specs.declared.messages.Score.TheVariants.{Cp, Mate}
 use Rattle.uci_lines.specs.Info.{Info as AnyInfo}
 use Rattle.uci_lines.specs.Messages.{Info}
 use Rattle.uci_lines.specs.Engine.{engine_message}
+use Rattle.peer_words.specs.Bytes.{blank}
 
 -- some line of the engine reports this
 abbrev pub IsHeard : AnyInfo → Type 0
@@ -34,12 +35,12 @@ legal_run p [] = []
 legal_run p (m ∷ moves) = if legal p m then m ∷ legal_run (played p m) moves else []
 
 abbrev pub moves_text : List Move → List ℕ
-moves_text moves = join_with_byte 32 (map text_of moves)
+moves_text moves = join_with_byte blank (map text_of moves)
 
 -- each move behind a blank
 abbrev pub spaced : List Move → List ℕ
 spaced [] = []
-spaced (m ∷ moves) = (32 ∷ text_of m) ++ spaced moves
+spaced (m ∷ moves) = (blank ∷ text_of m) ++ spaced moves
 
 -- The line with these moves. It needs a depth, a score and a move; a time or a number of nodes that is missing is 0.
 abbrev pub line_with : Option ℕ → Option Score → List Move → AnyInfo → Option Move → Option Reply

@@ -10,6 +10,7 @@ ghost use Rattle.uci_lines.specs.Moves.{run};
 ghost use Rattle.uci_lines.specs.Info.{info_of};
 ghost use Rattle.uci_lines.specs.Scores.{IsCentis};
 ghost use Rattle.think_text.specs.Line.{IsHeard, HasRoom, legal_run, played, value_of, spaced, thinking_line, with_line};
+ghost use Rattle.peer_words.specs.Bytes.{blank};
 
 use crate::value::{is_legal, play, value_of};
 use cecp_lines::{Reply, write_reply};
@@ -36,8 +37,8 @@ fn next_legal<'a>(moves: &'a [u8], at: &Position) -> Option<(Move, &'a [u8])>
 /// Writes a move behind a blank.
 fn write_spaced(m: Move, out: &mut Out)
     requires writable { IsWritable m }
-    requires room { length out.old.text + length (32 ∷ text_of m) ≤ out.old.room }
-    ensures { out.new ≡ with out.old (32 ∷ text_of m) }
+    requires room { length out.old.text + length (blank ∷ text_of m) ≤ out.old.room }
+    ensures { out.new ≡ with out.old (blank ∷ text_of m) }
 {
     out.put(b" ");
     out.put(write_move(m).as_slice());
