@@ -19,6 +19,7 @@ use Rattle.cecp_lines.specs.declared.reply.Reply.{Reply as CodeReply}
 use Rattle.cecp_lines.specs.declared.reply.Reply.TheVariants as replies
 use Rattle.cecp_lines.specs.Replies as told
 use Rattle.cecp_lines.specs.Replies.{Reply, reply_of, is_feature_name}
+use Rattle.peer_words.specs.Bytes.{digit_zero, blank, right_parenthesis}
 
 -- what stands behind a front
 abbrev pub stripped : List ℕ → List ℕ → Option (List ℕ)
@@ -28,7 +29,7 @@ stripped (f ∷ fs) (b ∷ bs) = if f == b then stripped fs bs else None
 
 -- up to 20 digits without a leading zero
 abbrev pub is_plain : List ℕ → Bool
-is_plain text = nat_lt 0 (length text) && (not (slice_index text 0 == 48) || length text == 1) && nat_le (length text) 20 && list_all is_ascii_digit text
+is_plain text = nat_lt 0 (length text) && (not (slice_index text 0 == digit_zero) || length text == 1) && nat_le (length text) 20 && list_all is_ascii_digit text
 
 abbrev pub plain : List ℕ → Option ℕ
 plain text = if is_plain text then Some (digits_value 10 text) else None
@@ -59,7 +60,7 @@ abbrev pub written_move : List ℕ → Option AnyMove
 written_move text = option_and_then (same_text text) (move_of text)
 
 abbrev pub is_space : ℕ → Bool
-is_space b = b == 32
+is_space b = b == blank
 
 -- written moves with one blank between
 abbrev pub are_moves : List ℕ → Bool
@@ -138,7 +139,7 @@ error_of (Some reason) None = None
 error_of None line = None
 
 abbrev pub is_paren : ℕ → Bool
-is_paren b = b == 41
+is_paren b = b == right_parenthesis
 
 abbrev pub error_at : Option ℕ → List ℕ → Option Reply
 error_at None text = None

@@ -6,23 +6,25 @@ use Rattle.peer_words.specs.Numbers.{seconds_text}
 use Rattle.cecp_lines.specs.Messages as says
 use Rattle.cecp_lines.specs.Messages.{IfaceMsg}
 use Rattle.cecp_lines.specs.Reading.{Spells, CanBeRead}
+use Rattle.peer_words.specs.Bytes.{blank, digit_zero, colon, equals}
+use Rattle.peer_words.specs.declared.numbers.TheConstants.{MINUTE, SECOND}
 
 -- a blank and the rest, if there is one
 abbrev pub after_blank : List ℕ → List ℕ
 after_blank [] = []
-after_blank (b ∷ bs) = 32 ∷ b ∷ bs
+after_blank (b ∷ bs) = blank ∷ b ∷ bs
 
 -- a number below 100 with two digits
 abbrev pub two_digits : ℕ → List ℕ
-two_digits n = (48 + n / 10) ∷ (48 + n % 10) ∷ []
+two_digits n = (digit_zero + n / 10) ∷ (digit_zero + n % 10) ∷ []
 
 -- minutes, and a colon and seconds if there are some
 abbrev pub base_text : ℕ → List ℕ
-base_text ms = if ms / 1000 % 60 == 0 then decimal (ms / 60000) else decimal (ms / 60000) ++ (58 ∷ two_digits (ms / 1000 % 60))
+base_text ms = if ms / SECOND % 60 == 0 then decimal (ms / MINUTE) else decimal (ms / MINUTE) ++ (colon ∷ two_digits (ms / SECOND % 60))
 
 abbrev pub value_text : Option (List ℕ) → List ℕ
 value_text None = []
-value_text (Some value) = 61 ∷ value
+value_text (Some value) = equals ∷ value
 
 -- the word of a message without arguments, and nothing for the others
 abbrev pub bare_text : IfaceMsg → List ℕ

@@ -5,6 +5,7 @@ ghost use Rattle.std.specs.List.{list_all};
 ghost use Rattle.cecp_lines.specs.Replies.{Reply as AnyReply, reply_of, SpellsReply, IsWritable, is_feature_name, is_name_byte};
 ghost use Rattle.cecp_iface_side.specs.ReplyReading.{stripped, plain, written, written_signed, written_move, are_moves, is_space, is_paren, is_plain, cut, number_field, score_field, fixed_of, reason_of, feature_in, is_repeated, error_in, pong_in, last_in, stat01_in, hint_in, thinking_in, reply_in, with_front};
 ghost use Rattle.cecp_lines.specs.Reading.{is_equals};
+ghost use Rattle.peer_words.specs.Bytes.{};
 
 use cecp_lines::{Outcome, Reason, Reply, UserError};
 use chess_board::{Move, read_move, write_move};

@@ -9,6 +9,7 @@ ghost use Rattle.chess_board.specs.Text.{text_of};
 ghost use Rattle.cecp_lines.specs.Reading.{CanBeRead};
 ghost use Rattle.cecp_lines.specs.Replies.{IsWritable};
 ghost use Rattle.cecp_iface_side.specs.Texts.{message_text, after_blank, two_digits, bare_text, base_text, value_text};
+ghost use Rattle.peer_words.specs.Bytes.{digit_zero};
 
 use cecp_lines::IfaceMsg;
 use chess_board::{Move, write_move};
@@ -55,7 +56,7 @@ fn put_move(word: &[u8], m: Move, out: &mut Out)
 /// The ASCII digit of a number below 10.
 fn digit(n: u64) -> u8
     requires { n < 10 }
-    ensures { result ≡ 48 + n }
+    ensures { result ≡ digit_zero + n }
 {
     b'0' + n as u8
 }

@@ -3,6 +3,7 @@ use Rattle.std.specs.Prelude.{ℕ, ◌==◌, ◌&&◌, ◌||◌, Bool, List, [],
 use Rattle.std.specs.List.{ends_with}
 use Rattle.line_io.specs.Source.{Received}
 use Rattle.child_engine.specs.declared.input.EngineInput.{EngineInput}
+use Rattle.line_io.specs.Lines.{line_feed}
 
 -- it tells nothing of what was taken, since nobody keeps that behind `quit`
 abbrev pub shown_by : {W : Type 0} → EngineInput W → Received
@@ -13,9 +14,9 @@ abbrev pub is_open : {W : Type 0} → EngineInput W → Bool
 is_open input = is_some input.writer
 
 abbrev pub quit_line : List ℕ
-quit_line = codes "quit" ++ 10 ∷ []
+quit_line = codes "quit" ++ line_feed ∷ []
 
 -- the last of the lines is `quit`
 abbrev pub ends_with_quit : List ℕ → Bool
 ends_with_quit lines =
-    ends_with nat_eq lines (10 ∷ quit_line) || (length lines == 5 && ends_with nat_eq lines quit_line)
+    ends_with nat_eq lines (line_feed ∷ quit_line) || (length lines == 5 && ends_with nat_eq lines quit_line)

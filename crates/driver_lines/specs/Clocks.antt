@@ -12,6 +12,7 @@ use Rattle.driver_lines.specs.declared.clocks.Field.TheVariants as fields
 use Rattle.driver_lines.specs.declared.clocks.TheConstants.{LONGEST, MOST_MOVES, MOST_SECONDS, MOST_PLIES}
 use Rattle.driver_lines.specs.Numbers.{natural}
 use Rattle.driver_lines.specs.Lines.{Line, St, Level, Time, Otim, Sd}
+use Rattle.peer_words.specs.declared.numbers.TheConstants.{SECOND}
 
 -- READING
 
@@ -67,7 +68,7 @@ abbrev pub capped : ℕ → ℕ
 capped time = min time LONGEST
 
 abbrev pub seconds_up : ℕ → ℕ
-seconds_up time = if time % 1000 == 0 then time / 1000 else time / 1000 + 1
+seconds_up time = if time % SECOND == 0 then time / SECOND else time / SECOND + 1
 
 abbrev pub mine : Side → Clocks → ℕ
 mine White c = c.wtime
@@ -82,7 +83,7 @@ increment White c = c.winc
 increment Black c = c.binc
 
 abbrev pub level_line : Side → Clocks → Line
-level_line side c = Level (min c.movestogo MOST_MOVES) (capped (mine side c) / 1000) (min (increment side c / 1000) MOST_SECONDS)
+level_line side c = Level (min c.movestogo MOST_MOVES) (capped (mine side c) / SECOND) (min (increment side c / SECOND) MOST_SECONDS)
 
 -- the time of the move alone, or the clocks
 abbrev pub control_lines : Side → Clocks → Option ℕ → List Line

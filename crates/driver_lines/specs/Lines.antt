@@ -8,6 +8,8 @@ use Rattle.fen_text.specs.Written.{written}
 use Rattle.game_record.specs.Game.{Ply}
 use Rattle.game_record.specs.Line.{ply_text}
 use Rattle.driver_talk.specs.declared.words.Thought.{Thought}
+use Rattle.peer_words.specs.Bytes.{digit_zero}
+use Rattle.line_io.specs.Lines.{line_feed}
 
 -- a line to the engine
 pub data Line : Type 0 where
@@ -37,12 +39,12 @@ pub data Line : Type 0 where
   Rejected : (name : List ℕ) → Line
 
 abbrev pub two_digits : ℕ → List ℕ
-two_digits n = (48 + n / 10) ∷ (48 + n % 10) ∷ []
+two_digits n = (digit_zero + n / 10) ∷ (digit_zero + n % 10) ∷ []
 
 -- minutes and seconds, with its line feed
 abbrev pub level_text : ℕ → ℕ → ℕ → List ℕ
 level_text moves seconds increment =
-    codes "level " ++ decimal moves ++ codes " " ++ decimal (seconds / 60) ++ codes ":" ++ two_digits (seconds % 60) ++ codes " " ++ decimal increment ++ 10 ∷ []
+    codes "level " ++ decimal moves ++ codes " " ++ decimal (seconds / 60) ++ codes ":" ++ two_digits (seconds % 60) ++ codes " " ++ decimal increment ++ line_feed ∷ []
 
 abbrev pub move_text : Bool → List ℕ → List ℕ
 move_text has_usermove text = if has_usermove then codes "usermove " ++ text else text
@@ -51,7 +53,7 @@ abbrev pub answer_text : Bool → List ℕ → List ℕ
 answer_text is_rejected name = if is_rejected then codes "rejected " ++ name else codes "accepted " ++ name
 
 abbrev pub ended : List ℕ → List ℕ
-ended text = text ++ 10 ∷ []
+ended text = text ++ line_feed ∷ []
 
 -- the text of a line, with its line feed
 abbrev pub line_text : Line → List ℕ
@@ -63,16 +65,16 @@ line_text Force = ended (codes "force")
 line_text Post = ended (codes "post")
 line_text (SetBoard p) = ended (codes "setboard " ++ written p)
 line_text (Played has_usermove m) = ended (move_text has_usermove (ply_text m))
-line_text (St seconds) = codes "st " ++ decimal seconds ++ 10 ∷ []
+line_text (St seconds) = codes "st " ++ decimal seconds ++ line_feed ∷ []
 line_text (Level moves seconds increment) = level_text moves seconds increment
-line_text (Time centis) = codes "time " ++ decimal centis ++ 10 ∷ []
-line_text (Otim centis) = codes "otim " ++ decimal centis ++ 10 ∷ []
-line_text (Sd plies) = codes "sd " ++ decimal plies ++ 10 ∷ []
+line_text (Time centis) = codes "time " ++ decimal centis ++ line_feed ∷ []
+line_text (Otim centis) = codes "otim " ++ decimal centis ++ line_feed ∷ []
+line_text (Sd plies) = codes "sd " ++ decimal plies ++ line_feed ∷ []
 line_text Go = ended (codes "go")
 line_text Analyze = ended (codes "analyze")
 line_text Hurry = ended (codes "?")
 line_text Exit = ended (codes "exit")
-line_text (Ping n) = codes "ping " ++ decimal n ++ 10 ∷ []
+line_text (Ping n) = codes "ping " ++ decimal n ++ line_feed ∷ []
 line_text (Accepted name) = ended (codes "accepted " ++ name)
 line_text (Rejected name) = ended (codes "rejected " ++ name)
 

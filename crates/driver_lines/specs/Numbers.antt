@@ -1,14 +1,16 @@
 -- Numbers in lines.
-use Rattle.std.specs.Prelude.{ℕ, ◌*◌, nat_lt, ◌==◌, if◌then◌else◌, List, [], ◌∷◌, Option, Some, None, ℤ, pos, neg_ℤ}
+use Rattle.std.specs.Prelude.{ℕ, ◌*◌, nat_lt, ◌==◌, if◌then◌else◌, List, [], ◌∷◌, ◌^◌, Option, Some, None, ℤ, pos, neg_ℤ}
 use Rattle.std.specs.Option.{option_map}
 use Rattle.std.specs.Int.{int_min, int_max}
 use lib.IntN.{negsuc}
 use Rattle.peer_words.specs.Numbers.{signed}
+use Rattle.peer_words.specs.Bytes.{plus}
+use Rattle.driver_lines.specs.declared.numbers.TheConstants.{MOST_SCORE, MOST_TIME}
 
 -- perhaps one plus before it
 abbrev pub plus_signed : List ℕ → Option ℤ
 plus_signed [] = signed []
-plus_signed (b ∷ bs) = if b == 43 then signed bs else signed (b ∷ bs)
+plus_signed (b ∷ bs) = if b == plus then signed bs else signed (b ∷ bs)
 
 -- the number of the first token, and the other tokens
 abbrev pub next_number : List (List ℕ) → Option (ℤ × List (List ℕ))
@@ -22,8 +24,8 @@ natural (negsuc n) = 0
 
 -- a score within nine digits
 abbrev pub clamped : ℤ → ℤ
-clamped score = int_max (int_min score (pos 999999999)) (neg_ℤ (pos 999999999))
+clamped score = int_max (int_min score MOST_SCORE) (neg_ℤ MOST_SCORE)
 
 -- hundredths of a second as milliseconds, within 18 digits
 abbrev pub ten_times : ℕ → ℕ
-ten_times n = if nat_lt n 100000000000000000 then n * 10 else 999999999999999999
+ten_times n = if nat_lt n (10 ^ 17) then n * 10 else MOST_TIME

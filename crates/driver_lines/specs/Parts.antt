@@ -5,6 +5,7 @@ use Rattle.std.specs.Option.{option_map}
 use Rattle.peer_words.specs.Tokens.{is_white, trim_left, token_end}
 use Rattle.driver_lines.specs.declared.feature.Part.{Part}
 use Rattle.driver_lines.specs.declared.feature.Cut as code
+use Rattle.peer_words.specs.Bytes.{equals, quote}
 
 -- `NAME=VALUE`, the value without its quotes
 pub record Feature : Type 0 where
@@ -28,10 +29,10 @@ cut_seen c = record { part = features_of c.part; rest = c.rest.now }
 
 -- a name has no white space, no `=` and no quote
 abbrev pub ends_name : ℕ → Bool
-ends_name b = (is_white b || b == 61) || b == 34
+ends_name b = (is_white b || b == equals) || b == quote
 
 abbrev pub is_quote : ℕ → Bool
-is_quote b = b == 34
+is_quote b = b == quote
 
 abbrev pub found : List ℕ → List ℕ → List ℕ → Cut
 found name value rest = record { part = Some (record { name = name; value = value }); rest = rest }
@@ -40,7 +41,7 @@ found name value rest = record { part = Some (record { name = name; value = valu
 abbrev pub value_cut : List ℕ → List ℕ → Cut
 value_cut name [] = found name [] []
 value_cut name (b ∷ bs) =
-    if b == 34
+    if b == quote
     then found name (before_first is_quote bs) (after_first is_quote bs)
     else found name (before_first is_white (b ∷ bs)) (drop (token_end (b ∷ bs)) (b ∷ bs))
 
@@ -52,7 +53,7 @@ skipped text = record { part = None; rest = drop (token_end text) text }
 abbrev pub cut_by : List ℕ → List ℕ → List ℕ → Cut
 cut_by [] after behind = skipped behind
 cut_by (c ∷ cs) [] behind = skipped behind
-cut_by (c ∷ cs) (b ∷ bs) behind = if b == 61 then value_cut (c ∷ cs) bs else skipped behind
+cut_by (c ∷ cs) (b ∷ bs) behind = if b == equals then value_cut (c ∷ cs) bs else skipped behind
 
 abbrev pub cut_of : List ℕ → List ℕ → Cut
 cut_of text behind = cut_by (before_first ends_name text) (drop (position_or_len ends_name text) text) behind

@@ -6,6 +6,8 @@ ghost use Rattle.driver_lines.specs.Clocks.{field_named, first_number, hear, clo
 ghost use Rattle.driver_lines.specs.Clocks.{capped, seconds_up, clock_lines, control_lines, depth_lines};
 ghost use Rattle.driver_lines.specs.Clocks.{mine, theirs, increment};
 ghost use Rattle.driver_lines.specs.Lines.{Level, Time, Otim, line_text, lines_text, level_text};
+ghost use Rattle.peer_words.specs.Bytes.{digit_zero};
+ghost use Rattle.peer_words.specs.declared.numbers.TheConstants.{SECOND};
 
 use crate::down::{put_count, write_numbered};
 use crate::numbers::natural;
@@ -136,7 +138,7 @@ fn seconds_up(time: u64) -> u64
 /// The ASCII digit of a number below 10.
 fn digit(n: u64) -> u8
     requires { n < 10 }
-    ensures { result ≡ 48 + n }
+    ensures { result ≡ digit_zero + n }
 {
     b'0' + n as u8
 }
@@ -206,7 +208,7 @@ fn write_otim(time: u64, out: &mut Out)
 fn put_times(moves: u64, own: u64, other: u64, increment: u64, out: &mut Out)
     requires room { length out.old.text + 124 ≤ out.old.room }
     ensures text { out.new
-        ≡ with out.old (lines_text (Level moves (own / 1000) increment
+        ≡ with out.old (lines_text (Level moves (own / SECOND) increment
         ∷ Time (own / 10) ∷ Otim (other / 10) ∷ [])) }
     ensures short { length out.new.text ≤ length out.old.text + 124 }
 {

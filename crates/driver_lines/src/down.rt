@@ -3,6 +3,7 @@ ghost use Rattle.std.specs.Prelude.{◌≡◌, ◌+◌, ◌≤◌, ◌∷◌, �
 ghost use Rattle.line_io.specs.Out.{with};
 ghost use Rattle.chess_board.specs.Text.{text_of, IsOfficer};
 ghost use Rattle.driver_lines.specs.Lines.{answer_text, move_text};
+ghost use Rattle.line_io.specs.Lines.{line_feed};
 
 use chess_board::{Move, write_move};
 use itoa::Buffer;
@@ -21,7 +22,7 @@ pub(crate) fn put_count(n: u64, out: &mut Out)
 /// Writes a line.
 pub fn write_word(word: &[u8], out: &mut Out)
     requires room { length out.old.text + length word.now + 1 ≤ out.old.room }
-    ensures text { out.new ≡ with out.old (word.now ++ 10 ∷ []) }
+    ensures text { out.new ≡ with out.old (word.now ++ line_feed ∷ []) }
     ensures short { length out.new.text ≤ length out.old.text + length word.now + 1 }
 {
     out.put(word);
@@ -31,7 +32,7 @@ pub fn write_word(word: &[u8], out: &mut Out)
 /// Writes a line with a number behind a word.
 pub fn write_numbered(word: &[u8], n: u64, out: &mut Out)
     requires room { length out.old.text + length word.now + 21 ≤ out.old.room }
-    ensures text { out.new ≡ with out.old (word.now ++ decimal n ++ 10 ∷ []) }
+    ensures text { out.new ≡ with out.old (word.now ++ decimal n ++ line_feed ∷ []) }
     ensures short { length out.new.text ≤ length out.old.text + length word.now + 21 }
 {
     out.put(word);
@@ -42,7 +43,7 @@ pub fn write_numbered(word: &[u8], n: u64, out: &mut Out)
 /// Writes a line of two pieces.
 pub(crate) fn put_line(word: &[u8], text: &[u8], out: &mut Out)
     requires room { length out.old.text + length word.now + length text.now + 1 ≤ out.old.room }
-    ensures text { out.new ≡ with out.old (word.now ++ text.now ++ 10 ∷ []) }
+    ensures text { out.new ≡ with out.old (word.now ++ text.now ++ line_feed ∷ []) }
     ensures short { length out.new.text
         ≤ length out.old.text + length word.now + length text.now + 1 }
 {
@@ -55,7 +56,7 @@ pub(crate) fn put_line(word: &[u8], text: &[u8], out: &mut Out)
 pub fn write_moved(m: Move, has_usermove: bool, out: &mut Out)
     requires officer { IsOfficer m.promo }
     requires room { length out.old.text + 15 ≤ out.old.room }
-    ensures text { out.new ≡ with out.old (move_text has_usermove (text_of m) ++ 10 ∷ []) }
+    ensures text { out.new ≡ with out.old (move_text has_usermove (text_of m) ++ line_feed ∷ []) }
     ensures short { length out.new.text ≤ length out.old.text + 15 }
 {
     let text = write_move(m);
@@ -69,7 +70,7 @@ pub fn write_moved(m: Move, has_usermove: bool, out: &mut Out)
 /// Writes the answer to a feature.
 pub fn write_answer(name: &[u8], is_rejected: bool, out: &mut Out)
     requires room { length out.old.text + length name.now + 10 ≤ out.old.room }
-    ensures text { out.new ≡ with out.old (answer_text is_rejected name.now ++ 10 ∷ []) }
+    ensures text { out.new ≡ with out.old (answer_text is_rejected name.now ++ line_feed ∷ []) }
     ensures short { length out.new.text ≤ length out.old.text + length name.now + 10 }
 {
     if is_rejected {

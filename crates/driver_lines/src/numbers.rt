@@ -25,6 +25,12 @@ pub(crate) fn next_number(text: &[u8]) -> Option<(i64, &[u8])>
     Some((read_plus_signed(token)?, others))
 }
 
+/// The largest score that is written.
+const MOST_SCORE: i64 = 999_999_999;
+
+/// The longest time that is written, of 18 digits.
+const MOST_TIME: u64 = 999_999_999_999_999_999;
+
 /// A negative number counts as 0.
 pub(crate) fn natural(n: i64) -> u64
     ensures { result ≡ natural n }
@@ -36,7 +42,7 @@ pub(crate) fn natural(n: i64) -> u64
 pub(crate) fn clamped(score: i64) -> i64
     ensures { result ≡ clamped score }
 {
-    score.min(999_999_999).max(-999_999_999)
+    score.min(MOST_SCORE).max(-MOST_SCORE)
 }
 
 /// Hundredths of a second as milliseconds, within 18 digits.
@@ -46,6 +52,6 @@ pub(crate) fn ten_times(n: u64) -> u64
     if n < 100_000_000_000_000_000 {
         n * 10
     } else {
-        999_999_999_999_999_999
+        MOST_TIME
     }
 }

@@ -4,6 +4,7 @@ ghost use Rattle.std.specs.Fmt.{signed_decimal};
 ghost use Rattle.line_io.specs.Out.{with};
 ghost use Rattle.chess_board.specs.Text.{IsOfficer};
 ghost use Rattle.driver_lines.specs.Lines.{best_text, figures_text, info_text, named};
+ghost use Rattle.line_io.specs.Lines.{line_feed};
 
 use crate::down::{put_count, put_line, write_word};
 use chess_board::{Move, write_move};
@@ -24,7 +25,7 @@ fn put_signed(n: i64, out: &mut Out)
 pub fn write_best(best: Option<Move>, out: &mut Out)
     requires officer { IfSome best (λ m. IsOfficer m.promo) }
     requires room { length out.old.text + 15 ≤ out.old.room }
-    ensures text { out.new ≡ with out.old (best_text best ++ 10 ∷ []) }
+    ensures text { out.new ≡ with out.old (best_text best ++ line_feed ∷ []) }
     ensures short { length out.new.text ≤ length out.old.text + 15 }
 {
     match best {
@@ -89,7 +90,7 @@ fn put_figures(thought: &Thought, out: &mut Out)
 pub fn write_info(thought: &Thought, out: &mut Out)
     requires officer { IsOfficer thought.now.best.promo }
     requires room { length out.old.text + 160 ≤ out.old.room }
-    ensures text { out.new ≡ with out.old (info_text thought.now ++ 10 ∷ []) }
+    ensures text { out.new ≡ with out.old (info_text thought.now ++ line_feed ∷ []) }
     ensures short { length out.new.text ≤ length out.old.text + 160 }
 {
     put_figures(thought, out);
@@ -99,7 +100,7 @@ pub fn write_info(thought: &Thought, out: &mut Out)
 /// Writes `id name`, with a name of the driver's own if the engine has none.
 pub fn write_id(name: &[u8], out: &mut Out)
     requires room { length out.old.text + length name.now + 20 ≤ out.old.room }
-    ensures text { out.new ≡ with out.old (codes "id name " ++ named name.now ++ 10 ∷ []) }
+    ensures text { out.new ≡ with out.old (codes "id name " ++ named name.now ++ line_feed ∷ []) }
     ensures short { length out.new.text ≤ length out.old.text + length name.now + 20 }
 {
     out.put(b"id name ");

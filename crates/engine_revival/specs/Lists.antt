@@ -4,6 +4,7 @@ use Rattle.std.specs.List.{flat_map}
 use Rattle.std.specs.Str.{bytes_eq}
 use Rattle.uci_lines.specs.Orders.{Order, NewGame, SetOption, order_text}
 use Rattle.engine_revival.specs.declared.order_list.TheConstants.{MOST_ORDERS, MOST_BYTES}
+use Rattle.line_io.specs.Lines.{line_feed}
 
 -- Both begin a game, or both set the same option: to a value, or without one.
 abbrev pub are_for_same : Order → Order → Bool
@@ -21,7 +22,7 @@ abbrev pub with_order : List Order → Order → List Order
 with_order list order = staying_beside order list ++ order ∷ []
 
 abbrev pub order_line : Order → List ℕ
-order_line order = order_text order ++ 10 ∷ []
+order_line order = order_text order ++ line_feed ∷ []
 
 -- the orders as they are written, each with its line feed
 abbrev pub batch_text : List Order → List ℕ

@@ -19,6 +19,7 @@ use Rattle.engine_revival.specs.declared.words.Answer.TheVariants as answers
 use Rattle.engine_revival.specs.declared.state.State.{State}
 use Rattle.engine_revival.specs.Dialogue.{after_order, after_said, said_in, is_before}
 use Rattle.engine_revival.specs.Lists.{with_order, can_join, is_nil}
+use Rattle.line_io.specs.Lines.{line_feed}
 
 -- The state has the number of lives that may be begun and of those begun; whether `quit` was accepted, and whether a setting came
 -- that no list had room for; the upper state, that is the dialogue with who gives the orders, by the orders that were accepted and
@@ -137,9 +138,9 @@ after_answer answer s = record s { upper = upper.Idle }
 
 abbrev pub answer_text : Answer → List ℕ
 answer_text answers.Nothing = []
-answer_text answers.UciOk = codes "uciok" ++ 10 ∷ []
-answer_text answers.ReadyOk = codes "readyok" ++ 10 ∷ []
-answer_text answers.NoMove = codes "bestmove 0000" ++ 10 ∷ []
+answer_text answers.UciOk = codes "uciok" ++ line_feed ∷ []
+answer_text answers.ReadyOk = codes "readyok" ++ line_feed ∷ []
+answer_text answers.NoMove = codes "bestmove 0000" ++ line_feed ∷ []
 
 -- WHAT IS GIVEN UP AS HEARD
 
@@ -157,7 +158,7 @@ gives s word = is_given word s.life s.upper (is_nil s.unsent)
 
 -- the line, where it is given up
 abbrev pub given : State → List ℕ → List ℕ
-given s line = if gives s (said_in line) then line ++ 10 ∷ [] else []
+given s line = if gives s (said_in line) then line ++ line_feed ∷ [] else []
 
 -- EACH CALL, BEFORE WHAT FOLLOWS OF IT
 

@@ -7,6 +7,7 @@ ghost use Rattle.uci_lines.specs.Orders.{order_of as order_of_by};
 ghost use Rattle.engine_revival.specs.Lists.{are_for_same, staying_beside, batch_text, is_nil};
 ghost use Rattle.engine_revival.specs.Marks.{AreLines};
 ghost use Rattle.engine_revival.specs.Kept.{line_at, spelled, Spells, orders_at, IsLineIn, AreIn};
+ghost use Rattle.line_io.specs.Lines.{line_feed};
 
 use arrayvec::ArrayVec;
 use line_io::{NoMemory, Out};
@@ -22,9 +23,9 @@ pub const MOST_ORDERS: usize = 512;
 pub const MOST_BYTES: usize = 1_048_576;
 
 /// A list has room for one `ucinewgame` beside its settings.
-pub(crate) const LIST_ORDERS: usize = 513;
+pub(crate) const LIST_ORDERS: usize = MOST_ORDERS + 1;
 
-pub(crate) const LIST_BYTES: usize = 1_048_587;
+pub(crate) const LIST_BYTES: usize = MOST_BYTES + 11;
 
 /// Where a line stands in a buffer, without its line feed.
 #[derive(Clone, Copy, Default)]
@@ -104,7 +105,7 @@ fn put_line(line: &[u8], lines: &mut Lines, texts: &mut Out)
     requires within { AreIn texts.old.text lines.old.items }
     requires few { length lines.old.items < LIST_ORDERS }
     requires room { length texts.old.text + length line.now < texts.old.room }
-    ensures texts { texts.new ≡ with texts.old (line.now ++ 10 ∷ []) }
+    ensures texts { texts.new ≡ with texts.old (line.now ++ line_feed ∷ []) }
     ensures orders { orders_at texts.new.text lines.new.items
         ≡ orders_at texts.old.text lines.old.items ++ spelled line.now ∷ [] }
     ensures within { AreIn texts.new.text lines.new.items }

@@ -9,12 +9,12 @@ ghost use Rattle.engine_revival.specs.View.{opening, cleared, Keeps};
 ghost use Rattle.engine_revival.specs.declared.state.TheConstants.{MOST_LINE};
 
 use crate::state::State;
-use line_io::{NoMemory, Out};
+use line_io::{NoMemory, Out, PEER_LINE};
 use std::alloc::Global;
 use std::marker::Model;
 
 /// The room of the lines up: one as long as a line may be, and what stands in for the engine.
-pub(crate) const UP_ROOM: usize = 66_560;
+pub(crate) const UP_ROOM: usize = PEER_LINE + 1_024;
 
 /// The room of the lines to the engine: all settings, and the orders of a search.
 pub(crate) const CHILD_ROOM: usize = 1_310_720;

@@ -10,13 +10,14 @@ ghost use Rattle.engine_revival.specs.Script.{state_before, call_of};
 ghost use Rattle.engine_revival.specs.Calls.{Gives};
 ghost use Rattle.engine_revival.specs.Marks.{HaveRoom};
 ghost use Rattle.engine_revival.specs.Steps.{ending};
+ghost use Rattle.line_io.specs.declared.limits.TheConstants.{PEER_LINE};
 
 use crate::{Both, Revival};
 use line_io::{Event, Out, split_line};
-use script_lines::{Mark, write_mark_line};
+use script_lines::{Mark, STEP_ROOM, write_mark_line};
 
 /// Room for the marks of an event and of the lines that are written for it.
-pub const EVENT_ROOM: usize = 2_097_152;
+pub const EVENT_ROOM: usize = STEP_ROOM;
 
 fn put_line(letter: u8, line: &[u8], text: &mut Out)
     requires { length text.old.text + length (line_marked letter line.now) ≤ text.old.room }
@@ -43,7 +44,7 @@ fn put_lines(letter: u8, lines: &[u8], text: &mut Out)
 /// Puts the mark of an event and those of the lines that a call gave for it: `X` before those up,
 /// `U` before those to the engine.
 pub fn put_marks(event: &Event, both: Both, text: &mut Out)
-    requires mark { length (event_marked (event_of event.now)) ≤ 65539 }
+    requires mark { length (event_marked (event_of event.now)) ≤ PEER_LINE + 3 }
     requires marks { HaveRoom both.up.now both.child.now }
     requires room { length text.old.text + EVENT_ROOM ≤ text.old.room }
     ensures { text.new

@@ -16,23 +16,24 @@ ghost use Rattle.engine_revival.specs.Steps.{ordering, reading, at_once, read_at
 ghost use Rattle.engine_revival.specs.Steps.{hearing, beginning, first_order, closing, ending};
 ghost use Rattle.engine_revival.specs.Steps.{settled, settled_orders, answer_of, may_begin, due_of};
 ghost use Rattle.engine_revival.specs.Steps.{due_orders, after_due, after_answer};
+ghost use Rattle.line_io.specs.Lines.{line_feed};
 
-use crate::order_list::{OrderList, order_of};
+use crate::order_list::{LIST_ORDERS, OrderList, order_of};
 use crate::words::{Answer, DialogueState, Due, LifeState, Said, said_in};
 use cecp_lines::is_quit;
-use line_io::{NoMemory, Out};
+use line_io::{NoMemory, Out, PEER_LINE};
 use peer_words::GoKind;
 use std::alloc::Global;
 use uci_lines::Order;
 
 /// How many bytes a line may have.
-pub const MOST_LINE: usize = 65_536;
+pub const MOST_LINE: usize = PEER_LINE;
 
 /// More orders than an idle life gets: two lists of them.
-pub(crate) const DUE_ORDERS: usize = 1_026;
+pub(crate) const DUE_ORDERS: usize = 2 * LIST_ORDERS;
 
 /// How many bytes the orders of a search have at most, with their line feeds.
-pub(crate) const SEARCH_BYTES: usize = 131_089;
+pub(crate) const SEARCH_BYTES: usize = 2 * MOST_LINE + 17;
 
 /// What is kept between two calls.
 #[derive(Drop)]
@@ -147,7 +148,7 @@ fn is_given(said: Said, life: LifeState, upper: DialogueState, got_all: bool) ->
 
 fn put_line(line: &[u8], out: &mut Out)
     requires { length out.old.text + length line.now < out.old.room }
-    ensures { out.new ≡ with out.old (line.now ++ 10 ∷ []) }
+    ensures { out.new ≡ with out.old (line.now ++ line_feed ∷ []) }
 {
     out.put(line);
     out.put(b"\n");

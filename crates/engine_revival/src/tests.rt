@@ -1,6 +1,7 @@
 // Worked sessions: what comes, the lines up, and the lines to the engine.
 ghost use Rattle.std.specs.Prelude.{◌≡◌, ◌≤◌, length, true, false};
 ghost use Rattle.line_io.specs.Event.{has_feed};
+ghost use Rattle.line_io.specs.declared.limits.TheConstants.{PEER_LINE};
 
 use crate::{
     Both, EVENT_ROOM, MOST_LINE, Revival, lines_up_are_waited_for, lives_are_in_order,
@@ -39,7 +40,7 @@ fn expect(rt: &impl Abort, name: &str, k: usize, both: Both, row: Row) {
 }
 
 fn is_line(line: &[u8]) -> bool
-    ensures yes { result ≡ true → length line.now ≤ 65536 }
+    ensures yes { result ≡ true → length line.now ≤ PEER_LINE }
     ensures no_feed { result ≡ true → has_feed line.now ≡ false }
 {
     line.len() <= MOST_LINE && !line.contains(&b'\n')

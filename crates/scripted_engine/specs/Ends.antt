@@ -16,6 +16,8 @@ use Rattle.scripted_engine.specs.Answers.{answer}
 use Rattle.scripted_engine.specs.Script.{first_bad, blocks_of}
 use Rattle.scripted_engine.specs.declared.ending.Ending.{Ending}
 use Rattle.scripted_engine.specs.declared.ending.Ending.TheVariants.{Done, Usage, NoMemory, ReadFailed, WriteFailed, BadScript, TooLarge, Endless}
+use Rattle.scripted_engine.specs.declared.run.TheConstants.{SCRIPT_LIMIT}
+use Rattle.line_io.specs.declared.limits.TheConstants.{PEER_LINE}
 
 -- the exit status
 abbrev pub code_of : Ending → ℕ
@@ -55,18 +57,18 @@ Failed old new = Rose old.faults new.faults
 
 -- the file was read to its end, and is no longer than the limit
 pub record IsRead (file : Supplied) (script : List ℕ) : Type 0 where
-  pub fits : length script ≤ 16777216
+  pub fits : length script ≤ SCRIPT_LIMIT
   pub at_end : IsAtEnd file.left
 
 -- why there is no script
 abbrev pub NoScript : Supplied → Supplied → List ℕ → Ending → Type 0
 NoScript old new script Done = ⊥
 NoScript old new script Usage = ⊥
-NoScript old new script NoMemory = length script ≤ 16777216
-NoScript old new script ReadFailed = (length script ≤ 16777216) × Failed old new
+NoScript old new script NoMemory = length script ≤ SCRIPT_LIMIT
+NoScript old new script ReadFailed = (length script ≤ SCRIPT_LIMIT) × Failed old new
 NoScript old new script WriteFailed = ⊥
 NoScript old new script BadScript = IsRead new script × IsSome (first_bad script)
-NoScript old new script TooLarge = 16777216 < length script
+NoScript old new script TooLarge = SCRIPT_LIMIT < length script
 NoScript old new script Endless = ⊥
 
 -- All lines were answered, up to the first `quit` or to the end: whatever is left behind them, and
@@ -74,22 +76,22 @@ NoScript old new script Endless = ⊥
 pub record AnswersAll (blocks : List Block) (old new : Supplied) (heard told : List ℕ) : Type 0 where
   pub ended : Bool
   pub all : (left : List ℕ) → (ended ≡ true → left ≡ [])
-      → told ≡ replies blocks (items 65536 (heard ++ left))
+      → told ≡ replies blocks (items PEER_LINE (heard ++ left))
   pub at_end : ended ≡ true → IsOver old new
-  pub at_quit : ended ≡ false → has_quit (until_quit (items 65536 heard)) ≡ true
+  pub at_quit : ended ≡ false → has_quit (until_quit (items PEER_LINE heard)) ≡ true
 
 -- what is told is a front of all answers, whatever is left behind them, and nothing is where the end
 -- was seen
 pub record AnswersFront (blocks : List Block) (old new : Supplied) (heard told : List ℕ) : Type 0 where
   pub ended : Bool
   pub front : (left : List ℕ) → (ended ≡ true → left ≡ [])
-      → (more : List ℕ) × (told ++ more ≡ replies blocks (items 65536 (heard ++ left)))
+      → (more : List ℕ) × (told ++ more ≡ replies blocks (items PEER_LINE (heard ++ left)))
   pub at_end : ended ≡ true → IsOver old new
 
 -- the whole lines that came were answered, and none of them begins with `quit`
 pub record AnswersWhole (blocks : List Block) (heard told : List ℕ) : Type 0 where
-  pub all : told ≡ replies blocks (whole 65536 heard)
-  pub no_quit : has_quit (until_quit (whole 65536 heard)) ≡ false
+  pub all : told ≡ replies blocks (whole PEER_LINE heard)
+  pub no_quit : has_quit (until_quit (whole PEER_LINE heard)) ≡ false
 
 -- what the file and the input show, and the output
 pub record Streams : Type 0 where
@@ -121,7 +123,7 @@ HasAnswers blocks output pieces =
 -- Each read came where the answers to all lines that were whole by then were written.
 abbrev pub AnswersInTime : List Block → Received → List ℕ → Type 0
 AnswersInTime blocks output heard =
-    (pieces : List Piece) × InTime 65536 (HasAnswers blocks output) heard pieces
+    (pieces : List Piece) × InTime PEER_LINE (HasAnswers blocks output) heard pieces
 
 -- The input gave some bytes, and the output took some.
 pub record Answered (ending : Ending) (blocks : List Block) (old new : Streams) : Type 0 where
@@ -160,7 +162,7 @@ pub record Session (ending : Ending) (old new : Streams) : Type 0 where
 -- rose.
 pub record GoesWell (script heard : List ℕ) (old new : Streams) : Type 0 where
   pub script_told : old.file.left ≡ Some script
-  pub fits : length script ≤ 16777216
+  pub fits : length script ≤ SCRIPT_LIMIT
   pub good : first_bad script ≡ None
   pub input_told : old.input.left ≡ Some heard
   pub few : length heard < 2 ^ 32
@@ -177,4 +179,4 @@ Completes code old new = (script heard : List ℕ) → GoesWell script heard old
 abbrev pub AnswersInput : ℕ → Streams → Streams → Type 0
 AnswersInput code old new =
     (script heard : List ℕ) → old.file.left ≡ Some script → old.input.left ≡ Some heard → code ≡ 0
-    → Appends old.output.taken new.output.taken (replies (blocks_of script) (items 65536 heard))
+    → Appends old.output.taken new.output.taken (replies (blocks_of script) (items PEER_LINE heard))

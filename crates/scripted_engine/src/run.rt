@@ -8,17 +8,16 @@ ghost use Rattle.scripted_engine.specs.Answers.{Stands};
 ghost use Rattle.scripted_engine.specs.Ends.{streams, IsRead, NoScript, Answered, Session};
 ghost use Rattle.scripted_engine.specs.Ends.{AnswersInput, Completes, code_of};
 ghost use Rattle.scripted_engine.specs.declared.ending.Ending.{Ending};
+ghost use Rattle.line_io.specs.declared.limits.TheConstants.{PEER_LINE};
 
 use crate::answering::ending_of;
 use crate::{Ending, ScriptFault, Scripted};
-use line_io::{Lines, Sink, Source, Status, take_lines};
+use line_io::{Lines, PEER_LINE, Sink, Source, Status, take_lines};
 use std::alloc::Global;
 
 const SCRIPT_LIMIT: usize = 16_777_216;
 
 const CHUNK: usize = 65_536;
-
-const LINE_LIMIT: usize = 65_536;
 
 // The script in the file.
 fn read_script<F: Source>(alloc: Global, file: &mut F) -> Result<Vec<u8>, Ending>
@@ -51,7 +50,7 @@ fn answer_lines<I: Source, O: Sink>(
     input: &mut I,
     output: &mut O,
 ) -> Ending
-    requires { lines.old ≡ unread 65536 }
+    requires { lines.old ≡ unread PEER_LINE }
     ensures { (blocks : List Block) (file file' : Supplied) → Stands scripted.old blocks []
         → Answered result blocks
         (streams file (I.state input.old) (O.state output.old))
@@ -86,7 +85,7 @@ fn run<F: Source, I: Source, O: Sink>(
         (streams (F.state file.old) (I.state input.old) (O.state output.old))
         (streams (F.state file.new) (I.state input.new) (O.state output.new)) }
 {
-    let Ok(mut lines) = Lines::make(alloc, LINE_LIMIT) else {
+    let Ok(mut lines) = Lines::make(alloc, PEER_LINE) else {
         return Ending::NoMemory;
     };
     match open_script(alloc, file) {
