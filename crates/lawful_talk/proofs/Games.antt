@@ -1,5 +1,5 @@
 -- The `position` line of a game leads to where it stands.
-use Rattle.std.proofs.Common.{◌≡◌, ◌⊎◌, inl, inr, ℕ, ◌+◌, ◌-◌, ◌^◌, ◌<◌, not, ltb, length, List, [], ◌∷◌, ◌++◌, map, drop, Bool, true, false, cond, Some, None, Ok, codes, decimal, refl, sym, ap, subst, ◌∙◌, arith, lit<, append_assoc, append-nil}
+use Rattle.std.proofs.Common.{◌≡◌, ◌⊎◌, inl, inr, ℕ, ◌+◌, ◌^◌, ◌<◌, not, ltb, length, List, [], ◌∷◌, ◌++◌, map, drop, Bool, true, false, cond, Some, None, Ok, codes, decimal, refl, sym, ap, subst, ◌∙◌, arith, lit<, append_assoc, append-nil}
 use Rattle.std.specs.List.{join_with_byte, list_all, AllByRecursion}
 use Rattle.std.proofs.lemmas.Bool.Decides.{nat_tests}
 use Rattle.peer_words.specs.Tokens.{is_white, is_token, tokens}
