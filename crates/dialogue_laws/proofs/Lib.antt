@@ -1,3 +1,11 @@
+pub mod Numerals
+pub mod Pieces
+pub mod OptionTexts
+pub mod Boards
+pub mod Games
+pub mod ReplyLines
+pub mod OrderLines
+pub mod OneLine
 pub mod Heard
 pub mod Reached
 pub mod Dialogues

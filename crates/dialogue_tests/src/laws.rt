@@ -1,7 +1,7 @@
 // The laws of lawful traces.
 use dialogue_laws::{
     cores_within_limits, engine_on_wire, last_settings_stand, order_places, pings_get_pongs,
-    searches_end_once, searches_serve, traces_are_dialogues, traces_exist,
+    searches_end_once, searches_serve, traces_are_dialogues, traces_exist, written_texts_are_lines,
 };
 use policy_rules::Settings;
 use std::test::Fail;
@@ -18,5 +18,6 @@ fn laws_can_be_called(_rt: HostRuntime) -> Result<(), Fail> {
     order_places(settings);
     last_settings_stand(settings);
     pings_get_pongs(settings);
+    written_texts_are_lines(settings);
     Ok(())
 }

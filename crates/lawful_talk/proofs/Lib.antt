@@ -2,7 +2,6 @@ pub mod Runs
 pub mod Texts
 pub mod Writes
 pub mod Hears
-pub mod Boards
 pub mod Games
 pub mod Steps
 pub mod Settles

@@ -5,17 +5,15 @@ use Rattle.line_io.specs.Event as events
 use Rattle.script_lines.specs.Marks.{Mark}
 use Rattle.uci_lines.specs.Orders.{Order}
 use Rattle.chess_board.specs.Position.{Position as Place}
-use Rattle.chess_board.specs.Play.{start_position}
-use Rattle.chess_board.proofs.Start.{start-is}
 use Rattle.policy_rules.specs.declared.settings.Settings.{Settings}
 use Rattle.search_epochs.specs.Tickets as talks
 use Rattle.search_epochs.specs.Tickets.{Engine, Ticketed, heard, sent_all}
 use Rattle.desk_rules.specs.Orders.{word_of}
 use Rattle.adapter_core.specs.declared.ends.Ends.{Ends}
 use Rattle.adapter_core.specs.Ends.{is_open, ends_after}
-use Rattle.adapter_core.specs.Trace.{State, Step, Lawful, state, state_after, situation, effect, mid, closed_after}
+use Rattle.adapter_core.specs.Trace.{State, Step, Lawful, state, state_after, mid, closed_after}
 use Rattle.adapter_core.proofs.Closing.{opened_later, closed_stays}
-use Rattle.adapter_core.proofs.Traces.{lasts, fits}
+use Rattle.adapter_core.proofs.Traces.{lasts}
 use Rattle.dialogue_laws.specs.Wire.{said_by}
 use Rattle.dialogue_laws.proofs.Heard as hearing
 use Rattle.dialogue_laws.proofs.Places.{opening_may}
@@ -26,7 +24,7 @@ use Rattle.session_judge.specs.Talks.{opening}
 use Rattle.lawful_talk.specs.Logs.{step_marks, marks_of, LogsAreClean}
 use Rattle.lawful_talk.proofs.Runs.{Runs, more_runs, both_run, clean_runs}
 use Rattle.lawful_talk.proofs.Writes.{shown, Agrees}
-use Rattle.lawful_talk.proofs.Games.{IsGame, begun_is, effect_is}
+use Rattle.dialogue_laws.proofs.Games.{game_is}
 use Rattle.lawful_talk.proofs.Steps.{SearchesAt, open_parts, opening_parts, closing_parts, closed_parts}
 use Rattle.lawful_talk.proofs.Settles.{settles}
 
@@ -38,14 +36,6 @@ record Matches (s : State) (t : Talk) : Type 0 where
 differ : (b : Bool) → b ≡ true → b ≡ false → ⊥
 differ true p q = cc
 differ false p q = cc
-
--- THE GAME
-
-game_is : (o : Settings) (trace : List Step) → Lawful o trace → IsGame (state o trace).desk.game
-game_is o [] l = begun_is start_position start-is
-game_is o (step ∷ trace) l =
-    let s = state o trace in
-    effect_is (situation s) s.held (effect s step.event) (fits s step (lasts o trace l.0) l.1) (game_is o trace l.0)
 
 -- THE OPENING
 
@@ -137,6 +127,10 @@ matches o [] l = record { begins = λ n. (refl, refl); goes_on = λ y n. absurd 
 matches o (step ∷ trace) l =
     both_run opening (marks_of trace) (step_marks step) (Matches (state o (step ∷ trace)))
     (more_runs opening (marks_of trace) (Matches (state o trace)) _ (matches o trace l.0) (step_matches o step trace l))
+
+-- whatever the numbers of their lines
+pub trace_runs : (o : Settings) (trace : List Step) → Lawful o trace → Runs opening (marks_of trace) (λ t. Unit {0})
+trace_runs o trace l = more_runs opening (marks_of trace) (Matches (state o trace)) (λ t. Unit {0}) (matches o trace l) (λ t m. tt)
 
 pub logs_are_clean : (o : Settings) → LogsAreClean o
 logs_are_clean o trace log l e =

@@ -30,7 +30,7 @@ use Rattle.search_epochs.specs.declared.words.Call.TheVariants as calls
 use Rattle.search_epochs.specs.declared.words.Said.{Said}
 use Rattle.search_epochs.specs.declared.words.Said.TheVariants as said
 use Rattle.search_epochs.specs.Tickets as talks
-use Rattle.search_epochs.specs.Tickets.{Engine, Word, Ticketed, Turn, What, TicketWithin, MaySendAll, heard, said_of, sent, sent_all, spent, has_go, has_hit, is_hint, is_hit, is_move, kind_of, owed, ponders_at, same_kind, same_move}
+use Rattle.search_epochs.specs.Tickets.{Engine, Word, Ticketed, Turn, What, TicketWithin, MaySendAll, heard, said_of, sent, sent_all, spent, has_go, has_hit, is_hint, is_hit, is_move, kind_of, ponders_at, same_kind, same_move}
 use Rattle.desk_rules.specs.declared.desk.Desk.{Desk}
 use Rattle.desk_rules.specs.Desk as desks
 use Rattle.desk_rules.specs.Desk.{Situation, is_boot, is_gone, owes_move, on_move, plies}
@@ -50,7 +50,8 @@ use Rattle.lawful_talk.specs.Logs.{engine_mark}
 use Rattle.lawful_talk.proofs.Runs.{Runs, more_runs}
 use Rattle.lawful_talk.proofs.Texts.{as_order, kind_heard}
 use Rattle.lawful_talk.proofs.Writes.{shown, Agrees, plain_runs, search_runs}
-use Rattle.lawful_talk.proofs.Games.{IsGame, played_is, effect_is, line_leads}
+use Rattle.dialogue_laws.proofs.Games.{IsGame, played_is, effect_is}
+use Rattle.lawful_talk.proofs.Games.{line_leads}
 use Rattle.lawful_talk.proofs.Steps.{SearchesAt}
 
 -- WHAT STAYS

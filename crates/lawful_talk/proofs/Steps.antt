@@ -17,7 +17,7 @@ use Rattle.uci_lines.specs.Orders as orders
 use Rattle.game_record.specs.Game.{now_of}
 use Rattle.policy_rules.specs.declared.settings.Settings.{Settings}
 use Rattle.search_epochs.specs.Tickets as talks
-use Rattle.search_epochs.specs.Tickets.{Engine, Ticketed, heard, said_of, sent_all, is_move}
+use Rattle.search_epochs.specs.Tickets.{Engine, Ticketed, heard, sent_all, is_move}
 use Rattle.search_epochs.specs.Dialogue.{forget}
 use Rattle.desk_rules.specs.Desk.{Situation, is_gone}
 use Rattle.desk_rules.specs.Steps.{Effect, Shows, classify, searched_by}

@@ -1,8 +1,8 @@
 -- What the texts of orders and of replies are to a judge.
-use Rattle.std.proofs.Common.{◌≡◌, ℕ, zero, suc, ◌/◌, ◌%◌, ◌<◌, List, [], ◌∷◌, ◌++◌, length, Bool, true, false, not, ◌||◌, cond, ◌==◌, ltb, Option, Some, None, decimal, codes, refl, sym, ap, ◌∙◌, arith, append_assoc, append-nil}
+use Rattle.std.proofs.Common.{◌≡◌, ℕ, List, [], ◌∷◌, ◌++◌, length, Bool, true, false, not, ◌||◌, cond, ◌==◌, ltb, Option, Some, None, decimal, codes, refl, sym, ap, ◌∙◌, arith, append_assoc, append-nil}
 use Rattle.std.specs.List.{list_all}
 use Rattle.std.specs.Char.{is_ascii_digit}
-use Rattle.std.specs.Fmt.{digits, digits_onto, digit_glyph, signed_decimal}
+use Rattle.std.specs.Fmt.{signed_decimal}
 use Rattle.std.proofs.lemmas.Bool.Decides.{nat_tests}
 use Rattle.peer_words.specs.declared.kinds.GoKind.TheVariants as kinds
 use Rattle.peer_words.specs.Tokens.{is_white, is_token, tokens}
@@ -16,7 +16,7 @@ use Rattle.uci_lines.specs.declared.orders.GoControl.{GoControl}
 use Rattle.uci_lines.specs.declared.orders.GoControl.TheVariants.{Infinite, MoveTime, Clock}
 use Rattle.uci_lines.specs.Behind.{after}
 use Rattle.uci_lines.specs.Cuts.{is_word}
-use Rattle.uci_lines.specs.Orders.{Order, order_text, position_text, go_text, ponder_text, control_text, optional_number}
+use Rattle.uci_lines.specs.Orders.{Order, order_text, position_text, go_text, control_text, optional_number}
 use Rattle.uci_lines.specs.Orders as orders
 use Rattle.uci_lines.proofs.Counts.{same_text}
 use Rattle.uci_talk.specs.Kinds.{has_word, kind_asked}
@@ -26,6 +26,7 @@ use Rattle.session_judge.specs.declared.deed.Order.{Order as Heard}
 use Rattle.session_judge.specs.declared.deed.Order.TheVariants as hears
 use Rattle.session_judge.specs.declared.deed.Deed.TheVariants as deeds
 use Rattle.session_judge.specs.Deeds.{deed_of, end_of, shown_by, told_move}
+use Rattle.dialogue_laws.proofs.Numerals.{AreDigits, numeral}
 use Rattle.lawful_talk.specs.Logs.{iface_mark, engine_mark}
 
 -- ORDERS
@@ -68,47 +69,6 @@ order_deed (orders.Go ponder control depth) = go_deed ponder control depth
 
 -- NUMBERS
 
-glyph : (d : ℕ) → d < 10 → is_ascii_digit (digit_glyph false d) ≡ true
-glyph d h = let t : ltb d 10 ≡ true = grind (arith, nat_tests) in rw t (grind (arith, nat_tests))
-
-low : (n : ℕ) → n % 10 < 10
-low n = omega arith
-
-onto_by : (b : Bool) (xs ys : List ℕ) → list_all is_ascii_digit xs ≡ true → list_all is_ascii_digit ys ≡ true → list_all is_ascii_digit (cond b xs ys) ≡ true
-onto_by true xs ys h k = h
-onto_by false xs ys h k = k
-
-onto_digits : (k n : ℕ) (acc : List ℕ) → list_all is_ascii_digit acc ≡ true → list_all is_ascii_digit (digits_onto k 10 false n acc) ≡ true
-onto_digits zero n acc h = h
-onto_digits (suc k) n acc h =
-    let more : list_all is_ascii_digit (digit_glyph false (n % 10) ∷ acc) ≡ true = rw (glyph (n % 10) (low n), h) refl in
-    onto_by (n / 10 == 0) (digit_glyph false (n % 10) ∷ acc) (digits_onto k 10 false (n / 10) (digit_glyph false (n % 10) ∷ acc)) more (onto_digits k (n / 10) (digit_glyph false (n % 10) ∷ acc) more)
-
-longer_by : (b : Bool) (m : ℕ) (xs ys : List ℕ) → m < length xs → m < length ys → m < length (cond b xs ys)
-longer_by true m xs ys h k = h
-longer_by false m xs ys h k = k
-
-onto_long : (k n : ℕ) (acc : List ℕ) → 0 < length acc → 0 < length (digits_onto k 10 false n acc)
-onto_long zero n acc h = h
-onto_long (suc k) n acc h =
-    let more : 0 < length (digit_glyph false (n % 10) ∷ acc) = omega arith in
-    longer_by (n / 10 == 0) 0 (digit_glyph false (n % 10) ∷ acc) (digits_onto k 10 false (n / 10) (digit_glyph false (n % 10) ∷ acc)) more (onto_long k (n / 10) (digit_glyph false (n % 10) ∷ acc) more)
-
-some_onto : (k n : ℕ) → 0 < k → 0 < length (digits_onto k 10 false n [])
-some_onto zero n h = absurd (omega (arith, h))
-some_onto (suc k) n h =
-    let more : 0 < length (digit_glyph false (n % 10) ∷ []) = omega arith in
-    longer_by (n / 10 == 0) 0 (digit_glyph false (n % 10) ∷ []) (digits_onto k 10 false (n / 10) (digit_glyph false (n % 10) ∷ [])) more (onto_long k (n / 10) (digit_glyph false (n % 10) ∷ []) more)
-
--- digits, and not none
-record AreDigits (ds : List ℕ) : Type 0 where
-  some : 0 < length ds
-  all : list_all is_ascii_digit ds ≡ true
-
-number : (n : ℕ) → AreDigits (decimal n)
-unfolding digits
-number n = record { some = some_onto 64 n (omega arith); all = onto_digits 64 n [] refl }
-
 digit_black : (c : ℕ) → is_ascii_digit c ≡ true → not (is_white c) ≡ true
 digit_black c h = grind (arith, nat_tests)
 
@@ -143,7 +103,7 @@ number_first ds (b ∷ bs) a w = tokens_more ds bs b (number_token ds a) w ∙ a
 -- a number is neither word
 number_quiet : (word : List ℕ) (n : ℕ) (more : List ℕ) → list_all is_ascii_digit word ≡ false → BeginsWhite more → has_word word (tokens (decimal n ++ more)) ≡ has_word word (tokens more)
 number_quiet word n more d w =
-    let a = number n in
+    let a = numeral n in
     ap (has_word word) (number_first (decimal n) more a w) ∙ ap (λ b. b || has_word word (tokens more)) (no_digits word (decimal n) (is_word word (decimal n)) a d refl)
 
 depth_white : (depth : Option ℕ) → BeginsWhite (optional_number (codes " depth ") depth)
@@ -236,7 +196,7 @@ digits_other [] more a = absurd (let s = a.some in omega arith)
 digits_other (c ∷ cs) more a = rw (digit_other c (and_true (is_ascii_digit c) (list_all is_ascii_digit cs) a.all).0) refl
 
 thinking_quiet : (depth : ℕ) (text others : List ℕ) → text ≡ decimal depth ++ (32 ∷ others) → told_move text ≡ deeds.Nothing
-thinking_quiet depth text others e = ap told_move e ∙ digits_other (decimal depth) (32 ∷ others) (number depth)
+thinking_quiet depth text others e = ap told_move e ∙ digits_other (decimal depth) (32 ∷ others) (numeral depth)
 
 pub reply_deed : (r : Reply) → shows_none r ≡ true → deed_of (iface_mark r) ≡ deeds.Nothing
 reply_deed (told.Feature name value) h = refl

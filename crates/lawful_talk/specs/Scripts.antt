@@ -1,13 +1,10 @@
 -- The scripts of lawful traces, as logs.
-use Rattle.std.specs.Prelude.{◌≡◌, ℕ, List, [], ◌∷◌, ◌++◌, true}
-use Rattle.std.specs.List.{AllByRecursion}
+use Rattle.std.specs.Prelude.{◌≡◌, ℕ, List, [], ◌∷◌, ◌++◌}
 use Rattle.std.specs.Option.{option_to_list}
 use Rattle.line_io.specs.Lines.{parts}
-use Rattle.cecp_lines.specs.Replies.{Reply, reply_text}
-use Rattle.uci_lines.specs.Orders.{Order, order_text}
 use Rattle.policy_rules.specs.declared.settings.Settings.{Settings}
 use Rattle.policy_rules.specs.Policy.{IsProper}
-use Rattle.script_lines.specs.Marks.{Mark, is_written, mark_of}
+use Rattle.script_lines.specs.Marks.{Mark, mark_of}
 use Rattle.adapter_core.specs.Trace.{Step, Lawful}
 use Rattle.session_script.specs.Script.{script1, script2}
 use Rattle.session_judge.specs.Clean.{Entry, IsClean}
@@ -22,18 +19,10 @@ marks_told (line ∷ lines) = option_to_list (mark_of line) ++ marks_told lines
 abbrev pub IsLogOf : List ℕ → List Entry → Type 0
 IsLogOf text log = marks_in log ≡ marks_told (parts text)
 
--- each line that was written can have a mark: it has no line feed, and at most 131,070 bytes
-pub record CanBeMarked (step : Step) : Type 0 where
-  pub replies : AllByRecursion (λ (reply : Reply). is_written (reply_text reply) ≡ true) step.replies
-  pub orders : AllByRecursion (λ (order : Order). is_written (order_text order) ≡ true) step.orders
-
-abbrev pub AllCanBeMarked : List Step → Type 0
-AllCanBeMarked trace = AllByRecursion CanBeMarked trace
-
--- If the lines of a lawful trace can have marks, no mark of its script breaks a rule, in version 1 and in version 2.
+-- No mark of the script of a lawful trace breaks a rule, in version 1 and in version 2.
 abbrev pub Scripts1AreClean : Settings → Type 0
-Scripts1AreClean o = (trace : List Step) (log : List Entry) → Lawful o trace → AllCanBeMarked trace → IsLogOf (script1 trace) log → IsClean log
+Scripts1AreClean o = (trace : List Step) (log : List Entry) → Lawful o trace → IsLogOf (script1 trace) log → IsClean log
 
 abbrev pub Scripts2AreClean : Settings → Type 0
 Scripts2AreClean o =
-    (trace : List Step) (log : List Entry) → IsProper o → Lawful o trace → AllCanBeMarked trace → IsLogOf (script2 o trace) log → IsClean log
+    (trace : List Step) (log : List Entry) → IsProper o → Lawful o trace → IsLogOf (script2 o trace) log → IsClean log

@@ -15,8 +15,7 @@ pub fn logs_are_clean(settings: Settings)
     let _ = settings;
 }
 
-/// A law: no mark of the script of a lawful trace breaks a rule, in version 1 and in version 2, if each line that was
-/// written can stand on a line of a script.
+/// A law: no mark of the script of a lawful trace breaks a rule, in version 1 and in version 2.
 pub fn scripts_are_clean(settings: Settings)
     ensures version_1 { Scripts1AreClean settings }
     ensures version_2 { Scripts2AreClean settings }

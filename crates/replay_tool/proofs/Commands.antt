@@ -7,6 +7,7 @@ use Rattle.replay_tool.specs.Commands as asked
 use Rattle.replay_tool.specs.Does.{Does}
 use Rattle.replay_tool.specs.Drilled.{Drilled}
 use Rattle.replay_tool.specs.Listed.{Listed}
+use Rattle.replay_tool.specs.OwnScripts.{JudgesOwnTalk, MigratesOwnScripts}
 use Rattle.command_endings.specs.Ran.{Refused}
 use Rattle.replay_tool.specs.Replayed.{Replayed}
 use Rattle.command_endings.specs.Streams.{Streams}
@@ -19,6 +20,8 @@ use Rattle.replay_tool.proofs.Answers as ran
 use Rattle.replay_tool.proofs.Verdicts as checks
 use Rattle.replay_tool.proofs.Listing as listing
 use Rattle.replay_tool.proofs.Drilling as drilling
+use Rattle.replay_tool.proofs.OwnTalk.{judges_own_talk}
+use Rattle.replay_tool.proofs.OwnMigrations.{migrates_own}
 use Rattle.command_endings.proofs.Telling as told
 
 module _ (unread kept silent : Type 0) (start now : Streams) (code : ℕ) where
@@ -44,8 +47,14 @@ module _ (unread kept silent : Type 0) (start now : Streams) (code : ℕ) where
   pub migrated : (command : Option Asked) → D command → (o : Settings) → command ≡ Some (asked.Migrate o) → Migrated o unread kept start now code
   migrated command d o e = subst D e d
 
+  pub migrated_own : (command : Option Asked) → D command → (o : Settings) → command ≡ Some (asked.Migrate o) → MigratesOwnScripts o start now code
+  migrated_own command d o e = migrates_own o start now code (migrated command d o e).scripts
+
   pub judged : (command : Option Asked) → D command → command ≡ Some asked.Judge → Judged (unread × kept) start now code
   judged command d e = subst D e d
+
+  pub judged_own : (command : Option Asked) → D command → command ≡ Some asked.Judge → JudgesOwnTalk start now code
+  judged_own command d e = judges_own_talk (unread × kept) start now code (judged command d e)
 
   pub revived : (command : Option Asked) → D command → (lives : ℕ) → command ≡ Some (asked.Revive lives) → Revived lives (unread × kept) start now code
   revived command d lives e = subst D e d

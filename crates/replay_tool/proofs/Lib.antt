@@ -17,3 +17,5 @@ mod Ended
 pub mod Drilling
 mod Finishes
 mod HeaderLines
+mod OwnTalk
+mod OwnMigrations

@@ -88,7 +88,7 @@ whole_mark : (m : Mark) → IsSpelled m → piece_of 131072 (mark_text m) ≡ Wh
 whole_mark m s = let z : piece_of 131072 (mark_text m) ∷ [] ≡ Whole (mark_text m) ∷ [] = ap (map (piece_of 131072)) (sym (has_lines (m ∷ []) (s, tt))) ∙ has_short_lines (m ∷ []) (s, tt) in cc
 
 -- a line that has a mark is short
-marked_piece : (line : List ℕ) → is_some (mark_of line) ≡ true → piece_of 131072 line ≡ Whole line
+pub marked_piece : (line : List ℕ) → is_some (mark_of line) ≡ true → piece_of 131072 line ≡ Whole line
 marked_piece line h = by (mark_of line) refl h where
   by : (m : Option Mark) → mark_of line ≡ m → is_some m ≡ true → piece_of 131072 line ≡ Whole line
   by None e h = cc

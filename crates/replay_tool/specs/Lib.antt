@@ -6,6 +6,7 @@ pub mod Drilled
 pub mod Laws
 pub mod Listed
 pub mod Moves
+pub mod OwnScripts
 pub mod Replay
 pub mod Replayed
 pub mod Verdict

@@ -12,6 +12,7 @@ ghost use Rattle.command_endings.specs.Diagnostics.{code_of, tail_of};
 ghost use Rattle.replay_tool.specs.Does.{Does};
 ghost use Rattle.replay_tool.specs.Drilled.{Drilled};
 ghost use Rattle.replay_tool.specs.Listed.{Listed};
+ghost use Rattle.replay_tool.specs.OwnScripts.{JudgesOwnTalk, MigratesOwnScripts};
 ghost use Rattle.replay_tool.specs.Laws.{HaveLaws};
 ghost use Rattle.command_endings.specs.Ran.{Ran, Refused};
 ghost use Rattle.replay_tool.specs.Replay.{EndsAs};
@@ -194,8 +195,17 @@ pub fn replay_main<I: Source, O: Sink, D: Sink>(
         → Migrated settings (input.new ≡ input.old) (output.new ≡ output.old)
         (streams (I.state input.old) (O.state output.old) (D.state diag.old))
         (streams (I.state input.new) (O.state output.new) (D.state diag.new)) result.code }
+    ensures migrate_own { (settings : AnySettings)
+        → command_of (texts words.now) ≡ Some (asked.Migrate settings)
+        → MigratesOwnScripts settings
+        (streams (I.state input.old) (O.state output.old) (D.state diag.old))
+        (streams (I.state input.new) (O.state output.new) (D.state diag.new)) result.code }
     ensures judge { command_of (texts words.now) ≡ Some asked.Judge
         → Judged ((input.new ≡ input.old) × (output.new ≡ output.old))
+        (streams (I.state input.old) (O.state output.old) (D.state diag.old))
+        (streams (I.state input.new) (O.state output.new) (D.state diag.new)) result.code }
+    ensures judge_own { command_of (texts words.now) ≡ Some asked.Judge
+        → JudgesOwnTalk
         (streams (I.state input.old) (O.state output.old) (D.state diag.old))
         (streams (I.state input.new) (O.state output.new) (D.state diag.new)) result.code }
     ensures revive { (lives : ℕ) → command_of (texts words.now) ≡ Some (asked.Revive lives)

@@ -16,8 +16,14 @@ returns-clause-check g c = does.checked _ _ _ _ _ _ _ (does.at_code _ _ _ _ _ _ 
 pub returns-clause-migrate : goal.returns-clause-migrate
 returns-clause-migrate g c = does.migrated _ _ _ _ _ _ _ (does.at_code _ _ _ _ _ _ _ _ c.code.ensures c.run_words.ensures)
 
+pub returns-clause-migrate_own : goal.returns-clause-migrate_own
+returns-clause-migrate_own g c = does.migrated_own _ _ _ _ _ _ _ (does.at_code _ _ _ _ _ _ _ _ c.code.ensures c.run_words.ensures)
+
 pub returns-clause-judge : goal.returns-clause-judge
 returns-clause-judge g c = does.judged _ _ _ _ _ _ _ (does.at_code _ _ _ _ _ _ _ _ c.code.ensures c.run_words.ensures)
+
+pub returns-clause-judge_own : goal.returns-clause-judge_own
+returns-clause-judge_own g c = does.judged_own _ _ _ _ _ _ _ (does.at_code _ _ _ _ _ _ _ _ c.code.ensures c.run_words.ensures)
 
 pub returns-clause-revive : goal.returns-clause-revive
 returns-clause-revive g c = does.revived _ _ _ _ _ _ _ (does.at_code _ _ _ _ _ _ _ _ c.code.ensures c.run_words.ensures)

@@ -1,0 +1,323 @@
+-- Each line to the interface is one line.
+use Rattle.std.proofs.Common.{◌≡◌, ℕ, ◌+◌, ◌≤◌, List, [], ◌∷◌, ◌++◌, length, map, not, Bool, true, false, cond, Option, Some, None, decimal, codes, refl, arith, length-append}
+use Rattle.std.specs.Prelude.{ℤ}
+use Rattle.std.specs.Fmt.{signed_decimal}
+use Rattle.std.specs.List.{AllByRecursion}
+use Rattle.std.specs.Option.{option_to_list}
+use Rattle.chess_board.specs.declared.board.Move.{Move}
+use Rattle.chess_board.specs.declared.board.Side.{Side}
+use Rattle.chess_board.specs.Position.{Position}
+use Rattle.chess_board.specs.Text.{text_of}
+use Rattle.peer_words.specs.Tokens.{trimmed}
+use Rattle.cecp_lines.specs.Messages.{IfaceMsg}
+use Rattle.cecp_lines.specs.Messages as says
+use Rattle.cecp_lines.specs.Replies.{Reply, Feature, reply_text, reason_text, field, hint_text, current_text}
+use Rattle.cecp_lines.specs.Replies as told
+use Rattle.cecp_lines.specs.declared.reply.Reason.{Reason}
+use Rattle.cecp_lines.specs.declared.reply.Reason.TheVariants as reasons
+use Rattle.cecp_lines.specs.declared.reply.UserError.{UserError}
+use Rattle.cecp_lines.specs.declared.reply.UserError.TheVariants as tell
+use Rattle.cecp_lines.specs.declared.reply.Outcome.{Outcome}
+use Rattle.cecp_lines.specs.declared.reply.Outcome.TheVariants as outcomes
+use Rattle.uci_lines.specs.declared.messages.Score.{Score}
+use Rattle.uci_lines.specs.Info.{Info}
+use Rattle.uci_lines.specs.Messages as hears
+use Rattle.game_record.specs.declared.ending.End.{End}
+use Rattle.game_record.specs.Game.{Game, now_of}
+use Rattle.game_record.specs.Ending.{ended_of}
+use Rattle.option_map.specs.Names.{is_hidden}
+use Rattle.option_map.specs.Settings.{Setting, kind_text, text_size}
+use Rattle.option_map.specs.Shown.{takes_memory, takes_cores, takes_tables}
+use Rattle.option_map.specs.Spelled.{AreDeclared}
+use Rattle.option_map.proofs.Values.{no_feed, IsPart, line_part, trimmed_part}
+use Rattle.think_text.specs.Line.{legal_run, line_with, moves_text, thinking_line, value_of}
+use Rattle.think_text.proofs.Short.{lines_short}
+use Rattle.feature_talk.specs.declared.talk.Say.{Say}
+use Rattle.feature_talk.specs.declared.talk.Say.TheVariants as say
+use Rattle.feature_talk.specs.Due.{answer}
+use Rattle.feature_talk.specs.Features.{shown_name, is_unfit, in_quotes, bit, fixed, tables, by_options, option_feature, shown_options, feature_list, reply_line, reply_lines}
+use Rattle.desk_rules.specs.declared.effect.Refusal.{Refusal}
+use Rattle.desk_rules.specs.declared.effect.Refusal.TheVariants as refusals
+use Rattle.desk_rules.specs.declared.desk.Desk.{Desk}
+use Rattle.desk_rules.specs.Desk.{Situation, is_boot, on_move, played, plays}
+use Rattle.desk_rules.specs.Lines.{change}
+use Rattle.desk_rules.specs.Steps.{Effect, Nothing, Opens, LongLine, Refuses, Accepts, Names, Declares, Boots, Readies, Thinks, Shows, Forfeits, Answers, Dies, searched_by, resigns_after, resigns_at_end, desk_after_effect}
+use Rattle.desk_rules.specs.Replies.{refused, outcome_of, result_by, result_of, protover_row, offer_where, hint_row, row_accepted, list_where, resign_where, row, is_told, named_hint, replies_of}
+use Rattle.desk_rules.specs.Fits.{Fits, IsSaid}
+use Rattle.desk_rules.proofs.Rooms.{line_le, list_le}
+use Rattle.dialogue_laws.proofs.Pieces.{both_bare, joined, wide, number_part, signed_part, move_part, all_both, all_where}
+use Rattle.dialogue_laws.proofs.OptionTexts.{declared_bare}
+
+-- the text of the reply is one line
+abbrev pub IsTold : Reply → Type 0
+IsTold reply = IsPart 131070 (reply_text reply)
+
+abbrev pub AreTold : List Reply → Type 0
+AreTold replies = AllByRecursion IsTold replies
+
+-- words and a text
+worded : {n : ℕ} (words text : List ℕ) → no_feed words ≡ true → length words ≤ 50 → IsPart n text → n + 50 ≤ 131070 → IsPart 131070 (words ++ text)
+worded {n} words text w s p l = wide 131070 (words ++ text) (joined words text (record { line = w; short = s }) p) (omega (arith, l))
+
+-- REFUSALS
+
+reason_part : (r : Reason) → IsPart 20 (reason_text r)
+reason_part reasons.UnknownCommand = record { line = refl; short = omega arith }
+reason_part reasons.BadArgument = record { line = refl; short = omega arith }
+reason_part reasons.EngineEnded = record { line = refl; short = omega arith }
+reason_part reasons.NotAnalyzing = record { line = refl; short = omega arith }
+reason_part reasons.NoMoveToUndo = record { line = refl; short = omega arith }
+reason_part reasons.UnknownOption = record { line = refl; short = omega arith }
+reason_part reasons.BadValue = record { line = refl; short = omega arith }
+reason_part reasons.TooManySettings = record { line = refl; short = omega arith }
+reason_part reasons.TooManyPings = record { line = refl; short = omega arith }
+reason_part reasons.LineTooLong = record { line = refl; short = omega arith }
+
+error_told : (r : Reason) (line : List ℕ) → IsPart 65536 line → IsTold (told.Error r line)
+error_told r line p =
+    let one : IsPart 27 (codes "Error (" ++ reason_text r) = joined {m = 7} {n = 20} (codes "Error (") (reason_text r) (record { line = refl; short = omega arith }) (reason_part r) in
+    let two : IsPart 30 (codes "Error (" ++ reason_text r ++ codes "): ") = joined {m = 27} {n = 3} (codes "Error (" ++ reason_text r) (codes "): ") one (record { line = refl; short = omega arith }) in
+    wide 131070 (reply_text (told.Error r line)) (joined {m = 30} {n = 65536} (codes "Error (" ++ reason_text r ++ codes "): ") line two p) (omega arith)
+
+tell_told : (t : UserError) → IsTold (told.TellError t)
+tell_told tell.Position = record { line = refl; short = omega arith }
+tell_told tell.Move = record { line = refl; short = omega arith }
+tell_told tell.Ended = record { line = refl; short = omega arith }
+
+refused_told : (r : Refusal) (line : List ℕ) → IsPart 65536 line → IsTold (refused r line)
+refused_told (refusals.Because reason) line p = error_told reason (trimmed line) (trimmed_part line p)
+refused_told (refusals.IllegalMove m) line p = worded (codes "Illegal move: ") (text_of m) refl (omega arith) (move_part m) (omega arith)
+refused_told (refusals.GameTooLong m) line p = worded (codes "Illegal move (game too long): ") (text_of m) refl (omega arith) (move_part m) (omega arith)
+refused_told refusals.IllegalPosition line p = tell_told tell.Position
+
+-- FEATURES
+
+-- replies whose texts have no line feed
+AreBare : List Reply → Type 0
+AreBare rs = AllByRecursion (λ (r : Reply). no_feed (reply_text r) ≡ true) rs
+
+named_bare : (name text : List ℕ) → no_feed name ≡ true → no_feed text ≡ true → no_feed (reply_text (Feature name (in_quotes text))) ≡ true
+named_bare name text n t =
+    let one = both_bare (codes "feature ") name refl n in
+    let two = both_bare (codes "feature " ++ name) (codes "=") one refl in
+    let quoted = both_bare (34 ∷ []) (text ++ 34 ∷ []) refl (both_bare text (34 ∷ []) t refl) in
+    both_bare (codes "feature " ++ name ++ codes "=") (in_quotes text) two quoted
+
+fixed_bare : AreBare fixed
+unfolding AreBare
+fixed_bare = (refl, (refl, (refl, (refl, (refl, (refl, (refl, (refl, (refl, (refl, (refl, (refl, (refl, tt)))))))))))))
+
+memory_bare : (b : Bool) → no_feed (reply_text (Feature (codes "memory") (bit b))) ≡ true
+memory_bare true = refl
+memory_bare false = refl
+
+cores_bare : (b : Bool) → no_feed (reply_text (Feature (codes "smp") (bit b))) ≡ true
+cores_bare true = refl
+cores_bare false = refl
+
+tables_bare : (b : Bool) → AreBare (tables b)
+unfolding AreBare
+tables_bare true = (refl, tt)
+tables_bare false = tt
+
+shown_bare : (w : Bool) (o : Setting) (os : List Setting) → no_feed (o.name ++ kind_text o.kind) ≡ true → AreBare (map option_feature os) → AreBare (map option_feature (cond w (o ∷ os) os))
+unfolding AreBare
+shown_bare true o os h k = (named_bare (codes "option") (o.name ++ kind_text o.kind) refl h, k)
+shown_bare false o os h k = k
+
+options_bare : (os : List Setting) → AreDeclared os → AreBare (map option_feature (shown_options os))
+unfolding AreBare
+options_bare [] d = tt
+options_bare (o ∷ os) d = shown_bare (not (is_hidden o.name)) o (shown_options os) (declared_bare o d.0) (options_bare os d.1)
+
+list_bare : (os : List Setting) (said : List ℕ) → AreDeclared os → no_feed (shown_name said) ≡ true → AreBare (feature_list os said)
+unfolding AreBare
+list_bare os said d n =
+    let P = λ (r : Reply). no_feed (reply_text r) ≡ true in
+    let last : AreBare (Feature (codes "done") (codes "1") ∷ []) = (refl, tt) in
+    let options : AreBare (by_options os) = (memory_bare (takes_memory os), (cores_bare (takes_cores os), tables_bare (takes_tables os))) in
+    let front = all_both P fixed (by_options os) fixed_bare options in
+    let most = all_both P (fixed ++ by_options os) (map option_feature (shown_options os)) front (options_bare os d) in (
+      named_bare (codes "myname") (shown_name said) refl n,
+      all_both P (fixed ++ by_options os ++ map option_feature (shown_options os)) (Feature (codes "done") (codes "1") ∷ []) most last,
+    )
+
+-- no reply is longer than all of them
+lines_told : (n : ℕ) (rs : List Reply) → AreBare rs → length (reply_lines rs) ≤ n → n ≤ 131070 → AreTold rs
+unfolding AreBare
+lines_told n [] b l m = tt
+lines_told n (r ∷ rs) b l m =
+    let whole : length (reply_text r) + length (reply_lines rs) ≤ n = omega (arith, l, length-append (reply_line r) (reply_lines rs), length-append (reply_text r) (10 ∷ [])) in
+    (record { line = b.0; short = omega (arith, whole, m) }, lines_told n rs b.1 (omega (arith, whole)) m)
+
+-- what the lines to the interface say of the desk
+pub record HasTexts (d : Desk) : Type 0 where
+  pub options : AreDeclared d.options
+  pub size : text_size d.options ≤ 65536
+  pub count : length d.options ≤ 256
+  pub name : no_feed d.name ≡ true
+
+-- the name that is shown
+shown_name_bare : (said : List ℕ) → no_feed said ≡ true → no_feed (shown_name said) ≡ true
+shown_name_bare said h = by (is_unfit said) where
+  by : (b : Bool) → no_feed (cond b (codes "UCI engine") said) ≡ true
+  by true = refl
+  by false = h
+
+features_told : (os : List Setting) (said : List ℕ) → AreDeclared os → text_size os ≤ 65536 → length os ≤ 256 → no_feed said ≡ true → AreTold (feature_list os said)
+features_told os said d s c n = lines_told 67000 (feature_list os said) (list_bare os said d (shown_name_bare said n)) (list_le os said s c) (omega arith)
+
+table_told : (b : Bool) (os : List Setting) (said : List ℕ) → AreDeclared os → text_size os ≤ 65536 → length os ≤ 256 → no_feed said ≡ true → AreTold (feature_list (cond b os []) said)
+table_told true os said d s c n = features_told os said d s c n
+table_told false os said d s c n = features_told [] said tt (omega arith) (omega arith) n
+
+list_told : (b : Bool) (d : Desk) → HasTexts d → AreTold (list_where b d)
+list_told true d t = table_told d.booted d.options d.name t.options t.size t.count t.name
+list_told false d t = tt
+
+wait_told : (s : Say) (d : Desk) → HasTexts d → AreTold (protover_row s d)
+wait_told say.Wait d t = (record { line = refl; short = omega arith }, tt)
+wait_told say.List d t = list_told true d t
+
+-- GAMES
+
+result_told : (o : Outcome) → IsTold (told.Result o)
+result_told outcomes.WhiteMates = record { line = refl; short = omega arith }
+result_told outcomes.BlackMates = record { line = refl; short = omega arith }
+result_told outcomes.Stalemate = record { line = refl; short = omega arith }
+result_told outcomes.Dead = record { line = refl; short = omega arith }
+result_told outcomes.Repetition = record { line = refl; short = omega arith }
+result_told outcomes.Fifty = record { line = refl; short = omega arith }
+
+ending_told : (side : Side) (end : Option End) → AreTold (result_by side end)
+ending_told side None = tt
+ending_told side (Some end) = (result_told (outcome_of side end), tt)
+
+ended_told : (b : Bool) (g : Game) → AreTold (cond b (result_of g) [])
+ended_told true g = ending_told (on_move g) (ended_of g)
+ended_told false g = tt
+
+resign_told : (b : Bool) → AreTold (resign_where b)
+resign_told true = (record { line = refl; short = omega arith }, tt)
+resign_told false = tt
+
+offer_told : (b : Bool) → AreTold (offer_where b)
+offer_told true = (record { line = refl; short = omega arith }, tt)
+offer_told false = tt
+
+hint_told : (hint : Option Move) → AreTold (hint_row hint)
+hint_told None = tt
+hint_told (Some m) = (worded (codes "Hint: ") (text_of m) refl (omega arith) (move_part m) (omega arith), tt)
+
+-- NUMBERS
+
+field_part : {n : ℕ} (number : List ℕ) → IsPart n number → IsPart (n + 1) (field number)
+field_part {n} number p = joined {m = n} {n = 1} number (32 ∷ []) p (record { line = refl; short = omega arith })
+
+current_part : (m : Option Move) → IsPart 6 (current_text m)
+current_part None = record { line = refl; short = omega arith }
+current_part (Some m) = joined {m = 1} {n = 5} (32 ∷ []) (text_of m) (record { line = refl; short = omega arith }) (move_part m)
+
+stat_told : (time nodes depth left all : ℕ) (current : Option Move) → IsTold (told.Stat01 time nodes depth left all current)
+stat_told time nodes depth left all current =
+    let a : IsPart 73 (codes "stat01: " ++ field (decimal time)) = joined {m = 8} {n = 65} (codes "stat01: ") (field (decimal time)) (record { line = refl; short = omega arith }) (field_part (decimal time) (number_part time)) in
+    let b : IsPart 138 (codes "stat01: " ++ field (decimal time) ++ field (decimal nodes)) =
+    joined {m = 73} {n = 65} (codes "stat01: " ++ field (decimal time)) (field (decimal nodes)) a (field_part (decimal nodes) (number_part nodes)) in
+    let c : IsPart 203 (codes "stat01: " ++ field (decimal time) ++ field (decimal nodes) ++ field (decimal depth)) =
+    joined {m = 138} {n = 65} (codes "stat01: " ++ field (decimal time) ++ field (decimal nodes)) (field (decimal depth)) b (field_part (decimal depth) (number_part depth)) in
+    let d : IsPart 268 (codes "stat01: " ++ field (decimal time) ++ field (decimal nodes) ++ field (decimal depth) ++ field (decimal left)) =
+    joined {m = 203} {n = 65} (codes "stat01: " ++ field (decimal time) ++ field (decimal nodes) ++ field (decimal depth)) (field (decimal left)) c (field_part (decimal left) (number_part left)) in
+    let e : IsPart 332 (codes "stat01: " ++ field (decimal time) ++ field (decimal nodes) ++ field (decimal depth) ++ field (decimal left) ++ decimal all) =
+    joined {m = 268} {n = 64} (codes "stat01: " ++ field (decimal time) ++ field (decimal nodes) ++ field (decimal depth) ++ field (decimal left)) (decimal all) d (number_part all) in
+    wide 131070 (reply_text (told.Stat01 time nodes depth left all current))
+    (joined {m = 332} {n = 6} (codes "stat01: " ++ field (decimal time) ++ field (decimal nodes) ++ field (decimal depth) ++ field (decimal left) ++ decimal all) (current_text current) e (current_part current)) (omega arith)
+
+pongs_told : (ns : List ℕ) → AreTold (map told.Pong ns)
+pongs_told [] = tt
+pongs_told (n ∷ ns) = (worded (codes "pong ") (decimal n) refl (omega arith) (number_part n) (omega arith), pongs_told ns)
+
+-- THINKING LINES
+
+hint_bare : (hint : Option Move) → no_feed (hint_text hint) ≡ true
+hint_bare None = refl
+hint_bare (Some m) = both_bare (40 ∷ []) (text_of m ++ 41 ∷ 32 ∷ []) refl (both_bare (text_of m) (41 ∷ 32 ∷ []) (move_part m).line refl)
+
+run_bare : (m : Move) (moves : List Move) → no_feed (moves_text (m ∷ moves)) ≡ true
+run_bare m [] = (move_part m).line
+run_bare m (n ∷ moves) =
+    both_bare (text_of m) (32 ∷ moves_text (n ∷ moves)) (move_part m).line (both_bare (32 ∷ []) (moves_text (n ∷ moves)) refl (run_bare n moves))
+
+number_bare : (n : ℕ) → no_feed (field (decimal n)) ≡ true
+number_bare n = (field_part (decimal n) (number_part n)).line
+
+thinking_bare : (depth : ℕ) (score : ℤ) (time nodes : ℕ) (hint : Option Move) (pv : List ℕ) → no_feed pv ≡ true → no_feed (reply_text (told.Thinking depth score time nodes hint pv)) ≡ true
+thinking_bare depth score time nodes hint pv h =
+    let a = field (decimal depth) ++ field (signed_decimal score) in
+    let one : no_feed a ≡ true = both_bare (field (decimal depth)) (field (signed_decimal score)) (number_bare depth) (field_part (signed_decimal score) (signed_part score)).line in
+    let two = both_bare a (field (decimal time)) one (number_bare time) in
+    let three = both_bare (a ++ field (decimal time)) (field (decimal nodes)) two (number_bare nodes) in
+    let four = both_bare (a ++ field (decimal time) ++ field (decimal nodes)) (hint_text hint) three (hint_bare hint) in
+    both_bare (a ++ field (decimal time) ++ field (decimal nodes) ++ hint_text hint) pv four h
+
+-- a thinking line, if there is one
+abbrev IsBareIn : Option Reply → Type 0
+IsBareIn None = Unit {0}
+IsBareIn (Some reply) = no_feed (reply_text reply) ≡ true
+
+line_bare : (depth : Option ℕ) (score : Option Score) (moves : List Move) (facts : Info) (hint : Option Move) → IsBareIn (line_with depth score moves facts hint)
+line_bare (Some depth) (Some score) (m ∷ moves) facts hint = thinking_bare depth (value_of score) _ _ hint (moves_text (m ∷ moves)) (run_bare m moves)
+line_bare (Some depth) (Some score) [] facts hint = tt
+line_bare (Some depth) None moves facts hint = tt
+line_bare None score moves facts hint = tt
+
+one_told : (o : Option Reply) (b : Bool) → IsBareIn o → ((t : Reply) → o ≡ Some t → length (reply_text t) ≤ 128 + 65536) → AreTold (cond b (option_to_list o) [])
+one_told o false h l = tt
+one_told None true h l = tt
+one_told (Some t) true h l = (record { line = h; short = omega (arith, l t refl) }, tt)
+
+thought_told : (b : Bool) (facts : Info) (p : Position) (hint : Option Move) → IsSaid (hears.Info facts) → AreTold (cond b (option_to_list (thinking_line facts p hint)) [])
+thought_told b facts p hint s =
+    one_told (thinking_line facts p hint) b (line_bare facts.depth facts.score (legal_run p facts.pv) facts hint)
+    (λ t e. let l = line_le s.line s.is_line in omega (arith, lines_short s.line facts p hint t s.says e))
+
+-- ROWS
+
+shown_told : (h : Situation) (best : Move) → AreTold (told.Move best ∷ (result_of (played h.desk.game best) ++ resign_where (resigns_after h best)))
+shown_told h best = (
+  worded (codes "move ") (text_of best) refl (omega arith) (move_part best) (omega arith),
+  all_both IsTold (result_of (played h.desk.game best)) (resign_where (resigns_after h best)) (ending_told (on_move (played h.desk.game best)) (ended_of (played h.desk.game best))) (resign_told (resigns_after h best)),
+)
+
+answered_told : (h : Situation) (m : IfaceMsg) → HasTexts h.desk → AreTold (row_accepted h m)
+unfolding row_accepted
+answered_told h (says.Protover n) t = wait_told (answer (is_boot h.engine)) h.desk t
+answered_told h (says.UserMove m) t = ended_told (plays (change false h.desk (says.UserMove m)).mode) (change false h.desk (says.UserMove m)).game
+answered_told h says.Go t = ended_told (plays (change false h.desk says.Go).mode) (change false h.desk says.Go).game
+answered_told h says.PlayOther t = ended_told (plays (change false h.desk says.PlayOther).mode) (change false h.desk says.PlayOther).game
+answered_told h says.Draw t = offer_told _
+answered_told h says.Hint t = hint_told h.desk.hint
+answered_told h says.Dot t = (stat_told _ _ _ _ _ h.desk.seen.current, tt)
+answered_told h m t = tt
+
+row_told : (h : Situation) (d : Effect) → HasTexts h.desk → ((held : List _) × Fits h held d) → AreTold (row h d)
+unfolding row
+row_told h (Refuses r line) t f = (refused_told r line (line_part line f.1.is_line), tt)
+row_told h LongLine t f = (record { line = refl; short = omega arith }, tt)
+row_told h (Accepts m) t f = answered_told h m t
+row_told h Boots t f = list_told h.desk.due (record h.desk { booted = true }) (record { options = t.options; size = t.size; count = t.count; name = t.name })
+row_told h (Thinks k facts) t f = thought_told (is_told h k) facts (now_of (searched_by k h.desk.game h.desk.hint)) (named_hint k h.desk.hint) f.1.2
+row_told h (Shows best hint) t f = shown_told h best
+row_told h Forfeits t f = (tell_told tell.Move, (record { line = refl; short = omega arith }, tt))
+row_told h Dies t f = all_both IsTold (list_where h.desk.due h.desk) _ (list_told h.desk.due h.desk t) (tell_told tell.Ended, resign_told (resigns_at_end h))
+row_told h Nothing t f = tt
+row_told h Opens t f = tt
+row_told h (Names text) t f = tt
+row_told h (Declares name shape) t f = tt
+row_told h Readies t f = tt
+row_told h Answers t f = tt
+
+pub replies_told : (closed owes : Bool) (h : Situation) (held : List _) (d : Effect) → HasTexts h.desk → Fits h held d → AreTold (replies_of closed owes h d)
+replies_told closed owes h held d t f =
+    all_where IsTold closed [] _ tt
+    (all_both IsTold (row h d) (cond owes [] (map told.Pong (desk_after_effect h d).pings)) (row_told h d t (held, f))
+    (all_where IsTold owes [] (map told.Pong (desk_after_effect h d).pings) tt (pongs_told (desk_after_effect h d).pings)))

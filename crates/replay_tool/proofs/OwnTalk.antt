@@ -1,0 +1,168 @@
+-- The report on the script of a lawful trace finds no fault.
+use Rattle.std.proofs.Common.{◌≡◌, ◌⊎◌, inl, inr, ℕ, ◌+◌, List, [], ◌∷◌, ◌++◌, map, length, Bool, true, false, cond, ◌||◌, Option, Some, None, is_some, refl, sym, ap, subst, ◌∙◌, arith, append_assoc}
+use Rattle.std.specs.Prelude.{IfSome}
+use Rattle.std.specs.List.{AllByRecursion}
+use Rattle.std.specs.Option.{option_to_list}
+use Rattle.std.specs.Io.KnownBytes.{Appends}
+use Rattle.line_io.specs.Lines.{Piece, Whole, items, piece_of}
+use Rattle.policy_rules.specs.declared.settings.Settings.{Settings}
+use Rattle.policy_rules.specs.Policy.{IsProper}
+use Rattle.script_lines.specs.Header.{header_text, header_of}
+use Rattle.script_lines.specs.Marks.{Mark, mark_of}
+use Rattle.script_lines.specs.StepLine.{step_of}
+use Rattle.script_lines.proofs.Headers.{header_again, header_length, header_words}
+use Rattle.script_lines.proofs.Numerals.{step_length, step_spelled}
+use Rattle.adapter_core.specs.Trace.{Step, Lawful}
+use Rattle.session_script.specs.Script.{script1, script2}
+use Rattle.session_script.proofs.Lines.{lines_of, script1_lines}
+use Rattle.session_script.proofs.Numbered.{numbered_lines, script2_lines}
+use Rattle.session_script.proofs.Scripts.{all_told}
+use Rattle.command_endings.specs.declared.ending.Ending.{Ending}
+use Rattle.command_endings.specs.Streams.{Streams}
+use Rattle.script_player.specs.Versions.{Version, First, Second, script_by, settings_by}
+use Rattle.session_judge.specs.declared.rule.Rule.{Rule}
+use Rattle.session_judge.specs.Deeds.{deed_of}
+use Rattle.session_judge.specs.Talks.{opening}
+use Rattle.judge_report.specs.Texts.{searched, lawful_line}
+use Rattle.judge_report.specs.Reports.{Kind, Passes, HasNone, Course, kind_by, is_passed, of_deed, of_kind, with_outcome, read_on, over, report}
+use Rattle.judge_report.specs.Judged.{AllJudged, FaultFound, Judged}
+use Rattle.lawful_talk.specs.Scripts.{marks_told}
+use Rattle.lawful_talk.proofs.Runs.{Runs}
+use Rattle.lawful_talk.proofs.Marked.{IsLogLine, script1_log, script2_log}
+use Rattle.lawful_talk.proofs.Scripts.{trace_runs}
+use Rattle.replay_tool.specs.OwnScripts.{FoundLawful, NoFaultFound, JudgesOwnTalk}
+use Rattle.replay_tool.specs.Replayed.{IsProperIn}
+use Rattle.replay_tool.proofs.Replayed.{short_whole, marked_piece}
+
+-- THE LINES OF A LOG
+
+-- the report has no fault yet, and in the lines to come no mark breaks a rule
+record GoesOn (c : Course) (lines : List (List ℕ)) : Type 0 where
+  faultless : c.ending ≡ None
+  runs : Runs c.talk (marks_told lines) (λ t. Unit {0})
+
+or_true : (a b : Bool) → a ≡ true → (a || b) ≡ true
+or_true true b e = refl
+or_true false b e = cc
+
+-- and so once a line of this kind was read
+abbrev GoesOnBehind : Course → ℕ → List (List ℕ) → Kind → Type 0
+GoesOnBehind c n lines kind = GoesOn (with_outcome c (of_kind c.talk n kind)) lines
+
+-- a line more
+read_one : (c : Course) (n : ℕ) (l : List ℕ) (ls : List (List ℕ)) → IsLogLine l → GoesOn c (l ∷ ls) → GoesOn (read_on c.ending c n (Whole l)) ls
+read_one c n l ls k g =
+    subst (λ (x : Option Ending). GoesOn (read_on x c n (Whole l)) ls) (sym g.faultless) (by (mark_of l) refl)
+  where
+    by : (o : Option Mark) → mark_of l ≡ o → GoesOnBehind c n ls (kind_by (mark_of l) (is_passed n l))
+    by (Some m) e =
+        let r : Runs c.talk (m ∷ marks_told ls) (λ t. Unit {0}) = subst (λ (x : Option Mark). Runs c.talk (option_to_list x ++ marks_told ls) (λ t. Unit {0})) e g.runs in
+        subst (λ (x : Option Mark). GoesOnBehind c n ls (kind_by x (is_passed n l))) (sym e)
+        (subst (λ (x : Option Rule). GoesOn (with_outcome c (of_deed c.talk n (deed_of m) x)) ls) (sym r.0) (record { faultless = refl; runs = r.1 n }))
+    by None e =
+        let r : Runs c.talk (marks_told ls) (λ t. Unit {0}) = subst (λ (x : Option Mark). Runs c.talk (option_to_list x ++ marks_told ls) (λ t. Unit {0})) e g.runs in
+        let step : is_some (step_of l) ≡ true = sym (ap (λ (x : Option Mark). is_some x || is_some (step_of l)) e) ∙ k in
+        let passed : is_passed n l ≡ true = or_true (is_some (step_of l)) _ step in
+        subst (λ (x : Option Mark). GoesOnBehind c n ls (kind_by x (is_passed n l))) (sym e)
+        (subst (λ (x : Bool). GoesOnBehind c n ls (cond x Passes HasNone)) (sym passed) (record { faultless = refl; runs = r }))
+
+over_log : (c : Course) (n : ℕ) (ls : List (List ℕ)) → AllByRecursion IsLogLine ls → GoesOn c ls → (over c n (map Whole ls)).ending ≡ None
+over_log c n [] a g = g.faultless
+over_log c n (l ∷ ls) a g = over_log (read_on c.ending c n (Whole l)) (n + 1) ls a.1 (read_one c n l ls a.0 g)
+
+-- none of them is too long
+log_piece : (l : List ℕ) → IsLogLine l → piece_of 131072 l ≡ Whole l
+log_piece l k = by (mark_of l) (step_of l) refl refl where
+  by : (o : Option Mark) (s : Option ℕ) → mark_of l ≡ o → step_of l ≡ s → piece_of 131072 l ≡ Whole l
+  by (Some m) s e f = marked_piece l (ap (λ (x : Option Mark). is_some x) e)
+  by None (Some n) e f =
+      let spelled = step_spelled l n f in
+      short_whole l (omega (arith, step_length n spelled.below, ap length spelled.text))
+  by None None e f = let none = sym k ∙ ap (λ (x : Option Mark). is_some x || is_some (step_of l)) e ∙ ap (λ (x : Option ℕ). is_some x) f in cc
+
+log_pieces : (ls : List (List ℕ)) → AllByRecursion IsLogLine ls → map (piece_of 131072) ls ≡ map Whole ls
+log_pieces [] a = refl
+log_pieces (l ∷ ls) a = ap (λ (p : Piece). p ∷ map (piece_of 131072) ls) (log_piece l a.0) ∙ ap (λ (ps : List Piece). Whole l ∷ ps) (log_pieces ls a.1)
+
+-- SCRIPTS
+
+abbrev unread : Course
+unread = record { talk = opening; text = []; ending = None }
+
+script1_faultless : (o : Settings) (t : List Step) → Lawful o t → (report (items 131072 (script1 t))).ending ≡ None
+script1_faultless o t l =
+    let log = script1_log o t l in
+    ap (λ (ls : List (List ℕ)). (report (map (piece_of 131072) ls)).ending) (script1_lines t (all_told o t l))
+    ∙ ap (λ (ps : List Piece). (report ps).ending) (log_pieces (lines_of t) log.known)
+    ∙ over_log unread 1 (lines_of t) log.known (record { faultless = refl; runs = subst (λ (ms : List Mark). Runs opening ms (λ u. Unit {0})) (sym log.told) (trace_runs o t l) })
+
+or_last : (a b : Bool) → b ≡ true → (a || b) ≡ true
+or_last true b e = refl
+or_last false b e = e
+
+-- a header in line 1 is passed over
+header_read : (o : Settings) (ls : List (List ℕ)) → IsProper o → GoesOn unread ls → GoesOn (read_on None unread 1 (Whole (header_text o))) ls
+header_read o ls p g =
+    let h = header_text o in
+    let passed : is_passed 1 h ≡ true = or_last (is_some (step_of h)) (is_some (header_of h)) (ap (λ (x : Option Settings). is_some x) (header_again o p)) in
+    subst (λ (x : Option Mark). GoesOnBehind unread 1 ls (kind_by x (is_passed 1 h))) (sym (ap mark_of (header_words o)))
+    (subst (λ (x : Bool). GoesOnBehind unread 1 ls (cond x Passes HasNone)) (sym passed) (record { faultless = refl; runs = g.runs }))
+
+script2_faultless : (o : Settings) (t : List Step) → IsProper o → Lawful o t → (report (items 131072 (script2 o t))).ending ≡ None
+script2_faultless o t p l =
+    let log = script2_log o t l in
+    let h = header_text o in
+    let short : piece_of 131072 h ≡ Whole h = short_whole h (omega (arith, header_length o p)) in
+    ap (λ (ls : List (List ℕ)). (report (map (piece_of 131072) ls)).ending) (script2_lines o t p (all_told o t l))
+    ∙ ap (λ (ps : List Piece). (report (piece_of 131072 h ∷ ps)).ending) (log_pieces (numbered_lines t) log.known)
+    ∙ ap (λ (x : Piece). (report (x ∷ map Whole (numbered_lines t))).ending) short
+    ∙ over_log (read_on None unread 1 (Whole h)) 2 (numbered_lines t) log.known
+    (header_read o (numbered_lines t) p (record { faultless = refl; runs = subst (λ (ms : List Mark). Runs opening ms (λ u. Unit {0})) (sym log.told) (trace_runs o t l) }))
+
+script_faultless : (v : Version) (o : Settings) (t : List Step) → IsProperIn v → Lawful (settings_by v o) t → (report (items 131072 (script_by v t))).ending ≡ None
+script_faultless First o t p l = script1_faultless o t l
+script_faultless (Second s) o t p l = script2_faultless s t p l
+
+-- THE COMMAND
+
+-- once there is a reason to end, no line is read
+stopped : (c : Course) (n : ℕ) (ps : List Piece) (e : Ending) → c.ending ≡ Some e → (over c n ps).ending ≡ Some e
+stopped c n [] e h = h
+stopped c n (p ∷ ps) e h = stopped (read_on c.ending c n p) (n + 1) ps e (ap (λ (x : Option Ending). (read_on x c n p).ending) h ∙ h)
+
+-- a fault in the first lines is one in all
+fault_stays : (c : Course) (n : ℕ) (ps qs : List Piece) (e : Ending) → (over c n ps).ending ≡ Some e → (over c n (ps ++ qs)).ending ≡ Some e
+fault_stays c n [] qs e h = stopped c n qs e h
+fault_stays c n (p ∷ ps) qs e h = fault_stays (read_on c.ending c n p) (n + 1) ps qs e h
+
+module _ (U : Type 0) (before after : Streams) (code : ℕ) (j : Judged U before after code) where
+  module _ (x : List ℕ) (left : before.input.left ≡ Some x) (none : (report (items 131072 x)).ending ≡ None) where
+    no_fault : (n : ℕ) → FaultFound before after n → ⊥
+    no_fault n f =
+        let first : IfSome (Some x) (λ y. (ls : List Piece) × (items 131072 y ≡ f.lines ++ ls)) = subst (λ (o : Option (List ℕ)). IfSome o (λ y. (ls : List Piece) × (items 131072 y ≡ f.lines ++ ls))) left f.read.of_left in
+        let fault = sym none ∙ ap (λ (ps : List Piece). (report ps).ending) first.1 ∙ fault_stays unread 1 f.lines first.0 f.fault f.is_fault in
+        cc
+
+    found : AllJudged before after → FoundLawful before after
+    found a =
+        let c = report (items 131072 a.got) in
+        record {
+          searches = c.text ++ searched c.talk.search;
+          written = subst (λ (t : List ℕ). Appends before.output.taken after.output.taken t) (sym (append_assoc c.text (searched c.talk.search) lawful_line)) a.written;
+        }
+
+    completed : ((code ≡ 0) × AllJudged before after) ⊎ FaultFound before after code ⊎ (code ≡ 3) → (code ≡ 0) ⊎ (code ≡ 3)
+    completed (inl d) = inl d.0
+    completed (inr (inl f)) = absurd (no_fault code f)
+    completed (inr (inr m)) = inr m
+
+    none_found : NoFaultFound (length x) before after code
+    none_found = record {
+      lawful = λ z. found (j.lawful z).0;
+      not_unlawful = λ z. no_fault 1 (j.unlawful z);
+      no_line_without_mark = λ z. no_fault 2 (j.no_mark z);
+      complete = λ l s. completed (j.complete x left l s);
+    }
+
+  pub judges_own_talk : JudgesOwnTalk before after code
+  judges_own_talk v o t p l left = none_found (script_by v t) left (script_faultless v o t p l)

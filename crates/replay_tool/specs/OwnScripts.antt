@@ -1,0 +1,44 @@
+-- What the commands `judge` and `migrate` do with the script of a lawful session.
+use Rattle.std.specs.Prelude.{◌≡◌, ◌⊎◌, ℕ, ◌^◌, ◌<◌, List, ◌++◌, length, Some}
+use Rattle.std.specs.Io.KnownBytes.{Appends}
+use Rattle.policy_rules.specs.declared.settings.Settings.{Settings}
+use Rattle.adapter_core.specs.Trace.{Step, Lawful}
+use Rattle.session_script.specs.OneWay.{IsOpened}
+use Rattle.session_script.specs.Script.{script1, script2}
+use Rattle.command_endings.specs.Streams.{Streams, IsSteady}
+use Rattle.judge_report.specs.Texts.{lawful_line}
+use Rattle.script_player.specs.Versions.{Version, script_by, settings_by}
+use Rattle.replay_tool.specs.Replayed.{IsProperIn}
+
+-- JUDGING
+
+-- The output took the lines of searches, and behind them `lawful talk`.
+pub record FoundLawful (before after : Streams) : Type 0 where
+  pub searches : List ℕ
+  pub written : Appends before.output.taken after.output.taken (searches ++ lawful_line)
+
+-- What each status says of a script of this size.
+pub record NoFaultFound (size : ℕ) (before after : Streams) (code : ℕ) : Type 0 where
+  pub lawful : code ≡ 0 → FoundLawful before after
+  pub not_unlawful : code ≡ 1 → ⊥
+  pub no_line_without_mark : code ≡ 2 → ⊥
+  -- it is judged to its end, or there was no memory
+  pub complete : size < 2 ^ 32 → IsSteady before after → (code ≡ 0) ⊎ (code ≡ 3)
+
+-- No fault is found where the input is the script, of either version, of a lawful trace.
+abbrev pub JudgesOwnTalk : Streams → Streams → ℕ → Type 0
+JudgesOwnTalk before after code =
+    (version : Version) (o : Settings) (trace : List Step) → IsProperIn version
+    → Lawful (settings_by version o) trace
+    → before.input.left ≡ Some (script_by version trace)
+    → NoFaultFound (length (script_by version trace)) before after code
+
+-- MIGRATING
+
+-- Where the input is the script of version 1 of a lawful trace that has its Open step, the command `migrate` wrote the trace's
+-- script of version 2.
+abbrev pub MigratesOwnScripts : Settings → Streams → Streams → ℕ → Type 0
+MigratesOwnScripts settings before after code =
+    (o : Settings) (trace : List Step) → Lawful o trace → IsOpened o trace
+    → before.input.left ≡ Some (script1 trace) → code ≡ 0
+    → Appends before.output.taken after.output.taken (script2 settings trace)
