@@ -1,0 +1,7 @@
+mod Splits
+mod Quits
+mod Took
+mod Logs
+mod Passes
+mod Runs
+mod Starts

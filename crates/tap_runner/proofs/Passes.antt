@@ -1,0 +1,110 @@
+-- Turns of one direction.
+use Rattle.std.proofs.Common.{◌≡◌, ℕ, List, [], ◌∷◌, ◌++◌, map, Bool, true, false, Option, Some, None, IfSome, refl, sym, ap, subst, ◌∙◌, arith}
+use Rattle.std.proofs.lemmas.List.{map-append}
+use Rattle.std.specs.Io.KnownBytes.{IsAtEnd}
+use Rattle.std.proofs.KnownBytes.{Appends-nil, Appends-trans, Consumes-nil, Consumes-trans}
+use Rattle.line_io.specs.Event.{Event}
+use Rattle.line_io.specs.Lines.{Reads, items}
+use Rattle.line_io.specs.Source.{Supplied, Received}
+use Rattle.event_pipe.specs.declared.message.Peer.{Peer}
+use Rattle.event_pipe.specs.Counts.{Tells}
+use Rattle.event_pipe.specs.Rule.{ended}
+use Rattle.sink_offers.specs.Took.{LogTook}
+use Rattle.tap_runner.specs.declared.passing.Turn.{Turn}
+use Rattle.tap_runner.specs.declared.passing.Turn.TheVariants as turns
+use Rattle.tap_runner.specs.declared.passing.PassEnd.{PassEnd}
+use Rattle.tap_runner.specs.Lines.{pieces_of, line_after, last_pieces}
+use Rattle.tap_runner.specs.Marks.{piece_event, piece_events, end_event, marks_of}
+use Rattle.tap_runner.specs.Hearing.{Open, fresh, Hears, EndsHearing}
+use Rattle.tap_runner.specs.Passing.{Passed, Passing, Turned, is_last, has_failed_to_read, has_failed_to_write}
+use Rattle.tap_runner.proofs.Splits.{line_append, pieces_append, items_all}
+use Rattle.tap_runner.proofs.Took.{took_nothing, took_then}
+
+unlacked : (a b : Bool) → (a ≡ true → b ≡ true) → b ≡ false → a ≡ false
+unlacked true b f h = sym (f refl) ∙ h
+unlacked false b f h = refl
+
+pub passing_first : (peer : Peer) (part : Open) (s : Supplied) (k : Received) (sent : List Event) → part ≡ fresh peer → sent ≡ [] → Passing peer part s s k k sent
+passing_first peer part s k sent o e = record {
+  got = [];
+  reads = record { given = Appends-nil s.given; left = Consumes-nil s.left };
+  handed = took_nothing k;
+  same = refl;
+  peer_is = ap (λ (x : Open). x.peer) o;
+  line_is = ap (λ (x : Open). x.line) o;
+  told = λ _. e;
+  going = ap ended e;
+}
+
+at_end_from : (left : Option (List ℕ)) (now : Option (List ℕ)) → IsAtEnd now → IfSome left (λ _. IsAtEnd now)
+at_end_from None now h = tt
+at_end_from (Some x) now h = h
+
+more_by : (x : Turn) → is_last x ≡ false → x ≡ turns.More
+more_by turns.More l = refl
+more_by turns.Ended l = cc
+more_by turns.ReadFailed l = cc
+more_by turns.WriteFailed l = cc
+
+-- a last turn that failed in nothing saw the end
+only_ended : (x : Turn) → is_last x ≡ true → (has_failed_to_read x ≡ false) → (has_failed_to_write x ≡ false) → x ≡ turns.Ended
+only_ended turns.More n r w = cc
+only_ended turns.Ended n r w = refl
+only_ended turns.ReadFailed n r w = cc
+only_ended turns.WriteFailed n r w = cc
+
+module _ (peer : Peer) (old new : Open) (s0 s s' : Supplied) (k0 k k' : Received) (before now : List Event) (turn : Turn) (h : Passing peer old s0 s k0 k before) (t : Turned old new s s' k k' before now turn) where
+  all_read : Reads s0 s' (h.got ++ t.got)
+  all_read = record {
+    given = Appends-trans s0.given s.given s'.given h.got t.got h.reads.given t.reads.given;
+    left = Consumes-trans s0.left s.left s'.left h.got t.got h.reads.left t.reads.left;
+  }
+
+  all_handed : LogTook (h.got ++ t.got) (has_failed_to_write turn) k0 k'
+  all_handed = took_then h.got t.got (has_failed_to_write turn) k0 k k' h.handed t.handed
+
+  line_now : new.line ≡ line_after (Some []) (h.got ++ t.got)
+  line_now = t.hears.line_is ∙ ap (λ (o : Option (List ℕ)). line_after o t.got) h.line_is ∙ sym (line_append (Some []) h.got t.got)
+
+  told_now : new.has_lacked ≡ false → now ≡ piece_events peer (pieces_of (Some []) (h.got ++ t.got))
+  told_now e =
+      t.hears.sends e
+      ∙ ap (λ (es : List Event). es ++ piece_events old.peer (pieces_of old.line t.got)) (h.told (unlacked old.has_lacked new.has_lacked t.hears.lacked e))
+      ∙ ap (λ (p : Peer). piece_events peer (pieces_of (Some []) h.got) ++ piece_events p (pieces_of old.line t.got)) h.peer_is
+      ∙ ap (λ (o : Option (List ℕ)). piece_events peer (pieces_of (Some []) h.got) ++ piece_events peer (pieces_of o t.got)) h.line_is
+      ∙ sym (map-append (piece_event peer) (pieces_of (Some []) h.got) (pieces_of (line_after (Some []) h.got) t.got))
+      ∙ ap (piece_events peer) (sym (pieces_append (Some []) h.got t.got))
+
+  count_now : Tells s0.faults s'.faults (has_failed_to_read turn)
+  count_now = subst (λ n. Tells n s'.faults (has_failed_to_read turn)) h.same t.read_count
+
+  pub passing_more : is_last turn ≡ false → Passing peer new s0 s' k0 k' now
+  passing_more goes = let e = more_by turn goes in record {
+    got = h.got ++ t.got;
+    reads = all_read;
+    handed = subst (λ (b : Bool). LogTook (h.got ++ t.got) b k0 k') (ap has_failed_to_write e) all_handed;
+    same = count_now.same (ap has_failed_to_read e);
+    peer_is = t.hears.peer ∙ h.peer_is;
+    line_is = line_now;
+    told = told_now;
+    going = t.hears.going;
+  }
+
+  pub passed_all : is_last turn ≡ true → (last : Open) (final : List Event) → EndsHearing new last now final → (k'' : Received) → k'' ≡ k' → (end : PassEnd) → end.read_failed ≡ has_failed_to_read turn
+      → end.write_failed ≡ has_failed_to_write turn → end.has_lacked_memory ≡ last.has_lacked → Passed peer s0 s' k0 k'' final end
+  passed_all more last final ends k'' same end r w l = record {
+    got = h.got ++ t.got;
+    reads = all_read;
+    handed = subst (λ (b : Bool). LogTook (h.got ++ t.got) b k0 k'') (sym w) (subst (λ (x : Received). LogTook (h.got ++ t.got) (has_failed_to_write turn) k0 x) (sym same) all_handed);
+    all = λ rf wf. at_end_from s0.left s'.left (t.at_end (only_ended turn more (sym r ∙ rf) (sym w ∙ wf)));
+    read_count = subst (λ (b : Bool). Tells s0.faults s'.faults b) (sym r) count_now;
+    told = λ e.
+        let e' : last.has_lacked ≡ false = sym l ∙ e in
+        let got = h.got ++ t.got in
+        ends.sends e'
+        ∙ ap (λ (es : List Event). es ++ piece_events new.peer (last_pieces new.line) ++ end_event new.peer ∷ []) (told_now (unlacked new.has_lacked last.has_lacked ends.lacked e'))
+        ∙ ap (λ (p : Peer). piece_events peer (pieces_of (Some []) got) ++ piece_events p (last_pieces new.line) ++ end_event p ∷ []) (t.hears.peer ∙ h.peer_is)
+        ∙ ap (λ (o : Option (List ℕ)). piece_events peer (pieces_of (Some []) got) ++ piece_events peer (last_pieces o) ++ end_event peer ∷ []) line_now
+        ∙ ap (λ (es : List Event). es ++ end_event peer ∷ []) (sym (map-append (piece_event peer) (pieces_of (Some []) got) (last_pieces (line_after (Some []) got))) ∙ ap (piece_events peer) (sym (items_all got)));
+    over = ends.over;
+  }

@@ -1,0 +1,36 @@
+use Rattle.std.proofs.Common.{◌≡◌, ◌∙◌, refl, ap, subst, sym, ◌≤◌}
+use Rattle.line_io.specs.Event.{Event}
+use Rattle.tap_runner.specs.Logging.{mark_length}
+use Rattle.tap_runner.proofs.Logs.{short, logging_first, logging_next, logged_all}
+use Rattle.tap_runner.proofs.logging.keep_log.Goals as goal
+
+pub loop-init : goal.loop-init
+loop-init g c = record {
+  taker = (c.requires.taker.0, refl);
+  room = refl;
+  kept = refl;
+  logging = logging_first _ _ c.requires.taker.1;
+}
+
+pub log_event-failed-requires-clause-short : goal.log_event-failed-requires-clause-short
+log_event-failed-requires-clause-short g c =
+    subst (λ (e : Event). mark_length e ≤ 65536) (sym c.event-event.ensures) (short _ c.take-sent.ensures.follows.1)
+
+pub loop-preserved-else-have_both_come : goal.loop-preserved-else-have_both_come
+loop-preserved-else-have_both_come g c = record {
+  taker = (c.take-sent.ensures.keeps.0, c.take-sent.ensures.keeps.1 ∙ c.loop.invariant.taker.1);
+  room = c.log_event-failed.ensures.room ∙ c.loop.invariant.room;
+  kept = c.log_event-failed.ensures.kept ∙ c.loop.invariant.kept;
+  logging = logging_next _ _ _ _ _ _ _ _ _ _ _ c.loop.invariant.logging c.take-sent.ensures.gets c.event-event.ensures c.after-ends.ensures c.log_event-failed.ensures.offered;
+}
+
+pub loop-preserved : goal.loop-preserved
+loop-preserved g c = record {
+  taker = (c.take-sent.ensures.keeps.0, c.take-sent.ensures.keeps.1 ∙ c.loop.invariant.taker.1);
+  room = c.log_event-failed.ensures.room ∙ c.loop.invariant.room;
+  kept = c.log_event-failed.ensures.kept ∙ c.loop.invariant.kept;
+  logging = logging_next _ _ _ _ _ _ _ _ _ _ _ c.loop.invariant.logging c.take-sent.ensures.gets c.event-event.ensures c.after-ends.ensures c.log_event-failed.ensures.offered;
+}
+
+pub returns-then-have_both_come-clause-logged : goal.returns-then-have_both_come-clause-logged
+returns-then-have_both_come-clause-logged g c = logged_all _ _ _ _ _ c.loop.invariant.logging (sym c.have_both_come.ensures ∙ c.if-have_both_come.true)

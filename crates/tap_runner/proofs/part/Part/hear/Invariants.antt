@@ -1,0 +1,19 @@
+-- What is left of the bytes completes the lines.
+use Rattle.std.proofs.Common.{◌≡◌, ◌++◌, drop, true, false}
+use Rattle.event_pipe.specs.Ends.{KeepsSender, sent}
+use Rattle.event_pipe.specs.Rule.{ended}
+use Rattle.tap_runner.specs.Lines.{pieces_of, line_after}
+use Rattle.tap_runner.specs.Marks.{piece_events}
+use Rattle.tap_runner.proofs.part.Part.hear.Given as goal
+
+abbrev pub invariant-loop-byte : goal.invariant-loop-byte
+invariant-loop-byte g l = record {
+  keeps : KeepsSender l.fn.to l.to;
+  peer : l.self.peer ≡ l.fn.self.peer;
+  line : line_after l.self.line (drop l.byte-index l.bytes) ≡ line_after l.fn.self.line l.bytes;
+  lacked : l.fn.self.has_lacked ≡ true → l.self.has_lacked ≡ true;
+  sends : l.self.has_lacked ≡ false
+      → sent l.to ++ piece_events l.fn.self.peer (pieces_of l.self.line (drop l.byte-index l.bytes))
+      ≡ sent l.fn.to ++ piece_events l.fn.self.peer (pieces_of l.fn.self.line l.bytes);
+  going : ended (sent l.to) ≡ false;
+}

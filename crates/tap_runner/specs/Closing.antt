@@ -1,0 +1,8 @@
+-- A writer that can be let go.
+use Rattle.std.specs.Prelude.{None}
+use Rattle.line_io.specs.Source.{Received}
+use Rattle.tap_runner.specs.declared.closing.Closing.{Closing}
+
+-- it tells nothing of what was taken, since nobody keeps that once the writer is gone
+abbrev pub shown_by : {W : Type 0} → Closing W → Received
+shown_by sink = record { taken = None; faults = sink.faults }

@@ -1,0 +1,44 @@
+-- What was heard of a peer, and what was sent for it.
+use Rattle.std.specs.Prelude.{◌≡◌, ℕ, ◌≤◌, List, [], ◌∷◌, ◌++◌, length, drop, Bool, true, false, if◌then◌else◌, Option, Some, None}
+use Rattle.line_io.specs.Event.{Event, has_feed}
+use Rattle.line_io.specs.Lines.{Piece}
+use Rattle.line_io.specs.Out.{Text}
+use Rattle.event_pipe.specs.declared.message.Peer.{Peer}
+use Rattle.event_pipe.specs.Rule.{ended}
+use Rattle.tap_runner.specs.Lines.{line_limit, last_pieces}
+use Rattle.tap_runner.specs.Marks.{mark_of, piece_events, end_event}
+
+-- the open line of a peer, where it is not too long, and whether there was no memory for a mark
+pub record Open : Type 0 where
+  pub peer : Peer
+  pub line : Option (List ℕ)
+  pub has_lacked : Bool
+
+abbrev pub fresh : Peer → Open
+fresh peer = record { peer = peer; line = Some []; has_lacked = false }
+
+-- behind the letter and the blank of its mark stands the line
+abbrev pub open_of : Peer → Text → Bool → Bool → Open
+open_of peer mark is_long has_lacked =
+    record { peer = peer; line = if is_long then None else Some (drop 2 mark.text); has_lacked = has_lacked }
+
+pub record IsMark (peer : Peer) (mark : Text) (is_long : Bool) : Type 0 where
+  pub room : mark.room ≡ 65536
+  pub text : mark.text ≡ mark_of peer (drop 2 mark.text)
+  pub no_feed : has_feed (drop 2 mark.text) ≡ false
+
+-- These lines ended, and what goes through the channel for them was sent; another line is open.
+pub record Hears (old new : Open) (before now : List Event) (pieces : List Piece) (line : Option (List ℕ)) : Type 0 where
+  pub peer : new.peer ≡ old.peer
+  pub line_is : new.line ≡ line
+  -- once a mark had no memory, this is known
+  pub lacked : old.has_lacked ≡ true → new.has_lacked ≡ true
+  pub sends : new.has_lacked ≡ false → now ≡ before ++ piece_events old.peer pieces
+  pub going : ended now ≡ false
+
+-- the last line was told, and the peer's end
+pub record EndsHearing (old new : Open) (before now : List Event) : Type 0 where
+  pub lacked : old.has_lacked ≡ true → new.has_lacked ≡ true
+  pub sends : new.has_lacked ≡ false
+      → now ≡ before ++ piece_events old.peer (last_pieces old.line) ++ end_event old.peer ∷ []
+  pub over : ended now ≡ true

@@ -1,0 +1,34 @@
+-- The lines that bytes end, and what is known of the line that they leave open.
+use Rattle.std.specs.Prelude.{ℕ, List, [], ◌∷◌, ◌++◌, length, if◌then◌else◌, nat_lt, Option, Some, None}
+use Rattle.line_io.specs.Lines.{Piece, Whole, TooLong, is_feed}
+
+-- the longest line that is no long one
+abbrev pub line_limit : ℕ
+line_limit = 65534
+
+-- an open line and one byte more; a line that is too long is not kept
+abbrev pub with_byte : Option (List ℕ) → ℕ → Option (List ℕ)
+with_byte None b = None
+with_byte (Some line) b = if nat_lt (length line) line_limit then Some (line ++ b ∷ []) else None
+
+-- what an open line is, once it ends
+abbrev pub piece_in : Option (List ℕ) → Piece
+piece_in None = TooLong
+piece_in (Some line) = Whole line
+
+-- the lines that the bytes end, behind an open line
+abbrev pub pieces_of : Option (List ℕ) → List ℕ → List Piece
+pieces_of line [] = []
+pieces_of line (b ∷ bs) =
+    if is_feed b then piece_in line ∷ pieces_of (Some []) bs else pieces_of (with_byte line b) bs
+
+-- the line that they leave open
+abbrev pub line_after : Option (List ℕ) → List ℕ → Option (List ℕ)
+line_after line [] = line
+line_after line (b ∷ bs) =
+    if is_feed b then line_after (Some []) bs else line_after (with_byte line b) bs
+
+-- a last line that no line feed ends, where there is one
+abbrev pub last_pieces : Option (List ℕ) → List Piece
+last_pieces (Some []) = []
+last_pieces line = piece_in line ∷ []

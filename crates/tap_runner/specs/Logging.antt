@@ -1,0 +1,32 @@
+-- The log of a run.
+use Rattle.std.specs.Prelude.{◌≡◌, ℕ, List, length, Bool, true}
+use Rattle.line_io.specs.Event.{Event, Iface, IfaceEnd, Engine, EngineEnd}
+use Rattle.line_io.specs.Source.{Received}
+use Rattle.event_pipe.specs.declared.message.Peer.TheVariants as peers
+use Rattle.event_pipe.specs.Rule.{sent_by, ended}
+use Rattle.sink_offers.specs.Took.{LogTook}
+use Rattle.tap_runner.specs.declared.logging.Ends.{Ends}
+use Rattle.tap_runner.specs.Marks.{log_text}
+
+abbrev pub mark_length : Event → ℕ
+mark_length (Iface mark) = length mark
+mark_length (Engine mark) = length mark
+mark_length event = 0
+
+-- which sides have ended, after this event
+abbrev pub ends_after : Ends → Event → Ends
+ends_after ends IfaceEnd = record { bridge = true; engine = ends.engine }
+ends_after ends EngineEnd = record { bridge = ends.bridge; engine = true }
+ends_after ends event = ends
+
+-- The log took what was received, in order, each mark on a line, or a front of that text where it failed.
+pub record Logged (received : List Event) (log log' : Received) (failed : Bool) : Type 0 where
+  pub text : LogTook (log_text received) failed log log'
+  pub bridge_ended : ended (sent_by peers.Iface received) ≡ true
+  pub engine_ended : ended (sent_by peers.Engine received) ≡ true
+
+-- so far
+pub record Logging (received : List Event) (log log' : Received) (failed : Bool) (ends : Ends) : Type 0 where
+  pub text : LogTook (log_text received) failed log log'
+  pub bridge : ends.bridge ≡ true → ended (sent_by peers.Iface received) ≡ true
+  pub engine : ends.engine ≡ true → ended (sent_by peers.Engine received) ≡ true

@@ -1,0 +1,47 @@
+-- The marks of a log: `U LINE` is a line of the bridge, `u LINE` one of the engine.
+use Rattle.std.specs.Prelude.{ℕ, List, [], ◌∷◌, ◌++◌, codes, map}
+use Rattle.std.specs.List.{flat_map}
+use Rattle.line_io.specs.Event.{Event, Iface, IfaceLong, IfaceEnd, Engine, EngineLong, EngineEnd}
+use Rattle.line_io.specs.Lines.{Piece, Whole, TooLong, items}
+use Rattle.event_pipe.specs.declared.message.Peer.{Peer}
+use Rattle.event_pipe.specs.declared.message.Peer.TheVariants as peers
+use Rattle.event_pipe.specs.declared.message.What.TheVariants as says
+use Rattle.event_pipe.specs.Message.{sent_event}
+use Rattle.tap_runner.specs.Lines.{line_limit}
+
+-- the bridge has the place of the interface in the channel
+abbrev pub letter_of : Peer → ℕ
+letter_of peers.Iface = 85
+letter_of peers.Engine = 117
+
+-- the mark of a line, without its line feed
+abbrev pub mark_of : Peer → List ℕ → List ℕ
+mark_of peer line = letter_of peer ∷ 32 ∷ line
+
+-- What goes through the channel for a line: its mark.
+abbrev pub piece_event : Peer → Piece → Event
+piece_event peer (Whole line) = sent_event peer (says.Line (mark_of peer line))
+piece_event peer TooLong = sent_event peer says.Long
+
+abbrev pub piece_events : Peer → List Piece → List Event
+piece_events peer pieces = map (piece_event peer) pieces
+
+abbrev pub end_event : Peer → Event
+end_event peer = sent_event peer says.End
+
+-- what goes through it for all bytes of a peer: the marks of their lines, and then the peer's end
+abbrev pub marks_of : Peer → List ℕ → List Event
+marks_of peer bytes = piece_events peer (items line_limit bytes) ++ end_event peer ∷ []
+
+-- how it stands in the log
+abbrev pub logged : Event → List ℕ
+logged (Iface mark) = mark ++ 10 ∷ []
+logged (Engine mark) = mark ++ 10 ∷ []
+logged IfaceLong = codes "x!" ++ 10 ∷ []
+logged IfaceEnd = codes "x." ++ 10 ∷ []
+logged EngineLong = codes "u!" ++ 10 ∷ []
+logged EngineEnd = codes "u." ++ 10 ∷ []
+logged event = []
+
+abbrev pub log_text : List Event → List ℕ
+log_text events = flat_map logged events

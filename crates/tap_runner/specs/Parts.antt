@@ -1,0 +1,14 @@
+-- What a run needs beside its host.
+use Rattle.std.specs.Prelude.{◌≤◌}
+use Rattle.event_pipe.specs.declared.message.Peer.TheVariants as peers
+use Rattle.event_pipe.specs.Ends.{IsFreshTaker, AreOne}
+use Rattle.tap_runner.specs.declared.parts.Parts.{Parts}
+use Rattle.tap_runner.specs.Ran.{IsReadyWay}
+
+-- nothing was heard, sent or taken yet
+pub record AreReady (parts : Parts) : Type 0 where
+  pub room : 65537 ≤ parts.text.room
+  pub down : IsReadyWay parts.down peers.Iface
+  pub up : IsReadyWay parts.up peers.Engine
+  pub taker : IsFreshTaker parts.taker
+  pub one : AreOne parts.down.to parts.up.to parts.taker

@@ -1,0 +1,62 @@
+-- One direction of a run.
+use Rattle.std.specs.Prelude.{◌≡◌, ℕ, List, [], ◌++◌, Bool, true, false, Option, Some, IfSome}
+use Rattle.std.specs.Io.KnownBytes.{Appends, IsAtEnd}
+use Rattle.line_io.specs.Event.{Event}
+use Rattle.line_io.specs.Source.{Supplied, Received}
+use Rattle.line_io.specs.Lines.{Reads}
+use Rattle.event_pipe.specs.declared.message.Peer.{Peer}
+use Rattle.event_pipe.specs.Counts.{Tells}
+use Rattle.event_pipe.specs.Rule.{ended}
+use Rattle.sink_offers.specs.Took.{LogTook}
+use Rattle.tap_runner.specs.declared.passing.Turn.{Turn}
+use Rattle.tap_runner.specs.declared.passing.Turn.TheVariants as turns
+use Rattle.tap_runner.specs.declared.passing.PassEnd.{PassEnd}
+use Rattle.tap_runner.specs.Lines.{pieces_of, line_after}
+use Rattle.tap_runner.specs.Marks.{piece_events, marks_of}
+use Rattle.tap_runner.specs.Hearing.{Open, Hears}
+
+-- What one direction of a run did.
+pub record Passed (peer : Peer) (source source' : Supplied) (sink sink' : Received) (sent : List Event) (end : PassEnd) : Type 0 where
+  -- these bytes were read
+  pub got : List ℕ
+  pub reads : Reads source source' got
+  -- they were handed on, unchanged and in order: all of them, or a front of them where a write failed
+  pub handed : LogTook got end.write_failed sink sink'
+  -- nothing is left, where nothing failed
+  pub all : end.read_failed ≡ false → end.write_failed ≡ false → IfSome source.left (λ _. IsAtEnd source'.left)
+  pub read_count : Tells source.faults source'.faults end.read_failed
+  -- the marks of their lines were sent to the log, and the end
+  pub told : end.has_lacked_memory ≡ false → sent ≡ marks_of peer got
+  pub over : ended sent ≡ true
+
+abbrev pub is_last : Turn → Bool
+is_last turns.More = false
+is_last turn = true
+
+abbrev pub has_failed_to_read : Turn → Bool
+has_failed_to_read turns.ReadFailed = true
+has_failed_to_read turn = false
+
+abbrev pub has_failed_to_write : Turn → Bool
+has_failed_to_write turns.WriteFailed = true
+has_failed_to_write turn = false
+
+-- what one turn did
+pub record Turned (old new : Open) (source source' : Supplied) (sink sink' : Received) (before now : List Event) (turn : Turn) : Type 0 where
+  pub got : List ℕ
+  pub reads : Reads source source' got
+  pub read_count : Tells source.faults source'.faults (has_failed_to_read turn)
+  pub handed : LogTook got (has_failed_to_write turn) sink sink'
+  pub hears : Hears old new before now (pieces_of old.line got) (line_after old.line got)
+  pub at_end : turn ≡ turns.Ended → IsAtEnd source'.left
+
+-- so far
+pub record Passing (peer : Peer) (part : Open) (source source' : Supplied) (sink sink' : Received) (sent : List Event) : Type 0 where
+  pub got : List ℕ
+  pub reads : Reads source source' got
+  pub handed : LogTook got false sink sink'
+  pub same : source'.faults ≡ source.faults
+  pub peer_is : part.peer ≡ peer
+  pub line_is : part.line ≡ line_after (Some []) got
+  pub told : part.has_lacked ≡ false → sent ≡ piece_events peer (pieces_of (Some []) got)
+  pub going : ended sent ≡ false

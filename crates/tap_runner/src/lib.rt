@@ -1,0 +1,18 @@
+//! Between a bridge and its engine: what each writes is handed on to the other as it comes, and the lines of both go
+//! through one channel into a log.
+#![tactic(auto)]
+
+mod closing;
+mod logging;
+mod part;
+mod parts;
+mod passing;
+mod run;
+mod tap;
+
+pub use closing::Closing;
+pub use logging::{LOG_ROOM, keep_log};
+pub use part::Part;
+pub use passing::{Closes, PassEnd, hand_on};
+pub use run::{TapEnd, Way, run_tap};
+pub use tap::tap_run;

@@ -1,0 +1,122 @@
+// The log: what goes through the channel, in the order in which it comes.
+ghost use Rattle.std.specs.Prelude.{◌≡◌, ◌≤◌, ◌&&◌, ◌++◌, ◌∷◌, ◌+◌, [], length, is_some};
+ghost use Rattle.line_io.specs.Event.{event_of};
+ghost use Rattle.event_pipe.specs.Ends.{IsFreshTaker, KeepsTaker, taken};
+ghost use Rattle.sink_offers.specs.Streams.{log_state, Offered};
+ghost use Rattle.tap_runner.specs.Marks.{logged};
+ghost use Rattle.tap_runner.specs.Logging.{Logged, ends_after, mark_length};
+
+use event_pipe::PipeTake;
+use line_io::{Event, Out, Sink};
+use sink_offers::offer_log;
+use std::sync::Wait;
+
+/// The room for a mark in the log.
+pub const LOG_ROOM: usize = 65_537;
+
+// Which sides have ended.
+#[derive(Clone, Copy)]
+pub struct Ends {
+    pub bridge: bool,
+    pub engine: bool,
+}
+
+impl Ends {
+    // The same after an event.
+    fn after(self, event: &Event) -> Ends
+        ensures { result ≡ ends_after self (event_of event.now) }
+    {
+        match event {
+            Event::IfaceEnd => Ends {
+                bridge: true,
+                engine: self.engine,
+            },
+            Event::EngineEnd => Ends {
+                bridge: self.bridge,
+                engine: true,
+            },
+            _ => self,
+        }
+    }
+
+    fn have_both_come(self) -> bool
+        ensures { result ≡ (self.bridge && self.engine) }
+    {
+        self.bridge && self.engine
+    }
+}
+
+// A mark, on a line of its own.
+fn put_mark(text: &mut Out, mark: &[u8])
+    requires empty { text.old.text ≡ [] }
+    requires room { length mark.now + 1 ≤ text.old.room }
+    ensures text { text.new.text ≡ mark.now ++ 10 ∷ [] }
+    ensures room { text.new.room ≡ text.old.room }
+{
+    text.put(mark);
+    text.put(b"\n");
+}
+
+// What stands in the log for an event.
+fn put_logged(text: &mut Out, event: &Event)
+    requires short { mark_length (event_of event.now) ≤ 65536 }
+    requires room { 65537 ≤ text.old.room }
+    ensures text { text.new.text ≡ logged (event_of event.now) }
+    ensures room { text.new.room ≡ text.old.room }
+{
+    text.clear();
+    match event {
+        Event::Iface(mark) => put_mark(text, mark),
+        Event::IfaceLong => text.put(b"x!\n"),
+        Event::IfaceEnd => text.put(b"x.\n"),
+        Event::Engine(mark) => put_mark(text, mark),
+        Event::EngineLong => text.put(b"u!\n"),
+        Event::EngineEnd => text.put(b"u.\n"),
+        _ => {}
+    }
+}
+
+// Offers the log what stands in it for an event.
+fn log_event<L: Sink>(log: &mut Option<L>, event: &Event, text: &mut Out, failed: bool) -> bool
+    requires short { mark_length (event_of event.now) ≤ 65536 }
+    requires room { 65537 ≤ text.old.room }
+    ensures offered { Offered failed result (log_state L.state log.old)
+        (log_state L.state log.new) (logged (event_of event.now)) }
+    ensures kept { is_some log.new ≡ is_some log.old }
+    ensures room { text.new.room ≡ text.old.room }
+{
+    put_logged(text, event);
+    offer_log(log, text.bytes(), failed)
+}
+
+/// Writes what comes through the channel into the log, until both sides have ended, and reports
+/// whether that failed.
+pub fn keep_log<L: Sink, R: Wait>(
+    rt: &R,
+    from: &mut PipeTake,
+    log: &mut Option<L>,
+    text: &mut Out,
+) -> bool
+    requires taker { IsFreshTaker from.old }
+    requires room { 65537 ≤ text.old.room }
+    ensures taker { KeepsTaker from.old from.new }
+    ensures kept { is_some log.new ≡ is_some log.old }
+    ensures logged { Logged (taken from.new)
+        (log_state L.state log.old) (log_state L.state log.new) result }
+{
+    let mut failed = false;
+    let mut ends = Ends {
+        bridge: false,
+        engine: false,
+    };
+    for _ in rt.forever() {
+        if ends.have_both_come() {
+            return failed;
+        }
+        let sent = from.take(rt);
+        let event = sent.event();
+        ends = ends.after(&event);
+        failed = log_event(log, &event, text, failed);
+    }
+    unreachable!()
+}

@@ -1,0 +1,50 @@
+// What a run needs beside its host.
+ghost use Rattle.std.specs.Prelude.{◌≡◌, ◌≤◌, IfOk};
+ghost use Rattle.event_pipe.specs.declared.message.Peer.TheVariants as peers;
+ghost use Rattle.event_pipe.specs.Ends.{IsFreshSender};
+ghost use Rattle.tap_runner.specs.Ran.{IsReadyWay};
+ghost use Rattle.tap_runner.specs.Parts.{AreReady};
+
+use crate::{LOG_ROOM, Part, Way};
+use event_pipe::{Peer, Pipe, PipeSend, PipeTake};
+use line_io::{NoMemory, Out};
+use std::alloc::Global;
+
+// How much is read at a time.
+const READ_ROOM: usize = 65_536;
+
+/// Both directions, the end of the channel that the log takes from, and the room for a mark.
+#[derive(Drop)]
+pub(crate) struct Parts {
+    pub down: Way,
+    pub up: Way,
+    pub taker: PipeTake,
+    pub text: Out,
+}
+
+// What a direction needs whose marks go here.
+fn make_way(alloc: Global, peer: Peer, to: PipeSend) -> Result<Way, NoMemory>
+    requires { IsFreshSender to peer }
+    ensures way { IfOk result (λ way. IsReadyWay way peer) }
+    ensures to { IfOk result (λ way. way.to ≡ to) }
+{
+    let part = Part::make(alloc, peer)?;
+    let buf = vec![in alloc; 0; READ_ROOM]?;
+    Ok(Way { to, part, buf })
+}
+
+/// Takes the memory of a run.
+pub(crate) fn make_parts(alloc: Global) -> Result<Parts, NoMemory>
+    ensures { IfOk result AreReady }
+{
+    let text = Out::make(alloc, LOG_ROOM)?;
+    let (bridge, engine, taker) = Pipe::make(alloc)?;
+    let down = make_way(alloc, Peer::Iface, bridge)?;
+    let up = make_way(alloc, Peer::Engine, engine)?;
+    Ok(Parts {
+        down,
+        up,
+        taker,
+        text,
+    })
+}

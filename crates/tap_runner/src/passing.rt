@@ -1,0 +1,135 @@
+// One direction: what a source gives is handed on to a sink.
+ghost use Rattle.std.specs.Prelude.{◌≡◌, ◌<◌, [], false, vec_len};
+ghost use Rattle.event_pipe.specs.Ends.{IsSender, KeepsSender, sent};
+ghost use Rattle.event_pipe.specs.Rule.{ended};
+ghost use Rattle.tap_runner.specs.Hearing.{fresh};
+ghost use Rattle.tap_runner.specs.Passing.{Turned, Passed, is_last, has_failed_to_read, has_failed_to_write};
+
+use crate::Part;
+use event_pipe::PipeSend;
+use line_io::{MemSink, NullSink, Sink, Source};
+use sink_offers::offer;
+use std::alloc::Global;
+use std::sync::Wait;
+
+/// A sink that can be let go before its run is over, so that who reads from it sees an end.
+pub trait Closes: Sink {
+    /// Nothing is written to it any more.
+    fn close(&mut self)
+        ensures { Self.state self.new ≡ Self.state self.old };
+}
+
+/// How one direction ended.
+#[derive(Clone, Copy, Debug, PartialEq, Eq)]
+pub struct PassEnd {
+    pub read_failed: bool,
+    pub write_failed: bool,
+    /// There was no memory for a mark.
+    pub has_lacked_memory: bool,
+}
+
+// What a turn came to.
+#[derive(Clone, Copy)]
+pub enum Turn {
+    More,
+    Ended,
+    ReadFailed,
+    WriteFailed,
+}
+
+impl Turn {
+    fn is_last(self) -> bool
+        ensures { result ≡ is_last self }
+    {
+        !matches!(self, Turn::More)
+    }
+
+    fn has_failed_to_read(self) -> bool
+        ensures { result ≡ has_failed_to_read self }
+    {
+        matches!(self, Turn::ReadFailed)
+    }
+
+    fn has_failed_to_write(self) -> bool
+        ensures { result ≡ has_failed_to_write self }
+    {
+        matches!(self, Turn::WriteFailed)
+    }
+}
+
+// Reads once. The lines that have ended go to the log, and then what was read is handed on.
+fn pass_turn<S: Source, K: Sink, R: Wait>(
+    rt: &R,
+    alloc: Global,
+    source: &mut S,
+    sink: &mut K,
+    buf: &mut Vec<u8>,
+    part: &mut Part,
+    to: &mut PipeSend,
+) -> Turn
+    requires room { 0 < vec_len buf.old }
+    requires sender { IsSender to.old }
+    requires peer { to.old.peer ≡ part.old.peer }
+    requires going { ended (sent to.old) ≡ false }
+    ensures room { vec_len buf.new ≡ vec_len buf.old }
+    ensures keeps { KeepsSender to.old to.new }
+    ensures turned { Turned part.old part.new (S.state source.old) (S.state source.new)
+        (K.state sink.old) (K.state sink.new) (sent to.old) (sent to.new) result }
+{
+    match source.read(buf.as_mut_slice()) {
+        Err(_) => Turn::ReadFailed,
+        Ok(0) => Turn::Ended,
+        Ok(count) => {
+            let bytes = &buf[..count];
+            part.hear(rt, alloc, bytes, to);
+            if offer(sink, bytes, false) {
+                Turn::WriteFailed
+            } else {
+                Turn::More
+            }
+        }
+    }
+}
+
+/// Hands on what the source gives, as it comes, to its end or to a failure. Each line is sent to the
+/// log before the bytes that end it are handed on. At last the sink is closed.
+pub fn hand_on<S: Source, K: Closes, R: Wait>(
+    rt: &R,
+    alloc: Global,
+    source: &mut S,
+    sink: &mut K,
+    buf: &mut Vec<u8>,
+    part: &mut Part,
+    to: &mut PipeSend,
+) -> PassEnd
+    requires room { 0 < vec_len buf.old }
+    requires sender { IsSender to.old }
+    requires part { part.old ≡ fresh to.old.peer }
+    requires unsent { sent to.old ≡ [] }
+    ensures keeps { KeepsSender to.old to.new }
+    ensures passed { Passed to.old.peer (S.state source.old) (S.state source.new)
+        (K.state sink.old) (K.state sink.new) (sent to.new) result }
+{
+    for _ in rt.forever() {
+        let turn = pass_turn(rt, alloc, source, sink, buf, part, to);
+        if turn.is_last() {
+            part.end(rt, alloc, to);
+            sink.close();
+            return PassEnd {
+                read_failed: turn.has_failed_to_read(),
+                write_failed: turn.has_failed_to_write(),
+                has_lacked_memory: part.has_lacked_memory(),
+            };
+        }
+    }
+    unreachable!()
+}
+
+/// Nobody reads from a sink in memory.
+impl Closes for MemSink {
+    fn close(&mut self) {}
+}
+
+impl Closes for NullSink {
+    fn close(&mut self) {}
+}

@@ -1,0 +1,184 @@
+// Both directions beside the log.
+ghost use Rattle.std.specs.Prelude.{◌≡◌, ◌≤◌, is_some, vec_len};
+ghost use Rattle.event_pipe.specs.Ends.{IsFreshTaker, KeepsSender, KeepsTaker, AreOne, sent, taken};
+ghost use Rattle.event_pipe.specs.declared.message.Peer.TheVariants as peers;
+ghost use Rattle.sink_offers.specs.Streams.{sinks, streams, log_state};
+ghost use Rattle.tap_runner.specs.Logging.{Logged};
+ghost use Rattle.tap_runner.specs.Passing.{Passed};
+ghost use Rattle.tap_runner.specs.Ran.{Ran, IsReady, IsReadyWay};
+ghost use denote.Param.Send.{IsSync};
+
+use crate::{Closes, Part, PassEnd, hand_on, keep_log};
+use event_pipe::{Pipe, PipeSend, PipeTake};
+use line_io::{Out, Sink, Source};
+use std::alloc::Global;
+use std::sync::Wait;
+use std::thread::{Threads, join_mut};
+
+/// What one direction needs: where the marks of its lines go, its open line, and the room for what
+/// is read at a time.
+#[derive(Drop)]
+pub struct Way {
+    pub to: PipeSend,
+    pub part: Part,
+    pub buf: Vec<u8>,
+}
+
+/// How a run of both directions ended.
+#[derive(Clone, Copy, Debug, PartialEq, Eq)]
+pub struct TapEnd {
+    pub bridge: PassEnd,
+    pub engine: PassEnd,
+    pub log_failed: bool,
+}
+
+// Hands on what the engine writes, beside the log.
+fn run_engine<S: Source + Send, O: Closes + Send, L: Sink + Send, R: Threads + Wait + Sync>(
+    rt: &R,
+    alloc: Global,
+    up: &mut Way,
+    taker: &mut PipeTake,
+    source: &mut S,
+    output: &mut O,
+    log: &mut Option<L>,
+    text: &mut Out,
+) -> (PassEnd, bool)
+    requires room { 65537 ≤ text.old.room }
+    requires up { IsReadyWay up.old peers.Engine }
+    requires taker { IsFreshTaker taker.old }
+    ensures up { KeepsSender up.old.to up.new.to }
+    ensures taker { KeepsTaker taker.old taker.new }
+    ensures passed { Passed peers.Engine (S.state source.old) (S.state source.new)
+        (O.state output.old) (O.state output.new) (sent up.new.to) result.0 }
+    ensures kept { is_some log.new ≡ is_some log.old }
+    ensures logged { Logged (taken taker.new)
+        (log_state L.state log.old) (log_state L.state log.new) result.1 }
+{
+    join_mut(
+        rt,
+        &mut ||
+            requires { IsReady up.now.to up.now.part (vec_len up.now.buf) peers.Engine }
+        {
+            hand_on(
+                rt,
+                alloc,
+                source,
+                output,
+                &mut up.buf,
+                &mut up.part,
+                &mut up.to,
+            )
+        },
+        &mut ||
+            requires { IsFreshTaker taker.now × (65537 ≤ text.now.room) }
+        { keep_log(rt, taker, log, text) },
+    )
+}
+
+// Hands on what both write, beside the log.
+fn run_both<
+    I: Source + Send,
+    S: Source + Send,
+    O: Closes + Send,
+    E: Closes + Send,
+    L: Sink + Send,
+    R: Threads + Wait + Sync,
+>(
+    rt: &R,
+    alloc: Global,
+    down: &mut Way,
+    up: &mut Way,
+    taker: &mut PipeTake,
+    input: &mut I,
+    source: &mut S,
+    output: &mut O,
+    engine: &mut E,
+    log: &mut Option<L>,
+    text: &mut Out,
+) -> (PassEnd, (PassEnd, bool))
+    requires room { 65537 ≤ text.old.room }
+    requires down { IsReadyWay down.old peers.Iface }
+    requires up { IsReadyWay up.old peers.Engine }
+    requires taker { IsFreshTaker taker.old }
+    ensures down { KeepsSender down.old.to down.new.to }
+    ensures up { KeepsSender up.old.to up.new.to }
+    ensures taker { KeepsTaker taker.old taker.new }
+    ensures from_bridge { Passed peers.Iface (I.state input.old) (I.state input.new)
+        (E.state engine.old) (E.state engine.new) (sent down.new.to) result.0 }
+    ensures from_engine { Passed peers.Engine (S.state source.old) (S.state source.new)
+        (O.state output.old) (O.state output.new) (sent up.new.to) result.1.0 }
+    ensures kept { is_some log.new ≡ is_some log.old }
+    ensures logged { Logged (taken taker.new)
+        (log_state L.state log.old) (log_state L.state log.new) result.1.1 }
+{
+    join_mut(
+        rt,
+        &mut ||
+            requires { IsReady down.now.to down.now.part (vec_len down.now.buf) peers.Iface }
+        {
+            hand_on(
+                rt,
+                alloc,
+                input,
+                engine,
+                &mut down.buf,
+                &mut down.part,
+                &mut down.to,
+            )
+        },
+        &mut ||
+            requires { IsSync R.row × (65537 ≤ text.now.room)
+                × IsReady up.now.to up.now.part (vec_len up.now.buf) peers.Engine
+                × IsFreshTaker taker.now }
+        { run_engine(rt, alloc, up, taker, source, output, log, text) },
+    )
+}
+
+/// Hands on what the bridge and the engine write, each in a thread of its own, and keeps the log,
+/// until both have ended.
+pub fn run_tap<
+    I: Source + Send,
+    S: Source + Send,
+    O: Closes + Send,
+    E: Closes + Send,
+    L: Sink + Send,
+    R: Threads + Wait + Sync,
+>(
+    rt: &R,
+    alloc: Global,
+    down: Way,
+    up: Way,
+    taker: PipeTake,
+    input: &mut I,
+    source: &mut S,
+    output: &mut O,
+    engine: &mut E,
+    log: &mut Option<L>,
+    text: &mut Out,
+) -> TapEnd
+    requires room { 65537 ≤ text.old.room }
+    requires down { IsReadyWay down peers.Iface }
+    requires up { IsReadyWay up peers.Engine }
+    requires taker { IsFreshTaker taker }
+    requires one { AreOne down.to up.to taker }
+    ensures kept { is_some log.new ≡ is_some log.old }
+    ensures ran { Ran
+        (streams (I.state input.old) (S.state source.old)
+        (sinks (O.state output.old) (E.state engine.old) (log_state L.state log.old)))
+        (streams (I.state input.new) (S.state source.new)
+        (sinks (O.state output.new) (E.state engine.new) (log_state L.state log.new)))
+        result }
+{
+    let mut down = down;
+    let mut up = up;
+    let mut taker = taker;
+    let (bridge, (from_engine, log_failed)) = run_both(
+        rt, alloc, &mut down, &mut up, &mut taker, input, source, output, engine, log, text,
+    );
+    Pipe::finish(down.to, up.to, taker);
+    TapEnd {
+        bridge,
+        engine: from_engine,
+        log_failed,
+    }
+}

@@ -1,0 +1,149 @@
+// One run of the tap over a host.
+ghost use Rattle.std.specs.Prelude.{◌≡◌, ◌<◌, ◌||◌, length, IfOk, IfErr, OnOk, OnErr};
+ghost use Rattle.child_engine.specs.Hosts.{IsUnread, IsUnwritten, with_run};
+ghost use Rattle.host_run.specs.Early.{AreEarly};
+ghost use Rattle.host_run.specs.Outside.{outside, unused};
+ghost use Rattle.tap_runner.specs.Parts.{AreReady};
+ghost use Rattle.tap_runner.specs.Tapped.{Leaves};
+
+use crate::parts::{Parts, make_parts};
+use crate::{Closes, run_tap};
+use child_engine::{Host, HostFault, Started};
+use host_run::{
+    Failures, Opened, TriedThreads, close_log, is_open_failure, is_open_memory, only_memory,
+    only_start, open_log,
+};
+use line_io::Source;
+use std::alloc::Global;
+use std::sync::Wait;
+use std::thread::Threads;
+
+fn either(a: bool, b: bool) -> bool
+    ensures { result ≡ (a || b) }
+{
+    a || b
+}
+
+// What a run needs, and the engine that was started.
+struct Ready<S, K, P> {
+    parts: Parts,
+    run: Started<S, K, P>,
+}
+
+// The run of an engine that was started.
+fn run_started<I: Source + Send, O: Closes + Send, H: Host, R: Threads + Wait + Sync>(
+    rt: &R,
+    alloc: Global,
+    ready: Ready<H::Src, H::Snk, H::Kid>,
+    log_name: &str,
+    input: &mut I,
+    output: &mut O,
+    host: &mut H,
+) -> Failures
+where
+    H::Snk: Closes,
+    requires parts { AreReady ready.parts }
+    requires source { IsUnread (H.Src.state ready.run.src) }
+    requires sink { IsUnwritten (H.Snk.state ready.run.snk) }
+    requires books { H.books host.old ≡ with_run unused }
+    ensures { Leaves
+        (outside (I.state input.old) (O.state output.old) (H.faults host.old)
+        (H.books host.old))
+        (outside (I.state input.new) (O.state output.new) (H.faults host.new)
+        (H.books host.new))
+        result }
+{
+    let Ready { parts, run } = ready;
+    let Parts {
+        down,
+        up,
+        taker,
+        mut text,
+    } = parts;
+    let Started {
+        mut src,
+        mut snk,
+        kid,
+    } = run;
+    let Opened { mut log, fault } = open_log(host, alloc, log_name);
+    let end = run_tap(
+        rt, alloc, down, up, taker, input, &mut src, output, &mut snk, &mut log, &mut text,
+    );
+    let waited = host.close(Started { src, snk, kid });
+    close_log(host, log);
+    Failures {
+        memory: either(
+            is_open_memory(fault),
+            either(end.bridge.has_lacked_memory, end.engine.has_lacked_memory),
+        ),
+        iface_read: end.bridge.read_failed,
+        iface_write: end.engine.write_failed,
+        engine_read: end.engine.read_failed,
+        engine_write: end.bridge.write_failed,
+        engine_start: false,
+        log: either(is_open_failure(fault), end.log_failed),
+        engine_wait: waited.is_err(),
+    }
+}
+
+// Takes the memory of a run, and starts the engine.
+fn start<H: Host, R: Threads>(
+    rt: &R,
+    alloc: Global,
+    words: &[String],
+    host: &mut H,
+) -> Result<Ready<H::Src, H::Snk, H::Kid>, Failures>
+    requires words { 0 < length words.now }
+    requires unused { H.books host.old ≡ unused }
+    ensures parts { IfOk result (λ ready. AreReady ready.parts) }
+    ensures source { IfOk result (λ ready. IsUnread (H.Src.state ready.run.src)) }
+    ensures sink { IfOk result (λ ready. IsUnwritten (H.Snk.state ready.run.snk)) }
+    ensures books { OnOk result (H.books host.new ≡ with_run unused) }
+    ensures faults { OnOk result (H.faults host.new ≡ H.faults host.old) }
+    ensures unstarted { OnErr result (H.books host.new ≡ unused) }
+    ensures early { IfErr result (AreEarly (H.faults host.old) (H.faults host.new)) }
+{
+    let Ok(parts) = make_parts(alloc) else {
+        return Err(only_memory());
+    };
+    let threads = TriedThreads::ask(rt);
+    if !threads.were_given() {
+        threads.join(rt);
+        return Err(only_memory());
+    }
+    let started = host.start(alloc, words);
+    threads.join(rt);
+    match started {
+        Ok(run) => Ok(Ready { parts, run }),
+        Err(HostFault::NoMemory) => Err(only_memory()),
+        Err(HostFault::Failed) => Err(only_start()),
+    }
+}
+
+/// Starts the engine, opens the log, hands on what the bridge and the engine write, and closes the
+/// run and the log. A log that cannot be opened is left out.
+pub fn tap_run<I: Source + Send, O: Closes + Send, H: Host, R: Threads + Wait + Sync>(
+    rt: &R,
+    alloc: Global,
+    log_name: &str,
+    words: &[String],
+    input: &mut I,
+    output: &mut O,
+    host: &mut H,
+) -> Failures
+where
+    H::Snk: Closes,
+    requires words { 0 < length words.now }
+    requires unused { H.books host.old ≡ unused }
+    ensures { Leaves
+        (outside (I.state input.old) (O.state output.old) (H.faults host.old)
+        (H.books host.old))
+        (outside (I.state input.new) (O.state output.new) (H.faults host.new)
+        (H.books host.new))
+        result }
+{
+    match start(rt, alloc, words, host) {
+        Ok(ready) => run_started(rt, alloc, ready, log_name, input, output, host),
+        Err(failures) => failures,
+    }
+}
