@@ -5,6 +5,7 @@
  * Prints one line: start (from fork to `done=1`), usermove to go, bestmove to move and usermove to
  * move as median and 99th percentile in microseconds, thinking lines a second, the most memory in
  * kB, and processor milliseconds of one idle second. TIMES is the file that the engine writes.
+ * With 0 rounds it prints the start in microseconds, and nothing else is measured.
  */
 #include <poll.h>
 #include <signal.h>
@@ -123,6 +124,13 @@ int main(int argc, char **argv) {
   say("xboard\nprotover 2\n");
   for (char *line = hear(); !strstr(line, "done=1"); line = hear()) {}
   long ready = now();
+  if (rounds == 0) {
+    printf("%.1f\n", (ready - started) / 1e3);
+    say("quit\n");
+    close(to);
+    waitpid(pid, NULL, 0);
+    return 0;
+  }
   say("new\nlevel 0 5 0\npost\nping 1\n");
   hear_until("pong 1");
   int thinking = 0;

@@ -1,12 +1,14 @@
 -- The steps of the channel keep its rule.
-use Rattle.std.proofs.Common.{◌⊎◌, ◌≡◌, ◌≢◌, ℕ, ◌+◌, ◌<◌, zero, suc, List, [], ◌∷◌, ◌++◌, length, Bool, true, false, cond, slice_set, ◌==◌, ◌||◌, refl, sym, ap, subst, ◌∙◌, arith, append_assoc, append-nil, inl, inr}
+use Rattle.std.proofs.Common.{◌⊎◌, ◌≡◌, ◌≢◌, ℕ, ◌+◌, ◌<◌, ◌≤◌, zero, suc, List, [], ◌∷◌, ◌++◌, length, Bool, true, false, cond, slice_set, ◌==◌, ◌||◌, refl, sym, ap, subst, ◌∙◌, arith, append_assoc, append-nil, inl, inr}
 use Rattle.std.proofs.lemmas.Bool.Decides.{nat_tests}
+use Rattle.std.proofs.lemmas.List.{length-append}
 use mathlib.Core.Option.{Option, some, none, some-injective, some-ne-none}
 use lib.ListN.{get_elem?}
 use Rattle.atomic_table.proofs.Lists.{at_set}
 use Rattle.crossbeam_channel.specs.Fifo.{Pushes, Pops, Forks, Merges, Learns}
 use Rattle.line_io.specs.Event.{Event}
 use Rattle.event_pipe.specs.declared.pipe.Known.{Known}
+use Rattle.event_pipe.specs.declared.pipe.TheConstants.{CHANNEL_ROOM}
 use Rattle.event_pipe.specs.declared.message.Peer.{Peer}
 use Rattle.event_pipe.specs.declared.message.Peer.TheVariants as peers
 use Rattle.event_pipe.specs.declared.message.What.{What}
@@ -97,6 +99,7 @@ begins = record {
   sent = λ _. [];
   taken = [];
   each = λ _. refl;
+  room = omega arith;
   orderly = λ _. tt;
   good = tt;
   fits = λ k u at. elim (at_end [] idle u k at) [
@@ -158,8 +161,11 @@ orderly_more : (b : Bool) (xs : List Event) (x : Event) → Orderly xs → (b �
 orderly_more true xs x o e = orderly_snoc xs x o (e refl)
 orderly_more false xs x o e = o
 
-pub puts : (cap pass : ℕ) (v : Known) (x : Event) → v.role ≡ role_of_event x → v.role ≢ 3 → v.role ≢ 0 → ended v.sent ≡ false → is_good x ≡ true → Pushes Delivers cap pass v x (Adds v x)
-puts cap pass v x role n3 n0 on good items views room d at =
+one_more : (items : List Event) (x : Event) (cap : ℕ) → cap ≡ CHANNEL_ROOM → length items < cap → length (items ++ x ∷ []) ≤ CHANNEL_ROOM
+one_more items x cap e short = let l = length-append items (x ∷ []) in omega arith
+
+pub puts : (cap pass : ℕ) (v : Known) (x : Event) → cap ≡ CHANNEL_ROOM → v.role ≡ role_of_event x → v.role ≢ 3 → v.role ≢ 0 → ended v.sent ≡ false → is_good x ≡ true → Pushes Delivers cap pass v x (Adds v x)
+puts cap pass v x full role n3 n0 on good items views short d at =
     let w : Known = record v { sent = v.sent ++ x ∷ [] } in
     let mine = d.fits pass v at in (
       w,
@@ -168,6 +174,7 @@ puts cap pass v x role n3 n0 on good items views room d at =
         sent = more d.sent x;
         taken = d.taken;
         each = λ r. ap (of r) (sym (append_assoc d.taken items (x ∷ []))) ∙ of_more d.sent x r (d.taken ++ items) (d.each r);
+        room = one_more items x cap full short;
         orderly = λ r. orderly_more (is_of r x) (d.sent r) x (d.orderly r) (λ is. ap ended (ap d.sent (sym (is_own x r is) ∙ sym role) ∙ sym (mine.sends n3 n0)) ∙ on);
         good = subst AllGood (append_assoc d.taken items (x ∷ [])) (all_snoc (d.taken ++ items) x d.good (good, λ e. n3 (role ∙ e)));
         fits = λ k u there. elim (at_set views pass k w u there) [
@@ -201,6 +208,7 @@ takes pass v zero' x items views d at =
         sent = d.sent;
         taken = d.taken ++ x ∷ [];
         each = λ r. ap (of r) (append_assoc d.taken (x ∷ []) items) ∙ d.each r;
+        room = let more = d.room in omega arith;
         orderly = d.orderly;
         good = subst AllGood (sym (append_assoc d.taken (x ∷ []) items)) d.good;
         fits = λ k u there. elim (at_set views pass k w u there) [
@@ -250,6 +258,7 @@ forks role pass v zero' made low joined items views d at =
       sent = d.sent;
       taken = d.taken;
       each = d.each;
+      room = d.room;
       orderly = d.orderly;
       good = d.good;
       fits = λ k u there. elim (at_end vs (sender role) u k there) [
@@ -307,6 +316,7 @@ module _ (role pass : ℕ) (v : Known) (from : ℕ) (w both : Known) (zero' : v.
         sent = d.sent;
         taken = d.taken;
         each = d.each;
+        room = d.room;
         orderly = d.orderly;
         good = d.good;
         fits = λ k u there. elim (at_set vs from k (sender 3) u there) [
@@ -363,6 +373,7 @@ totals pass v zero' joined items views d at =
     record {
       first = ap (λ l. of 1 (l ++ items)) (mine.takes zero') ∙ d.each 1 ∙ sym one.1;
       second = ap (λ l. of 2 (l ++ items)) (mine.takes zero') ∙ d.each 2 ∙ sym two.1;
+      room = d.room;
       first_orderly = subst Orderly (sym one.1) (d.orderly 1);
       second_orderly = subst Orderly (sym two.1) (d.orderly 2);
     }
@@ -383,6 +394,37 @@ came_second v a b x y e f items t =
     let taken : b.taken ≡ v.taken = ap (λ (h : Known). h.taken) f ∙ ap (λ (h : Known). h.taken) e in
     let second : b.second ≡ y.sent = ap (λ (h : Known). h.second) f in
     came peers.Engine v.taken items y.sent (ap (λ l. of 2 (l ++ items)) (sym taken) ∙ t.second ∙ second) (subst Orderly second t.second_orderly)
+
+-- an event counts for one role at most
+count_one : (a b : Bool) (l : ℕ) (ms ns : List Event) → length ms + length ns ≤ l → (a ≡ true → b ≡ true → ⊥) → (x : Event)
+    → length (cond a (x ∷ ms) ms) + length (cond b (x ∷ ns) ns) ≤ suc l
+count_one true true l ms ns le apart x = absurd (apart refl refl)
+count_one true false l ms ns le apart x = omega arith
+count_one false true l ms ns le apart x = omega arith
+count_one false false l ms ns le apart x = omega arith
+
+both_roles : (l : List Event) → length (of 1 l) + length (of 2 l) ≤ length l
+both_roles [] = omega arith
+both_roles (x ∷ l) =
+    count_one (is_of 1 x) (is_of 2 x) (length l) (of 1 l) (of 2 l) (both_roles l)
+    (λ a b. let e = is_own x 1 a in let f = is_own x 2 b in omega arith) x
+
+within : (taken items sent_first sent_second : List Event) → of 1 (taken ++ items) ≡ sent_first → of 2 (taken ++ items) ≡ sent_second → length items ≤ CHANNEL_ROOM
+    → length sent_first + length sent_second ≤ length taken + CHANNEL_ROOM
+within taken items first second e f room =
+    let all = both_roles (taken ++ items) in
+    let l = length-append taken items in
+    let one = ap length e in
+    let two = ap length f in
+    omega arith
+
+pub came_within : (v a b x y : Known) → a ≡ joined_first v x → b ≡ joined_second a y → (items : List Event) → Total b items
+    → length x.sent + length y.sent ≤ length v.taken + CHANNEL_ROOM
+came_within v a b x y e f items t =
+    let taken : b.taken ≡ v.taken = ap (λ (h : Known). h.taken) f ∙ ap (λ (h : Known). h.taken) e in
+    let first : b.first ≡ x.sent = ap (λ (h : Known). h.first) f ∙ ap (λ (h : Known). h.first) e in
+    let second : b.second ≡ y.sent = ap (λ (h : Known). h.second) f in
+    within v.taken items x.sent y.sent (ap (λ l. of 1 (l ++ items)) (sym taken) ∙ t.first ∙ first) (ap (λ l. of 2 (l ++ items)) (sym taken) ∙ t.second ∙ second) t.room
 
 pub sent_role : (p : Peer) (w : What) → role_of_event (sent_event p w) ≡ role_of p
 sent_role peers.Iface (says.Line line) = refl

@@ -1,11 +1,12 @@
 -- The ends of a pipe.
-use Rattle.std.specs.Prelude.{◌≡◌, List, [], ◌++◌, true}
+use Rattle.std.specs.Prelude.{◌≡◌, ◌≤◌, ◌+◌, List, [], ◌++◌, length, true}
 use Rattle.crossbeam_channel.specs.Claims.{view, IsSeatAt}
-use Rattle.crossbeam_channel.specs.Ends.{sends_on, receives_on}
+use Rattle.crossbeam_channel.specs.Ends.{sends_on, receives_on, ruled_capacity}
 use Rattle.line_io.specs.Event.{Event}
 use Rattle.event_pipe.specs.declared.message.Peer.{Peer}
 use Rattle.event_pipe.specs.declared.pipe.PipeSend.{PipeSend}
 use Rattle.event_pipe.specs.declared.pipe.PipeTake.{PipeTake}
+use Rattle.event_pipe.specs.declared.pipe.TheConstants.{CHANNEL_ROOM}
 use Rattle.event_pipe.specs.Message.{role_of}
 use Rattle.event_pipe.specs.Rule.{sent_by, ended}
 
@@ -13,6 +14,8 @@ use Rattle.event_pipe.specs.Rule.{sent_by, ended}
 pub record IsSender (s : PipeSend) : Type 0 where
   pub seat : IsSeatAt (sends_on s.sender) s.pass
   pub role : (view s.pass).role ≡ role_of s.peer
+  -- the channel takes an event only while it holds fewer
+  pub room : ruled_capacity (sends_on s.sender) ≡ CHANNEL_ROOM
 
 -- the taker of a channel, which made both senders
 pub record IsTaker (t : PipeTake) : Type 0 where
@@ -46,6 +49,10 @@ KeepsTaker old new = IsTaker new × (receives_on new.receiver ≡ receives_on ol
 -- the three are the ends of one channel
 abbrev pub AreOne : PipeSend → PipeSend → PipeTake → Type 0
 AreOne a b t = (sends_on a.sender ≡ receives_on t.receiver) × (sends_on b.sender ≡ receives_on t.receiver)
+
+-- both senders together are at most the channel's room ahead of the taker
+abbrev pub AreWithinRoom : PipeSend → PipeSend → PipeTake → Type 0
+AreWithinRoom a b t = length (sent a) + length (sent b) ≤ length (taken t) + CHANNEL_ROOM
 
 -- Of what a peer's sender sent a front was taken, and all of it where that has the peer's end.
 pub record Came (peer : Peer) (taken sent : List Event) : Type 0 where

@@ -1,10 +1,11 @@
 -- The rule of the channel: of each reader, what it has sent is what was taken of it, and then what the channel holds of it.
-use Rattle.std.specs.Prelude.{◌≡◌, ◌≢◌, ℕ, ◌<◌, List, [], ◌∷◌, ◌++◌, Bool, true, false, filter, ◌==◌}
+use Rattle.std.specs.Prelude.{◌≡◌, ◌≢◌, ℕ, ◌<◌, ◌≤◌, List, [], ◌∷◌, ◌++◌, length, Bool, true, false, filter, ◌==◌}
 use Rattle.std.specs.List.{list_any}
 use mathlib.Core.Option.{Option, some, none}
 use lib.ListN.{get_elem?}
 use Rattle.line_io.specs.Event.{Event}
 use Rattle.event_pipe.specs.declared.pipe.Known.{Known}
+use Rattle.event_pipe.specs.declared.pipe.TheConstants.{CHANNEL_ROOM}
 use Rattle.event_pipe.specs.declared.message.Peer.{Peer}
 use Rattle.event_pipe.specs.Message.{role_of, role_of_event, is_end, is_good}
 
@@ -70,6 +71,8 @@ pub record Delivers (items : List Event) (views : List Known) : Type 0 where
   pub taken : List Event
   -- what a role has sent is what was taken of it, and then what the channel holds of it
   pub each : (role : ℕ) → of role (taken ++ items) ≡ sent role
+  -- it never holds more
+  pub room : length items ≤ CHANNEL_ROOM
   -- nothing was sent behind an end
   pub orderly : (role : ℕ) → Orderly (sent role)
   -- each line is within the limit, and has no line feed
@@ -80,6 +83,7 @@ pub record Delivers (items : List Event) (views : List Known) : Type 0 where
 pub record Total (v : Known) (items : List Event) : Type 0 where
   pub first : of 1 (v.taken ++ items) ≡ v.first
   pub second : of 2 (v.taken ++ items) ≡ v.second
+  pub room : length items ≤ CHANNEL_ROOM
   pub first_orderly : Orderly v.first
   pub second_orderly : Orderly v.second
 

@@ -8,7 +8,7 @@ mod reader;
 
 pub use message::{Bytes, Peer, Sent, What};
 pub use pipe::{
-    AllSent, InOrder, JoinEngine, JoinIface, Known, Pipe, PipeSend, PipeTake, Sending, SplitEngine,
-    SplitIface, Taking,
+    AllSent, CHANNEL_ROOM, InOrder, JoinEngine, JoinIface, Known, Pipe, PipeSend, PipeTake,
+    Sending, SplitEngine, SplitIface, Taking,
 };
 pub use reader::{ReadEnd, read_pipe};

@@ -4,7 +4,7 @@ ghost use Rattle.crossbeam_channel.specs.Claims.{view};
 ghost use Rattle.crossbeam_channel.specs.Ends.{sends_on, receives_on};
 ghost use Rattle.event_pipe.specs.Message.{role_of, sent_event, is_good};
 ghost use Rattle.event_pipe.specs.Rule.{Adds, Gets, ended, Follows};
-ghost use Rattle.event_pipe.specs.Ends.{IsSender, IsTaker, IsFreshSender, IsFreshTaker, KeepsSender, KeepsTaker, AreOne, Came, sent, taken};
+ghost use Rattle.event_pipe.specs.Ends.{IsSender, IsTaker, IsFreshSender, IsFreshTaker, KeepsSender, KeepsTaker, AreOne, AreWithinRoom, Came, sent, taken};
 ghost use Rattle.event_pipe.specs.declared.message.Peer.TheVariants as peers;
 
 use crate::{Peer, Sent, What};
@@ -15,6 +15,9 @@ use std::alloc::Global;
 use std::collections::LinkedList;
 use std::sync::Wait;
 use std::thread;
+
+/// So many events fit into the channel. A sender that finds it full waits.
+pub const CHANNEL_ROOM: usize = 64;
 
 /// What a pass knows. Contracts speak of it; no value of it is made.
 pub struct Known {
@@ -185,7 +188,7 @@ impl PipeTake {
     }
 }
 
-/// A channel of 64 events from two senders to one taker.
+/// A channel of `CHANNEL_ROOM` events from two senders to one taker.
 pub struct Pipe;
 
 impl Pipe {
@@ -196,7 +199,7 @@ impl Pipe {
         ensures taker { IfOk result (λ r. IsFreshTaker r.2) }
         ensures one { IfOk result (λ r. AreOne r.0 r.1 r.2) }
     {
-        let (sender, receiver, mut pass) = bounded_with(alloc, 64)?;
+        let (sender, receiver, mut pass) = bounded_with(alloc, CHANNEL_ROOM)?;
         let second = sender.try_clone()?;
         let iface = sender.another::<SplitIface>(&mut pass);
         let engine = sender.another::<SplitEngine>(&mut pass);
@@ -223,6 +226,7 @@ impl Pipe {
         requires one { AreOne iface engine taker }
         ensures iface { Came peers.Iface (taken taker) (sent iface) }
         ensures engine { Came peers.Engine (taken taker) (sent engine) }
+        ensures room { AreWithinRoom iface engine taker }
     {
         let PipeSend {
             sender,

@@ -2,7 +2,7 @@ use Rattle.std.proofs.Common.{◌∙◌, ap}
 use Rattle.crossbeam_channel.specs.Claims.{view}
 use Rattle.event_pipe.specs.declared.pipe.Known.{Known}
 use Rattle.event_pipe.specs.Message.{role_of}
-use Rattle.event_pipe.proofs.Keeps.{merges_first, merges_second, totals, came_first, came_second}
+use Rattle.event_pipe.proofs.Keeps.{merges_first, merges_second, totals, came_first, came_second, came_within}
 use Rattle.event_pipe.proofs.pipe.Pipe.finish.Goals as goal
 
 pub absorb-requires-clause-rule : goal.absorb-requires-clause-rule
@@ -24,3 +24,6 @@ returns-clause-iface c = came_first (view c.args.taker.pass) (view c.absorb.new.
 
 pub returns-clause-engine : goal.returns-clause-engine
 returns-clause-engine c = came_second (view c.args.taker.pass) (view c.absorb.new.pass) (view c.absorb-2.new.pass) (view c.args.iface.pass) (view c.args.engine.pass) c.absorb.ensures.rule c.absorb-2.ensures.rule _ c.learn_as.ensures.rule.1
+
+pub returns-clause-room : goal.returns-clause-room
+returns-clause-room c = came_within (view c.args.taker.pass) (view c.absorb.new.pass) (view c.absorb-2.new.pass) (view c.args.iface.pass) (view c.args.engine.pass) c.absorb.ensures.rule c.absorb-2.ensures.rule _ c.learn_as.ensures.rule.1
