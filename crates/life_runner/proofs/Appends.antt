@@ -1,0 +1,152 @@
+-- Events in a row, and more of them.
+use Rattle.std.proofs.Common.{◌≡◌, ◌≢◌, ℕ, List, [], ◌∷◌, ◌++◌, Bool, true, false, refl, sym, ap, subst, ◌∙◌, arith, append-nil, append_assoc}
+use Rattle.std.specs.Io.KnownBytes.{Appends}
+use Rattle.std.proofs.KnownBytes.{Appends-nil, Appends-trans}
+use Rattle.line_io.specs.Event.{Event}
+use Rattle.line_io.specs.Source.{Received}
+use Rattle.engine_revival.specs.declared.state.State.{State}
+use Rattle.engine_revival.specs.Script.{AllMayHappen, state_after, state_behind, texts_from, event_text, may_happen}
+use Rattle.event_pipe.specs.Counts.{Tells}
+use Rattle.sink_offers.specs.declared.offering.LoopEnd.{LoopEnd}
+use Rattle.sink_offers.specs.Streams.{Sinks, TookFront, Offered}
+use Rattle.sink_offers.specs.Took.{LogTook}
+use Rattle.life_runner.specs.Played.{event_up, event_child, lines_up, lines_to_child}
+use Rattle.life_runner.specs.Looped.{Offers, Played, PlayedUp}
+
+pub behind_append : (s : State) (es fs : List Event) → state_behind s (es ++ fs) ≡ state_behind (state_behind s es) fs
+behind_append s [] fs = refl
+behind_append s (e ∷ es) fs = behind_append (state_after s e) es fs
+
+pub may_append : (s : State) (es fs : List Event) → AllMayHappen s es → AllMayHappen (state_behind s es) fs → AllMayHappen s (es ++ fs)
+may_append s [] fs a b = b
+may_append s (e ∷ es) fs a b = (a.0, may_append (state_after s e) es fs a.1 b)
+
+pub up_append : (s : State) (es fs : List Event) → lines_up s (es ++ fs) ≡ lines_up s es ++ lines_up (state_behind s es) fs
+up_append s [] fs = refl
+up_append s (e ∷ es) fs =
+    ap (λ (l : List ℕ). event_up s e ++ l) (up_append (state_after s e) es fs) ∙ sym (append_assoc (event_up s e) (lines_up (state_after s e) es) (lines_up (state_behind (state_after s e) es) fs))
+
+pub child_append : (s : State) (es fs : List Event) → lines_to_child s (es ++ fs) ≡ lines_to_child s es ++ lines_to_child (state_behind s es) fs
+child_append s [] fs = refl
+child_append s (e ∷ es) fs =
+    ap (λ (l : List ℕ). event_child s e ++ l) (child_append (state_after s e) es fs)
+    ∙ sym (append_assoc (event_child s e) (lines_to_child (state_after s e) es) (lines_to_child (state_behind (state_after s e) es) fs))
+
+pub text_append : (s : State) (es fs : List Event) → texts_from s (es ++ fs) ≡ texts_from s es ++ texts_from (state_behind s es) fs
+text_append s [] fs = refl
+text_append s (e ∷ es) fs =
+    ap (λ (l : List ℕ). event_text s e ++ l) (text_append (state_after s e) es fs)
+    ∙ sym (append_assoc (event_text s e) (texts_from (state_after s e) es) (texts_from (state_behind (state_after s e) es) fs))
+
+-- TWO OFFERS
+
+some_left : (p q : List ℕ) → p ≢ [] → (p ++ q) ≢ []
+some_left [] q n e = n refl
+some_left (x ∷ p) q n e = cc
+
+some_right : (p q : List ℕ) → q ≢ [] → (p ++ q) ≢ []
+some_right [] q n e = n e
+some_right (x ∷ p) q n e = cc
+
+pub offered_none : (f : Bool) (a : Received) → Offered f f a a []
+offered_none true a = record { stays = λ h. (refl, refl); whole = λ h. cc; front = λ h. cc; count = λ h. cc }
+offered_none false a =
+    record { stays = λ h. cc; whole = λ h. Appends-nil a.taken; front = λ h g. cc; count = λ h. record { later = omega arith; rose = λ x. cc; same = λ x. refl } }
+
+pub offered_both : (f g h : Bool) (a b c : Received) (p q : List ℕ) → Offered f g a b p → Offered g h b c q → Offered f h a c (p ++ q)
+offered_both true true true a b c p q x y =
+    let u = x.stays refl in let v = y.stays refl in record { stays = λ _. (refl, v.1 ∙ u.1); whole = λ z. cc; front = λ z. cc; count = λ z. cc }
+offered_both true true false a b c p q x y = let v = (y.stays refl).0 in cc
+offered_both true false h a b c p q x y = let u = (x.stays refl).0 in cc
+offered_both false true false a b c p q x y = let v = (y.stays refl).0 in cc
+offered_both false true true a b c p q x y =
+    let v = (y.stays refl).1 in
+    let w = x.front refl refl in
+    record {
+      stays = λ z. cc;
+      whole = λ z. cc;
+      front = λ _ _. (
+        some_left p q w.0,
+        record { front = w.1.front; rest = w.1.rest ++ q; is = ap (λ l. l ++ q) w.1.is ∙ append_assoc w.1.front w.1.rest q; took = subst (λ (z : Received). Appends a.taken z.taken w.1.front) (sym v) w.1.took },
+      );
+      count = λ _. subst (λ (z : Received). Tells a.faults z.faults true) (sym v) (x.count refl);
+    }
+offered_both false false false a b c p q x y =
+    let t = (x.count refl).same refl in
+    record {
+      stays = λ z. cc;
+      whole = λ _. Appends-trans a.taken b.taken c.taken p q (x.whole refl) (y.whole refl);
+      front = λ z w. cc;
+      count = λ _. subst (λ n. Tells n c.faults false) t (y.count refl);
+    }
+offered_both false false true a b c p q x y =
+    let t = (x.count refl).same refl in
+    let w = y.front refl refl in
+    record {
+      stays = λ z. cc;
+      whole = λ z. cc;
+      front = λ _ _. (
+        some_right p q w.0,
+        record { front = p ++ w.1.front; rest = w.1.rest; is = ap (λ l. p ++ l) w.1.is ∙ sym (append_assoc p w.1.front w.1.rest); took = Appends-trans a.taken b.taken c.taken p w.1.front (x.whole refl) w.1.took },
+      );
+      count = λ _. subst (λ n. Tells n c.faults true) t (y.count refl);
+    }
+
+pub offered_as : (f g : Bool) (a b : Received) (p q : List ℕ) → q ≡ p → Offered f g a b p → Offered f g a b q
+offered_as f g a b p q e x = subst (λ (l : List ℕ). Offered f g a b l) (sym e) x
+
+-- what a sink that had not failed took of all
+pub took : (f : Bool) (a b : Received) (p : List ℕ) → Offered false f a b p → LogTook p f a b
+took f a b p x = record { whole = λ h. x.whole h; front = λ h. (x.front refl h).1; count = x.count refl }
+
+-- EVENTS THAT WERE PLAYED
+
+pub played_none : (s : State) (a : Sinks) (f : LoopEnd) → Played s s [] a a f f
+played_none s a f =
+    record { may = tt; state_is = refl; offers = record { output = offered_none f.output a.output; engine = offered_none f.engine a.engine; log = offered_none f.log a.log } }
+
+pub played_more : (s s' s'' : State) (es : List Event) (e : Event) (a b c : Sinks) (f g h : LoopEnd) → Played s s' es a b f g → may_happen s' e ≡ true → s'' ≡ state_after s' e
+    → Offers (event_up s' e) (event_child s' e) (event_text s' e) b c g h → Played s s'' (es ++ e ∷ []) a c f h
+played_more s s' s'' es e a b c f g h p m z o =
+    let k = p.state_is in
+    let last = e ∷ [] in
+    record {
+      may = may_append s es last p.may (ap (λ (x : State). may_happen x e) (sym k) ∙ m, tt);
+      state_is = z ∙ ap (λ (x : State). state_after x e) k ∙ sym (behind_append s es last);
+      offers = record {
+        output = offered_as _ _ _ _ _ _ (up_append s es last ∙ ap (λ (x : State). lines_up s es ++ lines_up x last) (sym k) ∙ ap (λ (l : List ℕ). lines_up s es ++ l) (append-nil (event_up s' e))) (offered_both _ _ _ _ _ _ _ _ p.offers.output o.output);
+        engine =
+            offered_as _ _ _ _ _ _ (child_append s es last ∙ ap (λ (x : State). lines_to_child s es ++ lines_to_child x last) (sym k) ∙ ap (λ (l : List ℕ). lines_to_child s es ++ l) (append-nil (event_child s' e)))
+            (offered_both _ _ _ _ _ _ _ _ p.offers.engine o.engine);
+        log = offered_as _ _ _ _ _ _ (text_append s es last ∙ ap (λ (x : State). texts_from s es ++ texts_from x last) (sym k) ∙ ap (λ (l : List ℕ). texts_from s es ++ l) (append-nil (event_text s' e))) (offered_both _ _ _ _ _ _ _ _ p.offers.log o.log);
+      };
+    }
+
+-- OF THE INTERFACE AND THE LOG
+
+pub up_none : (s : State) (o l : Received) (f : LoopEnd) → PlayedUp s s [] o o l l f f
+up_none s o l f = record { may = tt; state_is = refl; up = offered_none f.output o; marks = offered_none f.log l }
+
+pub up_of_all : (s s' : State) (es : List Event) (a b : Sinks) (f g : LoopEnd) → Played s s' es a b f g → PlayedUp s s' es a.output b.output a.log b.log f g
+up_of_all s s' es a b f g p = record { may = p.may; state_is = p.state_is; up = p.offers.output; marks = p.offers.log }
+
+pub up_one : (s s' : State) (e : Event) (o o' l l' : Received) (f g : LoopEnd) → may_happen s e ≡ true → s' ≡ state_after s e → Offered f.output g.output o o' (event_up s e)
+    → Offered f.log g.log l l' (event_text s e) → PlayedUp s s' (e ∷ []) o o' l l' f g
+up_one s s' e o o' l l' f g m z u v =
+    record {
+      may = (m, tt);
+      state_is = z;
+      up = offered_as _ _ _ _ _ _ (append-nil (event_up s e)) u;
+      marks = offered_as _ _ _ _ _ _ (append-nil (event_text s e)) v;
+    }
+
+pub up_both : (s s' s'' : State) (es fs : List Event) (o o' o'' l l' l'' : Received) (f g h : LoopEnd) → PlayedUp s s' es o o' l l' f g → PlayedUp s' s'' fs o' o'' l' l'' g h
+    → PlayedUp s s'' (es ++ fs) o o'' l l'' f h
+up_both s s' s'' es fs o o' o'' l l' l'' f g h x y =
+    let k = x.state_is in
+    record {
+      may = may_append s es fs x.may (subst (λ (z : State). AllMayHappen z fs) k y.may);
+      state_is = y.state_is ∙ ap (λ (z : State). state_behind z fs) k ∙ sym (behind_append s es fs);
+      up = offered_as _ _ _ _ _ _ (up_append s es fs ∙ ap (λ (z : State). lines_up s es ++ lines_up z fs) (sym k)) (offered_both _ _ _ _ _ _ _ _ x.up y.up);
+      marks = offered_as _ _ _ _ _ _ (text_append s es fs ∙ ap (λ (z : State). texts_from s es ++ texts_from z fs) (sym k)) (offered_both _ _ _ _ _ _ _ _ x.marks y.marks);
+    }

@@ -1,0 +1,75 @@
+-- Events in a row, the oldest first: what is given for them.
+use Rattle.std.specs.Prelude.{ℕ, suc, List, [], ◌∷◌, ◌++◌, Bool, true, false, filter, ◌||◌}
+use Rattle.std.specs.List.{list_any}
+use Rattle.line_io.specs.Event.{Event, Iface, IfaceEnd, Engine, EngineLong, EngineEnd}
+use Rattle.engine_revival.specs.declared.state.State.{State}
+use Rattle.engine_revival.specs.Calls.{up_of, child_of}
+use Rattle.engine_revival.specs.Script.{state_before, call_of, state_after}
+
+-- the lines up, and those to the life, that are given for an event
+abbrev pub event_up : State → Event → List ℕ
+event_up s event = up_of (state_before s event) (call_of s event)
+
+abbrev pub event_child : State → Event → List ℕ
+event_child s event = child_of (state_before s event) (call_of s event)
+
+-- the lines that are given for events, one behind the other
+abbrev pub lines_up : State → List Event → List ℕ
+lines_up s [] = []
+lines_up s (event ∷ events) = event_up s event ++ lines_up (state_after s event) events
+
+abbrev pub lines_to_child : State → List Event → List ℕ
+lines_to_child s [] = []
+lines_to_child s (event ∷ events) = event_child s event ++ lines_to_child (state_after s event) events
+
+-- an order, the end of the orders, or a line of the present life
+abbrev pub is_heard : Event → Bool
+is_heard (Iface line) = true
+is_heard IfaceEnd = true
+is_heard (Engine line) = true
+is_heard event = false
+
+-- an order or the end of the orders
+abbrev pub is_order : Event → Bool
+is_order (Iface line) = true
+is_order IfaceEnd = true
+is_order event = false
+
+-- the events that the revival hears; long lines of the interface are passed over
+abbrev pub heard_of : List Event → List Event
+heard_of events = filter is_heard events
+
+-- the marks of an engine's end
+abbrev pub is_close : Event → Bool
+is_close EngineLong = true
+is_close EngineEnd = true
+is_close event = false
+
+abbrev pub has_close : List Event → Bool
+has_close events = list_any is_close events
+
+-- the mark of an engine's end behind which no life was started
+abbrev pub is_refusal : Event → Bool
+is_refusal EngineEnd = true
+is_refusal event = false
+
+abbrev pub has_refusal : List Event → Bool
+has_refusal events = list_any is_refusal events
+
+-- the mark of a life's end, whatever follows
+abbrev pub as_long : Event → Event
+as_long EngineEnd = EngineLong
+as_long event = event
+
+-- without the interface's long lines
+abbrev pub is_told : Event → Bool
+is_told event = is_heard event || is_close event
+
+abbrev pub told_of : List Event → List Event
+told_of events = filter is_told events
+
+-- how many lives have ended by these events
+abbrev pub ends_in : List Event → ℕ
+ends_in [] = 0
+ends_in (EngineLong ∷ events) = suc (ends_in events)
+ends_in (event ∷ events) = ends_in events

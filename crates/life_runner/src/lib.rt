@@ -1,0 +1,12 @@
+//! A life of an engine that is started again: its lines beside the interface's orders, into the revival.
+#![tactic(auto)]
+
+mod life;
+mod looping;
+mod reading;
+#[cfg(test)]
+mod tests;
+
+pub use life::one_life;
+pub use looping::{hear, offer_all, wait_for_ever};
+pub use reading::read_life;
