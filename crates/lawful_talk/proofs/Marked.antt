@@ -1,9 +1,9 @@
 -- The scripts of lawful traces are logs: what marks their lines spell.
-use Rattle.std.proofs.Common.{◌≡◌, ℕ, List, [], ◌∷◌, ◌++◌, map, length, true, ◌||◌, nat_le, Option, Some, is_some, refl, ap, sym, subst, ◌∙◌, arith, append_assoc}
+use Rattle.std.proofs.Common.{◌≡◌, ℕ, List, [], ◌∷◌, ◌++◌, map, length, Bool, true, false, not, ◌&&◌, ◌||◌, nat_le, Option, Some, is_some, refl, ap, sym, subst, ◌∙◌, arith, append_assoc}
 use Rattle.std.specs.List.{AllByRecursion}
 use Rattle.std.specs.Option.{option_to_list}
 use Rattle.std.proofs.lemmas.Bool.Decides.{nat_tests}
-use Rattle.line_io.specs.Event.{Event}
+use Rattle.line_io.specs.Event.{Event, has_feed}
 use Rattle.line_io.specs.Event as events
 use Rattle.line_io.specs.Lines.{parts}
 use Rattle.script_lines.specs.Header.{header_text}
@@ -79,8 +79,15 @@ event_log events.EngineLost t = one_log _ _ (spelled_read (Happens events.Engine
 
 -- LINES
 
+short_bare : (a b : Bool) → a ≡ true → b ≡ false → (a && not b) ≡ true
+short_bare true true e f = cc
+short_bare true false e f = refl
+short_bare false b e f = cc
+
 pub can_be_marked : (text : List ℕ) → IsOneLine text → is_written text ≡ true
-can_be_marked text i = let s : nat_le (length text) 131070 ≡ true = grind (arith, nat_tests, i.short) in rw (s, i.no_feed) refl
+can_be_marked text i =
+    let s : nat_le (length text) 131070 ≡ true = grind (arith, nat_tests, i.short) in
+    short_bare (nat_le (length text) 131070) (has_feed text) s i.no_feed
 
 one_part : (text others : List ℕ) → IsOneLine text → parts ((text ++ 10 ∷ []) ++ others) ≡ text ∷ parts others
 one_part text others i = ap parts (append_assoc text (10 ∷ []) others) ∙ parts_line text others i.no_feed
