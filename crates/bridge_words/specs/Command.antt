@@ -5,6 +5,7 @@ use Rattle.clap.specs.Simple.{on_top}
 use Rattle.clap.specs.Lexer.{usize_max}
 use Rattle.clap.specs.declared.builder.action.ArgAction.TheVariants.{Append}
 use Rattle.clap.specs.declared.builder.value_parser.ValueParser.TheVariants as parsers
+use Rattle.policy_rules.specs.declared.settings.TheConstants.{MOST_MOVES, MOST_SCORE}
 
 -- an option with one value, and the value that it has where no word gives one
 abbrev pub option_rule : Text → Text → Rule
@@ -15,11 +16,11 @@ resign_rule = record (option_rule (codes "Resign") (codes "false")) { parser = S
 
 abbrev pub resign_moves_rule : Rule
 resign_moves_rule =
-    record (option_rule (codes "ResignMoves") (codes "3")) { parser = Some (parsers.Unsigned 1 1000) }
+    record (option_rule (codes "ResignMoves") (codes "3")) { parser = Some (parsers.Unsigned 1 MOST_MOVES) }
 
 abbrev pub resign_score_rule : Rule
 resign_score_rule =
-    record (option_rule (codes "ResignScore") (codes "600")) { parser = Some (parsers.Unsigned 0 100000) }
+    record (option_rule (codes "ResignScore") (codes "600")) { parser = Some (parsers.Unsigned 0 MOST_SCORE) }
 
 abbrev pub show_ponder_rule : Rule
 show_ponder_rule = record (option_rule (codes "ShowPonder") (codes "true")) { parser = Some parsers.Bool }

@@ -6,6 +6,7 @@ use Rattle.std.specs.Str.Parse.{ParsesUnsigned, ExplainsUnsignedError, HasUnsign
 use Rattle.policy_rules.specs.declared.settings.Settings.{Settings}
 use Rattle.bridge_words.specs.Command.{bridge}
 use Rattle.bridge_words.specs.declared.request.Request.{Request}
+use Rattle.policy_rules.specs.declared.settings.TheConstants.{MOST_MOVES, USUAL_MOVES, MOST_SCORE, USUAL_SCORE}
 
 abbrev pub texts_of : {Z : Type 0} → List (Vec ℕ Z) → List Text
 texts_of words = map vec_items words
@@ -59,8 +60,8 @@ pub record IsNumberOf (least most usual : ℕ) (text : Text) (n : ℕ) : Type 0 
 pub record AreAsked (rows : List Row) (s : Settings) : Type 0 where
   pub resign : s.resign ≡ is_true (first_of (codes "Resign") rows)
   pub show_ponder : s.show_ponder ≡ is_true (first_of (codes "ShowPonder") rows)
-  pub resign_moves : IfSome (one_of (codes "ResignMoves") rows) (λ t. IsNumberOf 1 1000 3 t s.resign_moves)
-  pub resign_score : IfSome (one_of (codes "ResignScore") rows) (λ t. IsNumberOf 0 100000 600 t s.resign_score)
+  pub resign_moves : IfSome (one_of (codes "ResignMoves") rows) (λ t. IsNumberOf 1 MOST_MOVES USUAL_MOVES t s.resign_moves)
+  pub resign_score : IfSome (one_of (codes "ResignScore") rows) (λ t. IsNumberOf 0 MOST_SCORE USUAL_SCORE t s.resign_score)
 
 pub record IsAsked (rows : List Row) (request : Request) : Type 0 where
   pub settings : AreAsked rows request.settings

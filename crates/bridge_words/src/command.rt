@@ -5,6 +5,7 @@ ghost use Rattle.bridge_words.specs.Command.{bridge, bare, with_all_options, opt
 
 use clap::builder::ValueParser;
 use clap::{Arg, ArgAction, Command};
+use policy_rules::{MOST_MOVES, MOST_SCORE};
 use std::alloc::{AllocError, Global};
 
 // An option with one value, and the value that it has where no word gives one.
@@ -26,14 +27,17 @@ fn resign_moves<'a>(alloc: Global) -> Arg<'a>
     ensures rule { rule_of result ≡ resign_moves_rule }
     ensures local { result.global ≡ false }
 {
-    option(alloc, "ResignMoves", "3").value_parser(ValueParser::unsigned(1, 1000))
+    option(alloc, "ResignMoves", "3").value_parser(ValueParser::unsigned(1, u64::from(MOST_MOVES)))
 }
 
 fn resign_score<'a>(alloc: Global) -> Arg<'a>
     ensures rule { rule_of result ≡ resign_score_rule }
     ensures local { result.global ≡ false }
 {
-    option(alloc, "ResignScore", "600").value_parser(ValueParser::unsigned(0, 100_000))
+    option(alloc, "ResignScore", "600").value_parser(ValueParser::unsigned(
+        0,
+        u64::from(MOST_SCORE),
+    ))
 }
 
 fn show_ponder<'a>(alloc: Global) -> Arg<'a>

@@ -9,7 +9,7 @@ ghost use Rattle.bridge_words.specs.declared.request.Refusal.TheVariants as refu
 use crate::command::bridge_command;
 use clap::ArgMatches;
 use clap::error::ErrorKind;
-use policy_rules::Settings;
+use policy_rules::{MOST_MOVES, MOST_SCORE, Settings, USUAL_MOVES, USUAL_SCORE};
 use std::alloc::{AllocError, Global};
 
 /// What the words ask for.
@@ -192,8 +192,8 @@ fn settings_of(found: &ArgMatches) -> Settings
 {
     Settings {
         resign: flag(found, "Resign"),
-        resign_moves: number(found, "ResignMoves", 1, 1000, 3),
-        resign_score: number(found, "ResignScore", 0, 100_000, 600),
+        resign_moves: number(found, "ResignMoves", 1, MOST_MOVES, USUAL_MOVES),
+        resign_score: number(found, "ResignScore", 0, MOST_SCORE, USUAL_SCORE),
         show_ponder: flag(found, "ShowPonder"),
     }
 }

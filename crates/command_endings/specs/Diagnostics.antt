@@ -4,6 +4,7 @@ use Rattle.fen_text.specs.declared.fault.FenFault.{FenFault}
 use Rattle.fen_text.specs.declared.fault.FenFault.TheVariants as fens
 use Rattle.command_endings.specs.declared.ending.Ending.{Ending}
 use Rattle.command_endings.specs.declared.ending.Ending.TheVariants as endings
+use Rattle.line_io.specs.Lines.{line_feed}
 
 abbrev pub code_of : Ending → ℕ
 code_of endings.Done = 0
@@ -20,7 +21,7 @@ code_of endings.WritingFailed = 5
 code_of endings.TooLong = 6
 
 abbrev pub one_line : List ℕ → List ℕ
-one_line text = text ++ 10 ∷ []
+one_line text = text ++ line_feed ∷ []
 
 -- the diagnostic of a text that spells no position: its first field that spells nothing
 abbrev pub position_fault : FenFault → List ℕ

@@ -7,4 +7,4 @@ mod limits;
 mod tests;
 
 pub use ending::{Ending, tell, tell_short, write_lines};
-pub use limits::LINE_LIMIT;
+pub use limits::{LINE_ROOM, TEXT_ROOM};

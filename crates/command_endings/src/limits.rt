@@ -1,4 +1,9 @@
-// The limits of a script.
+// The room of a command's text.
 
-/// How many bytes a line of a script has at most.
-pub const LINE_LIMIT: usize = 131_072;
+use line_io::SCRIPT_LINE;
+
+/// How many bytes may be put for one line.
+pub const LINE_ROOM: usize = 16 * SCRIPT_LINE;
+
+/// How many bytes are held before they are written: what is put for four lines.
+pub const TEXT_ROOM: usize = 4 * LINE_ROOM;

@@ -1,6 +1,6 @@
 // Endings, their statuses and their diagnostics.
-use crate::{Ending, LINE_LIMIT, tell, tell_short, write_lines};
-use line_io::{MemSink, Out};
+use crate::{Ending, tell, tell_short, write_lines};
+use line_io::{MemSink, Out, SCRIPT_LINE};
 use std::test::Fail;
 
 #[test]
@@ -35,6 +35,6 @@ fn lines_are_written(rt: HostRuntime) -> Result<(), Fail> {
     assert_eq!(rt; output.taken(), b"lawful\n".as_slice());
     assert_eq!(rt; tell_short(Ending::NoMemory, &mut diag), Ending::NoMemory);
     assert_eq!(rt; diag.taken(), b"replay: no memory\n".as_slice());
-    assert_eq!(rt; LINE_LIMIT, 131_072);
+    assert_eq!(rt; SCRIPT_LINE, 131_072);
     Ok(())
 }

@@ -18,10 +18,11 @@ use Rattle.event_pipe.specs.declared.reader.ReadEnd.TheVariants as read_ends
 use Rattle.event_pipe.specs.Counts.{Tells}
 use Rattle.event_pipe.specs.Message.{sent_event, is_end}
 use Rattle.event_pipe.specs.Rule.{ended}
+use Rattle.line_io.specs.declared.limits.TheConstants.{PEER_LINE}
 
 -- the longest line of a peer that is no long one
 abbrev pub line_limit : ℕ
-line_limit = 65536
+line_limit = PEER_LINE
 
 abbrev pub piece_event : Peer → Piece → Event
 piece_event p (Whole line) = sent_event p (says.Line line)

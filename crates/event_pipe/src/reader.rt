@@ -9,7 +9,7 @@ ghost use Rattle.event_pipe.specs.declared.message.What.TheVariants as says;
 
 use crate::{Bytes, Peer, PipeSend, What};
 use cecp_lines::is_quit;
-use line_io::{Item, Lines, ReadFault, Source, lines_of_all_calls};
+use line_io::{Item, Lines, PEER_LINE, ReadFault, Source, lines_of_all_calls};
 use std::alloc::Global;
 use std::sync::Wait;
 
@@ -103,7 +103,7 @@ pub fn read_pipe<S: Source, R: Wait>(
         (sent to.new) result }
 {
     lines_of_all_calls();
-    let Ok(mut lines) = Lines::make(alloc, 65_536) else {
+    let Ok(mut lines) = Lines::make(alloc, PEER_LINE) else {
         to.send(rt, What::End);
         return ReadEnd::NoMemory;
     };

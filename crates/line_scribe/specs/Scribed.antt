@@ -8,6 +8,7 @@ use Rattle.command_endings.specs.declared.ending.Ending.TheVariants as endings
 use Rattle.command_endings.specs.Reads.{Got, IsAll, AreFirst, AreRead}
 use Rattle.command_endings.specs.Streams.{Streams}
 use Rattle.line_scribe.specs.Putting.{Putting}
+use Rattle.line_io.specs.declared.limits.TheConstants.{SCRIPT_LINE}
 
 -- All of the input was read, and the text of its lines was written.
 pub record WroteAll {S : Type 0} (means : Putting S) (s0 : S) (start now : Streams) : Type 0 where
@@ -15,7 +16,7 @@ pub record WroteAll {S : Type 0} (means : Putting S) (s0 : S) (start now : Strea
   pub reads : Got start now got
   pub all : IsAll start.input.left got
   pub text : List ℕ
-  pub says : means.says s0 (items 131072 got) endings.Done text
+  pub says : means.says s0 (items SCRIPT_LINE got) endings.Done text
   pub written : Appends start.output.taken now.output.taken text
 
 -- The text of all whole lines that were got was written.
@@ -23,9 +24,9 @@ pub record WroteWhole {S : Type 0} (means : Putting S) (s0 : S) (ending : Ending
   pub got : List ℕ
   pub reads : Got start now got
   pub least_is : least ≤ length got
-  pub first : AreFirst start.input.left (whole 131072 got)
+  pub first : AreFirst start.input.left (whole SCRIPT_LINE got)
   pub text : List ℕ
-  pub says : means.says s0 (whole 131072 got) ending text
+  pub says : means.says s0 (whole SCRIPT_LINE got) ending text
   pub written : Appends start.output.taken now.output.taken text
 
 -- The text of the first lines was written, up to the one that is the reason to end.

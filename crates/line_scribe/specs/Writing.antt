@@ -10,6 +10,7 @@ use Rattle.command_endings.specs.declared.ending.Ending.{Ending}
 use Rattle.command_endings.specs.declared.ending.Ending.TheVariants as endings
 use Rattle.line_scribe.specs.Putting.{Putting, IsOfLine}
 use Rattle.line_scribe.specs.Scribed.{IsText}
+use Rattle.command_endings.specs.declared.limits.TheConstants.{TEXT_ROOM}
 
 -- A front of what was held was written, and the rest is held.
 pub record Moved (held held' : Text) (before after : Received) : Type 0 where
@@ -27,7 +28,7 @@ pub record Cut (held : List ℕ) (before after : Received) : Type 0 where
 
 -- a line may be taken
 abbrev pub MayTake : {S : Type 0} → Putting S → S → Text → Type 0
-MayTake means s held = means.may s × (held.room ≡ 8388608)
+MayTake means s held = means.may s × (held.room ≡ TEXT_ROOM)
 
 -- The scribe took these lines, and their text was written but for what is held.
 pub record Stood {S : Type 0} (means : Putting S) (s0 : S) (lines : List Piece) (s : S) (held : Text) (before after : Received) : Type 0 where

@@ -7,4 +7,4 @@ mod scribe;
 mod writer;
 
 pub use run::run_scribe;
-pub use scribe::{LINE_ROOM, Scribe};
+pub use scribe::Scribe;

@@ -7,15 +7,14 @@ ghost use Rattle.command_endings.specs.Diagnostics.{code_of};
 ghost use Rattle.command_endings.specs.Ran.{Causes, Ran};
 ghost use Rattle.command_endings.specs.Streams.{streams};
 ghost use Rattle.line_scribe.specs.Scribed.{EndsBy, Scribed};
+ghost use Rattle.line_io.specs.declared.limits.TheConstants.{SCRIPT_LINE};
+ghost use Rattle.command_endings.specs.declared.limits.TheConstants.{TEXT_ROOM};
 
 use crate::scribe::Scribe;
 use crate::writer::Writer;
-use command_endings::{Ending, LINE_LIMIT, tell, tell_short};
-use line_io::{Lines, LinesEnd, NoMemory, Out, Sink, Source, take_lines};
+use command_endings::{Ending, TEXT_ROOM, tell, tell_short};
+use line_io::{Lines, LinesEnd, NoMemory, Out, SCRIPT_LINE, Sink, Source, take_lines};
 use std::alloc::Global;
-
-// What is put for four lines.
-const TEXT_ROOM: usize = 8_388_608;
 
 // The memory of a run: for the lines, for the text, and for a diagnostic.
 #[derive(Drop)]
@@ -27,12 +26,12 @@ struct Room {
 
 impl Room {
     fn make(alloc: Global) -> Result<Room, NoMemory>
-        ensures lines { IfOk result (λ room. room.lines ≡ unread 131072) }
-        ensures text { IfOk result (λ room. room.text ≡ empty 8388608) }
+        ensures lines { IfOk result (λ room. room.lines ≡ unread SCRIPT_LINE) }
+        ensures text { IfOk result (λ room. room.text ≡ empty TEXT_ROOM) }
         ensures told { IfOk result (λ room. room.told ≡ empty 80) }
     {
         Ok(Room {
-            lines: Lines::make(alloc, LINE_LIMIT)?,
+            lines: Lines::make(alloc, SCRIPT_LINE)?,
             text: Out::make(alloc, TEXT_ROOM)?,
             told: Out::make(alloc, 80)?,
         })
@@ -46,8 +45,8 @@ fn write_lines_of<I: Source, O: Sink, S: Scribe>(
     writer: &mut Writer<S>,
     output: &mut O,
 ) -> Ending
-    requires lines { lines.old ≡ unread 131072 }
-    requires text { writer.old.text ≡ empty 8388608 }
+    requires lines { lines.old ≡ unread SCRIPT_LINE }
+    requires text { writer.old.text ≡ empty TEXT_ROOM }
     requires may { S.means.may writer.old.scribe }
     requires fresh { S.means.put writer.old.scribe [] writer.old.scribe [] }
     ensures scribed { (diag diag_now : Received) → Scribed S.means writer.old.scribe result

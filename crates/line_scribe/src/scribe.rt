@@ -2,12 +2,10 @@
 ghost use Rattle.std.specs.Prelude.{◌≡◌, ◌+◌, ◌≤◌, length, None, IfSome};
 ghost use Rattle.line_io.specs.Lines.{Whole, TooLong};
 ghost use Rattle.line_scribe.specs.Putting.{IsInputEnd, Closes, IsOfLine, Putting, Puts};
+ghost use Rattle.command_endings.specs.declared.limits.TheConstants.{LINE_ROOM};
 
 use command_endings::Ending;
 use line_io::Out;
-
-/// How many bytes may be put for one line.
-pub const LINE_ROOM: usize = 2_097_152;
 
 /// What puts a text for the lines that it takes.
 pub trait Scribe {
@@ -18,7 +16,7 @@ pub trait Scribe {
     /// is the reason why no more lines are taken.
     fn line(&mut self, number: u64, line: &[u8], text: &mut Out) -> Option<Ending>
         requires may { means.may self.old }
-        requires room { length text.old.text + 2097152 ≤ text.old.room }
+        requires room { length text.old.text + LINE_ROOM ≤ text.old.room }
         ensures may { result ≡ None → means.may self.new }
         ensures of_line { IfSome result (λ ending. IsOfLine ending) }
         ensures puts { Puts means number (Whole line.now) result
@@ -27,7 +25,7 @@ pub trait Scribe {
     /// Takes a line that is longer than the limit.
     fn long(&mut self, number: u64, text: &mut Out) -> Option<Ending>
         requires may { means.may self.old }
-        requires room { length text.old.text + 2097152 ≤ text.old.room }
+        requires room { length text.old.text + LINE_ROOM ≤ text.old.room }
         ensures may { result ≡ None → means.may self.new }
         ensures of_line { IfSome result (λ ending. IsOfLine ending) }
         ensures puts { Puts means number TooLong result self.old text.old self.new text.new };
@@ -38,6 +36,6 @@ pub trait Scribe {
         requires ending { IsOfLine ending → ⊥ }
         requires ends { IsInputEnd ending }
         requires may { means.may self.old }
-        requires room { length text.old.text + 2097152 ≤ text.old.room }
+        requires room { length text.old.text + LINE_ROOM ≤ text.old.room }
         ensures { Closes means ending self.old text.old text.new };
 }

@@ -3,9 +3,10 @@ ghost use Rattle.std.specs.Prelude.{◌≡◌, ◌+◌, ◌≤◌, [], length, O
 ghost use Rattle.line_io.specs.Source.{Received};
 ghost use Rattle.line_scribe.specs.Putting.{IsInputEnd, IsOfLine};
 ghost use Rattle.line_scribe.specs.Writing.{Cut, Moved, is_cut};
+ghost use Rattle.command_endings.specs.declared.limits.TheConstants.{TEXT_ROOM, LINE_ROOM};
 
-use crate::scribe::{LINE_ROOM, Scribe};
-use command_endings::Ending;
+use crate::scribe::Scribe;
+use command_endings::{Ending, LINE_ROOM};
 use line_io::{Failed, Out, Sink, TakesLines, write_all};
 
 // Writes what is held.
@@ -25,9 +26,9 @@ fn write_held<O: Sink>(text: &mut Out, output: &mut O) -> Result<(), Failed>
 
 // Writes what is held, where there is no room for what is put for a line.
 fn make_room<O: Sink>(text: &mut Out, output: &mut O) -> Result<(), Failed>
-    requires { text.old.room ≡ 8388608 }
+    requires { text.old.room ≡ TEXT_ROOM }
     ensures ok { OnOk result (Moved text.old text.new (O.state output.old) (O.state output.new)
-        × (length text.new.text + 2097152 ≤ text.new.room)) }
+        × (length text.new.text + LINE_ROOM ≤ text.new.room)) }
     ensures err { OnErr result (Cut text.old.text (O.state output.old) (O.state output.new)) }
 {
     if text.spare() < LINE_ROOM {

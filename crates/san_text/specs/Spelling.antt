@@ -5,6 +5,7 @@ use Rattle.std.specs.Str.{bytes_eq}
 use Rattle.chess_board.specs.declared.board.Kind.{Kind}
 use Rattle.chess_board.specs.declared.board.Kind.TheVariants.{Pawn, Knight, Bishop, Rook, Queen, King}
 use Rattle.chess_board.specs.Board.{square_at}
+use Rattle.chess_board.specs.Text.{letter_a, letter_h, digit_one, digit_eight}
 use Rattle.san_text.specs.declared.spelling.Spelling as code
 use Rattle.san_text.specs.declared.spelling.Spelling.TheVariants as spellings
 use Rattle.san_text.specs.declared.spelling.Target as arrival
@@ -20,6 +21,12 @@ pub data Spelling : Type 0 where
   Long : Spelling
   Goes : (kind : Kind) (file rank : Option ℕ) (target : Target) → Spelling
 
+abbrev pub promotion_sign : ℕ
+promotion_sign = 61
+
+abbrev pub capture_sign : ℕ
+capture_sign = 120
+
 abbrev pub is_mark : ℕ → Bool
 is_mark b = (b == 43 || b == 35) || (b == 33 || b == 63)
 
@@ -29,10 +36,10 @@ unmarked [] = []
 unmarked (b ∷ bs) = if list_all is_mark (b ∷ bs) then [] else b ∷ unmarked bs
 
 abbrev pub file_named : ℕ → Option ℕ
-file_named b = if nat_le 97 b && nat_le b 104 then Some (b - 97) else None
+file_named b = if nat_le letter_a b && nat_le b letter_h then Some (b - letter_a) else None
 
 abbrev pub rank_named : ℕ → Option ℕ
-rank_named b = if nat_le 49 b && nat_le b 56 then Some (b - 49) else None
+rank_named b = if nat_le digit_one b && nat_le b digit_eight then Some (b - digit_one) else None
 
 -- the man that a capital letter names
 abbrev pub kind_named : ℕ → Option Kind
@@ -55,7 +62,7 @@ promoted _ = None
 abbrev pub promotion_read : List ℕ → Option (Option Kind)
 promotion_read [] = Some None
 promotion_read (b ∷ []) = promoted (kind_named b)
-promotion_read (sign ∷ b ∷ []) = if sign == 61 then promoted (kind_named b) else None
+promotion_read (sign ∷ b ∷ []) = if sign == promotion_sign then promoted (kind_named b) else None
 promotion_read _ = None
 
 abbrev pub target_of : Option ℕ → Option ℕ → Option (Option Kind) → Option Target
@@ -72,7 +79,7 @@ square_read _ = None
 -- the same behind an optional `x`
 abbrev pub target_read : List ℕ → Option Target
 target_read [] = None
-target_read (b ∷ bs) = if b == 120 then square_read bs else square_read (b ∷ bs)
+target_read (b ∷ bs) = if b == capture_sign then square_read bs else square_read (b ∷ bs)
 
 abbrev pub goes : Kind → Option ℕ → Option ℕ → Option Target → Option Spelling
 goes man file rank None = None

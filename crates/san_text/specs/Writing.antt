@@ -11,6 +11,7 @@ use Rattle.chess_board.specs.Position.{Position}
 use Rattle.chess_board.specs.Rules.{king_home, is_legal}
 use Rattle.chess_board.specs.Laws.{IsLegal, IsChecked}
 use Rattle.chess_board.specs.Play.{kind_on, position_after, HasLegal}
+use Rattle.chess_board.specs.Text.{letter_a, digit_one}
 
 -- `==` of two kinds
 abbrev pub same_kind : Kind → Kind → Bool
@@ -45,10 +46,10 @@ abbrev pub has_rival : Position → Move → Within → Bool
 has_rival p m within = some_square (λ s. is_within within s m.from.index && is_rival p m s)
 
 abbrev pub file_letter : ℕ → ℕ
-file_letter s = 97 + file_of s
+file_letter s = letter_a + file_of s
 
 abbrev pub rank_digit : ℕ → ℕ
-rank_digit s = 49 + rank_of s
+rank_digit s = digit_one + rank_of s
 
 -- nothing, else the file, else the rank, else both: the first that tells the man from the others
 abbrev pub distinction : Position → Move → List ℕ

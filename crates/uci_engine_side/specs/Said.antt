@@ -8,11 +8,12 @@ use Rattle.uci_lines.specs.declared.messages.Score.TheVariants.{Cp, Mate}
 use Rattle.uci_lines.specs.Orders.{optional_number}
 use Rattle.uci_lines.specs.Info.{Info as AnyInfo}
 use Rattle.uci_lines.specs.Messages.{OptionKind, Check, Spin, Combo, Button, Text, EngineMsg, Name, UciOk, ReadyOk, Best, OptionLine, Info, Nothing}
+use Rattle.peer_words.specs.Bytes.{blank}
 
 -- a text behind a blank, if there is one
 abbrev pub spaced : List ℕ → List ℕ
 spaced [] = []
-spaced (b ∷ bs) = 32 ∷ b ∷ bs
+spaced (b ∷ bs) = blank ∷ b ∷ bs
 
 abbrev pub score_text : Option Score → List ℕ
 score_text None = []
