@@ -1,0 +1,20 @@
+use Rattle.std.proofs.Common.{◌∙◌, sym}
+use Rattle.host_run.proofs.Causes as causes
+use Rattle.tap_app.proofs.Ends.{unstarted}
+use Rattle.tap_app.proofs.main_call.tap_main.Goals as goal
+
+pub returns-clause-answers : goal.returns-clause-answers
+returns-clause-answers g c =
+    record {
+      ending = c.end_of-ending.result;
+      ends = c.end_of-ending.ensures;
+      code_is = c.code.ensures;
+      diagnosed = c.tell.ensures;
+    }
+
+pub returns-clause-status : goal.returns-clause-status
+returns-clause-status g c = causes.status_says _ _ _ _ _ _ c.code.ensures c.end_of-ending.ensures
+
+pub returns-clause-unstarted : goal.returns-clause-unstarted
+returns-clause-unstarted g c z =
+    causes.unstarted _ _ _ _ _ c.end_of-ending.ensures (sym c.code.ensures ∙ z) (λ f left e. unstarted _ _ f left e)

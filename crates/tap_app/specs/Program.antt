@@ -1,0 +1,6 @@
+-- What the program does.
+use Rattle.std.specs.Prelude.{ℕ, List, codes}
+
+-- the name of the program, which stands in a diagnostic
+abbrev pub program : List ℕ
+program = codes "tap"

@@ -1,0 +1,108 @@
+// The program over any host.
+ghost use Rattle.std.specs.Prelude.{◌≡◌};
+ghost use Rattle.driver_app.specs.Words.{AreTaken, bytes_of, ending_for};
+ghost use Rattle.host_run.specs.Endings.{code_of, diagnostic};
+ghost use Rattle.host_run.specs.Outside.{outside, unused};
+ghost use Rattle.host_run.specs.Program.{Answers, Ends, IsToldTo, StatusSays};
+ghost use Rattle.host_run.specs.declared.ending.Ending.TheVariants as endings;
+ghost use Rattle.tap_app.specs.Program.{program};
+ghost use Rattle.tap_runner.specs.Tapped.{Leaves};
+
+use child_engine::Host;
+use driver_app::{Refusal, read_words};
+use host_run::{Ending, tell};
+use line_io::{Sink, Source, Status};
+use std::alloc::Global;
+use std::sync::Wait;
+use std::thread::Threads;
+use tap_runner::{Closes, tap_run};
+
+fn refused(refusal: Refusal) -> Ending
+    ensures { result ≡ ending_for refusal }
+{
+    match refusal {
+        Refusal::Usage => Ending::Usage,
+        Refusal::NoMemory => Ending::NoMemory,
+    }
+}
+
+// What the words ask for, and how it ends.
+fn end_of<I: Source + Send, O: Closes + Send, H: Host, R: Threads + Wait + Sync>(
+    rt: &R,
+    alloc: Global,
+    words: &[Vec<u8>],
+    input: &mut I,
+    output: &mut O,
+    host: &mut H,
+) -> Ending
+where
+    H::Snk: Closes,
+    requires { H.books host.old ≡ unused }
+    ensures { Ends (AreTaken (bytes_of words.now)) (Leaves
+        (outside (I.state input.old) (O.state output.old) (H.faults host.old) (H.books host.old))
+        (outside (I.state input.new) (O.state output.new) (H.faults host.new) (H.books host.new)))
+        (outside (I.state input.old) (O.state output.old) (H.faults host.old) (H.books host.old))
+        (outside (I.state input.new) (O.state output.new) (H.faults host.new) (H.books host.new))
+        result }
+{
+    match read_words(alloc, words) {
+        Ok(request) => Ending::of(tap_run(
+            rt,
+            alloc,
+            request.log_name.as_str(),
+            request.engine.as_slice(),
+            input,
+            output,
+            host,
+        )),
+        Err(refusal) => refused(refusal),
+    }
+}
+
+/// How a program ends that has no memory for its words.
+pub fn refuse_for_memory<D: Sink>(diag: &mut D) -> Status
+    ensures status { result.code ≡ code_of endings.NoMemory }
+    ensures told { IsToldTo (D.state diag.old) (D.state diag.new)
+        (diagnostic program endings.NoMemory) }
+{
+    tell(b"tap", Ending::NoMemory, diag);
+    Status {
+        code: Ending::NoMemory.code(),
+    }
+}
+
+/// The program: it stands between a bridge, which writes to `input` and reads from `output`, and the
+/// engine that the host starts. The words are the name of the log, the engine's program and its
+/// arguments; the program's own name is not among them. A diagnostic that cannot be written changes
+/// no status.
+pub fn tap_main<I: Source + Send, O: Closes + Send, H: Host, D: Sink, R: Threads + Wait + Sync>(
+    rt: &R,
+    alloc: Global,
+    words: &[Vec<u8>],
+    input: &mut I,
+    output: &mut O,
+    host: &mut H,
+    diag: &mut D,
+) -> Status
+where
+    H::Snk: Closes,
+    requires { H.books host.old ≡ unused }
+    ensures answers { Answers program (AreTaken (bytes_of words.now)) (Leaves
+        (outside (I.state input.old) (O.state output.old) (H.faults host.old) (H.books host.old))
+        (outside (I.state input.new) (O.state output.new) (H.faults host.new) (H.books host.new)))
+        (outside (I.state input.old) (O.state output.old) (H.faults host.old) (H.books host.old))
+        (outside (I.state input.new) (O.state output.new) (H.faults host.new) (H.books host.new))
+        (D.state diag.old) (D.state diag.new) result.code }
+    ensures status { StatusSays (AreTaken (bytes_of words.now))
+        (outside (I.state input.old) (O.state output.old) (H.faults host.old) (H.books host.old))
+        (outside (I.state input.new) (O.state output.new) (H.faults host.new) (H.books host.new))
+        result.code }
+    ensures unstarted { result.code ≡ 8
+        → (I.state input.new ≡ I.state input.old) × (O.state output.new ≡ O.state output.old) }
+{
+    let ending = end_of(rt, alloc, words, input, output, host);
+    tell(b"tap", ending, diag);
+    Status {
+        code: ending.code(),
+    }
+}
