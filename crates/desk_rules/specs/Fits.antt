@@ -1,5 +1,5 @@
 -- What holds of the desk between steps, and what an effect tells.
-use Rattle.std.specs.Prelude.{◌≡◌, ◌⊎◌, ℕ, List, [], ◌∷◌, ◌*◌, ◌<◌, ◌≤◌, length, true, false, Some, None, IfSome, Ok}
+use Rattle.std.specs.Prelude.{◌≡◌, ◌⊎◌, ℕ, List, [], ◌∷◌, ◌*◌, ◌<◌, ◌≤◌, ◌+◌, length, true, false, Some, None, IfSome, Ok}
 use Rattle.line_io.specs.Event.{Event, is_line}
 use Rattle.line_io.specs.Event as events
 use Rattle.chess_board.specs.Place.{legal}
@@ -32,6 +32,8 @@ use Rattle.desk_rules.specs.declared.desk.Desk.{Desk}
 use Rattle.desk_rules.specs.Desk.{Situation, is_boot, is_getting, is_gone, current, call_before, plies}
 use Rattle.desk_rules.specs.Lines.{refusal}
 use Rattle.desk_rules.specs.Steps.{Effect, Refuses, Accepts, Names, Declares, Boots, Readies, Thinks, Shows, Forfeits, Answers, Dies}
+use Rattle.desk_rules.specs.declared.sizes.TheConstants.{EARLY_ORDER}
+use Rattle.desk_rules.specs.declared.pings.TheConstants.{MOST_PINGS}
 
 -- the line of an event is a line that a peer may send
 abbrev pub IsLineEvent : Event → Type 0
@@ -130,7 +132,7 @@ abbrev pub CanChange : Desk → IfaceMsg → Type 0
 CanChange d (says.UserMove m) = IsPlayable (now_of d.game) (ply_of m) × (plies d.game < MOST_PLIES)
 CanChange d says.Undo = 1 ≤ plies d.game
 CanChange d says.Remove = 2 ≤ plies d.game
-CanChange d (says.Ping n) = length d.pings < 65
+CanChange d (says.Ping n) = length d.pings < MOST_PINGS + 1
 CanChange d m = Unit {0}
 
 -- before `uciok` no more than a new game is held
@@ -142,9 +144,9 @@ abbrev pub CanHold : List Order → Effect → Type 0
 CanHold held Boots = IsFirst held
 CanHold held d = Unit {0}
 
--- at most so many orders, and 300 bytes for each
+-- at most so many orders, each as long as an early one
 abbrev pub AreFew : ℕ → List Order → Type 0
-AreFew n held = (length held ≤ n) × (length (batch_text held) ≤ 300 * n)
+AreFew n held = (length held ≤ n) × (length (batch_text held) ≤ EARLY_ORDER * n)
 
 -- a move that is entered can be played
 abbrev pub CanEnter : Game → IfaceMsg → Type 0

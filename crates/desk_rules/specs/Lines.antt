@@ -30,6 +30,7 @@ use Rattle.desk_rules.specs.declared.effect.Refusal.{Refusal}
 use Rattle.desk_rules.specs.declared.effect.Refusal.TheVariants as refusals
 use Rattle.desk_rules.specs.declared.desk.Desk.{Desk}
 use Rattle.desk_rules.specs.Desk.{Situation, table, analyses, is_full, is_gone, on_move, other, played, plies, owes_move, ponder_name, analyse_name}
+use Rattle.desk_rules.specs.declared.pings.TheConstants.{MOST_PINGS}
 
 -- WHAT A LINE ASKS
 
@@ -126,7 +127,7 @@ does_not_fit held None = false
 does_not_fit held (Some order) = not (can_join held order)
 
 abbrev pub pings_too_often : Situation → IfaceMsg → Bool
-pings_too_often h (says.Ping n) = owes_move h && nat_le 64 (length h.desk.pings)
+pings_too_often h (says.Ping n) = owes_move h && nat_le MOST_PINGS (length h.desk.pings)
 pings_too_often h m = false
 
 -- why a message is refused, if it is: the first that applies

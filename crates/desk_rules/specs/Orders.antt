@@ -29,6 +29,7 @@ use Rattle.desk_rules.specs.declared.desk.Desk.{Desk}
 use Rattle.desk_rules.specs.Desk.{Situation, is_gone, analyses, on_move, plies, played, ponder_name, analyse_name}
 use Rattle.desk_rules.specs.Lines.{tells, asks as asked_of}
 use Rattle.desk_rules.specs.Steps.{Effect, Accepts, Boots}
+use Rattle.peer_words.specs.Bytes.{blank}
 
 -- WAITING
 
@@ -76,7 +77,7 @@ start_of p = if is_standard p then None else Some (written p)
 
 -- the position of a game: its start, and its moves with one blank between
 abbrev pub position_order : Game → Order
-position_order g = orders.Position (start_of g.start) (join_with_byte 32 (map ply_text g.moves))
+position_order g = orders.Position (start_of g.start) (join_with_byte blank (map ply_text g.moves))
 
 -- the move that is pondered on
 abbrev pub pondered : Call → Option Move

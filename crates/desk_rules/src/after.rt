@@ -16,6 +16,7 @@ ghost use Rattle.desk_rules.specs.Steps.{effect_of, hint_after, searched_by, res
 ghost use Rattle.desk_rules.specs.Replies.{row_accepted, list_where, thought, shown_row, end_row, row, pongs};
 ghost use Rattle.desk_rules.specs.Fits.{IsHintPlayable, IsSound, IsFit, IsServed, IsSaid, CanChange};
 ghost use Rattle.desk_rules.specs.declared.sizes.TheConstants.{ENGINE_END, FEATURE_LIST, OBEYED, STEP_REPLIES, SHOWN_MOVE, THINKING_LINE};
+ghost use Rattle.desk_rules.specs.declared.pings.TheConstants.{MOST_PINGS};
 
 use crate::answers::{
     named_hint, put_error, put_forfeit, put_pongs, put_refused, put_shown, put_thinking,
@@ -184,7 +185,7 @@ impl Desk {
         requires sound { IsSound self.old }
         requires fits { IsFit (at context self.old) (effect_of effect.now) }
         requires served { IsServed (at context self.old) }
-        requires pings { length self.old.pings ≤ 64 }
+        requires pings { length self.old.pings ≤ MOST_PINGS }
         requires room { length out.old.text + STEP_REPLIES ≤ out.old.room }
         ensures desk { self.new ≡ desk_after_effect (at context self.old) (effect_of effect.now) }
         ensures lines { out.new
@@ -217,7 +218,7 @@ impl Desk {
         requires sound { IsSound self.old }
         requires fits { IsFit (at context self.old) (effect_of effect.now) }
         requires served { IsServed (at context self.old) }
-        requires pings { length self.old.pings ≤ 64 }
+        requires pings { length self.old.pings ≤ MOST_PINGS }
         requires empty { out.old ≡ empty out.old.room }
         requires room { STEP_REPLIES ≤ out.old.room }
         ensures desk { self.new ≡ desk_after_effect (at context self.old) (effect_of effect.now) }

@@ -15,7 +15,8 @@ ghost use Rattle.feature_talk.specs.Features.{feature_list, reply_line, reply_li
 ghost use Rattle.desk_rules.specs.Desk.{at, table};
 ghost use Rattle.desk_rules.specs.Replies.{refused, outcome_of, result_by, result_of, protover_row, offer_where, draw_row, hint_row, row_before, row_after, is_told, named_hint, list_where, resign_where};
 ghost use Rattle.desk_rules.specs.Fits.{IsSound, IsSaid, IsTellable};
-ghost use Rattle.desk_rules.specs.declared.sizes.TheConstants.{ENGINE_END, ERROR_REPLY, FEATURE_LIST, PEER_LINE, SHORT_REPLY, SHOWN_MOVE, THINKING_LINE};
+ghost use Rattle.line_io.specs.declared.limits.TheConstants.{PEER_LINE};
+ghost use Rattle.desk_rules.specs.declared.sizes.TheConstants.{ENGINE_END, ERROR_REPLY, FEATURE_LIST, SHORT_REPLY, SHOWN_MOVE, THINKING_LINE};
 
 use crate::call::{has_ended, is_boot, on_move, plays};
 use crate::{Context, Desk, Refusal};

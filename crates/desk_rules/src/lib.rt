@@ -23,5 +23,5 @@ pub use effect::{Asks, Context, Decision, Effect, Refusal, Ruling};
 pub use mode::Mode;
 pub use name::EngineName;
 pub use orders::put_chosen;
-pub use pings::Pings;
+pub use pings::{MOST_PINGS, Pings};
 pub use sizes::{STEP_ORDERS, STEP_REPLIES};

@@ -1,6 +1,7 @@
 // The name that the engine is shown by.
 ghost use Rattle.std.specs.Prelude.{◌≡◌, ◌≤◌, length};
 ghost use Rattle.feature_talk.specs.Features.{shown_name};
+ghost use Rattle.feature_talk.specs.declared.features.TheConstants.{MOST_NAME};
 
 use arrayvec::ArrayVec;
 use feature_talk::shown_name;
@@ -21,7 +22,7 @@ impl Model for EngineName {
 }
 
 fn copied(name: &[u8]) -> ArrayVec<u8, 256>
-    requires { length name.now ≤ 256 }
+    requires { length name.now ≤ MOST_NAME }
     ensures { result.items ≡ name.now }
 {
     let mut copy = ArrayVec::new();

@@ -14,6 +14,7 @@ ghost use Rattle.desk_rules.specs.Orders.{AllJoin, position_order, pondered, sea
 ghost use Rattle.desk_rules.specs.Texts.{order_lines};
 ghost use Rattle.desk_rules.specs.Fits.{IsSound, CanSearch, CanWrite};
 ghost use Rattle.desk_rules.specs.declared.sizes.TheConstants.{GO_LINE, STEP_ORDERS, POSITION_LINE};
+ghost use Rattle.line_io.specs.Lines.{line_feed};
 
 use crate::after::position_after;
 use crate::call::on_move;
@@ -78,8 +79,8 @@ fn put_game(game: &Game, hint: Option<Move>, out: &mut Out)
     requires hint { IfSome hint (λ m. IsPlayable (now_of game.now) (ply_of m)) }
     requires room { length out.old.text + POSITION_LINE ≤ out.old.room }
     ensures line { out.new
-        ≡ with out.old (position_text game.now (option_map ply_of hint) ++ 10 ∷ []) }
-    ensures short { length (position_text game.now (option_map ply_of hint) ++ 10 ∷ [])
+        ≡ with out.old (position_text game.now (option_map ply_of hint) ++ line_feed ∷ []) }
+    ensures short { length (position_text game.now (option_map ply_of hint) ++ line_feed ∷ [])
         ≤ POSITION_LINE }
 {
     game.facts();

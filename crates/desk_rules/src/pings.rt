@@ -1,26 +1,29 @@
 // The held pings.
 ghost use Rattle.std.specs.Prelude.{◌≡◌, ◌+◌, ◌<◌, [], ◌∷◌, ◌++◌, length, IfOk};
+ghost use Rattle.desk_rules.specs.declared.pings.TheConstants.{MOST_PINGS};
 
 use line_io::NoMemory;
 use std::alloc::Global;
 use std::marker::Model;
 
-const ROOM: usize = 65;
+/// The most pings that are held while a move is owed.
+pub const MOST_PINGS: usize = 64;
 
-/// The numbers of the pings that are not answered yet, the oldest first. There is room for 65.
+/// The numbers of the pings that are not answered yet, the oldest first. There is room for one more than are held.
 #[derive(Drop)]
 pub struct Pings {
     numbers: Vec<u32>,
 }
 
 impl Model for Pings {
-    ghost use Rattle.std.specs.Prelude.{ℕ, List, ◌≤◌, vec_capacity};
+    ghost use Rattle.std.specs.Prelude.{ℕ, List, ◌+◌, ◌≤◌, vec_capacity};
+    ghost use Rattle.desk_rules.specs.declared.pings.TheConstants.{MOST_PINGS};
 
     ghost Value = { List ℕ };
 
     ghost view = { λ p. p.numbers.items };
 
-    ghost invariant = { λ p. 65 ≤ vec_capacity p.numbers };
+    ghost invariant = { λ p. MOST_PINGS + 1 ≤ vec_capacity p.numbers };
 }
 
 impl Pings {
@@ -29,7 +32,7 @@ impl Pings {
         ensures { IfOk result (λ pings. pings ≡ []) }
     {
         Ok(Pings {
-            numbers: Vec::with_capacity(alloc, ROOM)?,
+            numbers: Vec::with_capacity(alloc, MOST_PINGS + 1)?,
         })
     }
 
@@ -47,7 +50,7 @@ impl Pings {
 
     /// Adds the newest ping.
     pub fn add(&mut self, number: u32)
-        requires { length self.old < 65 }
+        requires { length self.old < MOST_PINGS + 1 }
         ensures { self.new ≡ self.old ++ number ∷ [] }
     {
         self.numbers.push_reserved(number);

@@ -11,6 +11,7 @@ ghost use Rattle.desk_rules.specs.Lines.{because, needs_engine, needs_analysis, 
 ghost use Rattle.desk_rules.specs.Fits.{IsHintPlayable};
 
 use crate::call::{analyses, is_full, is_gone};
+use crate::pings::MOST_PINGS;
 use crate::{Context, Desk, Refusal};
 use cecp_lines::{IfaceMsg, Reason};
 use chess_board::Move;
@@ -123,7 +124,7 @@ impl Desk {
         ensures { result ≡ pings_too_often (at context self.now) (message_of message.now) }
     {
         match message {
-            IfaceMsg::Ping(_) => self.owes_move(context) && self.pings.len() >= 64,
+            IfaceMsg::Ping(_) => self.owes_move(context) && self.pings.len() >= MOST_PINGS,
             _ => false,
         }
     }
