@@ -6,7 +6,7 @@ use Rattle.cecp_lines.specs.Quit.{is_quit}
 use Rattle.adapter_core.specs.declared.ends.Ends.{Ends}
 
 -- The event may come: Open is the first event and only the first, no event of a side follows that side's end, no side is lost twice, and
--- a line has at most 65,536 bytes and no line feed.
+-- a line has at most `PEER_LINE` bytes and no line feed.
 abbrev pub may : Ends → Event → Bool
 may ends events.Open = not ends.opened
 may ends (events.Iface line) = ends.opened && not ends.iface && is_line line

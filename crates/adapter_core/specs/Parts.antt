@@ -1,5 +1,5 @@
 -- What the core keeps, and how an event changes it.
-use Rattle.std.specs.Prelude.{ℕ, List, [], ◌∷◌, Bool, true, false, not, ◌||◌, if◌then◌else◌, ◌≤◌, length, ◌≡◌}
+use Rattle.std.specs.Prelude.{ℕ, List, [], ◌∷◌, Bool, true, false, not, ◌||◌, if◌then◌else◌, ◌≤◌, length, ◌≡◌, ◌+◌}
 use Rattle.line_io.specs.Event.{Event}
 use Rattle.line_io.specs.Out.{empty, with}
 use Rattle.uci_lines.specs.Orders.{Order}
@@ -25,6 +25,7 @@ use Rattle.desk_rules.specs.Fits.{Fits, IsFit, IsSound, IsServed, CanHold}
 use Rattle.adapter_core.specs.declared.session.TheConstants.{ROOM}
 use Rattle.adapter_core.specs.declared.session.Parts as code
 use Rattle.adapter_core.specs.Ends.{ends_after, is_open, at_start}
+use Rattle.desk_rules.specs.declared.pings.TheConstants.{MOST_PINGS}
 
 -- the parts of the core
 abbrev pub Parts : Type 0
@@ -111,10 +112,10 @@ pub record CanFollow (h : Situation) (d : Effect) : Type 0 where
   pub sound : IsSound h.desk
   pub fits : IsFit h d
   pub served : IsServed h
-  pub pings : length h.desk.pings ≤ 64
+  pub pings : length h.desk.pings ≤ MOST_PINGS
   -- the desk then
   pub sound_then : IsSound (desk_after_effect h d)
-  pub pings_then : length (desk_after_effect h d).pings ≤ 65
+  pub pings_then : length (desk_after_effect h d).pings ≤ MOST_PINGS + 1
 
 -- What the core needs to take an event, where this stands and this comes of it.
 pub record IsReadyFor (h : Situation) (v : Parts) (d : Effect) : Type 0 where

@@ -21,6 +21,8 @@ use Rattle.adapter_core.specs.Ends.{ends_after, is_open}
 use Rattle.adapter_core.specs.Parts as parts
 use Rattle.adapter_core.specs.Parts.{Parts, choice, desk_with, orders_of}
 use Rattle.adapter_core.specs.Trace.{State, Step, Lawful, state, event_in, iface_text, engine_text}
+use Rattle.line_io.specs.Lines.{line_feed}
+use Rattle.desk_rules.specs.declared.pings.TheConstants.{MOST_PINGS}
 
 -- what the core keeps of a state, where these are its buffers
 abbrev pub parts_of : State → Text → Text → Parts
@@ -58,7 +60,7 @@ pub record Keeps (v : Parts) : Type 0 where
   pub sound : IsSound v.desk
   -- a current search serves the call
   pub serves : IsServed (parts.situation v)
-  pub pings : length v.desk.pings ≤ 64
+  pub pings : length v.desk.pings ≤ MOST_PINGS
   pub first : v.dialogue.state ≡ states.Boot → IsFirst v.held × (v.desk.booted ≡ false)
   pub to_iface : v.to_iface.room ≡ ROOM
   pub to_engine : v.to_engine.room ≡ ROOM
@@ -103,4 +105,4 @@ pub record Extends (old new : Parts) (e : Event) (iface engine : List ℕ) : Typ
 -- the text is whole lines, each ended by a line feed
 pub record AreLines (text : List ℕ) : Type 0 where
   pub lines : List (List ℕ)
-  pub text_is : text ≡ flat_map (λ line. line ++ 10 ∷ []) lines
+  pub text_is : text ≡ flat_map (λ line. line ++ line_feed ∷ []) lines

@@ -4,7 +4,7 @@ ghost use Rattle.line_io.specs.Event.{event_of, is_line};
 ghost use Rattle.desk_rules.specs.Steps.{quits as quits_by};
 ghost use Rattle.adapter_core.specs.Ends.{may, ends_after};
 
-use line_io::Event;
+use line_io::{Event, PEER_LINE};
 
 /// Which sides have begun and ended.
 #[derive(Clone, Copy, Debug, PartialEq, Eq)]
@@ -22,7 +22,7 @@ pub struct Ends {
 fn is_line(line: &[u8]) -> bool
     ensures { result ≡ is_line line.now }
 {
-    line.len() <= 65_536 && !line.contains(&b'\n')
+    line.len() <= PEER_LINE && !line.contains(&b'\n')
 }
 
 impl Ends {

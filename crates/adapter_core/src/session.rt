@@ -8,14 +8,15 @@ ghost use Rattle.desk_rules.specs.Desk.{at};
 ghost use Rattle.desk_rules.specs.Steps.{effect_of, begins_epoch as epoch_begun, classify, quits as quits_by};
 ghost use Rattle.adapter_core.specs.Ends.{may, is_over};
 ghost use Rattle.adapter_core.specs.Parts.{opening, situation, CanFollow, IsReadyFor};
+ghost use Rattle.line_io.specs.declared.limits.TheConstants.{SCRIPT_LINE};
 ghost use Rattle.adapter_core.specs.declared.session.TheConstants.{ALL_REPLIES, ROOM};
 ghost use Rattle.desk_rules.specs.declared.sizes.TheConstants.{STEP_ORDERS};
 
 use crate::Ends;
 use crate::steps::{Stage, choose, is_hit, is_move, is_open, is_unsent, put_orders, release};
-use desk_rules::{Context, Desk, Ruling, is_gone};
+use desk_rules::{Context, Desk, Ruling, STEP_REPLIES, is_gone};
 use game_record::Game;
-use line_io::{Event, NoMemory, Out};
+use line_io::{Event, NoMemory, Out, SCRIPT_LINE};
 use option_map::Held;
 use policy_rules::{Scores, Settings};
 use search_epochs::{Dialogue, EngineState};
@@ -23,10 +24,10 @@ use std::alloc::Global;
 use std::marker::Model;
 
 /// The room of the lines to a peer.
-pub(crate) const ROOM: usize = 131_072;
+pub(crate) const ROOM: usize = SCRIPT_LINE;
 
 /// The replies of a step with its pongs have at most so many bytes.
-pub(crate) const ALL_REPLIES: usize = 72_000;
+pub(crate) const ALL_REPLIES: usize = STEP_REPLIES + 2_000;
 
 // The parts of the core.
 #[derive(Drop)]
@@ -184,8 +185,8 @@ impl Core {
     pub fn step<'a>(&'a mut self, event: &Event) -> Step<'a>
         requires { may self.old.ends (event_of event.now) ≡ true }
         ensures* steps { sem 𝓛 (StepsOn self.entry (event_of event.now) result) }
-        ensures iface_room { length result.iface.now < 131072 }
-        ensures engine_room { length result.engine.now < 131072 }
+        ensures iface_room { length result.iface.now < SCRIPT_LINE }
+        ensures engine_room { length result.engine.now < SCRIPT_LINE }
         ensures iface_lines { AreLines result.iface.now }
         ensures engine_lines { AreLines result.engine.now }
     {

@@ -9,6 +9,8 @@ use Rattle.script_lines.specs.StepLine.{step_number}
 use Rattle.script_lines.specs.StepText.{written_marks, step_marks, numbered_marks}
 use Rattle.adapter_core.specs.Trace.{Step, iface_text, engine_text}
 use Rattle.adapter_core.specs.Stands.{AreLines}
+use Rattle.line_io.specs.Lines.{line_feed}
+use Rattle.line_io.specs.declared.limits.TheConstants.{SCRIPT_LINE}
 
 abbrev pub written_text : Step → List ℕ
 written_text s = written_marks (iface_text s) (engine_text s)
@@ -32,7 +34,7 @@ numbered_texts (s ∷ t) = numbered_texts t ++ numbered_text (length t) s
 
 -- the script of version 2: a header with the settings, then each step with its number
 abbrev pub script2 : Settings → List Step → List ℕ
-script2 settings t = header_text settings ++ 10 ∷ numbered_texts t
+script2 settings t = header_text settings ++ line_feed ∷ numbered_texts t
 
 -- the events of a trace, the oldest first
 abbrev pub events : List Step → List Event
@@ -48,10 +50,10 @@ abbrev pub events_in : List (List ℕ) → List Event
 events_in [] = []
 events_in (l ∷ ls) = event_told (mark_of l) ++ events_in ls
 
--- what a step may write to one peer: whole lines, of fewer than 131,072 bytes
+-- what a step may write to one peer: whole lines, each shorter than a line of a script may be
 pub record IsShortText (text : List ℕ) : Type 0 where
   pub lines : AreLines text
-  pub short : length text < 131072
+  pub short : length text < SCRIPT_LINE
 
 abbrev pub IsShortStep : Step → Type 0
 IsShortStep s = IsShortText (iface_text s) × IsShortText (engine_text s)
