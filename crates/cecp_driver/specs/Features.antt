@@ -4,6 +4,7 @@ use Rattle.std.specs.Str.{bytes_eq}
 use Rattle.driver_lines.specs.Parts.{Feature, Cut}
 use Rattle.driver_lines.specs.Lines.{Line, Accepted, Rejected, named}
 use Rattle.cecp_driver.specs.declared.features.Has.{Has}
+use Rattle.line_io.specs.Lines.{line_feed}
 
 abbrev pub has_word : List ℕ → Feature → Bool
 has_word name f = bytes_eq f.name name
@@ -51,7 +52,7 @@ greets h f = not h.done && is_on (codes "done") f
 
 -- then the interface gets the name and `uciok`
 abbrev pub greeting : Has → List ℕ → Feature → List ℕ
-greeting h name f = if greets h f then (codes "id name " ++ named name ++ 10 ∷ []) ++ (codes "uciok" ++ 10 ∷ []) else []
+greeting h name f = if greets h f then (codes "id name " ++ named name ++ line_feed ∷ []) ++ (codes "uciok" ++ line_feed ∷ []) else []
 
 abbrev pub greetings : Has → List ℕ → List Feature → List ℕ
 greetings h name [] = []

@@ -5,10 +5,11 @@ use Rattle.chess_board.specs.Place.{legal}
 use Rattle.chess_board.specs.Spelling.{move_of}
 use Rattle.game_record.specs.Game.{Game, begun, now_of, ply_of, with_ply}
 use Rattle.uci_talk.specs.Lines.{Line, line_of}
+use Rattle.game_record.specs.Keeps.{most_plies}
 
 -- a move is legal, and the game has room for it
 abbrev pub may_push : Game → Move → Bool
-may_push g m = legal (now_of g) m && nat_lt (length g.moves) 12000
+may_push g m = legal (now_of g) m && nat_lt (length g.moves) most_plies
 
 abbrev pub push_one : Game → Option Move → Option Game
 push_one g None = None

@@ -17,19 +17,19 @@ use driver_lines::{
 };
 use driver_talk::{Call, Reach, Stage, Talk, Thought, Turn, Wanted};
 use game_record::Game;
-use line_io::{NoMemory, Out};
+use line_io::{NoMemory, Out, PEER_LINE, SCRIPT_LINE};
 use std::alloc::Global;
 use std::marker::Model;
 use uci_talk::go_kind;
 
 /// The most bytes of a line.
-pub const LINE_LIMIT: usize = 65_536;
+pub const LINE_LIMIT: usize = PEER_LINE;
 
 /// The most bytes of the lines that a call gives for the interface: the engine's name and `uciok`.
-pub const UP_ROOM: usize = 66_560;
+pub const UP_ROOM: usize = PEER_LINE + 1_024;
 
 /// The most bytes of the lines that a call gives for the engine: the answers to a line of features.
-pub const DOWN_ROOM: usize = 393_216;
+pub const DOWN_ROOM: usize = 3 * SCRIPT_LINE;
 
 // The parts of a driver.
 #[derive(Drop)]

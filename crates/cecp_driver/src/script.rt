@@ -9,10 +9,10 @@ ghost use Rattle.cecp_driver.specs.declared.script.TheConstants.{EVENT_ROOM};
 
 use crate::driver::Driver;
 use line_io::{Event, Out};
-use script_lines::{Mark, put_written, write_mark_line};
+use script_lines::{Mark, STEP_ROOM, put_written, write_mark_line};
 
 /// Room for the marks of an event and of the lines that are given for it.
-pub const EVENT_ROOM: usize = 2_097_152;
+pub const EVENT_ROOM: usize = STEP_ROOM;
 
 /// Puts the mark of an event, and those of the lines that were given for it: `X` before those to the interface, `U`
 /// before those to the engine.

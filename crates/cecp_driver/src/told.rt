@@ -27,7 +27,7 @@ use std::marker::Model;
 pub(crate) const MOST_PLIES: usize = 6_000;
 
 /// The room for the moves that the engine was told: a game, and the engine's move.
-pub(crate) const MOST_TOLD: usize = 6_001;
+pub(crate) const MOST_TOLD: usize = MOST_PLIES + 1;
 
 /// The most bytes of a set-up.
 pub(crate) const SETUP: usize = 90_200;

@@ -10,6 +10,7 @@ use Rattle.command_endings.specs.Ran.{WritingBroke}
 use Rattle.command_endings.specs.Reads.{Got, IsAll, AreFirst, AreRead}
 use Rattle.command_endings.specs.Streams.{Streams, AreSame, IsSteady}
 use Rattle.driver_script.specs.Scripts.{IsDriven, IsFault}
+use Rattle.line_io.specs.declared.limits.TheConstants.{SCRIPT_LINE}
 
 -- All of the input was read, its lines are marks of events that may come and of written lines, and the script of a
 -- driver that takes these events was written.
@@ -18,7 +19,7 @@ pub record AllDriven (before after : Streams) : Type 0 where
   pub reads : Got before after got
   pub all_read : IsAll before.input.left got
   pub text : List ℕ
-  pub driven : IsDriven (items 131072 got) text
+  pub driven : IsDriven (items SCRIPT_LINE got) text
   pub written : Appends before.output.taken after.output.taken text
 
 -- The first line that has no mark, or whose event may not come, was reported, and the script of the lines before it
@@ -37,9 +38,9 @@ pub record WholeDriven (least : ℕ) (before after : Streams) : Type 0 where
   pub got : List ℕ
   pub reads : Got before after got
   pub least_is : least ≤ length got
-  pub first : AreFirst before.input.left (whole 131072 got)
+  pub first : AreFirst before.input.left (whole SCRIPT_LINE got)
   pub text : List ℕ
-  pub driven : IsDriven (whole 131072 got) text
+  pub driven : IsDriven (whole SCRIPT_LINE got) text
   pub written : Appends before.output.taken after.output.taken text
 
 -- The output took a front of the script of the first lines.

@@ -5,6 +5,7 @@ ghost use Rattle.line_scribe.specs.Putting.{IsOfLine};
 ghost use Rattle.cecp_driver.specs.Driver.{opening};
 ghost use Rattle.cecp_driver.specs.Script.{IsShort};
 ghost use Rattle.driver_script.specs.Scripts.{Tries};
+ghost use Rattle.command_endings.specs.declared.limits.TheConstants.{LINE_ROOM};
 
 use cecp_driver::Driver;
 use command_endings::Ending;
@@ -40,7 +41,7 @@ impl Drive {
     // Takes an event if it may come, and puts the marks of it.
     fn try_event(&mut self, number: u64, event: &Event, text: &mut Out) -> Option<Ending>
         requires short { IsShort (event_of event.now) }
-        requires room { length text.old.text + 2097152 ≤ text.old.room }
+        requires room { length text.old.text + LINE_ROOM ≤ text.old.room }
         ensures of_line { IfSome result (λ ending. IsOfLine ending) }
         ensures tries { Tries number (event_of event.now) result
             self.old self.new text.old text.new }

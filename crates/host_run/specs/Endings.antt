@@ -3,6 +3,7 @@ use Rattle.std.specs.Prelude.{ℕ, List, [], ◌∷◌, ◌++◌, codes, if◌th
 use Rattle.host_run.specs.declared.failures.Failures.{Failures}
 use Rattle.host_run.specs.declared.ending.Ending.{Ending}
 use Rattle.host_run.specs.declared.ending.Ending.TheVariants as endings
+use Rattle.line_io.specs.Lines.{line_feed}
 
 -- the first of the failures
 abbrev pub ending_of : Failures → Ending
@@ -30,7 +31,7 @@ code_of endings.EngineWaitFailed = 10
 
 -- behind the name of the program
 abbrev pub behind_name : List ℕ → List ℕ
-behind_name text = codes ": " ++ text ++ 10 ∷ []
+behind_name text = codes ": " ++ text ++ line_feed ∷ []
 
 abbrev pub words_of : Ending → List ℕ
 words_of endings.Done = []

@@ -17,14 +17,15 @@ use Rattle.engine_revival.specs.Script.{AllMayHappen, revival_script}
 use Rattle.engine_revival.specs.Steps.{opening}
 use Rattle.revival_script.specs.Played.{ArePlayed, IsFault, revived}
 use Rattle.revival_script.specs.Reviving.{revives}
+use Rattle.line_io.specs.declared.limits.TheConstants.{SCRIPT_LINE}
 
 -- All of the input was read and played, what is written for it was written, and no stream failed.
 pub record AllRevived (lives : ℕ) (before after : Streams) : Type 0 where
   pub got : List ℕ
   pub reads : Got before after got
   pub all_read : IsAll before.input.left got
-  pub played : ArePlayed lives (items 131072 got)
-  pub written : Appends before.output.taken after.output.taken (revived lives (items 131072 got))
+  pub played : ArePlayed lives (items SCRIPT_LINE got)
+  pub written : Appends before.output.taken after.output.taken (revived lives (items SCRIPT_LINE got))
   pub no_failure : AreSame before after
 
 -- The first line that is not played was reported, and what is written for the lines before it was written.
@@ -40,9 +41,9 @@ pub record FaultReported (lives : ℕ) (before after : Streams) : Type 0 where
 pub record WholeRevived (lives : ℕ) (before after : Streams) : Type 0 where
   pub got : List ℕ
   pub reads : Got before after got
-  pub first : AreFirst before.input.left (whole 131072 got)
-  pub played : ArePlayed lives (whole 131072 got)
-  pub written : Appends before.output.taken after.output.taken (revived lives (whole 131072 got))
+  pub first : AreFirst before.input.left (whole SCRIPT_LINE got)
+  pub played : ArePlayed lives (whole SCRIPT_LINE got)
+  pub written : Appends before.output.taken after.output.taken (revived lives (whole SCRIPT_LINE got))
 
 -- so it is if the input gave at least 2^32 bytes
 pub record MuchRevived (lives : ℕ) (before after : Streams) : Type 0 where
@@ -69,7 +70,7 @@ CompletesRevival lives before after code =
 abbrev pub PlaysAll : ℕ → Streams → Streams → ℕ → Type 0
 PlaysAll lives before after code =
     (x : List ℕ) → before.input.left ≡ Some x → length x < 2 ^ 32
-    → ArePlayed lives (items 131072 x) → IsSteady before after → (code ≡ 0) ⊎ (code ≡ 3)
+    → ArePlayed lives (items SCRIPT_LINE x) → IsSteady before after → (code ≡ 0) ⊎ (code ≡ 3)
 
 -- The script that is written for events is written for it again: its lines that were written are passed over.
 abbrev pub RevivesAgain : ℕ → Streams → Streams → ℕ → Type 0

@@ -6,6 +6,7 @@ ghost use Rattle.line_scribe.specs.Putting.{IsOfLine};
 ghost use Rattle.script_lines.specs.Marks.{Happens, IsSpelled, mark_of};
 ghost use Rattle.engine_revival.specs.Steps.{opening};
 ghost use Rattle.revival_script.specs.Reviving.{IsPlayedAs, Takes};
+ghost use Rattle.command_endings.specs.declared.limits.TheConstants.{LINE_ROOM};
 
 use command_endings::Ending;
 use engine_revival::Revival;
@@ -42,7 +43,7 @@ impl Reviver {
     // Plays an event if it may come.
     fn play(&mut self, number: u64, event: &Event, text: &mut Out) -> Option<Ending>
         requires spelled { IsSpelled (Happens (event_of event.now)) }
-        requires room { length text.old.text + 2097152 ≤ text.old.room }
+        requires room { length text.old.text + LINE_ROOM ≤ text.old.room }
         ensures { IsPlayedAs number (event_of event.now) result
             self.old text.old self.new text.new }
     {
@@ -55,7 +56,7 @@ impl Reviver {
 
     // Takes a line by its mark.
     fn take(&mut self, number: u64, line: &[u8], text: &mut Out) -> Option<Ending>
-        requires room { length text.old.text + 2097152 ≤ text.old.room }
+        requires room { length text.old.text + LINE_ROOM ≤ text.old.room }
         ensures { Takes number (mark_of line.now) result self.old text.old self.new text.new }
     {
         match read_mark(line) {
