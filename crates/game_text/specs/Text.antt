@@ -12,6 +12,8 @@ use Rattle.game_record.specs.Game.{Ply, Game, played, now_of}
 use Rattle.game_record.specs.Ending.{ended_of}
 use Rattle.game_record.specs.Line.{is_standard}
 use Rattle.game_text.specs.San.{san}
+use Rattle.line_io.specs.Lines.{line_feed}
+use Rattle.peer_words.specs.Bytes.{blank}
 
 -- `N.` stands before a move of White, and nothing before a move of Black
 abbrev pub number_by : Side → ℕ → List (List ℕ)
@@ -50,9 +52,9 @@ tag_of p = if is_standard p then [] else codes "[FEN \"" ++ (written p ++ codes 
 
 -- One blank stands between the parts of the line.
 unfoldable pub game_text : Game → List ℕ
-game_text g = tag_of g.start ++ (join_with_byte 32 (parts_of g) ++ 10 ∷ [])
+game_text g = tag_of g.start ++ (join_with_byte blank (parts_of g) ++ line_feed ∷ [])
 
 -- each part with a blank behind it
 abbrev pub spaced : List (List ℕ) → List ℕ
 spaced [] = []
-spaced (part ∷ parts) = part ++ 32 ∷ spaced parts
+spaced (part ∷ parts) = part ++ blank ∷ spaced parts

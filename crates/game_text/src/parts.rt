@@ -5,6 +5,7 @@ ghost use Rattle.chess_board.specs.Laws.{IsLegal};
 ghost use Rattle.game_record.specs.Game.{ply_of, plies_of, AreLegal};
 ghost use Rattle.game_text.specs.San.{san};
 ghost use Rattle.game_text.specs.Text.{number_by, beginning_by, move_parts, result_by, spaced};
+ghost use Rattle.chess_board.specs.Play.{top_count};
 
 use chess_board::{Move, Position, Side};
 use game_record::End;
@@ -14,7 +15,7 @@ use san_text::write_san;
 
 // A number, what stands behind it, and a blank.
 fn put_number(number: u32, behind: &[u8], out: &mut Out)
-    requires small { number ≤ 99999 }
+    requires small { number ≤ top_count }
     requires behind { length behind.now ≤ 3 }
     requires room { length out.old.text + 9 ≤ out.old.room }
     ensures text { out.new ≡ with out.old (spaced ((decimal number ++ behind.now) ∷ [])) }

@@ -3,15 +3,16 @@ ghost use Rattle.std.specs.Prelude.{◌≡◌, ◌+◌, ◌≤◌, length};
 ghost use Rattle.line_io.specs.Out.{with};
 ghost use Rattle.game_record.specs.Line.{is_standard};
 ghost use Rattle.game_text.specs.Text.{tag_of, game_text};
+ghost use Rattle.game_text.specs.declared.write.TheConstants.{GAME_ROOM};
 
 use crate::parts::{put_beginning, put_moves, result_text};
 use chess_board::{Position, equal_positions};
 use fen_text::write_fen;
-use game_record::Game;
+use game_record::{Game, MOST_PLIES};
 use line_io::Out;
 
 /// No text of a game is longer: 15 bytes for each of at most 12,000 moves, and 120 for the rest.
-pub const GAME_ROOM: usize = 180_120;
+pub const GAME_ROOM: usize = 15 * MOST_PLIES + 120;
 
 // Whether a position is the standard start, with its counts 0 and 1.
 fn is_standard(p: &Position) -> bool
@@ -40,9 +41,9 @@ fn put_tag(start: &Position, out: &mut Out)
 /// `N.` stands before each move of White, and `N...` before the first move if Black plays it. The
 /// result is `1-0`, `0-1`, `1/2-1/2`, or `*` if the game has not ended.
 pub fn write_game(game: &Game, out: &mut Out)
-    requires { length out.old.text + 180120 ≤ out.old.room }
+    requires { length out.old.text + GAME_ROOM ≤ out.old.room }
     ensures text { out.new ≡ with out.old (game_text game.now) }
-    ensures few { length out.new.text ≤ length out.old.text + 180120 }
+    ensures few { length out.new.text ≤ length out.old.text + GAME_ROOM }
 {
     game.facts();
     put_tag(game.start(), out);

@@ -14,6 +14,7 @@ use Rattle.line_scribe.specs.Scribed.{EndsBy}
 use Rattle.session_judge.specs.Talks.{opening}
 use Rattle.judge_report.specs.Reports.{report, last_lines}
 use Rattle.judge_report.specs.Judging.{judges}
+use Rattle.line_io.specs.declared.limits.TheConstants.{SCRIPT_LINE}
 
 -- the report on these lines, with what is written last where it ends so
 abbrev pub whole_report : List Piece → Ending → List ℕ
@@ -25,8 +26,8 @@ pub record AllJudged (before after : Streams) : Type 0 where
   pub got : List ℕ
   pub reads : Got before after got
   pub all_read : IsAll before.input.left got
-  pub faultless : (report (items 131072 got)).ending ≡ None
-  pub written : Appends before.output.taken after.output.taken (whole_report (items 131072 got) endings.Done)
+  pub faultless : (report (items SCRIPT_LINE got)).ending ≡ None
+  pub written : Appends before.output.taken after.output.taken (whole_report (items SCRIPT_LINE got) endings.Done)
 
 -- A line has no mark, or has one that breaks a rule. The report on the lines up to it was written, and what it is was
 -- told if its status has a diagnostic.
@@ -44,9 +45,9 @@ pub record WholeJudged (ending : Ending) (least : ℕ) (before after : Streams) 
   pub got : List ℕ
   pub reads : Got before after got
   pub least_is : least ≤ length got
-  pub first : AreFirst before.input.left (whole 131072 got)
-  pub faultless : (report (whole 131072 got)).ending ≡ None
-  pub written : Appends before.output.taken after.output.taken (whole_report (whole 131072 got) ending)
+  pub first : AreFirst before.input.left (whole SCRIPT_LINE got)
+  pub faultless : (report (whole SCRIPT_LINE got)).ending ≡ None
+  pub written : Appends before.output.taken after.output.taken (whole_report (whole SCRIPT_LINE got) ending)
 
 abbrev pub Completes : Streams → Streams → ℕ → Type 0
 Completes before after code =

@@ -7,6 +7,7 @@ use Rattle.peer_words.specs.declared.kinds.GoKind.TheVariants as kinds
 use Rattle.session_judge.specs.declared.rule.Rule.{Rule}
 use Rattle.session_judge.specs.declared.rule.Rule.TheVariants as rules
 use Rattle.session_judge.specs.declared.search.Search.{Search}
+use Rattle.line_io.specs.Lines.{line_feed}
 
 abbrev pub kind_text : GoKind → List ℕ
 kind_text kinds.Move = codes "move"
@@ -31,7 +32,7 @@ begun_text s = codes "search " ++ decimal s.number ++ codes ": " ++ kind_text s.
 
 -- `, END, STOP, M`
 abbrev pub ended_text : Search → List ℕ
-ended_text s = codes ", " ++ end_text s.ended ++ codes ", " ++ stop_text s.stopped ++ codes ", " ++ shown_text s.shown ++ 10 ∷ []
+ended_text s = codes ", " ++ end_text s.ended ++ codes ", " ++ stop_text s.stopped ++ codes ", " ++ shown_text s.shown ++ line_feed ∷ []
 
 -- `search K: KIND, from line A, END, STOP, M`
 abbrev pub search_line : Search → List ℕ
@@ -54,7 +55,7 @@ rule_text rules.Position = codes "position"
 rule_text rules.Move = codes "move"
 
 abbrev pub lawful_line : List ℕ
-lawful_line = codes "lawful talk" ++ 10 ∷ []
+lawful_line = codes "lawful talk" ++ line_feed ∷ []
 
 abbrev pub unlawful_line : ℕ → Rule → List ℕ
-unlawful_line line rule = codes "unlawful at line " ++ decimal line ++ codes ": " ++ rule_text rule ++ 10 ∷ []
+unlawful_line line rule = codes "unlawful at line " ++ decimal line ++ codes ": " ++ rule_text rule ++ line_feed ∷ []

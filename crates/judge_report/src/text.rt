@@ -3,6 +3,7 @@ ghost use Rattle.std.specs.Prelude.{◌≡◌, ◌+◌, ◌≤◌, ◌++◌, dec
 ghost use Rattle.line_io.specs.Out.{with};
 ghost use Rattle.chess_board.specs.Text.{promotion_text, text_of};
 ghost use Rattle.judge_report.specs.Texts.{begun_text, end_text, ended_text, kind_text, lawful_line, rule_text, searched, shown_text, stop_text, unlawful_line};
+ghost use Rattle.judge_report.specs.declared.report.TheConstants.{LAST_LINES};
 
 use chess_board::{Kind, Move};
 use itoa::Buffer;
@@ -158,7 +159,7 @@ fn put_unlawful(line: u64, rule: Rule, out: &mut Out)
 
 /// Puts the line of the last search, and the line about a mark that breaks a rule.
 pub(crate) fn put_refusal(search: Option<Search>, line: u64, rule: Rule, out: &mut Out)
-    requires { length out.old.text + 300 ≤ out.old.room }
+    requires { length out.old.text + LAST_LINES ≤ out.old.room }
     ensures { out.new ≡ with out.old (searched search ++ unlawful_line line rule) }
 {
     put_search(search, out);
