@@ -1,10 +1,11 @@
 -- The numbers of a drill.
 use Rattle.std.specs.Prelude.{ℕ, ◌+◌, ◌*◌, ◌/◌, ◌%◌}
+use Rattle.drill.specs.declared.generator.TheConstants.{MULTIPLIER, INCREMENT, MODULUS, LOW_PART}
 
 -- the number after another
 abbrev pub next : ℕ → ℕ
-next x = (x * 1103515245 + 12345) % 2147483648
+next x = (x * MULTIPLIER + INCREMENT) % MODULUS
 
 -- a place among so many, from 0
 abbrev pub place_of : ℕ → ℕ → ℕ
-place_of x count = (x / 65536) % count
+place_of x count = (x / LOW_PART) % count

@@ -7,6 +7,7 @@ use Rattle.chess_board.specs.Text.{text_of, AreLegalMoves}
 use Rattle.game_record.specs.Game.{Game, ply_of, now_of, begun, with_ply}
 use Rattle.desk_rules.specs.Desk.{has_ended}
 use Rattle.drill.specs.Generator.{next, place_of}
+use Rattle.drill.specs.declared.round.TheConstants.{SPENT_PLIES}
 
 -- where a drill stands: the last number of its generator, the game that it keeps, and the move that it has the engine ponder on
 pub record Drill : Type 0 where
@@ -38,9 +39,9 @@ closing = Iface (codes "quit") ∷ EngineEnd ∷ []
 
 -- A NEW GAME
 
--- the game has ended, or has at least 10,000 moves of both sides
+-- the game has ended, or has at least `SPENT_PLIES` moves of both sides
 abbrev pub is_spent : Game → Bool
-is_spent g = has_ended g || nat_le 10000 (length g.moves)
+is_spent g = has_ended g || nat_le SPENT_PLIES (length g.moves)
 
 -- an answer without a move
 abbrev pub no_move : Event

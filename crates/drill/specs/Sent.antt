@@ -12,11 +12,13 @@ use Rattle.adapter_core.specs.Parts.{Parts}
 use Rattle.adapter_core.specs.Stands.{Stands}
 use Rattle.drill.specs.declared.tally.Tally.{Tally}
 use Rattle.drill.specs.Tally.{counted}
+use Rattle.line_io.specs.declared.limits.TheConstants.{SCRIPT_LINE}
+use Rattle.drill.specs.declared.tally.TheConstants.{MOST_STEPS}
 
 -- the counts are small beside the number of steps
 pub record AreFew (t : Tally) : Type 0 where
-  pub to_iface : t.to_iface ≤ 131072 * t.steps
-  pub to_engine : t.to_engine ≤ 131072 * t.steps
+  pub to_iface : t.to_iface ≤ SCRIPT_LINE * t.steps
+  pub to_engine : t.to_engine ≤ SCRIPT_LINE * t.steps
   pub shown : t.shown ≤ t.steps
 
 -- the core, and what was counted of its steps
@@ -63,7 +65,7 @@ talking = record { opened = true; iface = false; engine = false; iface_lost = fa
 
 -- so many steps more may be counted
 abbrev pub HasRoom : ℕ → Session → Type 0
-HasRoom n p = p.tally.steps + n ≤ 1000000
+HasRoom n p = p.tally.steps + n ≤ MOST_STEPS
 
 -- a line of the interface that does not end the session
 abbrev pub IsSpeech : List ℕ → Type 0

@@ -1,6 +1,6 @@
 -- What a drill counts.
 use Rattle.std.specs.Prelude.{ℕ, ◌+◌, ◌-◌, List, [], ◌∷◌, ◌++◌, length, codes, decimal}
-use Rattle.line_io.specs.Lines.{parts}
+use Rattle.line_io.specs.Lines.{parts, line_feed}
 use Rattle.adapter_core.specs.Shown.{moves_told}
 use Rattle.adapter_core.specs.Trace.{Step, iface_text, engine_text}
 use Rattle.drill.specs.declared.tally.Tally.{Tally}
@@ -27,4 +27,4 @@ abbrev pub line_of : ℕ → ℕ → Tally → List ℕ → List ℕ
 line_of number count t fen =
     codes "drill " ++ decimal number ++ codes " " ++ decimal count ++ codes ": " ++ decimal (t.steps - 1) ++ codes " events, "
     ++ decimal t.to_iface ++ codes " lines to the interface, " ++ decimal t.to_engine ++ codes " lines to the engine, "
-    ++ decimal t.shown ++ codes " moves shown, " ++ fen ++ 10 ∷ []
+    ++ decimal t.shown ++ codes " moves shown, " ++ fen ++ line_feed ∷ []

@@ -10,5 +10,6 @@ mod run;
 mod session;
 mod tally;
 
+pub use generator::MODULUS;
 pub use laws::drills_are_one;
-pub use run::drill_line;
+pub use run::{MOST_ROUNDS, drill_line};

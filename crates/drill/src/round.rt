@@ -13,6 +13,8 @@ ghost use Rattle.drill.specs.Rounds.{Draws, is_spent, new_game, renewal, renewed
 ghost use Rattle.drill.specs.Sent.{HasRoom, Sent, talking};
 ghost use Rattle.drill.specs.Tally.{nothing};
 ghost use Rattle.drill.specs.Stood.{stand_of, EngineMoves, HintDrawn, RoundPlayed, RoundsPlayed, UserMoves};
+ghost use Rattle.game_record.specs.declared.game.TheConstants.{MOST_PLIES};
+ghost use Rattle.drill.specs.declared.round.TheConstants.{SPENT_PLIES};
 
 use crate::generator::{next, place_of};
 use crate::session::Session;
@@ -20,6 +22,9 @@ use chess_board::{Move, Position, State};
 use game_record::Game;
 use line_io::NoMemory;
 use std::alloc::Global;
+
+// A game of so many moves of both sides is followed by a new one.
+const SPENT_PLIES: u32 = 10_000;
 
 /// A drill: its session, the game that it keeps, the last number of its generator, and the move that it has the
 /// engine ponder on.
@@ -63,7 +68,7 @@ impl Drill {
     fn is_spent(&self) -> bool
         ensures { result ≡ is_spent self.now.game }
     {
-        has_ended(&self.game) || self.game.plies() >= 10_000
+        has_ended(&self.game) || self.game.plies() >= SPENT_PLIES
     }
 
     // Begins a new game where one is due.
@@ -112,7 +117,7 @@ impl Drill {
     // Plays a move in the game of the drill.
     fn play(&mut self, m: Move)
         requires legal { IsLegal (now_of self.old.game) m.from.index m.to.index m.promo }
-        requires plies { length self.old.game.moves < 12000 }
+        requires plies { length self.old.game.moves < MOST_PLIES }
         ensures { self.new ≡ record self.old { game = with_ply self.old.game (ply_of m) } }
     {
         let _ = self.game.push(m);
@@ -121,12 +126,12 @@ impl Drill {
     // Draws and enters a move of the user.
     fn move_user(&mut self)
         requires open { has_ended self.old.game ≡ false }
-        requires plies { length self.old.game.moves < 10000 }
+        requires plies { length self.old.game.moves < SPENT_PLIES }
         requires talking { self.old.session.core.ends ≡ talking }
         requires room { HasRoom 4 self.old.session }
         ensures moves { UserMoves self.old self.new }
         ensures quiet { self.new.hint ≡ None }
-        ensures plies { length self.new.game.moves < 11000 }
+        ensures plies { length self.new.game.moves < SPENT_PLIES + 1 }
         ensures talking { self.new.session.core.ends ≡ talking }
         ensures few { self.new.session.tally.steps ≤ self.old.session.tally.steps + 4 }
     {
@@ -140,7 +145,7 @@ impl Drill {
     // Draws and answers with a move of the engine, where the game has not ended.
     fn move_engine(&mut self)
         requires quiet { self.old.hint ≡ None }
-        requires plies { length self.old.game.moves < 11000 }
+        requires plies { length self.old.game.moves < SPENT_PLIES + 1 }
         requires talking { self.old.session.core.ends ≡ talking }
         requires room { HasRoom 2 self.old.session }
         ensures moves { EngineMoves self.old self.new }

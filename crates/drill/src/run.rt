@@ -4,6 +4,7 @@ ghost use Rattle.line_io.specs.Out.{with, empty};
 ghost use Rattle.fen_text.specs.Written.{written};
 ghost use Rattle.drill.specs.Played.{Drills};
 ghost use Rattle.drill.specs.Tally.{line_of};
+ghost use Rattle.drill.specs.declared.run.TheConstants.{LINE_ROOM, MOST_ROUNDS};
 
 use crate::round::Drill;
 use crate::tally::Tally;
@@ -13,7 +14,11 @@ use itoa::Buffer;
 use line_io::{NoMemory, Out};
 use std::alloc::Global;
 
+// The line of a drill.
 const LINE_ROOM: usize = 400;
+
+/// The most rounds of a drill.
+pub const MOST_ROUNDS: u32 = 100_000;
 
 fn put_number(number: u64, words: &[u8], out: &mut Out)
     requires { length out.old.text + 20 + length words.now ≤ out.old.room }
@@ -27,7 +32,7 @@ fn put_number(number: u64, words: &[u8], out: &mut Out)
 
 // Puts the line of a drill.
 fn put_line(number: u32, count: u32, tally: Tally, position: &Position, out: &mut Out)
-    requires { out.old ≡ empty 400 }
+    requires { out.old ≡ empty LINE_ROOM }
     ensures { out.new.text ≡ line_of number count tally (written position.now) }
 {
     out.put(b"drill ");
@@ -43,7 +48,7 @@ fn put_line(number: u32, count: u32, tally: Tally, position: &Position, out: &mu
 
 /// Plays the drill of a number with so many rounds, and gives its line, with its line feed.
 pub fn drill_line(alloc: Global, number: u32, count: u32) -> Result<Out, NoMemory>
-    requires { count ≤ 100000 }
+    requires { count ≤ MOST_ROUNDS }
     ensures { IfOk result (λ line. Drills number count line.text) }
 {
     let mut drill = Drill::make(alloc, number)?;

@@ -6,6 +6,7 @@ ghost use Rattle.adapter_core.specs.Ends.{at_start, ends_after, may};
 ghost use Rattle.adapter_core.specs.Stands.{Stands};
 ghost use Rattle.drill.specs.Sent.{AreFew, HasRoom, IsSpeech, Sends, Steps, talking};
 ghost use Rattle.drill.specs.Tally.{nothing};
+ghost use Rattle.drill.specs.declared.tally.TheConstants.{MOST_STEPS};
 
 use crate::tally::Tally;
 use adapter_core::Core;
@@ -34,7 +35,7 @@ impl Model for Session {
 // One step of the core, counted.
 fn step(core: &mut Core, event: &Event, tally: &mut Tally)
     requires may { may core.old.ends (event_of event.now) ≡ true }
-    requires few { (tally.old.steps ≤ 1000000) × AreFew tally.old }
+    requires few { (tally.old.steps ≤ MOST_STEPS) × AreFew tally.old }
     ensures { Steps core.old core.new (event_of event.now) tally.old tally.new }
 {
     let lines = core.step(event);

@@ -1,10 +1,14 @@
 // What a drill counts.
-ghost use Rattle.std.specs.Prelude.{◌≡◌, ◌≤◌, ◌<◌, ◌+◌, length};
+ghost use Rattle.std.specs.Prelude.{◌≡◌, ◌≤◌, ◌<◌, ◌+◌, ◌^◌, length};
 ghost use Rattle.line_io.specs.Lines.{parts};
 ghost use Rattle.drill.specs.Tally.{nothing};
 ghost use Rattle.drill.specs.Sent.{counted_texts, shows_move};
+ghost use Rattle.line_io.specs.declared.limits.TheConstants.{SCRIPT_LINE};
 
 use line_io::split_line;
+
+// How many steps are counted at most.
+const MOST_STEPS: u64 = 1_000_000;
 
 /// Steps, lines to both peers, and moves that were shown.
 #[derive(Clone, Copy, Debug, PartialEq, Eq)]
@@ -16,9 +20,9 @@ pub struct Tally {
 }
 
 fn count_lines(text: &[u8]) -> u64
-    requires { length text.now ≤ 131072 }
+    requires { length text.now ≤ SCRIPT_LINE }
     ensures value { result ≡ length (parts text.now) }
-    ensures few { result ≤ 131072 }
+    ensures few { result ≤ SCRIPT_LINE }
 {
     let mut rest = text;
     let mut count = 0;
@@ -52,13 +56,13 @@ impl Tally {
 
     /// Counts a step, by the texts that it wrote to both peers.
     pub fn count(&mut self, iface: &[u8], engine: &[u8])
-        requires iface { length iface.now ≤ 131072 }
-        requires engine { length engine.now ≤ 131072 }
-        requires few { (self.old.steps < 4294967296) × (self.old.to_iface < 4294967296000000)
-            × (self.old.to_engine < 4294967296000000) × (self.old.shown < 4294967296000000) }
+        requires iface { length iface.now ≤ SCRIPT_LINE }
+        requires engine { length engine.now ≤ SCRIPT_LINE }
+        requires few { (self.old.steps < 2 ^ 32) × (self.old.to_iface < 2 ^ 52)
+            × (self.old.to_engine < 2 ^ 52) × (self.old.shown < 2 ^ 52) }
         ensures counted { self.new ≡ counted_texts self.old iface.now engine.now }
-        ensures to_iface { self.new.to_iface ≤ self.old.to_iface + 131072 }
-        ensures to_engine { self.new.to_engine ≤ self.old.to_engine + 131072 }
+        ensures to_iface { self.new.to_iface ≤ self.old.to_iface + SCRIPT_LINE }
+        ensures to_engine { self.new.to_engine ≤ self.old.to_engine + SCRIPT_LINE }
         ensures shown { self.new.shown ≤ self.old.shown + 1 }
     {
         self.to_iface += count_lines(iface);
