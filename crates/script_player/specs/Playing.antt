@@ -2,7 +2,7 @@
 use Rattle.std.specs.Prelude.{◌≡◌, ⊤, ℕ, suc, List, [], ◌∷◌, ◌++◌, length, Option, Some, None}
 use Rattle.std.specs.Io.KnownBytes.{Appends}
 use Rattle.line_io.specs.Event.{Event, Open}
-use Rattle.line_io.specs.Lines.{Piece}
+use Rattle.line_io.specs.Lines.{Piece, line_feed}
 use Rattle.line_io.specs.Out.{Text, with}
 use Rattle.line_io.specs.Source.{Received}
 use Rattle.script_lines.specs.Header.{header_text}
@@ -18,6 +18,7 @@ use Rattle.script_player.specs.declared.stage.Stage.{Stage}
 use Rattle.script_player.specs.declared.stage.Stage.TheVariants as stages
 use Rattle.script_player.specs.Stages.{IsNumbered, number_of}
 use Rattle.script_player.specs.Versions.{Version, First, Second, Said, Comes, Starts, beginning, behind_header, place_over, stage_started, stage_told, script_by, script_events, script_fault, settings_by, version_in}
+use Rattle.command_endings.specs.declared.limits.TheConstants.{TEXT_ROOM}
 
 -- a step of this event extends each lawful trace for which the core stood
 pub record Adds (old new : Parts) (e : Event) (step : Step) : Type 0 where
@@ -83,7 +84,7 @@ abbrev pub HasBegun : Option Settings → Parts → Text → Parts → Stage →
 HasBegun None core text core' stage' text' = Steps stages.Plain core core' Open text text' × (stage' ≡ stages.Plain)
 HasBegun (Some settings) core text core' stage' text' =
     (set : Parts) × Stands settings set []
-    × Steps (stages.Numbered 0) set core' Open (with (with text (header_text settings)) (10 ∷ [])) text' × (stage' ≡ stages.Headed)
+    × Steps (stages.Numbered 0) set core' Open (with (with text (header_text settings)) (line_feed ∷ [])) text' × (stage' ≡ stages.Headed)
 
 -- The output got the script of a lawful trace, but for what is not written yet. Its events are those of the lines.
 pub record Scripted (o : Settings) (lines : List Piece) (unwritten : List ℕ) (before after : Received) : Type 0 where
@@ -104,4 +105,4 @@ Played o lines (Some fault) core stage text before after = (script_fault lines �
 pub record MayTake (core : Parts) (stage : Stage) (text : Text) : Type 0 where
   pub new : stage ≡ stages.Start → Stands core.settings core [] × (text.text ≡ [])
   pub numbered : IsNumbered stage
-  pub room : text.room ≡ 8388608
+  pub room : text.room ≡ TEXT_ROOM

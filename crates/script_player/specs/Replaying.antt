@@ -16,12 +16,13 @@ use Rattle.script_player.specs.declared.player.Player.{Player}
 use Rattle.script_player.specs.declared.stage.Stage.TheVariants as stages
 use Rattle.script_player.specs.Playing.{MayTake, Scripted, Took}
 use Rattle.script_player.specs.Versions.{script_by, script_events, script_fault, settings_by, version_in}
+use Rattle.command_endings.specs.declared.limits.TheConstants.{TEXT_ROOM}
 
 -- a session before its first line
 pub record IsFresh (o : Settings) (player : Player) : Type 0 where
   pub is_start : player.stage ≡ stages.Start
   pub stands : Stands o player.core []
-  pub text : player.text ≡ empty 8388608
+  pub text : player.text ≡ empty TEXT_ROOM
 
 abbrev pub with_text : Player → Text → Player
 with_text player text = record player { text = text }

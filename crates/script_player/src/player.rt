@@ -1,5 +1,5 @@
 // A session that is replayed, line by line.
-ghost use Rattle.std.specs.Prelude.{◌≡◌, ◌+◌, ◌<◌, ◌≤◌, ◌^◌, List, [], ◌∷◌, ◌++◌, length, Some, None, true, IfOk};
+ghost use Rattle.std.specs.Prelude.{◌≡◌, ◌+◌, ◌<◌, ◌≤◌, ◌^◌, List, [], ◌∷◌, ◌++◌, ◌*◌, length, Some, None, true, IfOk};
 ghost use Rattle.line_io.specs.Event.{event_of};
 ghost use Rattle.line_io.specs.Lines.{Piece, Whole};
 ghost use Rattle.line_io.specs.Out.{empty};
@@ -13,19 +13,15 @@ ghost use Rattle.script_player.specs.Replaying.{IsFresh};
 ghost use Rattle.script_player.specs.Stages.{IsNumbered};
 ghost use Rattle.script_player.specs.Versions.{fault_said, kind_of, kind_says};
 ghost use Rattle.script_player.specs.declared.stage.Stage.TheVariants as stages;
+ghost use Rattle.script_lines.specs.declared.step_text.TheConstants.{STEP_ROOM};
 
 use crate::stage::{Said, Stage};
 use adapter_core::Core;
-use command_endings::{Ending, tell};
+use command_endings::{Ending, TEXT_ROOM, tell};
 use line_io::{Event, Failed, NoMemory, Out, Sink, TakesLines, write_all};
 use policy_rules::Settings;
-use script_lines::{put_numbered_step, put_step, read_header, write_header};
+use script_lines::{STEP_ROOM, put_numbered_step, put_step, read_header, write_header};
 use std::alloc::Global;
-
-const STEP_ROOM: usize = 2_097_152;
-
-// Room for a header and three steps.
-const TEXT_ROOM: usize = 8_388_608;
 
 /// A session, where the reading of its script stands, and the part of its script that is not written
 /// yet.
@@ -40,7 +36,7 @@ pub struct Player {
 fn step(core: &mut Core, stage: Stage, event: &Event, text: &mut Out)
     requires may { may core.old.ends (event_of event.now) ≡ true }
     requires stage { IsNumbered stage }
-    requires room { length text.old.text + 2097152 ≤ text.old.room }
+    requires room { length text.old.text + STEP_ROOM ≤ text.old.room }
     ensures steps { Steps stage core.old core.new (event_of event.now) text.old text.new }
     ensures room { text.new.room ≡ text.old.room }
 {
@@ -67,7 +63,7 @@ impl Player {
     // Opens a session of version 1.
     fn open_plain(&mut self)
         requires new { Stands self.old.core.settings self.old.core [] }
-        requires room { length self.old.text.text + 2097152 ≤ self.old.text.room }
+        requires room { length self.old.text.text + STEP_ROOM ≤ self.old.text.room }
         ensures begun { HasBegun None self.old.core self.old.text
             self.new.core self.new.stage self.new.text }
         ensures room { self.new.text.room ≡ self.old.text.room }
@@ -80,7 +76,7 @@ impl Player {
     fn open_numbered(&mut self, settings: &Settings)
         requires proper { IsProper settings.now }
         requires new { Stands self.old.core.settings self.old.core [] }
-        requires room { length self.old.text.text + 4194432 ≤ self.old.text.room }
+        requires room { length self.old.text.text + 2 * STEP_ROOM + 128 ≤ self.old.text.room }
         ensures begun { HasBegun (Some settings.now) self.old.core self.old.text
             self.new.core self.new.stage self.new.text }
         ensures room { self.new.text.room ≡ self.old.text.room }
@@ -100,7 +96,7 @@ impl Player {
     // Takes a line of a session that was opened.
     fn take(&mut self, number: u64, line: &[u8]) -> Option<Ending>
         requires stage { IsNumbered self.old.stage }
-        requires room { length self.old.text.text + 2097152 ≤ self.old.text.room }
+        requires room { length self.old.text.text + STEP_ROOM ≤ self.old.text.room }
         ensures ending { result ≡ fault_said number
             (kind_says self.old.stage self.old.core.ends (kind_of (Whole line.now))) }
         ensures takes { Takes self.old.core self.old.stage self.old.text
@@ -136,7 +132,7 @@ impl Player {
 
     // Where another line is taken, the text is to be written first.
     fn is_full(&self) -> bool
-        ensures { result ≡ false → length self.now.text.text + 2097152 ≤ self.now.text.room }
+        ensures { result ≡ false → length self.now.text.text + STEP_ROOM ≤ self.now.text.room }
     {
         self.text.spare() < STEP_ROOM
     }

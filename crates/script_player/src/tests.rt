@@ -1,7 +1,6 @@
 // A script as a session.
 use crate::Player;
-use command_endings::LINE_LIMIT;
-use line_io::{Lines, LinesEnd, MemSink, MemSource, take_lines};
+use line_io::{Lines, LinesEnd, MemSink, MemSource, SCRIPT_LINE, take_lines};
 use policy_rules::Settings;
 use std::test::Fail;
 
@@ -16,7 +15,7 @@ fn a_script_is_played(rt: HostRuntime) -> Result<(), Fail> {
     let alloc = rt.alloc();
     let mut source = MemSource::make(alloc, LOG, 7, &[])?;
     let mut output = MemSink::make(alloc, 1_000, &[])?;
-    let mut lines = Lines::make(alloc, LINE_LIMIT)?;
+    let mut lines = Lines::make(alloc, SCRIPT_LINE)?;
     let mut player = Player::make(alloc, &Settings::usual())?;
     let end = take_lines(&mut lines, &mut source, &mut player, &mut output);
     assert_eq!(rt; end, LinesEnd::Ended);

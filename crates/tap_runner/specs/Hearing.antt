@@ -7,6 +7,7 @@ use Rattle.event_pipe.specs.declared.message.Peer.{Peer}
 use Rattle.event_pipe.specs.Rule.{ended}
 use Rattle.tap_runner.specs.Lines.{line_limit, last_pieces}
 use Rattle.tap_runner.specs.Marks.{mark_of, piece_events, end_event}
+use Rattle.tap_runner.specs.declared.part.TheConstants.{MARK_ROOM}
 
 -- the open line of a peer, where it is not too long, and whether there was no memory for a mark
 pub record Open : Type 0 where
@@ -23,7 +24,7 @@ open_of peer mark is_long has_lacked =
     record { peer = peer; line = if is_long then None else Some (drop 2 mark.text); has_lacked = has_lacked }
 
 pub record IsMark (peer : Peer) (mark : Text) (is_long : Bool) : Type 0 where
-  pub room : mark.room ≡ 65536
+  pub room : mark.room ≡ MARK_ROOM
   pub text : mark.text ≡ mark_of peer (drop 2 mark.text)
   pub no_feed : has_feed (drop 2 mark.text) ≡ false
 

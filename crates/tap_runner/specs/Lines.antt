@@ -1,10 +1,11 @@
 -- The lines that bytes end, and what is known of the line that they leave open.
-use Rattle.std.specs.Prelude.{ℕ, List, [], ◌∷◌, ◌++◌, length, if◌then◌else◌, nat_lt, Option, Some, None}
+use Rattle.std.specs.Prelude.{ℕ, List, [], ◌∷◌, ◌++◌, length, if◌then◌else◌, ◌-◌, nat_lt, Option, Some, None}
 use Rattle.line_io.specs.Lines.{Piece, Whole, TooLong, is_feed}
+use Rattle.line_io.specs.declared.limits.TheConstants.{PEER_LINE}
 
 -- the longest line that is no long one
 abbrev pub line_limit : ℕ
-line_limit = 65534
+line_limit = PEER_LINE - 2
 
 -- an open line and one byte more; a line that is too long is not kept
 abbrev pub with_byte : Option (List ℕ) → ℕ → Option (List ℕ)

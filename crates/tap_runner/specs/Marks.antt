@@ -2,12 +2,13 @@
 use Rattle.std.specs.Prelude.{ℕ, List, [], ◌∷◌, ◌++◌, codes, map}
 use Rattle.std.specs.List.{flat_map}
 use Rattle.line_io.specs.Event.{Event, Iface, IfaceLong, IfaceEnd, Engine, EngineLong, EngineEnd}
-use Rattle.line_io.specs.Lines.{Piece, Whole, TooLong, items}
+use Rattle.line_io.specs.Lines.{Piece, Whole, TooLong, items, line_feed}
 use Rattle.event_pipe.specs.declared.message.Peer.{Peer}
 use Rattle.event_pipe.specs.declared.message.Peer.TheVariants as peers
 use Rattle.event_pipe.specs.declared.message.What.TheVariants as says
 use Rattle.event_pipe.specs.Message.{sent_event}
 use Rattle.tap_runner.specs.Lines.{line_limit}
+use Rattle.peer_words.specs.Bytes.{blank}
 
 -- the bridge has the place of the interface in the channel
 abbrev pub letter_of : Peer → ℕ
@@ -16,7 +17,7 @@ letter_of peers.Engine = 117
 
 -- the mark of a line, without its line feed
 abbrev pub mark_of : Peer → List ℕ → List ℕ
-mark_of peer line = letter_of peer ∷ 32 ∷ line
+mark_of peer line = letter_of peer ∷ blank ∷ line
 
 -- What goes through the channel for a line: its mark.
 abbrev pub piece_event : Peer → Piece → Event
@@ -35,12 +36,12 @@ marks_of peer bytes = piece_events peer (items line_limit bytes) ++ end_event pe
 
 -- how it stands in the log
 abbrev pub logged : Event → List ℕ
-logged (Iface mark) = mark ++ 10 ∷ []
-logged (Engine mark) = mark ++ 10 ∷ []
-logged IfaceLong = codes "x!" ++ 10 ∷ []
-logged IfaceEnd = codes "x." ++ 10 ∷ []
-logged EngineLong = codes "u!" ++ 10 ∷ []
-logged EngineEnd = codes "u." ++ 10 ∷ []
+logged (Iface mark) = mark ++ line_feed ∷ []
+logged (Engine mark) = mark ++ line_feed ∷ []
+logged IfaceLong = codes "x!" ++ line_feed ∷ []
+logged IfaceEnd = codes "x." ++ line_feed ∷ []
+logged EngineLong = codes "u!" ++ line_feed ∷ []
+logged EngineEnd = codes "u." ++ line_feed ∷ []
 logged event = []
 
 abbrev pub log_text : List Event → List ℕ

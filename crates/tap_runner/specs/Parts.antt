@@ -4,10 +4,11 @@ use Rattle.event_pipe.specs.declared.message.Peer.TheVariants as peers
 use Rattle.event_pipe.specs.Ends.{IsFreshTaker, AreOne}
 use Rattle.tap_runner.specs.declared.parts.Parts.{Parts}
 use Rattle.tap_runner.specs.Ran.{IsReadyWay}
+use Rattle.tap_runner.specs.declared.logging.TheConstants.{LOG_ROOM}
 
 -- nothing was heard, sent or taken yet
 pub record AreReady (parts : Parts) : Type 0 where
-  pub room : 65537 ≤ parts.text.room
+  pub room : LOG_ROOM ≤ parts.text.room
   pub down : IsReadyWay parts.down peers.Iface
   pub up : IsReadyWay parts.up peers.Engine
   pub taker : IsFreshTaker parts.taker

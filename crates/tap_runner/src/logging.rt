@@ -5,14 +5,17 @@ ghost use Rattle.event_pipe.specs.Ends.{IsFreshTaker, KeepsTaker, taken};
 ghost use Rattle.sink_offers.specs.Streams.{log_state, Offered};
 ghost use Rattle.tap_runner.specs.Marks.{logged};
 ghost use Rattle.tap_runner.specs.Logging.{Logged, ends_after, mark_length};
+ghost use Rattle.line_io.specs.Lines.{line_feed};
+ghost use Rattle.tap_runner.specs.declared.part.TheConstants.{MARK_ROOM};
+ghost use Rattle.tap_runner.specs.declared.logging.TheConstants.{LOG_ROOM};
 
 use event_pipe::PipeTake;
-use line_io::{Event, Out, Sink};
+use line_io::{Event, Out, PEER_LINE, Sink};
 use sink_offers::offer_log;
 use std::sync::Wait;
 
 /// The room for a mark in the log.
-pub const LOG_ROOM: usize = 65_537;
+pub const LOG_ROOM: usize = PEER_LINE + 1;
 
 // Which sides have ended.
 #[derive(Clone, Copy)]
@@ -50,7 +53,7 @@ impl Ends {
 fn put_mark(text: &mut Out, mark: &[u8])
     requires empty { text.old.text ≡ [] }
     requires room { length mark.now + 1 ≤ text.old.room }
-    ensures text { text.new.text ≡ mark.now ++ 10 ∷ [] }
+    ensures text { text.new.text ≡ mark.now ++ line_feed ∷ [] }
     ensures room { text.new.room ≡ text.old.room }
 {
     text.put(mark);
@@ -59,8 +62,8 @@ fn put_mark(text: &mut Out, mark: &[u8])
 
 // What stands in the log for an event.
 fn put_logged(text: &mut Out, event: &Event)
-    requires short { mark_length (event_of event.now) ≤ 65536 }
-    requires room { 65537 ≤ text.old.room }
+    requires short { mark_length (event_of event.now) ≤ MARK_ROOM }
+    requires room { LOG_ROOM ≤ text.old.room }
     ensures text { text.new.text ≡ logged (event_of event.now) }
     ensures room { text.new.room ≡ text.old.room }
 {
@@ -78,8 +81,8 @@ fn put_logged(text: &mut Out, event: &Event)
 
 // Offers the log what stands in it for an event.
 fn log_event<L: Sink>(log: &mut Option<L>, event: &Event, text: &mut Out, failed: bool) -> bool
-    requires short { mark_length (event_of event.now) ≤ 65536 }
-    requires room { 65537 ≤ text.old.room }
+    requires short { mark_length (event_of event.now) ≤ MARK_ROOM }
+    requires room { LOG_ROOM ≤ text.old.room }
     ensures offered { Offered failed result (log_state L.state log.old)
         (log_state L.state log.new) (logged (event_of event.now)) }
     ensures kept { is_some log.new ≡ is_some log.old }
@@ -98,7 +101,7 @@ pub fn keep_log<L: Sink, R: Wait>(
     text: &mut Out,
 ) -> bool
     requires taker { IsFreshTaker from.old }
-    requires room { 65537 ≤ text.old.room }
+    requires room { LOG_ROOM ≤ text.old.room }
     ensures taker { KeepsTaker from.old from.new }
     ensures kept { is_some log.new ≡ is_some log.old }
     ensures logged { Logged (taken from.new)

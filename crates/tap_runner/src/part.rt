@@ -7,13 +7,13 @@ ghost use Rattle.tap_runner.specs.Marks.{piece_event, piece_events};
 ghost use Rattle.tap_runner.specs.Hearing.{Open, fresh, Hears};
 
 use event_pipe::{Bytes, Peer, PipeSend, What};
-use line_io::{NoMemory, Out};
+use line_io::{NoMemory, Out, PEER_LINE};
 use std::alloc::Global;
 use std::marker::Model;
 use std::sync::Wait;
 
 // The longest mark that goes through the channel.
-const MARK_ROOM: usize = 65_536;
+const MARK_ROOM: usize = PEER_LINE;
 
 /// The line of a peer that has not ended yet.
 #[derive(Drop)]

@@ -7,6 +7,7 @@ ghost use Rattle.tap_runner.specs.Logging.{Logged};
 ghost use Rattle.tap_runner.specs.Passing.{Passed};
 ghost use Rattle.tap_runner.specs.Ran.{Ran, IsReady, IsReadyWay};
 ghost use denote.Param.Send.{IsSync};
+ghost use Rattle.tap_runner.specs.declared.logging.TheConstants.{LOG_ROOM};
 
 use crate::{Closes, Part, PassEnd, hand_on, keep_log};
 use event_pipe::{Pipe, PipeSend, PipeTake};
@@ -43,7 +44,7 @@ fn run_engine<S: Source + Send, O: Closes + Send, L: Sink + Send, R: Threads + W
     log: &mut Option<L>,
     text: &mut Out,
 ) -> (PassEnd, bool)
-    requires room { 65537 ≤ text.old.room }
+    requires room { LOG_ROOM ≤ text.old.room }
     requires up { IsReadyWay up.old peers.Engine }
     requires taker { IsFreshTaker taker.old }
     ensures up { KeepsSender up.old.to up.new.to }
@@ -70,7 +71,7 @@ fn run_engine<S: Source + Send, O: Closes + Send, L: Sink + Send, R: Threads + W
             )
         },
         &mut ||
-            requires { IsFreshTaker taker.now × (65537 ≤ text.now.room) }
+            requires { IsFreshTaker taker.now × (LOG_ROOM ≤ text.now.room) }
         { keep_log(rt, taker, log, text) },
     )
 }
@@ -96,7 +97,7 @@ fn run_both<
     log: &mut Option<L>,
     text: &mut Out,
 ) -> (PassEnd, (PassEnd, bool))
-    requires room { 65537 ≤ text.old.room }
+    requires room { LOG_ROOM ≤ text.old.room }
     requires down { IsReadyWay down.old peers.Iface }
     requires up { IsReadyWay up.old peers.Engine }
     requires taker { IsFreshTaker taker.old }
@@ -127,7 +128,7 @@ fn run_both<
             )
         },
         &mut ||
-            requires { IsSync R.row × (65537 ≤ text.now.room)
+            requires { IsSync R.row × (LOG_ROOM ≤ text.now.room)
                 × IsReady up.now.to up.now.part (vec_len up.now.buf) peers.Engine
                 × IsFreshTaker taker.now }
         { run_engine(rt, alloc, up, taker, source, output, log, text) },
@@ -156,7 +157,7 @@ pub fn run_tap<
     log: &mut Option<L>,
     text: &mut Out,
 ) -> TapEnd
-    requires room { 65537 ≤ text.old.room }
+    requires room { LOG_ROOM ≤ text.old.room }
     requires down { IsReadyWay down peers.Iface }
     requires up { IsReadyWay up peers.Engine }
     requires taker { IsFreshTaker taker }
