@@ -7,7 +7,7 @@ ghost use Rattle.event_pipe.specs.declared.message.Peer.TheVariants as peers;
 ghost use Rattle.life_runner.specs.Reading.{Goes, ReadLines, ReadLife};
 
 use event_pipe::{Bytes, PipeSend, ReadEnd, What};
-use line_io::{Item, Lines, ReadFault, Source, lines_of_all_calls};
+use line_io::{Item, Lines, PEER_LINE, ReadFault, Source, lines_of_all_calls};
 use std::alloc::Global;
 use std::sync::Wait;
 
@@ -67,7 +67,7 @@ fn read_lines<S: Source, R: Wait>(
         (sent to.old) (sent to.new) result }
 {
     lines_of_all_calls();
-    let Ok(mut lines) = Lines::make(alloc, 65_536) else {
+    let Ok(mut lines) = Lines::make(alloc, PEER_LINE) else {
         return ReadEnd::NoMemory;
     };
     for _ in rt.forever() {
