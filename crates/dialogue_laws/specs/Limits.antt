@@ -7,14 +7,11 @@ use Rattle.policy_rules.specs.declared.settings.Settings.{Settings}
 use Rattle.policy_rules.specs.Policy.{IsProper}
 use Rattle.search_epochs.specs.declared.words.EngineState.TheVariants as states
 use Rattle.search_epochs.specs.Tickets.{Serves}
+use Rattle.desk_rules.specs.declared.pings.TheConstants.{MOST_PINGS}
 use Rattle.desk_rules.specs.Desk.{call_before}
 use Rattle.adapter_core.specs.Trace.{Step, Lawful}
 use Rattle.adapter_core.specs.Parts.{Parts, situation}
 use Rattle.adapter_core.specs.Stands.{Stands}
-
--- the most pings that are held
-abbrev pub MOST_PINGS : ℕ
-MOST_PINGS = 64
 
 -- Orders are held up to their number and their bytes, pings up to their number, and in a session that is not closed an open current
 -- search is of the kind that is called for.

@@ -11,16 +11,17 @@ ghost use Rattle.sink_offers.specs.Streams.{sinks, log_state};
 ghost use Rattle.pipe_runner.specs.Looped.{Looped};
 ghost use Rattle.pipe_runner.specs.Reached.{Stepped};
 ghost use Rattle.pipe_runner.specs.declared.looping.TheConstants.{TEXT_ROOM};
+ghost use Rattle.line_io.specs.Lines.{line_feed};
 
 use adapter_core::Core;
 use event_pipe::PipeTake;
 use line_io::{Event, Out, Sink};
-use script_lines::{next_number, put_numbered_step, write_header};
+use script_lines::{STEP_ROOM, next_number, put_numbered_step, write_header};
 use sink_offers::{LoopEnd, offer, offer_log};
 use std::sync::Wait;
 
 /// Room for the text of any step in the log, that of the first with the header before it.
-pub const TEXT_ROOM: usize = 2_097_280;
+pub const TEXT_ROOM: usize = STEP_ROOM + 128;
 
 // How far the loop has come: which sinks failed, and the number of the next step.
 #[derive(Clone, Copy, Debug, PartialEq, Eq)]
@@ -69,7 +70,7 @@ fn loop_step<O: Sink, E: Sink, L: Sink>(
 fn begin_log(core: &Core, text: &mut Out)
     requires proper { IsProper core.now.settings }
     requires room { TEXT_ROOM ≤ text.old.room }
-    ensures written { text.new.text ≡ header_text core.now.settings ++ 10 ∷ [] }
+    ensures written { text.new.text ≡ header_text core.now.settings ++ line_feed ∷ [] }
     ensures room { text.new.room ≡ text.old.room }
     ensures spare { length text.new.text + STEP_ROOM ≤ text.new.room }
 {

@@ -14,14 +14,15 @@ use Rattle.command_endings.specs.Reads.{AreFirst, AreRead, Got, IsAll}
 use Rattle.command_endings.specs.Streams.{Streams, AreSame, IsSteady}
 use Rattle.script_migration.specs.Migration.{AreMarked, IsUnmarked, migrated}
 use Rattle.script_migration.specs.Traces.{IsMarked}
+use Rattle.line_io.specs.declared.limits.TheConstants.{SCRIPT_LINE}
 
 -- All of the input was read, each line has a mark, the script of version 2 was written, and no stream failed.
 pub record AllMigrated (settings : Settings) (before after : Streams) : Type 0 where
   pub got : List ℕ
   pub reads : Got before after got
   pub all_read : IsAll before.input.left got
-  pub marked : AreMarked (items 131072 got)
-  pub written : Appends before.output.taken after.output.taken (migrated settings (items 131072 got))
+  pub marked : AreMarked (items SCRIPT_LINE got)
+  pub written : Appends before.output.taken after.output.taken (migrated settings (items SCRIPT_LINE got))
   pub no_failure : AreSame before after
 
 -- The first line without a mark was reported, and what is due for the lines before it was written.
@@ -37,9 +38,9 @@ pub record UnmarkedReported (settings : Settings) (before after : Streams) : Typ
 pub record WholeMigrated (settings : Settings) (before after : Streams) : Type 0 where
   pub got : List ℕ
   pub reads : Got before after got
-  pub first : AreFirst before.input.left (whole 131072 got)
-  pub marked : AreMarked (whole 131072 got)
-  pub written : Appends before.output.taken after.output.taken (migrated settings (whole 131072 got))
+  pub first : AreFirst before.input.left (whole SCRIPT_LINE got)
+  pub marked : AreMarked (whole SCRIPT_LINE got)
+  pub written : Appends before.output.taken after.output.taken (migrated settings (whole SCRIPT_LINE got))
 
 -- so it is where the input gave at least 2^32 bytes
 pub record MuchMigrated (settings : Settings) (before after : Streams) : Type 0 where
@@ -57,13 +58,13 @@ pub record FrontMigrated (settings : Settings) (before after : Streams) : Type 0
 abbrev pub CompletesMigration : Streams → Streams → ℕ → Type 0
 CompletesMigration before after code =
     (x : List ℕ) → before.input.left ≡ Some x → length x < 2 ^ 32
-    → AreMarked (items 131072 x) → IsSteady before after → (code ≡ 0) ⊎ (code ≡ 3)
+    → AreMarked (items SCRIPT_LINE x) → IsSteady before after → (code ≡ 0) ⊎ (code ≡ 3)
 
 -- The first line without a mark of an input of fewer than 2^32 bytes is reported, or there was no memory.
 abbrev pub ReportsUnmarked : Streams → Streams → ℕ → Type 0
 ReportsUnmarked before after code =
     (x : List ℕ) (number : ℕ) (lines more : List Piece) → before.input.left ≡ Some x → length x < 2 ^ 32
-    → items 131072 x ≡ lines ++ more → IsUnmarked number lines → IsSteady before after
+    → items SCRIPT_LINE x ≡ lines ++ more → IsUnmarked number lines → IsSteady before after
     → ((code ≡ 2) × Appends before.diag.taken after.diag.taken (diagnostic (endings.NoMark number))) ⊎ (code ≡ 3)
 
 -- Where the input is the script of version 1 of a trace, its script of version 2 was written. The trace need not be lawful.

@@ -1,7 +1,7 @@
 -- A script of version 1 as one of version 2.
 use Rattle.std.specs.Prelude.{◌≡◌, ℕ, suc, ◌+◌, List, [], ◌∷◌, ◌++◌, length, true, Option, Some, None, is_some}
 use Rattle.std.specs.List.{AllByRecursion}
-use Rattle.line_io.specs.Lines.{Piece, Whole, TooLong}
+use Rattle.line_io.specs.Lines.{Piece, Whole, TooLong, line_feed}
 use Rattle.policy_rules.specs.declared.settings.Settings.{Settings}
 use Rattle.script_lines.specs.Header.{header_text}
 use Rattle.script_lines.specs.Marks.{Mark, Happens, mark_of}
@@ -9,7 +9,7 @@ use Rattle.script_lines.specs.StepLine.{step_line, step_number}
 
 -- a line as it stands in a script
 abbrev pub line_text : List ℕ → List ℕ
-line_text line = line ++ 10 ∷ []
+line_text line = line ++ line_feed ∷ []
 
 -- the mark of a line
 abbrev pub mark_in : Piece → Option Mark

@@ -16,6 +16,7 @@ use Rattle.command_endings.specs.Reads.{AreFirst, AreRead, Got, IsAll}
 use Rattle.command_endings.specs.Streams.{Streams, AreSame, IsSteady}
 use Rattle.script_player.specs.Versions.{script_events, script_fault, settings_by, version_in}
 use Rattle.session_games.specs.Gathering.{text_all, text_over}
+use Rattle.line_io.specs.declared.limits.TheConstants.{SCRIPT_LINE}
 
 -- The trace is the one lawful session of these lines: its settings are the header's, if there is one,
 -- and its events those of the lines.
@@ -39,8 +40,8 @@ pub record AllWritten (o : Settings) (before after : Streams) : Type 0 where
   pub got : List ℕ
   pub reads : Got before after got
   pub all_read : IsAll before.input.left got
-  pub faultless : script_fault (items 131072 got) ≡ None
-  pub games : WritesGames text_all o before after (items 131072 got)
+  pub faultless : script_fault (items SCRIPT_LINE got) ≡ None
+  pub games : WritesGames text_all o before after (items SCRIPT_LINE got)
   pub no_failure : AreSame before after
 
 -- The first fault of the input was told, and the games that were over before it were written.
@@ -56,9 +57,9 @@ pub record FaultReported (o : Settings) (before after : Streams) : Type 0 where
 pub record WholeWritten (o : Settings) (before after : Streams) : Type 0 where
   pub got : List ℕ
   pub reads : Got before after got
-  pub first : AreFirst before.input.left (whole 131072 got)
-  pub faultless : script_fault (whole 131072 got) ≡ None
-  pub games : WritesGames text_over o before after (whole 131072 got)
+  pub first : AreFirst before.input.left (whole SCRIPT_LINE got)
+  pub faultless : script_fault (whole SCRIPT_LINE got) ≡ None
+  pub games : WritesGames text_over o before after (whole SCRIPT_LINE got)
 
 -- so it is where the input gave at least 2^32 bytes
 pub record MuchWritten (o : Settings) (before after : Streams) : Type 0 where
@@ -79,13 +80,13 @@ pub record FrontWritten (o : Settings) (before after : Streams) : Type 0 where
 abbrev pub CompletesGames : Streams → Streams → ℕ → Type 0
 CompletesGames before after code =
     (x : List ℕ) → before.input.left ≡ Some x → length x < 2 ^ 32
-    → script_fault (items 131072 x) ≡ None → IsSteady before after → (code ≡ 0) ⊎ (code ≡ 3)
+    → script_fault (items SCRIPT_LINE x) ≡ None → IsSteady before after → (code ≡ 0) ⊎ (code ≡ 3)
 
 -- The first fault of an input of fewer than 2^32 bytes is told, or there was no memory.
 abbrev pub TellsFault : Streams → Streams → ℕ → Type 0
 TellsFault before after code =
     (x : List ℕ) (fault : Ending) → before.input.left ≡ Some x → length x < 2 ^ 32
-    → script_fault (items 131072 x) ≡ Some fault → IsSteady before after
+    → script_fault (items SCRIPT_LINE x) ≡ Some fault → IsSteady before after
     → ((code ≡ 2) × Appends before.diag.taken after.diag.taken (diagnostic fault)) ⊎ (code ≡ 3)
 
 -- `Unread` and `Kept` say that the input and the output are just as they were.

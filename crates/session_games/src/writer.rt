@@ -9,6 +9,7 @@ ghost use Rattle.script_player.specs.Stages.{IsNumbered, is_start};
 ghost use Rattle.script_player.specs.Versions.{fault_said, kind_of, kind_says};
 ghost use Rattle.session_games.specs.Following.{IsReached};
 ghost use Rattle.session_games.specs.Gathering.{GameSteps, Gathers, HasOpened, HasPut, IsUnused, MayGather};
+ghost use Rattle.game_text.specs.declared.write.TheConstants.{GAME_ROOM};
 
 use crate::follow::follow;
 use crate::over::is_over;
@@ -38,11 +39,11 @@ fn step(core: &mut Core, game: &mut Game, event: &Event, text: &mut Out)
     requires may { may core.old.ends (event_of event.now) ≡ true }
     requires reached { IsReached core.old }
     requires same { game.old ≡ core.old.desk.game }
-    requires room { length text.old.text + 180120 ≤ text.old.room }
+    requires room { length text.old.text + GAME_ROOM ≤ text.old.room }
     ensures steps { HasPut (GameSteps core.old core.new (event_of event.now)) text.old text.new }
     ensures reached { IsReached core.new }
     ensures same { game.new ≡ core.new.desk.game }
-    ensures few { length text.new.text ≤ length text.old.text + 180120 }
+    ensures few { length text.new.text ≤ length text.old.text + GAME_ROOM }
 {
     let _lines = core.step(event);
     put_over(game, event, core.game(), text);
@@ -51,10 +52,10 @@ fn step(core: &mut Core, game: &mut Game, event: &Event, text: &mut Out)
 
 // Puts the game before a step, if it is over.
 fn put_over(before: &Game, event: &Event, after: &Game, text: &mut Out)
-    requires room { length text.old.text + 180120 ≤ text.old.room }
+    requires room { length text.old.text + GAME_ROOM ≤ text.old.room }
     ensures put { text.new ≡ with text.old
         (games_text (over_by before.now (event_of event.now) after.now)) }
-    ensures few { length text.new.text ≤ length text.old.text + 180120 }
+    ensures few { length text.new.text ≤ length text.old.text + GAME_ROOM }
 {
     if is_over(before, event, after) {
         write_game(before, text);
@@ -87,11 +88,11 @@ impl GameWriter {
     fn open_plain(&mut self, text: &mut Out)
         requires new { Stands self.old.core.settings self.old.core [] }
         requires same { self.old.game ≡ self.old.core.desk.game }
-        requires room { length text.old.text + 180120 ≤ text.old.room }
+        requires room { length text.old.text + GAME_ROOM ≤ text.old.room }
         ensures opened { HasPut (HasOpened None self.old.core self.new.core self.new.stage)
             text.old text.new }
         ensures may { MayGather self.new }
-        ensures few { length text.new.text ≤ length text.old.text + 180120 }
+        ensures few { length text.new.text ≤ length text.old.text + GAME_ROOM }
     {
         step(&mut self.core, &mut self.game, &Event::Open, text);
         self.stage = Stage::Plain;
@@ -102,12 +103,12 @@ impl GameWriter {
         requires proper { IsProper settings.now }
         requires new { Stands self.old.core.settings self.old.core [] }
         requires same { self.old.game ≡ self.old.core.desk.game }
-        requires room { length text.old.text + 180120 ≤ text.old.room }
+        requires room { length text.old.text + GAME_ROOM ≤ text.old.room }
         ensures opened { HasPut
             (HasOpened (Some settings.now) self.old.core self.new.core self.new.stage)
             text.old text.new }
         ensures may { MayGather self.new }
-        ensures few { length text.new.text ≤ length text.old.text + 180120 }
+        ensures few { length text.new.text ≤ length text.old.text + GAME_ROOM }
     {
         self.core.set(settings);
         step(&mut self.core, &mut self.game, &Event::Open, text);
@@ -118,7 +119,7 @@ impl GameWriter {
     fn take(&mut self, number: u64, line: &[u8], text: &mut Out) -> Option<Ending>
         requires may { MayGather self.old }
         requires opened { is_start self.old.stage ≡ false }
-        requires room { length text.old.text + 180120 ≤ text.old.room }
+        requires room { length text.old.text + GAME_ROOM ≤ text.old.room }
         ensures ending { result ≡ fault_said number
             (kind_says self.old.stage self.old.core.ends (kind_of (Whole line.now))) }
         ensures takes { HasPut (Gathers self.old.core self.old.stage
@@ -152,7 +153,7 @@ ghost use Rattle.session_games.specs.Gathering.{last_by};
 impl GameWriter {
     // Puts the running game, if it has moves and the input has ended.
     fn put_running(&self, ending: Ending, text: &mut Out)
-        requires room { length text.old.text + 180120 ≤ text.old.room }
+        requires room { length text.old.text + GAME_ROOM ≤ text.old.room }
         ensures { text.new ≡ with text.old (games_text (last_by ending self.now.game)) }
     {
         if matches!(ending, Ending::Done) && self.game.plies() > 0 {
