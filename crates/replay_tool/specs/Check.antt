@@ -16,6 +16,7 @@ use Rattle.replay_tool.specs.Verdict.{verdict}
 use Rattle.command_endings.specs.Streams.{Streams}
 use Rattle.script_player.specs.Versions.{Kind, Tells, Writes, HasNone, kind_of, Version, First, Second, version_in, settings_by, script_by}
 use Rattle.command_endings.specs.Reads.{Got, IsAll, AreRead, AreFirst}
+use Rattle.line_io.specs.declared.limits.TheConstants.{SCRIPT_LINE}
 
 -- the lines of a script: none of them is too long
 abbrev pub lines_by : Version → List Step → List Piece
@@ -106,9 +107,9 @@ pub record Lacks (o : Settings) (number : ℕ) (start now : Streams) : Type 0 wh
   pub got : List ℕ
   pub reads : Got start now got
   pub all : IsAll start.input.left got
-  pub number_is : number ≡ length (items 131072 got) + 1
-  pub begins : BeginScript o (items 131072 got)
-  pub lacks : AreScript o (items 131072 got) → ⊥
+  pub number_is : number ≡ length (items SCRIPT_LINE got) + 1
+  pub begins : BeginScript o (items SCRIPT_LINE got)
+  pub lacks : AreScript o (items SCRIPT_LINE got) → ⊥
 
 -- the line with this number differs
 pub data Differs (o : Settings) (number : ℕ) (start now : Streams) : Type 0 where
@@ -120,14 +121,14 @@ pub record IsLawfulScript (o : Settings) (start now : Streams) : Type 0 where
   pub got : List ℕ
   pub reads : Got start now got
   pub all : IsAll start.input.left got
-  pub script : AreScript o (items 131072 got)
+  pub script : AreScript o (items SCRIPT_LINE got)
 
 -- the whole lines that were got begin the script of a lawful trace
 pub record BeginsWhole (o : Settings) (start now : Streams) : Type 0 where
   pub got : List ℕ
   pub reads : Got start now got
-  pub of_left : AreFirst start.input.left (whole 131072 got)
-  pub begins : BeginScript o (whole 131072 got)
+  pub of_left : AreFirst start.input.left (whole SCRIPT_LINE got)
+  pub begins : BeginScript o (whole SCRIPT_LINE got)
 
 -- the input is too long, and no call of the reader saw the end
 pub record BeginsMuch (o : Settings) (start now : Streams) : Type 0 where
@@ -135,7 +136,7 @@ pub record BeginsMuch (o : Settings) (start now : Streams) : Type 0 where
   pub least : 2 ^ 32 ≤ length begins.got
   pub held : Held
   pub calls : ℕ
-  pub runs : Runs 131072 held begins.got (whole 131072 begins.got) calls
+  pub runs : Runs SCRIPT_LINE held begins.got (whole SCRIPT_LINE begins.got) calls
   pub waits : IsWaiting held
 
 -- what was found in the input

@@ -13,6 +13,7 @@ use Rattle.replay_tool.specs.Laws.{HaveLaws}
 use Rattle.command_endings.specs.Ran.{Ran, WritingBroke}
 use Rattle.command_endings.specs.Streams.{Streams, AreSame, IsSteady}
 use Rattle.script_player.specs.Versions.{script_fault}
+use Rattle.line_io.specs.declared.limits.TheConstants.{SCRIPT_LINE}
 
 -- All of the input was read and is the script of a lawful trace, that was written, and no stream
 -- failed.
@@ -42,7 +43,7 @@ pub record FoundBadLine (o : Settings) (Kept : Type 0) (before after : Streams) 
 abbrev pub IsExactCheck : Settings → Streams → ℕ → Type 0
 IsExactCheck o before code =
     (x : List ℕ) → before.input.left ≡ Some x → code ≢ 3 → code ≢ 4 → code ≢ 5 → code ≢ 6
-    → (code ≡ 0) ↔ AreScript o (items 131072 x)
+    → (code ≡ 0) ↔ AreScript o (items SCRIPT_LINE x)
 
 -- An input of fewer than 2^32 bytes is checked, or there was no memory.
 abbrev pub CompletesCheck : Streams → Streams → ℕ → Type 0
@@ -54,7 +55,7 @@ CompletesCheck before after code =
 abbrev pub CompletesMarked : Streams → Streams → ℕ → Type 0
 CompletesMarked before after code =
     (x : List ℕ) → before.input.left ≡ Some x → length x < 2 ^ 32
-    → script_fault (items 131072 x) ≡ None → IsSteady before after
+    → script_fault (items SCRIPT_LINE x) ≡ None → IsSteady before after
     → (code ≡ 0) ⊎ (code ≡ 1) ⊎ (code ≡ 3)
 
 -- `Unread` and `Kept` say that the input and the output are just as they were.

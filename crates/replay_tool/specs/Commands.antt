@@ -1,5 +1,5 @@
 -- What the words of the program command.
-use Rattle.std.specs.Prelude.{ℕ, ◌≤◌, List, [], ◌∷◌, length, ◌&&◌, if◌then◌else◌, nat_lt, codes, Option, Some, None, Vec, vec_items, map}
+use Rattle.std.specs.Prelude.{ℕ, ◌≤◌, List, [], ◌∷◌, length, ◌&&◌, if◌then◌else◌, ◌-◌, nat_lt, codes, Option, Some, None, Vec, vec_items, map}
 use Rattle.std.specs.Option.{option_map}
 use Rattle.std.specs.Str.{bytes_eq}
 use Rattle.replay_tool.specs.declared.command.Command.{Command}
@@ -8,6 +8,8 @@ use Rattle.policy_rules.specs.declared.settings.Settings.{Settings}
 use Rattle.policy_rules.specs.Policy.{IsProper}
 use Rattle.replay_tool.specs.Moves.{fen_of}
 use Rattle.replay_tool.specs.Words.{number_of, settings_of}
+use Rattle.drill.specs.declared.generator.TheConstants.{MODULUS}
+use Rattle.drill.specs.declared.run.TheConstants.{MOST_ROUNDS}
 
 -- what is asked for: a replay, a check, a migration or the games with settings, a judgement, a script played to an
 -- engine of so many lives or to a driver, a drill, or the moves of what a text spells
@@ -30,10 +32,10 @@ abbrev pub drill_by : Option ℕ → Option ℕ → Option Asked
 drill_by (Some number) (Some count) = Some (Drill number count)
 drill_by number count = None
 
--- a number below 2^31 and a count up to 100,000
+-- a number of the generator and a count of rounds
 abbrev pub drill_of : List (List ℕ) → Option Asked
-drill_of (number ∷ count ∷ []) = drill_by (number_of 10 0 2147483647 number)
-    (number_of 10 0 100000 count)
+drill_of (number ∷ count ∷ []) = drill_by (number_of 10 0 (MODULUS - 1) number)
+    (number_of 10 0 MOST_ROUNDS count)
 drill_of words = None
 
 -- how many lives may be begun: one digit from 1 to 9
@@ -85,5 +87,5 @@ HasProper (commands.Replay s) = IsProper s
 HasProper (commands.Check s) = IsProper s
 HasProper (commands.Migrate s) = IsProper s
 HasProper (commands.Games s) = IsProper s
-HasProper (commands.Drill number count) = count ≤ 100000
+HasProper (commands.Drill number count) = count ≤ MOST_ROUNDS
 HasProper command = Unit {0}

@@ -10,15 +10,16 @@ use Rattle.fen_text.specs.declared.fault.FenFault.{FenFault}
 use Rattle.command_endings.specs.declared.ending.Ending.TheVariants as endings
 use Rattle.command_endings.specs.Diagnostics.{one_line, position_fault, tail_of}
 use Rattle.command_endings.specs.Told.{Told, Writes}
+use Rattle.peer_words.specs.Bytes.{blank}
 
 -- each word behind a blank
 abbrev pub behind_blanks : List (List ℕ) → List ℕ
 behind_blanks [] = []
-behind_blanks (word ∷ words) = 32 ∷ (word ++ behind_blanks words)
+behind_blanks (word ∷ words) = blank ∷ (word ++ behind_blanks words)
 
 -- the words, with a blank between each two
 abbrev pub fen_of : List (List ℕ) → List ℕ
-fen_of words = join_with_byte 32 words
+fen_of words = join_with_byte blank words
 
 -- the texts of moves, one a line
 abbrev pub move_lines : List Move → List ℕ

@@ -13,6 +13,7 @@ use Rattle.script_player.specs.Playing.{Scripted}
 use Rattle.script_player.specs.Versions.{script_by, script_events, script_fault, settings_by, version_in}
 use Rattle.command_endings.specs.declared.ending.Ending.{Ending}
 use Rattle.command_endings.specs.declared.ending.Ending.TheVariants as endings
+use Rattle.line_io.specs.declared.limits.TheConstants.{SCRIPT_LINE}
 
 -- the output got the script of a lawful trace whose events are those of the lines
 abbrev pub IsScripted : Settings → Streams → Streams → List Piece → Type 0
@@ -23,8 +24,8 @@ pub record ReplaysAll (o : Settings) (start now : Streams) : Type 0 where
   pub got : List ℕ
   pub reads : Got start now got
   pub all : IsAll start.input.left got
-  pub fine : script_fault (items 131072 got) ≡ None
-  pub scripted : IsScripted o start now (items 131072 got)
+  pub fine : script_fault (items SCRIPT_LINE got) ≡ None
+  pub scripted : IsScripted o start now (items SCRIPT_LINE got)
 
 -- the first lines of the input were replayed, up to a fault
 pub record ReplaysTo (o : Settings) (fault : Ending) (start now : Streams) : Type 0 where
@@ -38,14 +39,14 @@ pub record ReplaysWhole (o : Settings) (least : ℕ) (start now : Streams) : Typ
   pub got : List ℕ
   pub reads : Got start now got
   pub least_is : least ≤ length got
-  pub first : AreFirst start.input.left (whole 131072 got)
-  pub fine : script_fault (whole 131072 got) ≡ None
-  pub scripted : IsScripted o start now (whole 131072 got)
+  pub first : AreFirst start.input.left (whole SCRIPT_LINE got)
+  pub fine : script_fault (whole SCRIPT_LINE got) ≡ None
+  pub scripted : IsScripted o start now (whole SCRIPT_LINE got)
 
 -- the input is too long: all whole lines of 2^32 bytes or more were replayed, and no read saw the end
 pub record ReplaysMuch (o : Settings) (start now : Streams) : Type 0 where
   pub replays : ReplaysWhole o (2 ^ 32) start now
-  pub still_open : IsOpenStill 131072 replays.got (whole 131072 replays.got)
+  pub still_open : IsOpenStill SCRIPT_LINE replays.got (whole SCRIPT_LINE replays.got)
 
 -- The output got a front of the script of a lawful trace. Its events are those of the first lines of the input.
 pub record CutShort (o : Settings) (start now : Streams) : Type 0 where

@@ -18,6 +18,7 @@ use Rattle.command_endings.specs.Reads.{AreFirst, AreRead, Got, IsAll}
 use Rattle.replay_tool.specs.Replay.{EndsAs}
 use Rattle.command_endings.specs.Streams.{Streams, AreSame, IsSteady}
 use Rattle.script_player.specs.Versions.{Version, First, Second, script_by, script_events, script_fault, settings_by, version_in}
+use Rattle.line_io.specs.declared.limits.TheConstants.{SCRIPT_LINE}
 
 -- The trace is the lawful one with these settings and these events: there is no other.
 pub record IsTheSession (o : Settings) (happened : List Event) (trace : List Step) : Type 0 where
@@ -41,8 +42,8 @@ pub record AllReplayed (o : Settings) (before after : Streams) : Type 0 where
   pub got : List ℕ
   pub reads : Got before after got
   pub all_read : IsAll before.input.left got
-  pub faultless : script_fault (items 131072 got) ≡ None
-  pub script : WritesScript o before after (items 131072 got)
+  pub faultless : script_fault (items SCRIPT_LINE got) ≡ None
+  pub script : WritesScript o before after (items SCRIPT_LINE got)
   pub no_failure : AreSame before after
 
 -- The first fault of the input was told, and the script of the lines before it was written.
@@ -58,15 +59,15 @@ pub record FaultReported (o : Settings) (before after : Streams) : Type 0 where
 pub record WholeReplayed (o : Settings) (before after : Streams) : Type 0 where
   pub got : List ℕ
   pub reads : Got before after got
-  pub first : AreFirst before.input.left (whole 131072 got)
-  pub faultless : script_fault (whole 131072 got) ≡ None
-  pub script : WritesScript o before after (whole 131072 got)
+  pub first : AreFirst before.input.left (whole SCRIPT_LINE got)
+  pub faultless : script_fault (whole SCRIPT_LINE got) ≡ None
+  pub script : WritesScript o before after (whole SCRIPT_LINE got)
 
 -- so it is where the input gave at least 2^32 bytes, and none of the reads saw its end
 pub record MuchReplayed (o : Settings) (before after : Streams) : Type 0 where
   pub replayed : WholeReplayed o before after
   pub least : 2 ^ 32 ≤ length replayed.got
-  pub still_open : IsOpenStill 131072 replayed.got (whole 131072 replayed.got)
+  pub still_open : IsOpenStill SCRIPT_LINE replayed.got (whole SCRIPT_LINE replayed.got)
 
 -- The output took a front of the script of the session of the first lines.
 pub record FrontWritten (o : Settings) (before after : Streams) : Type 0 where
@@ -81,13 +82,13 @@ pub record FrontWritten (o : Settings) (before after : Streams) : Type 0 where
 abbrev pub CompletesReplay : Streams → Streams → ℕ → Type 0
 CompletesReplay before after code =
     (x : List ℕ) → before.input.left ≡ Some x → length x < 2 ^ 32
-    → script_fault (items 131072 x) ≡ None → IsSteady before after → (code ≡ 0) ⊎ (code ≡ 3)
+    → script_fault (items SCRIPT_LINE x) ≡ None → IsSteady before after → (code ≡ 0) ⊎ (code ≡ 3)
 
 -- The first fault of an input of fewer than 2^32 bytes is told, or there was no memory.
 abbrev pub TellsFault : Streams → Streams → ℕ → Type 0
 TellsFault before after code =
     (x : List ℕ) (fault : Ending) → before.input.left ≡ Some x → length x < 2 ^ 32
-    → script_fault (items 131072 x) ≡ Some fault → IsSteady before after
+    → script_fault (items SCRIPT_LINE x) ≡ Some fault → IsSteady before after
     → ((code ≡ 2) × Appends before.diag.taken after.diag.taken (diagnostic fault)) ⊎ (code ≡ 3)
 
 -- a header of version 2 states proper settings

@@ -3,7 +3,7 @@ use Rattle.std.specs.Prelude.{◌≡◌, ◌≢◌, ⊤, ℕ, suc, ◌+◌, ◌<
 use Rattle.std.specs.List.{before_first, after_first}
 use Rattle.std.specs.Str.{bytes_eq}
 use Rattle.line_io.specs.Event.{Event, Open}
-use Rattle.line_io.specs.Lines.{Piece, Whole, is_feed, parts}
+use Rattle.line_io.specs.Lines.{Piece, Whole, is_feed, parts, line_feed}
 use Rattle.line_io.specs.Takers.{Meaning}
 use Rattle.script_lines.specs.Header.{header_of}
 use Rattle.script_lines.specs.StepLine.{step_line, step_number}
@@ -92,7 +92,7 @@ pub record Heads (settings : Settings) (new : Parts) (due : List ℕ) : Type 0 w
   pub stands : Stands settings set []
   pub step : Step
   pub adds : Adds set new Open step
-  pub due_is : due ≡ step_line 0 ++ 10 ∷ written_text step
+  pub due_is : due ≡ step_line 0 ++ line_feed ∷ written_text step
 
 -- The session was opened without a header, and then the line was taken.
 pub record OpensWith (old : Parts) (number : ℕ) (line : List ℕ) (answer : Option Ending) (new : Parts) (stage : Stage) (due : List ℕ) : Type 0 where

@@ -9,6 +9,8 @@ use Rattle.policy_rules.specs.Policy.{usual}
 use Rattle.replay_tool.specs.declared.settings.Given.{Given}
 use Rattle.replay_tool.specs.declared.settings.Setting.{Setting}
 use Rattle.replay_tool.specs.declared.settings.Setting.TheVariants as sets
+use Rattle.policy_rules.specs.declared.settings.TheConstants.{MOST_MOVES, MOST_SCORE}
+use Rattle.peer_words.specs.Bytes.{equals}
 
 abbrev pub truth_of : List ℕ → Option Bool
 truth_of value = if bytes_eq value (codes "true") then Some true else (if bytes_eq value
@@ -29,12 +31,12 @@ setting_named name value =
     else (if bytes_eq name (codes "ShowPonder") then option_map (λ b. sets.ShowPonder b)
     (truth_of value)
     else (if bytes_eq name (codes "ResignMoves") then option_map (λ n. sets.ResignMoves n)
-    (number_of 6 1 1000 value)
+    (number_of 6 1 MOST_MOVES value)
     else (if bytes_eq name (codes "ResignScore") then option_map (λ n. sets.ResignScore n)
-    (number_of 6 0 100000 value) else None)))
+    (number_of 6 0 MOST_SCORE value) else None)))
 
 abbrev pub is_equals : ℕ → Bool
-is_equals b = b == 61
+is_equals b = b == equals
 
 abbrev pub split_at : Option ℕ → List ℕ → Option Setting
 split_at None word = None
@@ -45,8 +47,8 @@ abbrev pub setting_of : List ℕ → Option Setting
 setting_of word = split_at (position is_equals word) word
 
 abbrev pub IsWithin : Setting → Type 0
-IsWithin (sets.ResignMoves n) = (1 ≤ n) × (n ≤ 1000)
-IsWithin (sets.ResignScore n) = n ≤ 100000
+IsWithin (sets.ResignMoves n) = (1 ≤ n) × (n ≤ MOST_MOVES)
+IsWithin (sets.ResignScore n) = n ≤ MOST_SCORE
 IsWithin setting = Unit {0}
 
 abbrev pub with_first : Option Setting → Option (List Setting) → Option (List Setting)

@@ -12,11 +12,12 @@ ghost use Rattle.command_endings.specs.declared.ending.Ending.TheVariants as end
 ghost use Rattle.replay_tool.specs.Check.{Finds};
 ghost use Rattle.command_endings.specs.Streams.{Streams, with_input};
 ghost use Rattle.replay_tool.specs.Walked.{EndsAt, Fills, Followed, Heads, IsOpen, IsUnread, MayTake, TakesAny, TakesFirst, fault_in, fit, number_undue, undue};
+ghost use Rattle.line_io.specs.declared.limits.TheConstants.{SCRIPT_LINE};
 
 use crate::expected_lines::ExpectedLines;
 use adapter_core::Core;
-use command_endings::{Ending, LINE_LIMIT};
-use line_io::{Event, Lines, LinesEnd, NoMemory, Source, TakesLines, take_lines};
+use command_endings::Ending;
+use line_io::{Event, Lines, LinesEnd, NoMemory, SCRIPT_LINE, Source, TakesLines, take_lines};
 use policy_rules::Settings;
 use script_lines::read_header;
 use script_player::{Said, Stage};
@@ -172,7 +173,7 @@ fn take_any(
 }
 
 fn ending_at(due: &ExpectedLines, number: u64) -> Ending
-    requires { number < 18446744073709551615 }
+    requires { number < u64.MAX }
     ensures { result ≡ at_end due.now number }
 {
     if due.is_empty() {
@@ -187,7 +188,7 @@ ghost use Rattle.replay_tool.specs.Walked.{at_end};
 // The end of the input: no line that is due, and no event of a step, is to be missing.
 fn end_of(checker: &mut Checker) -> Ending
     requires may { MayTake checker.old.core checker.old.stage }
-    requires number { checker.old.number < 18446744073709551615 }
+    requires number { checker.old.number < u64.MAX }
     ensures { EndsAt checker.old.core checker.old.stage checker.old.due checker.old.number result }
 {
     match checker.stage {
@@ -248,18 +249,18 @@ impl Audit {
     pub fn make(alloc: Global, settings: &Settings) -> Result<Audit, NoMemory>
         requires { IsProper settings.now }
         ensures checker { IfOk result (λ audit. IsUnread settings.now audit.checker) }
-        ensures lines { IfOk result (λ audit. audit.lines ≡ unread 131072) }
+        ensures lines { IfOk result (λ audit. audit.lines ≡ unread SCRIPT_LINE) }
     {
         Ok(Audit {
             checker: Checker::make(alloc, settings)?,
-            lines: Lines::make(alloc, LINE_LIMIT)?,
+            lines: Lines::make(alloc, SCRIPT_LINE)?,
         })
     }
 
     /// Compares the input with the lawful script of its events.
     pub fn go<I: Source>(&mut self, input: &mut I) -> Ending
         requires checker { IsUnread self.old.checker.core.settings self.old.checker }
-        requires lines { self.old.lines ≡ unread 131072 }
+        requires lines { self.old.lines ≡ unread SCRIPT_LINE }
         ensures finds { (o : AnySettings) (start now : Streams) → IsUnread o self.old.checker
             → Finds o result
             (with_input start (I.state input.old)) (with_input now (I.state input.new)) }

@@ -4,6 +4,7 @@ ghost use Rattle.std.specs.Option.{option_map};
 ghost use Rattle.replay_tool.specs.Commands.{Drive, Judge, HasProper, alone, asked, command_of, command_named, drill_of, revive_of, texts};
 
 use crate::settings::{read_number, read_settings};
+use drill::{MODULUS, MOST_ROUNDS};
 use policy_rules::Settings;
 
 /// What the words of the program command.
@@ -37,8 +38,8 @@ fn read_drill(words: &[Vec<u8>]) -> Option<Command>
         return None;
     };
     Some(Command::Drill {
-        number: read_number(number.as_slice(), 10, 0, 2_147_483_647)?,
-        count: read_number(count.as_slice(), 10, 0, 100_000)?,
+        number: read_number(number.as_slice(), 10, 0, MODULUS - 1)?,
+        count: read_number(count.as_slice(), 10, 0, MOST_ROUNDS)?,
     })
 }
 

@@ -2,17 +2,18 @@
 ghost use Rattle.std.specs.Prelude.{◌≡◌, ◌<◌, ◌≤◌, ◌==◌, [], ◌∷◌, ◌++◌, length, IfOk, if◌then◌else◌, false};
 ghost use Rattle.std.specs.List.{before_first, after_first};
 ghost use Rattle.std.specs.Str.{bytes_eq};
-ghost use Rattle.line_io.specs.Lines.{is_feed};
+ghost use Rattle.line_io.specs.Lines.{is_feed, line_feed};
 ghost use Rattle.script_lines.specs.StepText.{written_marks};
 ghost use Rattle.script_lines.specs.StepLine.{step_line};
+ghost use Rattle.line_io.specs.declared.limits.TheConstants.{SCRIPT_LINE};
 
-use line_io::{NoMemory, Out, split_line};
+use line_io::{NoMemory, Out, SCRIPT_LINE, split_line};
 use script_lines::{put_written, write_step};
 use std::alloc::Global;
 use std::marker::Model;
 
 // A step line, and both texts of a step, with at most three bytes more for each byte.
-const ROOM: usize = 1_048_608;
+const ROOM: usize = 8 * SCRIPT_LINE + 32;
 
 /// The marks of the lines that the last step wrote, as far as they are still to come.
 #[derive(Drop)]
@@ -24,12 +25,13 @@ pub struct ExpectedLines {
 
 impl Model for ExpectedLines {
     ghost use Rattle.std.specs.Prelude.{◌≡◌, ◌≤◌, ℕ, List, drop, length};
+    ghost use Rattle.replay_tool.specs.declared.expected_lines.TheConstants.{ROOM};
 
     ghost Value = { List ℕ };
 
     ghost view = { λ d. drop d.at d.text.text };
 
-    ghost invariant = { λ d. (d.at ≤ length d.text.text) × (d.text.room ≡ 1048608) };
+    ghost invariant = { λ d. (d.at ≤ length d.text.text) × (d.text.room ≡ ROOM) };
 }
 
 impl ExpectedLines {
@@ -72,8 +74,8 @@ impl ExpectedLines {
 
     /// The lines of a step.
     pub fn fill(&mut self, iface: &[u8], engine: &[u8])
-        requires iface { length iface.now ≤ 131072 }
-        requires engine { length engine.now ≤ 131072 }
+        requires iface { length iface.now ≤ SCRIPT_LINE }
+        requires engine { length engine.now ≤ SCRIPT_LINE }
         ensures { self.new ≡ written_marks iface.now engine.now }
     {
         self.text.clear();
@@ -83,9 +85,9 @@ impl ExpectedLines {
 
     /// The number of the first step of version 2, and its lines.
     pub fn fill_first(&mut self, iface: &[u8], engine: &[u8])
-        requires iface { length iface.now ≤ 131072 }
-        requires engine { length engine.now ≤ 131072 }
-        ensures { self.new ≡ step_line 0 ++ 10 ∷ written_marks iface.now engine.now }
+        requires iface { length iface.now ≤ SCRIPT_LINE }
+        requires engine { length engine.now ≤ SCRIPT_LINE }
+        ensures { self.new ≡ step_line 0 ++ line_feed ∷ written_marks iface.now engine.now }
     {
         self.text.clear();
         self.at = 0;

@@ -7,6 +7,7 @@ ghost use Rattle.fen_text.specs.Fen.{position_of};
 ghost use Rattle.replay_tool.specs.Commands.{texts};
 ghost use Rattle.command_endings.specs.Diagnostics.{code_of, one_line};
 ghost use Rattle.replay_tool.specs.Moves.{Lists, WritesMoves, fen_of, move_lines};
+ghost use Rattle.replay_tool.specs.declared.moves.TheConstants.{LINES_ROOM};
 
 use chess_board::{Move, Position, move_texts_are_exact, move_texts_are_short, write_move};
 use command_endings::{Ending, tell_short, write_lines};
@@ -78,7 +79,7 @@ impl Listing {
     // Takes all memory that is ever used.
     fn make(alloc: Global, words: &[Vec<u8>]) -> Result<Listing, NoMemory>
         ensures { IfOk result (λ listing. (listing.fen.items ≡ fen_of (texts words.now))
-            × (listing.lines ≡ empty 3072)) }
+            × (listing.lines ≡ empty LINES_ROOM)) }
     {
         Ok(Listing {
             fen: join_words(alloc, words)?,
@@ -93,7 +94,7 @@ impl Listing {
         output: &mut O,
         diag: &mut D,
     ) -> Ending
-        requires { self.old.lines ≡ empty 3072 }
+        requires { self.old.lines ≡ empty LINES_ROOM }
         ensures { WritesMoves position.now (diag.new ≡ diag.old) (code_of result)
             (O.state output.old) (O.state output.new) (D.state diag.old) (D.state diag.new) }
     {
@@ -105,7 +106,7 @@ impl Listing {
 
     // Writes the legal moves of the position that the text spells, or tells its fault.
     fn list<O: Sink, D: Sink>(&mut self, output: &mut O, diag: &mut D) -> Ending
-        requires { self.old.lines ≡ empty 3072 }
+        requires { self.old.lines ≡ empty LINES_ROOM }
         ensures { Lists (position_of self.old.fen.items)
             (output.new ≡ output.old) (diag.new ≡ diag.old) (code_of result)
             (O.state output.old) (O.state output.new) (D.state diag.old) (D.state diag.new) }

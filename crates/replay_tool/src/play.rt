@@ -2,6 +2,7 @@
 ghost use Rattle.std.specs.Prelude.{◌≡◌, ◌≤◌};
 ghost use Rattle.replay_tool.specs.Drilled.{PlaysDrill};
 ghost use Rattle.command_endings.specs.Diagnostics.{code_of};
+ghost use Rattle.drill.specs.declared.run.TheConstants.{MOST_ROUNDS};
 
 use command_endings::{Ending, tell_short, write_lines};
 use drill::drill_line;
@@ -16,7 +17,7 @@ pub fn play_drill<O: Sink, D: Sink>(
     output: &mut O,
     diag: &mut D,
 ) -> Ending
-    requires { count ≤ 100000 }
+    requires { count ≤ MOST_ROUNDS }
     ensures { PlaysDrill number count (output.new ≡ output.old) (diag.new ≡ diag.old)
         (code_of result)
         (O.state output.old) (O.state output.new) (D.state diag.old) (D.state diag.new) }

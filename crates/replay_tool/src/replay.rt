@@ -24,6 +24,7 @@ ghost use Rattle.script_migration.specs.Migrated.{Migrated};
 ghost use Rattle.revival_script.specs.Revived.{Revived};
 ghost use Rattle.driver_script.specs.Driven.{Driven};
 ghost use Rattle.session_games.specs.GamesWritten.{GamesWritten};
+ghost use Rattle.line_io.specs.declared.limits.TheConstants.{SCRIPT_LINE};
 
 use crate::check::Audit;
 use crate::command::{Command, read_command};
@@ -74,7 +75,7 @@ fn run_replay<I: Source, O: Sink, D: Sink>(
 fn make_check(alloc: Global, settings: &Settings) -> Result<(Audit, Out), NoMemory>
     requires { IsProper settings.now }
     ensures checker { IfOk result (λ made. IsUnread settings.now made.0.checker) }
-    ensures lines { IfOk result (λ made. made.0.lines ≡ unread 131072) }
+    ensures lines { IfOk result (λ made. made.0.lines ≡ unread SCRIPT_LINE) }
     ensures room { IfOk result (λ made. made.1 ≡ empty 80) }
 {
     Ok((Audit::make(alloc, settings)?, Out::make(alloc, 80)?))

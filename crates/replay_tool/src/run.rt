@@ -10,9 +10,11 @@ ghost use Rattle.replay_tool.specs.Replay.{Stopped};
 ghost use Rattle.script_player.specs.Replaying.{IsFresh};
 ghost use Rattle.command_endings.specs.Streams.{streams};
 ghost use Rattle.command_endings.specs.Told.{Told};
+ghost use Rattle.line_io.specs.declared.limits.TheConstants.{SCRIPT_LINE};
+ghost use Rattle.command_endings.specs.declared.limits.TheConstants.{TEXT_ROOM};
 
-use command_endings::{Ending, LINE_LIMIT};
-use line_io::{Lines, LinesEnd, NoMemory, Sink, Source, take_lines};
+use command_endings::Ending;
+use line_io::{Lines, LinesEnd, NoMemory, SCRIPT_LINE, Sink, Source, take_lines};
 use policy_rules::Settings;
 use script_player::Player;
 use std::alloc::Global;
@@ -29,25 +31,25 @@ impl Run {
     pub fn make(alloc: Global, settings: &Settings) -> Result<Run, NoMemory>
         requires { IsProper settings.now }
         ensures player { IfOk result (λ run. IsFresh settings.now run.player) }
-        ensures lines { IfOk result (λ run. run.lines ≡ unread 131072) }
+        ensures lines { IfOk result (λ run. run.lines ≡ unread SCRIPT_LINE) }
     {
         Ok(Run {
             player: Player::make(alloc, settings)?,
-            lines: Lines::make(alloc, LINE_LIMIT)?,
+            lines: Lines::make(alloc, SCRIPT_LINE)?,
         })
     }
 
     /// Replays the input.
     pub fn go<I: Source, O: Sink>(&mut self, input: &mut I, output: &mut O) -> Ending
         requires player { IsFresh self.old.player.core.settings self.old.player }
-        requires lines { self.old.lines ≡ unread 131072 }
+        requires lines { self.old.lines ≡ unread SCRIPT_LINE }
         ensures stopped { (o : AnySettings) (diag diag_now : Received) → IsFresh o self.old.player
             → Stopped o result
             (streams (I.state input.old) (O.state output.old) diag)
             (streams (I.state input.new) (O.state output.new) diag_now) }
         ensures causes { Causes result (I.state input.old) (I.state input.new)
             (O.state output.old) (O.state output.new) }
-        ensures room { self.new.player.text.room ≡ 8388608 }
+        ensures room { self.new.player.text.room ≡ TEXT_ROOM }
     {
         match take_lines(&mut self.lines, input, &mut self.player, output) {
             LinesEnd::Stopped(ending) => self.player.stop(ending, output),
@@ -59,7 +61,7 @@ impl Run {
 
     /// Writes the diagnostic of an ending, and gives how the program ends then.
     pub fn tell<D: Sink>(&mut self, ending: Ending, diag: &mut D) -> Ending
-        requires { self.old.player.text.room ≡ 8388608 }
+        requires { self.old.player.text.room ≡ TEXT_ROOM }
         ensures { Told (code_of result) (code_of ending) (diagnostic ending)
             (D.state diag.old) (D.state diag.new) }
     {

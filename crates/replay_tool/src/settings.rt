@@ -5,7 +5,7 @@ ghost use Rattle.replay_tool.specs.Commands.{texts};
 ghost use Rattle.replay_tool.specs.Words.{is_equals, truth_of, number_of, setting_named, setting_of, settings_of, with_setting, IsWithin, is_given, add};
 
 use peer_words::read_digits;
-use policy_rules::Settings;
+use policy_rules::{MOST_MOVES, MOST_SCORE, Settings};
 
 /// What a word sets.
 #[derive(Clone, Copy, Debug, PartialEq, Eq)]
@@ -50,9 +50,9 @@ fn read_named(name: &[u8], value: &[u8]) -> Option<Setting>
     } else if name == b"ShowPonder".as_slice() {
         Some(Setting::ShowPonder(read_truth(value)?))
     } else if name == b"ResignMoves".as_slice() {
-        Some(Setting::ResignMoves(read_number(value, 6, 1, 1_000)?))
+        Some(Setting::ResignMoves(read_number(value, 6, 1, MOST_MOVES)?))
     } else if name == b"ResignScore".as_slice() {
-        Some(Setting::ResignScore(read_number(value, 6, 0, 100_000)?))
+        Some(Setting::ResignScore(read_number(value, 6, 0, MOST_SCORE)?))
     } else {
         None
     }
