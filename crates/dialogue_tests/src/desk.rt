@@ -7,12 +7,14 @@ ghost use Rattle.search_epochs.specs.Tickets.{Serves};
 ghost use Rattle.desk_rules.specs.Desk.{at, current};
 ghost use Rattle.desk_rules.specs.Steps.{effect_of};
 ghost use Rattle.desk_rules.specs.Fits.{IsSound, IsHintPlayable, IsServed, IsLineEvent, IsFit, CanHold};
+ghost use Rattle.line_io.specs.declared.limits.TheConstants.{SCRIPT_LINE};
+ghost use Rattle.desk_rules.specs.declared.pings.TheConstants.{MOST_PINGS};
 
 mod calls;
 mod turns;
 
 use desk_rules::{Context, Desk, Effect, Ruling, is_gone};
-use line_io::{Event, NoMemory, Out};
+use line_io::{Event, NoMemory, Out, SCRIPT_LINE};
 use option_map::Held;
 use peer_words::GoKind;
 use script_lines::{Mark, read_mark};
@@ -179,7 +181,7 @@ impl Bench {
         ensures { IsSound self.new.desk }
     {
         self.told.clear();
-        assert!(rt; self.told.spare() == 131_072);
+        assert!(rt; self.told.spare() == SCRIPT_LINE);
         assert!(rt; self.desk.pings.len() <= 64);
         expect_line_event(rt, event);
         assert!(rt; is_served(&self.desk, context));
@@ -197,7 +199,7 @@ impl Bench {
     {
         self.told.clear();
         self.held.facts();
-        assert!(rt; self.told.spare() == 131_072);
+        assert!(rt; self.told.spare() == SCRIPT_LINE);
         self.held.write(&mut self.told);
         assert_eq!(rt; self.told.bytes(), want.as_bytes());
     }
@@ -206,8 +208,8 @@ impl Bench {
         requires sound { IsSound self.old.desk }
         requires fits { IsFit (at context self.old.desk) (effect_of ruling.now.effect) }
         requires served { IsServed (at context self.old.desk) }
-        requires pings { length self.old.desk.pings ≤ 64 }
-        requires told { self.old.told ≡ empty 131072 }
+        requires pings { length self.old.desk.pings ≤ MOST_PINGS }
+        requires told { self.old.told ≡ empty SCRIPT_LINE }
         ensures { IsSound self.new.desk }
     {
         let effect = &ruling.effect;
