@@ -8,14 +8,14 @@ ghost use Rattle.host_run.specs.declared.ending.Ending.TheVariants as endings;
 ghost use Rattle.tap_app.specs.Program.{program};
 ghost use Rattle.tap_runner.specs.Tapped.{Leaves};
 
-use child_engine::Host;
+use child_engine::{Host, LetGo};
 use driver_app::{Refusal, read_words};
 use host_run::{Ending, tell};
 use line_io::{Sink, Source, Status};
 use std::alloc::Global;
 use std::sync::Wait;
 use std::thread::Threads;
-use tap_runner::{Closes, tap_run};
+use tap_runner::tap_run;
 
 fn refused(refusal: Refusal) -> Ending
     ensures { result ≡ ending_for refusal }
@@ -27,7 +27,7 @@ fn refused(refusal: Refusal) -> Ending
 }
 
 // What the words ask for, and how it ends.
-fn end_of<I: Source + Send, O: Closes + Send, H: Host, R: Threads + Wait + Sync>(
+fn end_of<I: Source + Send, O: LetGo + Send, H: Host, R: Threads + Wait + Sync>(
     rt: &R,
     alloc: Global,
     words: &[Vec<u8>],
@@ -36,7 +36,7 @@ fn end_of<I: Source + Send, O: Closes + Send, H: Host, R: Threads + Wait + Sync>
     host: &mut H,
 ) -> Ending
 where
-    H::Snk: Closes,
+    H::Snk: LetGo,
     requires { H.books host.old ≡ unused }
     ensures { Ends (AreTaken (bytes_of words.now)) (Leaves
         (outside (I.state input.old) (O.state output.old) (H.faults host.old) (H.books host.old))
@@ -75,7 +75,7 @@ pub fn refuse_for_memory<D: Sink>(diag: &mut D) -> Status
 /// engine that the host starts. The words are the name of the log, the engine's program and its
 /// arguments; the program's own name is not among them. A diagnostic that cannot be written changes
 /// no status.
-pub fn tap_main<I: Source + Send, O: Closes + Send, H: Host, D: Sink, R: Threads + Wait + Sync>(
+pub fn tap_main<I: Source + Send, O: LetGo + Send, H: Host, D: Sink, R: Threads + Wait + Sync>(
     rt: &R,
     alloc: Global,
     words: &[Vec<u8>],
@@ -85,7 +85,7 @@ pub fn tap_main<I: Source + Send, O: Closes + Send, H: Host, D: Sink, R: Threads
     diag: &mut D,
 ) -> Status
 where
-    H::Snk: Closes,
+    H::Snk: LetGo,
     requires { H.books host.old ≡ unused }
     ensures answers { Answers program (AreTaken (bytes_of words.now)) (Leaves
         (outside (I.state input.old) (O.state output.old) (H.faults host.old) (H.books host.old))

@@ -1,13 +1,14 @@
 // A writer that can be let go.
-ghost use Rattle.std.specs.Prelude.{◌≡◌, ◌<◌, ◌≤◌, length, None, IfOk};
+ghost use Rattle.std.specs.Prelude.{◌≡◌, ◌<◌, ◌≤◌, length, None, IfOk, IsErr, true, false};
 ghost use Rattle.std.specs.Io.KnownBytes.{WriteAppends};
 ghost use Rattle.line_io.specs.Causes.{HasCause};
+ghost use Rattle.tap_runner.specs.Closing.{shown_by, is_open};
 
-use crate::Closes;
+use child_engine::LetGo;
 use line_io::{Failed, Sink};
 use std::io::Write;
 
-/// A sink over a writer that is let go when the sink is closed.
+/// A sink over a writer that it can let go.
 #[derive(Drop)]
 pub struct Closing<W> {
     writer: Option<W>,
@@ -15,11 +16,10 @@ pub struct Closing<W> {
 }
 
 impl<W> Closing<W> {
-    ghost use Rattle.tap_runner.specs.Closing.{shown_by};
-
     /// Over a writer, with no fault counted.
     pub fn new(writer: W) -> Closing<W>
-        ensures { shown_by result ≡ record { taken = None; faults = 0 } }
+        ensures shown { shown_by result ≡ record { taken = None; faults = 0 } }
+        ensures open { is_open result ≡ true }
     {
         Closing {
             writer: Some(writer),
@@ -42,6 +42,8 @@ impl<W: Write + Drop> Closing<W> {
         requires { 0 < length piece.now }
         ensures bound { IfOk result (λ n. (0 < n) × (n ≤ length piece.now)) }
         ensures faults { self.new.faults ≡ self.old.faults }
+        ensures open { is_open self.new ≡ is_open self.old }
+        ensures shut { is_open self.old ≡ false → IsErr result }
     {
         let Some(writer) = &mut self.writer else {
             return Err(Failed);
@@ -54,8 +56,6 @@ impl<W: Write + Drop> Closing<W> {
 }
 
 impl<W: Write + Drop> Sink for Closing<W> {
-    ghost use Rattle.tap_runner.specs.Closing.{shown_by};
-
     ghost state = { λ s. shown_by s };
 
     fn write(&mut self, piece: &[u8]) -> Result<usize, Failed>
@@ -63,6 +63,8 @@ impl<W: Write + Drop> Sink for Closing<W> {
         ensures bound { IfOk result (λ n. (0 < n) × (n ≤ length piece.now)) }
         ensures takes { WriteAppends None None result piece.now }
         ensures cause { HasCause (shown_by self.old).faults (shown_by self.new).faults result }
+        ensures open { is_open self.new ≡ is_open self.old }
+        ensures shut { is_open self.old ≡ false → IsErr result }
     {
         match self.hand_over(piece) {
             Ok(count) => Ok(count),
@@ -74,8 +76,11 @@ impl<W: Write + Drop> Sink for Closing<W> {
     }
 }
 
-impl<W: Write + Drop> Closes for Closing<W> {
-    fn close(&mut self) {
+impl<W: Write + Drop> LetGo for Closing<W> {
+    fn let_go(&mut self)
+        ensures shown { shown_by self.new ≡ shown_by self.old }
+        ensures shut { is_open self.new ≡ false }
+    {
         self.writer = None;
     }
 }

@@ -13,6 +13,6 @@ mod tap;
 pub use closing::Closing;
 pub use logging::{LOG_ROOM, keep_log};
 pub use part::Part;
-pub use passing::{Closes, PassEnd, hand_on};
+pub use passing::{PassEnd, hand_on};
 pub use run::{TapEnd, Way, run_tap};
 pub use tap::tap_run;

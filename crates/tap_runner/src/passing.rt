@@ -6,18 +6,12 @@ ghost use Rattle.tap_runner.specs.Hearing.{fresh};
 ghost use Rattle.tap_runner.specs.Passing.{Turned, Passed, is_last, has_failed_to_read, has_failed_to_write};
 
 use crate::Part;
+use child_engine::LetGo;
 use event_pipe::PipeSend;
-use line_io::{MemSink, NullSink, Sink, Source};
+use line_io::{Sink, Source};
 use sink_offers::offer;
 use std::alloc::Global;
 use std::sync::Wait;
-
-/// A sink that can be let go before its run is over, so that who reads from it sees an end.
-pub trait Closes: Sink {
-    /// Nothing is written to it any more.
-    fn close(&mut self)
-        ensures { Self.state self.new ≡ Self.state self.old };
-}
 
 /// How one direction ended.
 #[derive(Clone, Copy, Debug, PartialEq, Eq)]
@@ -92,8 +86,8 @@ fn pass_turn<S: Source, K: Sink, R: Wait>(
 }
 
 /// Hands on what the source gives, as it comes, to its end or to a failure. Each line is sent to the
-/// log before the bytes that end it are handed on. At last the sink is closed.
-pub fn hand_on<S: Source, K: Closes, R: Wait>(
+/// log before the bytes that end it are handed on. At last the sink is let go.
+pub fn hand_on<S: Source, K: LetGo, R: Wait>(
     rt: &R,
     alloc: Global,
     source: &mut S,
@@ -114,7 +108,7 @@ pub fn hand_on<S: Source, K: Closes, R: Wait>(
         let turn = pass_turn(rt, alloc, source, sink, buf, part, to);
         if turn.is_last() {
             part.end(rt, alloc, to);
-            sink.close();
+            sink.let_go();
             return PassEnd {
                 read_failed: turn.has_failed_to_read(),
                 write_failed: turn.has_failed_to_write(),
@@ -123,13 +117,4 @@ pub fn hand_on<S: Source, K: Closes, R: Wait>(
         }
     }
     unreachable!()
-}
-
-/// Nobody reads from a sink in memory.
-impl Closes for MemSink {
-    fn close(&mut self) {}
-}
-
-impl Closes for NullSink {
-    fn close(&mut self) {}
 }

@@ -9,7 +9,8 @@ ghost use Rattle.tap_runner.specs.Ran.{Ran, IsReady, IsReadyWay};
 ghost use denote.Param.Send.{IsSync};
 ghost use Rattle.tap_runner.specs.declared.logging.TheConstants.{LOG_ROOM};
 
-use crate::{Closes, Part, PassEnd, hand_on, keep_log};
+use crate::{Part, PassEnd, hand_on, keep_log};
+use child_engine::LetGo;
 use event_pipe::{Pipe, PipeSend, PipeTake};
 use line_io::{Out, Sink, Source};
 use std::alloc::Global;
@@ -34,7 +35,7 @@ pub struct TapEnd {
 }
 
 // Hands on what the engine writes, beside the log.
-fn run_engine<S: Source + Send, O: Closes + Send, L: Sink + Send, R: Threads + Wait + Sync>(
+fn run_engine<S: Source + Send, O: LetGo + Send, L: Sink + Send, R: Threads + Wait + Sync>(
     rt: &R,
     alloc: Global,
     up: &mut Way,
@@ -80,8 +81,8 @@ fn run_engine<S: Source + Send, O: Closes + Send, L: Sink + Send, R: Threads + W
 fn run_both<
     I: Source + Send,
     S: Source + Send,
-    O: Closes + Send,
-    E: Closes + Send,
+    O: LetGo + Send,
+    E: LetGo + Send,
     L: Sink + Send,
     R: Threads + Wait + Sync,
 >(
@@ -140,8 +141,8 @@ fn run_both<
 pub fn run_tap<
     I: Source + Send,
     S: Source + Send,
-    O: Closes + Send,
-    E: Closes + Send,
+    O: LetGo + Send,
+    E: LetGo + Send,
     L: Sink + Send,
     R: Threads + Wait + Sync,
 >(

@@ -7,8 +7,8 @@ ghost use Rattle.tap_runner.specs.Parts.{AreReady};
 ghost use Rattle.tap_runner.specs.Tapped.{Leaves};
 
 use crate::parts::{Parts, make_parts};
-use crate::{Closes, run_tap};
-use child_engine::{Host, HostFault, Started};
+use crate::run_tap;
+use child_engine::{Host, HostFault, LetGo, Started};
 use host_run::{
     Failures, Opened, TriedThreads, close_log, is_open_failure, is_open_memory, only_memory,
     only_start, open_log,
@@ -31,7 +31,7 @@ struct Ready<S, K, P> {
 }
 
 // The run of an engine that was started.
-fn run_started<I: Source + Send, O: Closes + Send, H: Host, R: Threads + Wait + Sync>(
+fn run_started<I: Source + Send, O: LetGo + Send, H: Host, R: Threads + Wait + Sync>(
     rt: &R,
     alloc: Global,
     ready: Ready<H::Src, H::Snk, H::Kid>,
@@ -41,7 +41,7 @@ fn run_started<I: Source + Send, O: Closes + Send, H: Host, R: Threads + Wait + 
     host: &mut H,
 ) -> Failures
 where
-    H::Snk: Closes,
+    H::Snk: LetGo,
     requires parts { AreReady ready.parts }
     requires source { IsUnread (H.Src.state ready.run.src) }
     requires sink { IsUnwritten (H.Snk.state ready.run.snk) }
@@ -122,7 +122,7 @@ fn start<H: Host, R: Threads>(
 
 /// Starts the engine, opens the log, hands on what the bridge and the engine write, and closes the
 /// run and the log. A log that cannot be opened is left out.
-pub fn tap_run<I: Source + Send, O: Closes + Send, H: Host, R: Threads + Wait + Sync>(
+pub fn tap_run<I: Source + Send, O: LetGo + Send, H: Host, R: Threads + Wait + Sync>(
     rt: &R,
     alloc: Global,
     log_name: &str,
@@ -132,7 +132,7 @@ pub fn tap_run<I: Source + Send, O: Closes + Send, H: Host, R: Threads + Wait + 
     host: &mut H,
 ) -> Failures
 where
-    H::Snk: Closes,
+    H::Snk: LetGo,
     requires words { 0 < length words.now }
     requires unused { H.books host.old ≡ unused }
     ensures { Leaves
