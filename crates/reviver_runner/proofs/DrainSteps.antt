@@ -1,0 +1,217 @@
+-- Behind the last life.
+use Rattle.std.proofs.Common.{◌≡◌, ℕ, List, [], ◌∷◌, ◌++◌, map, codes, Bool, true, false, cond, not, ◌||◌, ◌&&◌, Option, Some, None, refl, sym, ap, subst, ◌∙◌, arith, append-nil, append_assoc}
+use Rattle.std.proofs.lemmas.List.{map-append}
+use Rattle.std.proofs.lemmas.List.Elements.{filter-append}
+use Rattle.std.proofs.lemmas.List.Folds.{list_any-append}
+use Rattle.line_io.specs.Event.{Event, Open, Iface, IfaceLong, IfaceEnd, IfaceLost, Engine, EngineLong, EngineEnd, EngineLost}
+use Rattle.line_io.specs.Source.{Received}
+use Rattle.cecp_lines.specs.Quit.{is_quit}
+use Rattle.uci_lines.specs.Orders.{Order as AnyOrder}
+use Rattle.uci_lines.specs.OrderReading.{order_in}
+use Rattle.engine_revival.specs.declared.state.State.{State}
+use Rattle.engine_revival.specs.declared.words.DialogueState.{DialogueState}
+use Rattle.engine_revival.specs.declared.words.LifeState.{LifeState}
+use Rattle.engine_revival.specs.declared.words.LifeState.TheVariants as life
+use Rattle.engine_revival.specs.Lists.{batch_text}
+use Rattle.engine_revival.specs.Steps.{is_ended, quit_to, read_at_once, accepted_at_once, accepted, at_once, due_to, due_orders, settled_orders, ordering, reading, accepting, with_quit, after_at_once}
+use Rattle.engine_revival.specs.Calls.{Order, after, child_of}
+use Rattle.engine_revival.specs.Script.{may_happen, state_after, state_behind, event_text}
+use Rattle.sink_offers.specs.declared.offering.LoopEnd.{LoopEnd}
+use Rattle.sink_offers.specs.Streams.{Offered}
+use Rattle.life_runner.specs.Played.{event_up, event_child, lines_to_child, is_heard, is_order, is_close, has_close, as_long, is_told, told_of, ends_in}
+use Rattle.reviver_runner.specs.Drained.{Drained}
+use Rattle.life_runner.proofs.Appends.{up_none, up_one, up_both, child_append}
+use Rattle.reviver_runner.proofs.LifeSteps.{ends_append}
+use Rattle.reviver_runner.proofs.SettledSteps.{settled_over}
+use Rattle.life_runner.proofs.Stays.{event_stays}
+
+pub order_heard : (e : Event) → is_order e ≡ true → is_heard e ≡ true
+order_heard Open h = cc
+order_heard (Iface line) h = refl
+order_heard IfaceLong h = cc
+order_heard IfaceEnd h = refl
+order_heard IfaceLost h = cc
+order_heard (Engine line) h = cc
+order_heard EngineLong h = cc
+order_heard EngineEnd h = cc
+order_heard EngineLost h = cc
+
+open_still : (l : LifeState) → l ≡ life.Over → not (is_ended l) ≡ true
+open_still l h = ap (λ (x : LifeState). not (is_ended x)) h
+
+pub may_order : (s : State) (e : Event) → s.life ≡ life.Over → is_order e ≡ true → may_happen s e ≡ true
+may_order s Open a h = cc
+may_order s (Iface line) a h = open_still s.life a
+may_order s IfaceLong a h = cc
+may_order s IfaceEnd a h = open_still s.life a
+may_order s IfaceLost a h = cc
+may_order s (Engine line) a h = cc
+may_order s EngineLong a h = cc
+may_order s EngineEnd a h = cc
+may_order s EngineLost a h = cc
+
+-- NOTHING IS WRITTEN TO NO LIFE
+
+either_none : (b : Bool) (x y : List AnyOrder) → x ≡ [] → y ≡ [] → cond b x y ≡ []
+either_none true x y h k = h
+either_none false x y h k = k
+
+quit_to_over : (q : Bool) → quit_to q life.Over ≡ []
+quit_to_over true = refl
+quit_to_over false = refl
+
+once_over : (up : Option DialogueState) (order : AnyOrder) → accepted_at_once up life.Over order ≡ []
+once_over None order = refl
+once_over (Some up) order = refl
+
+read_over : (s : State) (order : Option AnyOrder) → s.life ≡ life.Over → read_at_once s order ≡ []
+read_over s None h = refl
+read_over s (Some order) h = ap (λ (l : LifeState). accepted_at_once (accepted s order) l order) h ∙ once_over (accepted s order) order
+
+at_once_over : (s : State) (line : List ℕ) → s.life ≡ life.Over → at_once s line ≡ []
+at_once_over s line h = either_none (is_quit line) _ _ (ap (λ (l : LifeState). quit_to s.quit l) h ∙ quit_to_over s.quit) (read_over s (order_in line) h)
+
+settled_none : (s : State) → s.life ≡ life.Over → settled_orders s ≡ []
+settled_none s h = ap (λ (l : LifeState). due_orders (due_to l s.quit s.upper) s.unsent s.search) h
+
+accepting_over : (up : Option DialogueState) (s : State) (order : AnyOrder) → s.life ≡ life.Over → (accepting up s order).life ≡ life.Over
+accepting_over None s order h = h
+accepting_over (Some up) s order h = ap (λ (l : LifeState). after_at_once l order) h
+
+reading_over : (s : State) (order : Option AnyOrder) → s.life ≡ life.Over → (reading s order).life ≡ life.Over
+reading_over s None h = h
+reading_over s (Some order) h = accepting_over (accepted s order) s order h
+
+either_over : (b : Bool) (s t : State) → s.life ≡ life.Over → t.life ≡ life.Over → (cond b s t).life ≡ life.Over
+either_over true s t h k = h
+either_over false s t h k = k
+
+ordering_over : (s : State) (line : List ℕ) → s.life ≡ life.Over → (ordering s line).life ≡ life.Over
+ordering_over s line h = either_over (is_quit line) (with_quit s) (reading s (order_in line)) h (reading_over s (order_in line) h)
+
+order_child : (s : State) (line : List ℕ) → s.life ≡ life.Over → child_of s (Order line) ≡ []
+order_child s line h = ap batch_text (ap (λ (l : List AnyOrder). l ++ settled_orders (ordering s line)) (at_once_over s line h) ∙ settled_none (ordering s line) (ordering_over s line h))
+
+order_over : (s : State) (line : List ℕ) → s.life ≡ life.Over → (after s (Order line)).life ≡ life.Over
+order_over s line h = settled_over (ordering s line) (ordering_over s line h)
+
+event_child_over : (s : State) (e : Event) → is_order e ≡ true → s.life ≡ life.Over → event_child s e ≡ []
+event_child_over s Open o h = cc
+event_child_over s (Iface line) o h = order_child s line h
+event_child_over s IfaceLong o h = cc
+event_child_over s IfaceEnd o h = order_child s (codes "quit") h
+event_child_over s IfaceLost o h = cc
+event_child_over s (Engine line) o h = cc
+event_child_over s EngineLong o h = cc
+event_child_over s EngineEnd o h = cc
+event_child_over s EngineLost o h = cc
+
+event_over : (s : State) (e : Event) → is_order e ≡ true → s.life ≡ life.Over → (state_after s e).life ≡ life.Over
+event_over s Open o h = cc
+event_over s (Iface line) o h = order_over s line h
+event_over s IfaceLong o h = cc
+event_over s IfaceEnd o h = order_over s (codes "quit") h
+event_over s IfaceLost o h = cc
+event_over s (Engine line) o h = cc
+event_over s EngineLong o h = cc
+event_over s EngineEnd o h = cc
+event_over s EngineLost o h = cc
+
+-- ONE EVENT OF THE INTERFACE
+
+order_open : (e : Event) → is_order e ≡ true → has_close (e ∷ []) ≡ false
+order_open Open h = cc
+order_open (Iface line) h = refl
+order_open IfaceLong h = cc
+order_open IfaceEnd h = refl
+order_open IfaceLost h = cc
+order_open (Engine line) h = cc
+order_open EngineLong h = cc
+order_open EngineEnd h = cc
+order_open EngineLost h = cc
+
+order_told : (e : Event) → is_order e ≡ true → map as_long (e ∷ []) ≡ told_of (e ∷ [])
+order_told Open h = cc
+order_told (Iface line) h = refl
+order_told IfaceLong h = cc
+order_told IfaceEnd h = refl
+order_told IfaceLost h = cc
+order_told (Engine line) h = cc
+order_told EngineLong h = cc
+order_told EngineEnd h = cc
+order_told EngineLost h = cc
+
+order_ends : (e : Event) → is_order e ≡ true → ends_in (e ∷ []) ≡ 0
+order_ends Open h = cc
+order_ends (Iface line) h = refl
+order_ends IfaceLong h = cc
+order_ends IfaceEnd h = refl
+order_ends IfaceLost h = cc
+order_ends (Engine line) h = cc
+order_ends EngineLong h = cc
+order_ends EngineEnd h = cc
+order_ends EngineLost h = cc
+
+pub drained_order : (s s' : State) (taken taken' : List Event) (e : Event) (o o' l l' : Received) (f g : LoopEnd) → is_order e ≡ true → s.life ≡ life.Over → taken' ≡ taken ++ e ∷ [] → s' ≡ state_after s e
+    → Offered f.output g.output o o' (event_up s e) → Offered f.log g.log l l' (event_text s e) → Drained s s' taken taken' o o' l l' f g
+drained_order s s' taken taken' e o o' l l' f g h over t z u v =
+    record {
+      events = e ∷ [];
+      played = up_one s s' e o o' l l' f g (may_order s e over h) z u v;
+      over = ap (λ (x : State). x.life) z ∙ event_over s e h over;
+      begun = ap (λ (x : State). x.begun) z ∙ (event_stays s e (order_heard e h)).begun;
+      open_ended = order_open e h;
+      unwritten = append-nil (event_child s e) ∙ event_child_over s e h over;
+      got = e ∷ [];
+      taken_is = t;
+      got_are = order_told e h;
+      ends = order_ends e h;
+    }
+
+pub drained_passed : (s : State) (taken taken' : List Event) (o l : Received) (f : LoopEnd) → s.life ≡ life.Over → taken' ≡ taken ++ IfaceLong ∷ [] → Drained s s taken taken' o o l l f f
+drained_passed s taken taken' o l f over t =
+    record {
+      events = [];
+      played = up_none s o l f;
+      over = over;
+      begun = refl;
+      open_ended = refl;
+      unwritten = refl;
+      got = IfaceLong ∷ [];
+      taken_is = t;
+      got_are = refl;
+      ends = refl;
+    }
+
+pub drained_none : (s : State) (taken : List Event) (o l : Received) (f : LoopEnd) → s.life ≡ life.Over → Drained s s taken taken o o l l f f
+drained_none s taken o l f over =
+    record {
+      events = [];
+      played = up_none s o l f;
+      over = over;
+      begun = refl;
+      open_ended = refl;
+      unwritten = refl;
+      got = [];
+      taken_is = sym (append-nil taken);
+      got_are = refl;
+      ends = refl;
+    }
+
+pub drained_both : (s s' s'' : State) (taken taken' taken'' : List Event) (o o' o'' l l' l'' : Received) (f g h : LoopEnd) → Drained s s' taken taken' o o' l l' f g → Drained s' s'' taken' taken'' o' o'' l' l'' g h
+    → Drained s s'' taken taken'' o o'' l l'' f h
+drained_both s s' s'' taken taken' taken'' o o' o'' l l' l'' f g h x y =
+    record {
+      events = x.events ++ y.events;
+      played = up_both _ _ _ _ _ _ _ _ _ _ _ _ _ _ x.played y.played;
+      over = y.over;
+      begun = y.begun ∙ x.begun;
+      open_ended = list_any-append is_close x.events y.events ∙ ap (λ (b : Bool). b || has_close y.events) x.open_ended ∙ y.open_ended;
+      unwritten =
+          child_append s x.events y.events ∙ ap (λ (t : List ℕ). t ++ lines_to_child (state_behind s x.events) y.events) x.unwritten
+          ∙ ap (λ (z : State). lines_to_child z y.events) (sym x.played.state_is) ∙ y.unwritten;
+      got = x.got ++ y.got;
+      taken_is = y.taken_is ∙ ap (λ (t : List Event). t ++ y.got) x.taken_is ∙ append_assoc taken x.got y.got;
+      got_are = map-append as_long x.events y.events ∙ ap (λ (t : List Event). t ++ map as_long y.events) x.got_are ∙ ap (λ (t : List Event). told_of x.got ++ t) y.got_are ∙ sym (filter-append is_told x.got y.got);
+      ends = let all = ends_append x.got y.got in let one = x.ends in let two = y.ends in omega (arith, all, one, two);
+    }

@@ -1,0 +1,293 @@
+-- What was heard of both sides, once both readers have ended.
+use Rattle.std.proofs.Common.{◌≡◌, ◌∙◌, ℕ, suc, ◌+◌, ◌≤◌, List, [], ◌∷◌, ◌++◌, map, codes, length, Bool, true, false, cond, ◌||◌, ◌&&◌, Option, Some, None, refl, sym, ap, subst, arith, append-nil, append_assoc}
+use Rattle.std.proofs.lemmas.List.{length-append}
+use Rattle.std.specs.List.{AllByRecursion}
+use Rattle.line_io.specs.Event.{Event, Open, Iface, IfaceLong, IfaceEnd, IfaceLost, Engine, EngineLong, EngineEnd, EngineLost}
+use Rattle.line_io.specs.Lines.{Piece, Whole, TooLong, items}
+use Rattle.line_io.specs.Runs.{whole}
+use Rattle.line_io.specs.Source.{Supplied, Received}
+use Rattle.cecp_lines.specs.Quit.{is_quit}
+use Rattle.uci_lines.specs.Orders.{Order as AnyOrder}
+use Rattle.uci_lines.specs.Orders as orders
+use Rattle.uci_lines.specs.OrderReading.{order_in}
+use Rattle.engine_revival.specs.declared.state.State.{State}
+use Rattle.engine_revival.specs.declared.words.DialogueState.{DialogueState}
+use Rattle.engine_revival.specs.Dialogue.{said_in}
+use Rattle.engine_revival.specs.Lists.{can_join}
+use Rattle.engine_revival.specs.Steps.{opening, ending, beginning, closing, may_begin, keeping, with_value, with_button, accepting, accepted, reading, ordering, with_quit, hearing, settled}
+use Rattle.engine_revival.specs.Calls.{Begin, Over, after, turned}
+use Rattle.engine_revival.specs.Script.{state_after, state_behind}
+use Rattle.event_pipe.specs.declared.message.Peer.TheVariants as peers
+use Rattle.event_pipe.specs.declared.reader.ReadEnd.{ReadEnd}
+use Rattle.event_pipe.specs.declared.reader.ReadEnd.TheVariants as read_ends
+use Rattle.event_pipe.specs.Message.{is_end}
+use Rattle.event_pipe.specs.Rule.{of, ended}
+use Rattle.event_pipe.specs.Ends.{Came}
+use Rattle.event_pipe.specs.Arrivals.{Arrived, line_limit}
+use Rattle.event_pipe.proofs.Keeps.{of-append}
+use Rattle.event_pipe.proofs.Reading.{any_append}
+use Rattle.host_run.specs.Outside.{Outside}
+use Rattle.sink_offers.specs.declared.offering.LoopEnd.{LoopEnd}
+use Rattle.life_runner.specs.Played.{as_long, told_of, ends_in}
+use Rattle.life_runner.specs.Reading.{line_events, LinesOf}
+use Rattle.reviver_runner.specs.Lives.{Life, IsLife, AreLives, life_events, Lived}
+use Rattle.reviver_runner.specs.Ran.{Heard}
+use Rattle.reviver_runner.proofs.LifeSteps.{ends_append}
+use Rattle.reviver_runner.proofs.SettledSteps.{settled_quit}
+
+-- NOTHING OF THE ENGINE IS LEFT IN THE CHANNEL
+
+-- the last of the events is a life's end
+abbrev is_long : Event → Bool
+is_long EngineLong = true
+is_long event = false
+
+abbrev ends_long : List Event → Bool
+ends_long [] = false
+ends_long (e ∷ []) = is_long e
+ends_long (e ∷ f ∷ es) = ends_long (f ∷ es)
+
+last_right : (xs : List Event) (y : Event) (ys : List Event) → ends_long (xs ++ y ∷ ys) ≡ ends_long (y ∷ ys)
+last_right [] y ys = refl
+last_right (x ∷ []) y ys = refl
+last_right (x ∷ z ∷ xs) y ys = last_right (z ∷ xs) y ys
+
+last_append : (xs ys : List Event) → ends_long ys ≡ true → ends_long (xs ++ ys) ≡ true
+last_append xs [] h = cc
+last_append xs (y ∷ ys) h = last_right xs y ys ∙ h
+
+last_of_lives : (l : Life) (lives : List Life) → ends_long (life_events (l ∷ lives)) ≡ true
+last_of_lives l [] = ap ends_long (append-nil (l.lines ++ EngineLong ∷ [])) ∙ last_right l.lines EngineLong []
+last_of_lives l (m ∷ lives) = last_append (l.lines ++ EngineLong ∷ []) (life_events (m ∷ lives)) (last_of_lives m lives)
+
+one_long : (e : Event) → is_long e ≡ true → 1 ≤ ends_in (e ∷ [])
+one_long Open h = cc
+one_long (Iface line) h = cc
+one_long IfaceLong h = cc
+one_long IfaceEnd h = cc
+one_long IfaceLost h = cc
+one_long (Engine line) h = cc
+one_long EngineLong h = omega arith
+one_long EngineEnd h = cc
+one_long EngineLost h = cc
+
+has_one : (es : List Event) → ends_long es ≡ true → 1 ≤ ends_in es
+has_one [] h = cc
+has_one (e ∷ []) h = one_long e h
+has_one (e ∷ f ∷ es) h = let more = has_one (f ∷ es) h in let all = ends_append (e ∷ []) (f ∷ es) in omega (arith, more, all)
+
+nothing_left : (sent front left : List Event) → sent ≡ front ++ left → ends_long sent ≡ true → ends_in sent ≡ ends_in front → left ≡ []
+nothing_left sent front [] e h n = refl
+nothing_left sent front (y ∷ ys) e h n =
+    let one = has_one (y ∷ ys) (sym (last_right front y ys) ∙ ap ends_long (sym e) ∙ h) in
+    let all = ap ends_in e ∙ ends_append front (y ∷ ys) in
+    absurd (omega (arith, one, all, n))
+
+-- the lines of a life have no mark
+pieces_no_end : (pieces : List Piece) → ends_in (line_events pieces) ≡ 0
+pieces_no_end [] = refl
+pieces_no_end (Whole line ∷ pieces) = pieces_no_end pieces
+pieces_no_end (TooLong ∷ pieces) = pieces_no_end pieces
+
+lines_no_end : (b a : Supplied) (lines : List Event) (r : ReadEnd) → LinesOf b a lines r → ends_in lines ≡ 0
+lines_no_end b a lines read_ends.Done x = ap ends_in (x.all refl) ∙ pieces_no_end (items line_limit x.got)
+lines_no_end b a lines (read_ends.Fault f) x = ap ends_in (x.at_fault f refl) ∙ pieces_no_end (whole line_limit x.got)
+lines_no_end b a lines read_ends.NoMemory x =
+    let cut = x.cut refl in
+    let all = sym (ap ends_in cut.is) ∙ pieces_no_end (items line_limit x.got) in
+    let parts = ends_append lines cut.rest in
+    omega (arith, all, parts)
+
+lives_ends : (lives : List Life) → AreLives lives → ends_in (life_events lives) ≡ length lives
+lives_ends [] a = refl
+lives_ends (l ∷ lives) a =
+    let none = lines_no_end l.source l.read l.lines l.end a.0.lines in
+    let own = ends_append l.lines (EngineLong ∷ []) in
+    let all = ends_append (l.lines ++ EngineLong ∷ []) (life_events lives) in
+    let more = lives_ends lives a.1 in
+    omega (arith, none, own, all, more)
+
+-- ONE SIDE
+
+ends_of : (es : List Event) → ends_in (of 2 es) ≡ ends_in es
+ends_of [] = refl
+ends_of (Open ∷ es) = ends_of es
+ends_of (Iface line ∷ es) = ends_of es
+ends_of (IfaceLong ∷ es) = ends_of es
+ends_of (IfaceEnd ∷ es) = ends_of es
+ends_of (IfaceLost ∷ es) = ends_of es
+ends_of (Engine line ∷ es) = ends_of es
+ends_of (EngineLong ∷ es) = ap suc (ends_of es)
+ends_of (EngineEnd ∷ es) = ends_of es
+ends_of (EngineLost ∷ es) = ends_of es
+
+engine_marks : (es : List Event) → map as_long (of 2 es) ≡ of 2 (map as_long es)
+engine_marks [] = refl
+engine_marks (Open ∷ es) = engine_marks es
+engine_marks (Iface line ∷ es) = engine_marks es
+engine_marks (IfaceLong ∷ es) = engine_marks es
+engine_marks (IfaceEnd ∷ es) = engine_marks es
+engine_marks (IfaceLost ∷ es) = engine_marks es
+engine_marks (Engine line ∷ es) = ap (λ (l : List Event). Engine line ∷ l) (engine_marks es)
+engine_marks (EngineLong ∷ es) = ap (λ (l : List Event). EngineLong ∷ l) (engine_marks es)
+engine_marks (EngineEnd ∷ es) = ap (λ (l : List Event). EngineLong ∷ l) (engine_marks es)
+engine_marks (EngineLost ∷ es) = engine_marks es
+
+engine_told : (es : List Event) → of 2 (told_of es) ≡ of 2 es
+engine_told [] = refl
+engine_told (Open ∷ es) = engine_told es
+engine_told (Iface line ∷ es) = engine_told es
+engine_told (IfaceLong ∷ es) = engine_told es
+engine_told (IfaceEnd ∷ es) = engine_told es
+engine_told (IfaceLost ∷ es) = engine_told es
+engine_told (Engine line ∷ es) = ap (λ (l : List Event). Engine line ∷ l) (engine_told es)
+engine_told (EngineLong ∷ es) = ap (λ (l : List Event). EngineLong ∷ l) (engine_told es)
+engine_told (EngineEnd ∷ es) = ap (λ (l : List Event). EngineEnd ∷ l) (engine_told es)
+engine_told (EngineLost ∷ es) = engine_told es
+
+iface_marks : (es : List Event) → of 1 (map as_long es) ≡ of 1 es
+iface_marks [] = refl
+iface_marks (Open ∷ es) = iface_marks es
+iface_marks (Iface line ∷ es) = ap (λ (l : List Event). Iface line ∷ l) (iface_marks es)
+iface_marks (IfaceLong ∷ es) = ap (λ (l : List Event). IfaceLong ∷ l) (iface_marks es)
+iface_marks (IfaceEnd ∷ es) = ap (λ (l : List Event). IfaceEnd ∷ l) (iface_marks es)
+iface_marks (IfaceLost ∷ es) = iface_marks es
+iface_marks (Engine line ∷ es) = iface_marks es
+iface_marks (EngineLong ∷ es) = iface_marks es
+iface_marks (EngineEnd ∷ es) = iface_marks es
+iface_marks (EngineLost ∷ es) = iface_marks es
+
+iface_told : (es : List Event) → of 1 (told_of es) ≡ told_of (of 1 es)
+iface_told [] = refl
+iface_told (Open ∷ es) = iface_told es
+iface_told (Iface line ∷ es) = ap (λ (l : List Event). Iface line ∷ l) (iface_told es)
+iface_told (IfaceLong ∷ es) = iface_told es
+iface_told (IfaceEnd ∷ es) = ap (λ (l : List Event). IfaceEnd ∷ l) (iface_told es)
+iface_told (IfaceLost ∷ es) = iface_told es
+iface_told (Engine line ∷ es) = iface_told es
+iface_told (EngineLong ∷ es) = iface_told es
+iface_told (EngineEnd ∷ es) = iface_told es
+iface_told (EngineLost ∷ es) = iface_told es
+
+ended_told : (es : List Event) → ended (told_of es) ≡ ended es
+ended_told [] = refl
+ended_told (Open ∷ es) = ended_told es
+ended_told (Iface line ∷ es) = ap (λ (b : Bool). is_quit line || b) (ended_told es)
+ended_told (IfaceLong ∷ es) = ended_told es
+ended_told (IfaceEnd ∷ es) = refl
+ended_told (IfaceLost ∷ es) = ended_told es
+ended_told (Engine line ∷ es) = ended_told es
+ended_told (EngineLong ∷ es) = ended_told es
+ended_told (EngineEnd ∷ es) = refl
+ended_told (EngineLost ∷ es) = ended_told es
+
+-- THE LAST ORDER IS THE QUIT
+
+value_quit : (b : Bool) (s : State) (order : AnyOrder) → (with_value b s order).quit ≡ s.quit
+value_quit true s order = refl
+value_quit false s order = refl
+
+button_quit : (b : Bool) (s : State) (order : AnyOrder) → (with_button b s order).quit ≡ s.quit
+button_quit true s order = refl
+button_quit false s order = refl
+
+keeping_quit : (s : State) (order : AnyOrder) → (keeping s order).quit ≡ s.quit
+keeping_quit s (orders.SetOption name (Some value)) =
+    value_quit (can_join s.kept (orders.SetOption name (Some value)) && can_join s.unsent (orders.SetOption name (Some value))) s (orders.SetOption name (Some value))
+keeping_quit s (orders.SetOption name None) = button_quit (can_join s.unsent (orders.SetOption name None)) s (orders.SetOption name None)
+keeping_quit s orders.NewGame = refl
+keeping_quit s (orders.Position fen moves) = refl
+keeping_quit s (orders.Go ponder control depth) = refl
+keeping_quit s orders.PonderHit = refl
+keeping_quit s orders.Stop = refl
+keeping_quit s orders.Uci = refl
+keeping_quit s orders.IsReady = refl
+keeping_quit s orders.Quit = refl
+
+accepting_quit : (up : Option DialogueState) (s : State) (order : AnyOrder) → (accepting up s order).quit ≡ s.quit
+accepting_quit None s order = refl
+accepting_quit (Some up) s order = keeping_quit s order
+
+reading_quit : (s : State) (order : Option AnyOrder) → (reading s order).quit ≡ s.quit
+reading_quit s None = refl
+reading_quit s (Some order) = accepting_quit (accepted s order) s order
+
+or_true : (a : Bool) → true ≡ (a || true)
+or_true true = refl
+or_true false = refl
+
+or_none : (a : Bool) → a ≡ (a || false)
+or_none true = refl
+or_none false = refl
+
+or_assoc : (a b c : Bool) → ((a || b) || c) ≡ (a || (b || c))
+or_assoc true b c = refl
+or_assoc false b c = refl
+
+either_quit : (b : Bool) (s t : State) → t.quit ≡ s.quit → (cond b (with_quit s) t).quit ≡ (s.quit || (b || false))
+either_quit true s t h = or_true s.quit
+either_quit false s t h = h ∙ or_none s.quit
+
+order_quit : (s : State) (line : List ℕ) → (settled (ordering s line)).quit ≡ (s.quit || (is_quit line || false))
+order_quit s line = settled_quit (ordering s line) ∙ either_quit (is_quit line) s (reading s (order_in line)) (reading_quit s (order_in line))
+
+over_quit : (s : State) → (after s Over).quit ≡ (s.quit || false)
+over_quit s = settled_quit (closing s) ∙ or_none s.quit
+
+next_quit : (b : Bool) (s : State) → (after (ending s) (cond b Begin Over)).quit ≡ (s.quit || false)
+next_quit true s = settled_quit (beginning (ending s)) ∙ or_none s.quit
+next_quit false s = settled_quit (closing (ending s)) ∙ or_none s.quit
+
+event_quit : (s : State) (e : Event) → (state_after s e).quit ≡ (s.quit || ended (of 1 (e ∷ [])))
+event_quit s Open = over_quit s
+event_quit s (Iface line) = order_quit s line
+event_quit s IfaceLong = over_quit s
+event_quit s IfaceEnd = order_quit s (codes "quit")
+event_quit s IfaceLost = over_quit s
+event_quit s (Engine line) = settled_quit (hearing s (said_in line)) ∙ or_none s.quit
+event_quit s EngineLong = next_quit (may_begin s) s
+event_quit s EngineEnd = over_quit s
+event_quit s EngineLost = over_quit s
+
+quit_behind : (s : State) (es : List Event) → (state_behind s es).quit ≡ (s.quit || ended (of 1 es))
+quit_behind s [] = or_none s.quit
+quit_behind s (e ∷ es) =
+    quit_behind (state_after s e) es ∙ ap (λ (b : Bool). b || ended (of 1 es)) (event_quit s e) ∙ or_assoc s.quit (ended (of 1 (e ∷ []))) (ended (of 1 es))
+    ∙ ap (λ (b : Bool). s.quit || b) (sym (any_append is_end (of 1 (e ∷ [])) (of 1 es)) ∙ ap ended (sym (of-append 1 (e ∷ []) es)))
+
+-- BOTH SIDES HAVE ENDED
+
+module _ (number : ℕ) (s : State) (sent sent_up taken : List Event) (lives : List Life) (refused : Bool) (o o' l l' : Received) (f f' : LoopEnd)
+    (lived : Lived (opening number) s sent taken lives [] refused o o' l l' f f') (up : Came peers.Iface taken sent_up) (engine : Came peers.Engine taken sent) (some : 1 ≤ length lives) (quit : s.quit ≡ true) where
+  last : (ls : List Life) → 1 ≤ length ls → ends_long (life_events ls) ≡ true
+  last [] h = absurd (omega (arith, h))
+  last (x ∷ ls) h = last_of_lives x ls
+
+  all_taken : sent ≡ of 2 taken
+  all_taken =
+      let none = nothing_left sent (of 2 taken) engine.left engine.front (ap ends_long lived.sent_are ∙ last lives some)
+          (ap ends_in lived.sent_are ∙ lives_ends lives lived.lived ∙ sym lived.ends ∙ sym (ends_of taken)) in
+      engine.front ∙ ap (λ (x : List Event). of 2 taken ++ x) none ∙ append-nil (of 2 taken)
+
+  pub marks : map as_long (of 2 lived.events) ≡ life_events lives
+  marks = engine_marks lived.events ∙ ap (λ (x : List Event). of 2 x) lived.taken_are ∙ engine_told taken ∙ sym all_taken ∙ lived.sent_are
+
+  told_up : of 1 lived.events ≡ told_of (of 1 taken)
+  told_up = sym (iface_marks lived.events) ∙ ap (λ (x : List Event). of 1 x) lived.taken_are ∙ iface_told taken
+
+  over : ended (of 1 taken) ≡ true
+  over = sym (ended_told (of 1 taken)) ∙ ap ended (sym told_up) ∙ sym (quit_behind (opening number) lived.events) ∙ ap (λ (x : State). x.quit) (sym lived.played.state_is) ∙ quit
+
+  pub orders_are : of 1 lived.events ≡ told_of sent_up
+  orders_are = told_up ∙ ap told_of (sym (up.front ∙ ap (λ (x : List Event). of 1 taken ++ x) (up.whole over) ∙ append-nil (of 1 taken)))
+
+  pub heard : (before after : Outside) (upper : ReadEnd) → Arrived peers.Iface before.input after.input sent_up upper → s.begun ≡ length lives → Heard number before after upper lives lived.events
+  heard before after upper arrived begun = record {
+    may = lived.played.may;
+    arrived = sent_up;
+    did_arrive = arrived;
+    orders = orders_are;
+    marks = marks;
+    texts = lived.given;
+    begun = ap (λ (x : State). x.begun) (sym lived.played.state_is) ∙ begun;
+  }

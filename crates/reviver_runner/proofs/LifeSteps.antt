@@ -1,0 +1,356 @@
+-- One more life among those that have ended, and what is heard behind the last.
+use Rattle.std.proofs.Common.{◌≡◌, ◌∙◌, ℕ, suc, ◌+◌, List, [], ◌∷◌, ◌++◌, map, filter, length, Bool, true, false, cond, ◌||◌, refl, sym, ap, subst, arith, append-nil, append_assoc}
+use Rattle.std.proofs.lemmas.List.{map-append, length-append}
+use Rattle.std.proofs.lemmas.List.Elements.{filter-append}
+use Rattle.std.proofs.lemmas.List.Folds.{list_any-append}
+use Rattle.std.proofs.lemmas.Grind.{flat_map-append}
+use Rattle.std.specs.List.{AllByRecursion, list_any}
+use Rattle.line_io.specs.Event.{Event, Open, Iface, IfaceLong, IfaceEnd, IfaceLost, Engine, EngineLong, EngineEnd, EngineLost}
+use Rattle.line_io.specs.Source.{Supplied, Received}
+use Rattle.child_engine.specs.declared.host.HostFault.{HostFault}
+use Rattle.engine_revival.specs.declared.state.State.{State}
+use Rattle.engine_revival.specs.Script.{state_after, state_behind}
+use Rattle.event_pipe.specs.Arrivals.{failed}
+use Rattle.event_pipe.specs.declared.reader.ReadEnd.{ReadEnd}
+use Rattle.host_run.specs.Readers.{lacked_memory}
+use Rattle.sink_offers.specs.declared.offering.LoopEnd.{LoopEnd}
+use Rattle.sink_offers.specs.Streams.{Sinks, Offered}
+use Rattle.reviver_runner.specs.declared.lives.Run.{Run}
+use Rattle.reviver_runner.specs.declared.lives.Tally.{Tally}
+use Rattle.reviver_runner.specs.declared.turns.Next.{Next}
+use Rattle.reviver_runner.specs.declared.turns.Next.TheVariants as nexts
+use Rattle.life_runner.specs.Played.{event_child, lines_to_child, is_heard, heard_of, is_close, has_close, is_refusal, has_refusal, as_long, is_told, told_of, ends_in}
+use Rattle.life_runner.specs.Looped.{LoopedLife}
+use Rattle.life_runner.specs.Reading.{ReadLife}
+use Rattle.reviver_runner.specs.Lives.{IsBegun, Life, IsLife, AreLives, life_events, told_of_lives, Tallies, ToLives, to_none, to_next, to_lives, Lived, HasLived, GoesOn, LivesOn, mark_of, is_refused, IsNext, Ended}
+use Rattle.reviver_runner.specs.Closing.{told_of_runs}
+use Rattle.reviver_runner.specs.Drained.{Drained}
+use Rattle.life_runner.proofs.Appends.{offered_both, took, up_of_all, up_both}
+
+-- MORE EVENTS
+
+to_append : (to : ToLives) (s : State) (es fs : List Event) → to_lives to s (es ++ fs) ≡ to_lives (to_lives to s es) (state_behind s es) fs
+to_append to s [] fs = refl
+to_append to s (e ∷ es) fs = to_append (to_next (is_close e) to (event_child s e)) (state_after s e) es fs
+
+-- WITHOUT A MARK
+
+or_first : (a b : Bool) → (a || b) ≡ false → a ≡ false
+or_first true b h = cc
+or_first false b h = refl
+
+or_second : (a b : Bool) → (a || b) ≡ false → b ≡ false
+or_second true b h = cc
+or_second false b h = h
+
+pub no_mark_heard : (es : List Event) → has_close (heard_of es) ≡ false
+no_mark_heard [] = refl
+no_mark_heard (Open ∷ es) = no_mark_heard es
+no_mark_heard (Iface line ∷ es) = no_mark_heard es
+no_mark_heard (IfaceLong ∷ es) = no_mark_heard es
+no_mark_heard (IfaceEnd ∷ es) = no_mark_heard es
+no_mark_heard (IfaceLost ∷ es) = no_mark_heard es
+no_mark_heard (Engine line ∷ es) = no_mark_heard es
+no_mark_heard (EngineLong ∷ es) = no_mark_heard es
+no_mark_heard (EngineEnd ∷ es) = no_mark_heard es
+no_mark_heard (EngineLost ∷ es) = no_mark_heard es
+
+-- where there is no mark, what is heard is what is told
+pub heard_told : (es : List Event) → has_close es ≡ false → map as_long (heard_of es) ≡ told_of es
+heard_told [] h = refl
+heard_told (Open ∷ es) h = heard_told es h
+heard_told (Iface line ∷ es) h = ap (λ (l : List Event). Iface line ∷ l) (heard_told es h)
+heard_told (IfaceLong ∷ es) h = heard_told es h
+heard_told (IfaceEnd ∷ es) h = ap (λ (l : List Event). IfaceEnd ∷ l) (heard_told es h)
+heard_told (IfaceLost ∷ es) h = heard_told es h
+heard_told (Engine line ∷ es) h = ap (λ (l : List Event). Engine line ∷ l) (heard_told es h)
+heard_told (EngineLong ∷ es) h = cc
+heard_told (EngineEnd ∷ es) h = cc
+heard_told (EngineLost ∷ es) h = heard_told es h
+
+pub no_ends : (es : List Event) → has_close es ≡ false → ends_in es ≡ 0
+no_ends [] h = refl
+no_ends (Open ∷ es) h = no_ends es h
+no_ends (Iface line ∷ es) h = no_ends es h
+no_ends (IfaceLong ∷ es) h = no_ends es h
+no_ends (IfaceEnd ∷ es) h = no_ends es h
+no_ends (IfaceLost ∷ es) h = no_ends es h
+no_ends (Engine line ∷ es) h = no_ends es h
+no_ends (EngineLong ∷ es) h = cc
+no_ends (EngineEnd ∷ es) h = cc
+no_ends (EngineLost ∷ es) h = no_ends es h
+
+no_refusal : (es : List Event) → has_close es ≡ false → has_refusal es ≡ false
+no_refusal [] h = refl
+no_refusal (Open ∷ es) h = no_refusal es h
+no_refusal (Iface line ∷ es) h = no_refusal es h
+no_refusal (IfaceLong ∷ es) h = no_refusal es h
+no_refusal (IfaceEnd ∷ es) h = no_refusal es h
+no_refusal (IfaceLost ∷ es) h = no_refusal es h
+no_refusal (Engine line ∷ es) h = no_refusal es h
+no_refusal (EngineLong ∷ es) h = cc
+no_refusal (EngineEnd ∷ es) h = cc
+no_refusal (EngineLost ∷ es) h = no_refusal es h
+
+pub ends_append : (es fs : List Event) → ends_in (es ++ fs) ≡ ends_in es + ends_in fs
+ends_append [] fs = omega arith
+ends_append (Open ∷ es) fs = ends_append es fs
+ends_append (Iface line ∷ es) fs = ends_append es fs
+ends_append (IfaceLong ∷ es) fs = ends_append es fs
+ends_append (IfaceEnd ∷ es) fs = ends_append es fs
+ends_append (IfaceLost ∷ es) fs = ends_append es fs
+ends_append (Engine line ∷ es) fs = ends_append es fs
+ends_append (EngineLong ∷ es) fs = let more = ends_append es fs in omega (arith, more)
+ends_append (EngineEnd ∷ es) fs = ends_append es fs
+ends_append (EngineLost ∷ es) fs = ends_append es fs
+
+-- what is written to the present life
+more_text : (ended : List (List ℕ)) (a b c d : List ℕ) → d ≡ b ++ c → ◌≡◌ {A = ToLives} (record { ended = ended; present = (a ++ b) ++ c }) (record { ended = ended; present = a ++ d })
+more_text ended a b c d h = ap (λ (l : List ℕ). record { ended = ended; present = l }) (append_assoc a b c ∙ ap (λ (l : List ℕ). a ++ l) (sym h))
+
+one_text : (b : Bool) (to : ToLives) (s : State) (e : Event) (es : List Event) → is_close e ≡ b → b ≡ false
+    → to_lives (to_next false to (event_child s e)) (state_after s e) es ≡ record { ended = to.ended; present = (to.present ++ event_child s e) ++ lines_to_child (state_after s e) es }
+    → to_lives to s (e ∷ es) ≡ record { ended = to.ended; present = to.present ++ (event_child s e ++ lines_to_child (state_after s e) es) }
+one_text true to s e es h f x = cc
+one_text false to s e es h f x =
+    ap (λ (k : Bool). to_lives (to_next k to (event_child s e)) (state_after s e) es) h ∙ x ∙ more_text to.ended to.present (event_child s e) (lines_to_child (state_after s e) es) _ refl
+
+none_text : (to : ToLives) → to ≡ record { ended = to.ended; present = to.present ++ [] }
+none_text to = ap (λ (l : List ℕ). record { ended = to.ended; present = l }) (sym (append-nil to.present))
+
+pub present_text : (to : ToLives) (s : State) (es : List Event) → has_close es ≡ false → to_lives to s es ≡ record { ended = to.ended; present = to.present ++ lines_to_child s es }
+present_text to s [] h = none_text to
+present_text to s (e ∷ es) h =
+    one_text (is_close e) to s e es refl (or_first (is_close e) (has_close es) h) (present_text (to_next false to (event_child s e)) (state_after s e) es (or_second (is_close e) (has_close es) h))
+
+-- LISTS WITH ONE MORE
+
+all_append : {X : Type 0} (P : X → Type 0) (xs : List X) (x : X) → AllByRecursion P xs → P x → AllByRecursion P (xs ++ x ∷ [])
+all_append P [] x a p = (p, tt)
+all_append P (y ∷ xs) x a p = (a.0, all_append P xs x a.1 p)
+
+or_false : (a b : Bool) → (a || (b || false)) ≡ (a || b)
+or_false true b = refl
+or_false false true = refl
+or_false false false = refl
+
+or_none : (a : Bool) → (a || false) ≡ a
+or_none true = refl
+or_none false = refl
+
+any_last : (p : Life → Bool) (xs : List Life) (x : Life) → list_any p (xs ++ x ∷ []) ≡ (list_any p xs || p x)
+any_last p xs x = list_any-append p xs (x ∷ []) ∙ or_false (list_any p xs) (p x)
+
+mark_long : {S K : Type 0} (next : Next S K) → as_long (mark_of next) ≡ EngineLong
+mark_long (nexts.Life run) = refl
+mark_long nexts.Over = refl
+mark_long (nexts.Refused fault) = refl
+
+mark_closes : {S K : Type 0} (next : Next S K) → is_close (mark_of next) ≡ true
+mark_closes (nexts.Life run) = refl
+mark_closes nexts.Over = refl
+mark_closes (nexts.Refused fault) = refl
+
+mark_refuses : {S K : Type 0} (next : Next S K) → has_refusal (mark_of next ∷ []) ≡ is_refused next
+mark_refuses (nexts.Life run) = refl
+mark_refuses nexts.Over = refl
+mark_refuses (nexts.Refused fault) = refl
+
+-- WHAT WAS HEARD OF A LIFE
+
+pub got_told : {S K : Type 0} (es : List Event) (next : Next S K) → has_close es ≡ false → map as_long (heard_of es ++ mark_of next ∷ []) ≡ told_of (es ++ EngineLong ∷ [])
+got_told es next h =
+    map-append as_long (heard_of es) (mark_of next ∷ []) ∙ ap (λ (l : List Event). l ++ as_long (mark_of next) ∷ []) (heard_told es h)
+    ∙ ap (λ (e : Event). told_of es ++ e ∷ []) (mark_long next) ∙ sym (filter-append is_told es (EngineLong ∷ []))
+
+pub got_one : (es : List Event) → has_close es ≡ false → ends_in (es ++ EngineLong ∷ []) ≡ 1
+got_one es h = let none = no_ends es h in let more = ends_append es (EngineLong ∷ []) in omega (arith, none, more)
+
+next_from : {S K : Type 0} (source : S → Supplied) (sink : K → Received) (s s' : State) (next : Next S K) (o o' l l' : Received) (f g : LoopEnd) (z : State) → s ≡ z → Ended source sink s s' next o o' l l' f g
+    → IsNext source sink (event_child z (mark_of next)) next g.engine
+next_from source sink s s' next o o' l l' f g z e x = subst (λ (y : State). IsNext source sink (event_child y (mark_of next)) next g.engine) e x.next_is
+
+-- a life, and what follows of its end
+pub lives_on : {S K : Type 0} (source : S → Supplied) (sink : K → Received) (s s1 s2 : State) (sent sent' taken taken' : List Event) (run last : Run S K) (runs runs' : List (Run S K)) (tally tally' : Tally) (next : Next S K)
+    (b a : Sinks) (o l : Received) (f f1 f2 : LoopEnd) (end : ReadEnd) → LoopedLife s s1 taken taken' b a f f1 → Ended source sink s1 s2 next a.output o a.log l f1 f2
+    → ReadLife (source run.src) (source last.src) sent sent' end → runs' ≡ runs ++ last ∷ [] → b.engine ≡ sink run.snk → a.engine ≡ sink last.snk
+    → tally'.engine_read ≡ (tally.engine_read || failed end) → tally'.engine_write ≡ (tally.engine_write || f1.engine) → tally'.memory ≡ (tally.memory || lacked_memory end)
+    → LivesOn source sink s s2 sent sent' taken taken' run runs runs' tally tally' next b.output o b.log l f f2
+lives_on source sink s s1 s2 sent sent' taken taken' run last runs runs' tally tally' next b a o l f f1 f2 end looped ended read more first written reads writes memory =
+    record {
+      events = heard_of looped.events;
+      unended = no_mark_heard looped.events;
+      played = up_both s s1 s2 (heard_of looped.events) (mark_of next ∷ []) b.output a.output o b.log a.log l f f1 f2 (up_of_all s s1 (heard_of looped.events) b a f f1 looped.played) ended.played;
+      got = looped.events ++ EngineLong ∷ [];
+      taken_is = looped.taken_is;
+      got_are = got_told looped.events next looped.unended;
+      ends = got_one looped.events looped.unended;
+      last = last;
+      runs_are = more;
+      lines = read.lines;
+      end = end;
+      sent_is = read.sent_is;
+      read = read.read;
+      broken = f1.engine;
+      offered =
+          subst (λ (x : Received). Offered f.engine f1.engine x (sink last.snk) (lines_to_child s (heard_of looped.events))) first
+          (subst (λ (x : Received). Offered f.engine f1.engine b.engine x (lines_to_child s (heard_of looped.events))) written looped.played.offers.engine);
+      reads = reads;
+      writes = writes;
+      memory = memory;
+      next_is = next_from source sink s1 s2 next a.output o a.log l f1 f2 (state_behind s (heard_of looped.events)) looped.played.state_is ended;
+    }
+
+-- ONE MORE LIFE
+
+module _ {S K : Type 0} (source : S → Supplied) (sink : K → Received) (s0 s s' : State) (sent sent' taken taken' : List Event) (run : Run S K) (runs runs' : List (Run S K))
+    (tally tally' : Tally) (next : Next S K) (o o' o'' l l' l'' : Received) (f0 f g : LoopEnd)
+    (goes : GoesOn source sink s0 s sent taken runs run tally o o' l l' f0 f)
+    (more : LivesOn source sink s s' sent sent' taken taken' run runs runs' tally tally' next o' o'' l' l'' f g) where
+  abbrev pub text : List ℕ
+  text = goes.text ++ lines_to_child s more.events
+
+  abbrev pub life_now : Life
+  life_now = record {
+    source = source run.src;
+    read = source more.last.src;
+    sink = goes.begun.fresh;
+    written = sink more.last.snk;
+    lines = more.lines;
+    text = text;
+    end = more.end;
+    broken = more.broken;
+  }
+
+  is_life : IsLife life_now
+  is_life = record {
+    unread = goes.begun.unread;
+    unwritten = goes.begun.unwritten;
+    lines = more.read;
+    text = took more.broken goes.begun.fresh (sink more.last.snk) text (offered_both false f.engine more.broken _ _ _ goes.text (lines_to_child s more.events) goes.begun.offered more.offered);
+  }
+
+  abbrev pub lives : List Life
+  lives = goes.lived.lives
+
+  abbrev pub so_far : Lived s0 s sent taken goes.lived.lives goes.text false o o' l l' f0 f
+  so_far = goes.lived.so_far
+
+  abbrev pub events' : List Event
+  events' = more.events ++ mark_of next ∷ []
+
+  abbrev pub next_text : List ℕ
+  next_text = event_child (state_behind s more.events) (mark_of next)
+
+  abbrev pub to_now : ToLives
+  to_now = record { ended = map (λ (x : Life). x.text) lives; present = goes.text }
+
+  given_next : to_lives to_none s0 (so_far.events ++ events') ≡ record { ended = map (λ (x : Life). x.text) (lives ++ life_now ∷ []); present = next_text }
+  given_next =
+      to_append to_none s0 so_far.events events'
+      ∙ ap (λ (to : ToLives). to_lives to (state_behind s0 so_far.events) events') so_far.given
+      ∙ ap (λ (x : State). to_lives to_now x events') (sym so_far.played.state_is)
+      ∙ to_append to_now s more.events (mark_of next ∷ [])
+      ∙ ap (λ (to : ToLives). to_lives to (state_behind s more.events) (mark_of next ∷ [])) (present_text to_now s more.events more.unended)
+      ∙ ap (λ (b : Bool). to_next b (record { ended = map (λ (x : Life). x.text) lives; present = text }) next_text) (mark_closes next)
+      ∙ ap (λ (ts : List (List ℕ)). record { ended = ts; present = next_text }) (sym (map-append (λ (x : Life). x.text) lives (life_now ∷ [])))
+
+  refusal_next : has_refusal (so_far.events ++ events') ≡ is_refused next
+  refusal_next =
+      list_any-append is_refusal so_far.events events' ∙ ap (λ (b : Bool). b || has_refusal events') so_far.refusal
+      ∙ list_any-append is_refusal more.events (mark_of next ∷ []) ∙ ap (λ (b : Bool). b || has_refusal (mark_of next ∷ [])) (no_refusal more.events more.unended)
+      ∙ mark_refuses next
+
+  taken_next : map as_long (so_far.events ++ events') ≡ told_of taken'
+  taken_next =
+      map-append as_long so_far.events events' ∙ ap (λ (x : List Event). x ++ map as_long events') so_far.taken_are ∙ ap (λ (x : List Event). told_of taken ++ x) more.got_are
+      ∙ sym (filter-append is_told taken more.got) ∙ ap told_of (sym more.taken_is)
+
+  ends_next : ends_in taken' ≡ length (lives ++ life_now ∷ [])
+  ends_next =
+      let all = ap ends_in more.taken_is ∙ ends_append taken more.got in
+      let was = so_far.ends in
+      let one = more.ends in
+      let long = length-append lives (life_now ∷ []) in
+      omega (arith, all, was, one, long)
+
+  sent_next : sent' ≡ life_events (lives ++ life_now ∷ [])
+  sent_next =
+      more.sent_is ∙ ap (λ (x : List Event). x ++ (more.lines ++ EngineLong ∷ [])) so_far.sent_are
+      ∙ ap (λ (x : List Event). life_events lives ++ x) (sym (append-nil (more.lines ++ EngineLong ∷ [])))
+      ∙ sym (flat_map-append (λ (x : Life). x.lines ++ EngineLong ∷ []) lives (life_now ∷ []))
+
+  lived_next : Lived s0 s' sent' taken' (lives ++ life_now ∷ []) next_text (is_refused next) o o'' l l'' f0 g
+  lived_next = record {
+    events = so_far.events ++ events';
+    played = up_both _ _ _ _ _ _ _ _ _ _ _ _ _ _ so_far.played more.played;
+    given = given_next;
+    refusal = refusal_next;
+    taken_are = taken_next;
+    ends = ends_next;
+    sent_are = sent_next;
+    lived = all_append IsLife lives life_now so_far.lived is_life;
+  }
+
+  pub has_lived_next : HasLived source sink s0 s' sent' taken' runs' tally' next_text (is_refused next) o o'' l l'' f0 g
+  has_lived_next = record {
+    lives = lives ++ life_now ∷ [];
+    told =
+        ap (told_of_runs source sink) more.runs_are ∙ map-append _ runs (more.last ∷ [])
+        ∙ ap (λ (x : List _). x ++ told_of_runs source sink (more.last ∷ [])) goes.lived.told ∙ sym (map-append _ lives (life_now ∷ []));
+    tallies = record {
+      reads = more.reads ∙ ap (λ (b : Bool). b || failed more.end) goes.lived.tallies.reads ∙ sym (any_last (λ (x : Life). failed x.end) lives life_now);
+      writes = more.writes ∙ ap (λ (b : Bool). b || more.broken) goes.lived.tallies.writes ∙ sym (any_last (λ (x : Life). x.broken) lives life_now);
+      memory = more.memory ∙ ap (λ (b : Bool). b || lacked_memory more.end) goes.lived.tallies.memory ∙ sym (any_last (λ (x : Life). lacked_memory x.end) lives life_now);
+    };
+    so_far = lived_next;
+  }
+
+  pub goes_next : (begun : Run S K) → next ≡ nexts.Life begun → GoesOn source sink s0 s' sent' taken' runs' begun tally' o o'' l l'' f0 g
+  goes_next begun e = record {
+    text = next_text;
+    lived = subst (λ (b : Bool). HasLived source sink s0 s' sent' taken' runs' tally' next_text b o o'' l l'' f0 g) (ap is_refused e) has_lived_next;
+    begun = subst (λ (n : Next S K). IsNext source sink next_text n g.engine) e more.next_is;
+  }
+
+  pub is_over : next_text ≡ [] → (refused : Bool) → is_refused next ≡ refused → HasLived source sink s0 s' sent' taken' runs' tally' [] refused o o'' l l'' f0 g
+  is_over z refused e =
+      subst (λ (t : List ℕ). HasLived source sink s0 s' sent' taken' runs' tally' t refused o o'' l l'' f0 g) z
+      (subst (λ (b : Bool). HasLived source sink s0 s' sent' taken' runs' tally' next_text b o o'' l l'' f0 g) e has_lived_next)
+
+  pub ends_over : next ≡ nexts.Over → HasLived source sink s0 s' sent' taken' runs' tally' [] false o o'' l l'' f0 g
+  ends_over e = is_over (subst (λ (n : Next S K). IsNext source sink next_text n g.engine) e more.next_is) false (ap is_refused e)
+
+  pub ends_refused : (fault : HostFault) → next ≡ nexts.Refused fault → HasLived source sink s0 s' sent' taken' runs' tally' [] true o o'' l l'' f0 g
+  ends_refused fault e = is_over (subst (λ (n : Next S K). IsNext source sink next_text n g.engine) e more.next_is) true (ap is_refused e)
+
+-- BEHIND THE LAST LIFE
+
+pub lived_drained : {S K : Type 0} (source : S → Supplied) (sink : K → Received) (s0 s s' : State) (sent taken taken' : List Event) (runs : List (Run S K)) (tally : Tally) (refused : Bool)
+    (o o' o'' l l' l'' : Received) (f0 f g : LoopEnd) → HasLived source sink s0 s sent taken runs tally [] refused o o' l l' f0 f → Drained s s' taken taken' o' o'' l' l'' f g
+    → HasLived source sink s0 s' sent taken' runs tally [] refused o o'' l l'' f0 g
+lived_drained source sink s0 s s' sent taken taken' runs tally refused o o' o'' l l' l'' f0 f g x d =
+    let was = x.so_far in
+    let to : ToLives = record { ended = map (λ (x : Life). x.text) x.lives; present = [] } in
+    record {
+      lives = x.lives;
+      told = x.told;
+      tallies = x.tallies;
+      so_far = record {
+        events = was.events ++ d.events;
+        played = up_both _ _ _ _ _ _ _ _ _ _ _ _ _ _ was.played d.played;
+        given =
+            to_append to_none s0 was.events d.events ∙ ap (λ (t : ToLives). to_lives t (state_behind s0 was.events) d.events) was.given
+            ∙ ap (λ (z : State). to_lives to z d.events) (sym was.played.state_is) ∙ present_text to s d.events d.open_ended
+            ∙ ap (λ (t : List ℕ). record { ended = map (λ (x : Life). x.text) x.lives; present = t }) d.unwritten;
+        refusal =
+            list_any-append is_refusal was.events d.events ∙ ap (λ (b : Bool). has_refusal was.events || b) (no_refusal d.events d.open_ended)
+            ∙ ap (λ (b : Bool). b || false) was.refusal ∙ or_none refused;
+        taken_are =
+            map-append as_long was.events d.events ∙ ap (λ (z : List Event). z ++ map as_long d.events) was.taken_are ∙ ap (λ (z : List Event). told_of taken ++ z) d.got_are
+            ∙ sym (filter-append is_told taken d.got) ∙ ap told_of (sym d.taken_is);
+        ends = let all = ap ends_in d.taken_is ∙ ends_append taken d.got in let before = was.ends in let none = d.ends in omega (arith, all, before, none);
+        sent_are = was.sent_are;
+        lived = was.lived;
+      };
+    }

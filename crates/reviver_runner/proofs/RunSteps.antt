@@ -1,0 +1,354 @@
+-- What a run of all lives leaves.
+use Rattle.std.proofs.Common.{◌≡◌, ◌∙◌, ◌⊎◌, ℕ, suc, ◌+◌, ◌<◌, ◌≤◌, List, [], ◌∷◌, ◌++◌, map, length, Bool, true, false, ◌||◌, Option, Some, None, is_some, refl, sym, ap, subst, arith, inl, inr}
+use Rattle.line_io.specs.Source.{Supplied, Received}
+use Rattle.event_pipe.specs.Counts.{Tells}
+use Rattle.child_engine.specs.Hosts.{Books, Told, RisesBy, with_run, told_by}
+use Rattle.child_engine.specs.declared.host.Faults.{Faults}
+use Rattle.child_engine.specs.declared.host.HostFault.{HostFault}
+use Rattle.host_run.specs.declared.failures.Failures.{Failures}
+use Rattle.host_run.specs.Early.{AreEarly, only_memory, only_start}
+use Rattle.host_run.specs.Logs.{is_failed}
+use Rattle.host_run.specs.Outside.{Outside, outside, unused, AreTold}
+use Rattle.host_run.proofs.Counts.{told_by as counts_told_by, log_told}
+use Rattle.line_io.specs.Event.{Event}
+use Rattle.child_engine.specs.declared.host.HostFault.TheVariants as faults
+use Rattle.engine_revival.specs.declared.state.State.{State}
+use Rattle.host_run.specs.Logs.{is_no_memory}
+use Rattle.event_pipe.specs.Ends.{IsSender, KeepsSender, KeepsTaker, sent}
+use Rattle.event_pipe.specs.Rule.{ended}
+use Rattle.event_pipe.specs.declared.pipe.PipeSend.{PipeSend}
+use Rattle.engine_revival.specs.declared.script.TheConstants.{EVENT_ROOM}
+use Rattle.sink_offers.specs.declared.offering.LoopEnd.{LoopEnd}
+use Rattle.reviver_runner.specs.declared.lives.Run.{Run}
+use Rattle.reviver_runner.specs.declared.lives.Tally.{Tally}
+use Rattle.reviver_runner.specs.declared.parts.Parts.{Parts}
+use Rattle.reviver_runner.specs.declared.turns.Next.{Next}
+use Rattle.reviver_runner.specs.declared.turns.Next.TheVariants as nexts
+use Rattle.reviver_runner.specs.Closing.{ClosesAll, HasClosed, told_of_runs}
+use Rattle.life_runner.specs.Looped.{PlayedUp}
+use Rattle.life_runner.specs.Played.{told_of, ends_in}
+use Rattle.reviver_runner.specs.Lives.{AreReady, AreTallied, Life, told_of_lives, IsBegun, Tallies, HasLived, GoesOn, Continues, Hands, lives_in, none_failed}
+use Rattle.life_runner.proofs.Appends.{up_none}
+use Rattle.reviver_runner.specs.Ran.{HandsOut, KeepsEnds, Revived, Leaves}
+
+none_told : (a b : ℕ) → b ≡ a → Tells a b false
+none_told a b e = record { later = omega (arith, e); rose = λ f. cc; same = λ _. e }
+
+moved : (a b c d : ℕ) (f : Bool) → b ≡ a → d ≡ c → Tells b c f → Tells a d f
+moved a b c d f p q t = subst (λ n. Tells n d f) p (subst (λ n. Tells b n f) (sym q) t)
+
+module _ (lives n ended rs ws : ℕ) (i i' : Supplied) (o o' l l' : Received) (h0 h1 h2 h3 h4 : Faults) (b0 b1 b2 b3 b4 : Books) (ls : List (Option (List ℕ))) (fault start : Option HostFault) (failures : Failures) (done : Bool)
+    (books : b0 ≡ with_run unused) (opened : b1 ≡ record b0 { logs_out = n }) (few : n ≤ 1) (open_counts : h1 ≡ record h0 { logs = h1.logs }) (open_told : Tells h0.logs h1.logs (is_failed fault))
+    (handed : HandsOut lives ended b1 b2 h1 h2 start) (rt : List Told) (closed : HasClosed b2 b3 rt) (closes : ClosesAll h2 h3 rs ws failures.engine_wait)
+    (logged : b4 ≡ record b3 { logs = b3.logs ++ ls }) (many : length ls ≡ n) (log_counts : h4 ≡ record h3 { logs = h4.logs }) (log_rises : RisesBy l'.faults h3.logs h4.logs) (fresh : l.faults ≡ 0)
+    (input : Tells i.faults i'.faults failures.iface_read) (output : Tells o.faults o'.faults failures.iface_write) (log : Tells l.faults l'.faults done)
+    (reads : Tells 0 rs failures.engine_read) (writes : Tells 0 ws failures.engine_write) (starts : failures.engine_start ≡ is_failed start) (log_is : failures.log ≡ (is_failed fault || done)) where
+  told : AreTold (outside i o h0 b0) (outside i' o' h4 b4) failures
+  told = record {
+    iface_read = input;
+    iface_write = output;
+    engine_read = moved h0.reads h2.reads h3.reads h4.reads failures.engine_read (ap (λ (h : Faults). h.reads) handed.other_counts ∙ ap (λ (h : Faults). h.reads) open_counts) (ap (λ (h : Faults). h.reads) log_counts) (counts_told_by 0 rs h2.reads h3.reads failures.engine_read refl reads closes.reads);
+    engine_write = moved h0.writes h2.writes h3.writes h4.writes failures.engine_write (ap (λ (h : Faults). h.writes) handed.other_counts ∙ ap (λ (h : Faults). h.writes) open_counts) (ap (λ (h : Faults). h.writes) log_counts) (counts_told_by 0 ws h2.writes h3.writes failures.engine_write refl writes closes.writes);
+    engine_start = subst (λ b. Tells h0.starts h4.starts b) (sym starts) (moved h0.starts h1.starts h2.starts h4.starts (is_failed start) (ap (λ (h : Faults). h.starts) open_counts) (ap (λ (h : Faults). h.starts) log_counts ∙ closes.starts) handed.starts);
+    log = subst (λ b. Tells h0.logs h4.logs b) (sym log_is) (log_told l.faults l'.faults h0.logs h1.logs h3.logs h4.logs (is_failed fault) done fresh open_told (closes.logs ∙ ap (λ (h : Faults). h.logs) handed.other_counts) log log_rises);
+    engine_wait = moved h0.waits h2.waits h3.waits h4.waits failures.engine_wait (ap (λ (h : Faults). h.waits) handed.other_counts ∙ ap (λ (h : Faults). h.waits) open_counts) (ap (λ (h : Faults). h.waits) log_counts) closes.waits;
+  }
+
+  out_is : b4.runs_out ≡ ended
+  out_is = ap (λ (b : Books). b.runs_out) logged ∙ closed.out ∙ handed.out
+
+  logs_first : b3.logs ≡ []
+  logs_first = closed.logs ∙ ap (λ (b : Books). b.logs) handed.others ∙ ap (λ (b : Books). b.logs) opened ∙ ap (λ (b : Books). b.logs) books
+
+  logs_out_is : b4.logs_out ≡ n
+  logs_out_is = ap (λ (b : Books). b.logs_out) logged ∙ closed.logs_out ∙ ap (λ (b : Books). b.logs_out) handed.others ∙ ap (λ (b : Books). b.logs_out) opened
+
+  runs_are : b4.runs ≡ rt
+  runs_are =
+      ap (λ (b : Books). b.runs) logged ∙ closed.told_are
+      ∙ ap (λ (x : List Told). x ++ rt) (ap (λ (b : Books). b.runs) handed.others ∙ ap (λ (b : Books). b.runs) opened ∙ ap (λ (b : Books). b.runs) books)
+
+  logs_are : b4.logs ≡ ls
+  logs_are = ap (λ (b : Books). b.logs) logged ∙ ap (λ (x : List (Option (List ℕ))). x ++ ls) logs_first
+
+  pub ran : (b4.runs ≡ rt → b4.logs ≡ ls → b4.runs_out ≡ ended → Revived lives (outside i o h0 b0) (outside i' o' h4 b4) failures) → (failures.memory ≡ false → failures.log ≡ false → n ≡ 1) → Leaves lives (outside i o h0 b0) (outside i' o' h4 b4) failures
+  ran revived one = record {
+    told = told;
+    runs = ap (λ (b : Books). length b.runs) logged ∙ closed.all ∙ ap (λ (b : Books). b.runs_out) (sym logged);
+    logs = ap (λ (b : Books). length b.logs) logged ∙ ap (λ (x : List (Option (List ℕ))). length (x ++ ls)) logs_first ∙ many ∙ sym logs_out_is;
+    few_runs = let few_runs = handed.few in let k = out_is in omega (arith, few_runs, k);
+    few_logs = let k = logs_out_is in omega (arith, k, few);
+    some_run = λ _ _. let some = handed.some in let k = out_is in omega (arith, some, k);
+    some_log = λ m l _. logs_out_is ∙ one m l;
+    nothing = λ z. let some = handed.some in let k = out_is in absurd (omega (arith, some, k, z));
+    revived = λ _. revived runs_are logs_are out_is;
+  }
+
+-- the same, seen from before the engine was started
+revived_from : (lives : ℕ) (i : Supplied) (o : Received) (f f' : Faults) (b b' : Books) (after : Outside) (failures : Failures)
+    → Revived lives (outside i o f' b') after failures → Revived lives (outside i o f b) after failures
+revived_from lives i o f f' b b' after failures x =
+    record {
+      upper = x.upper;
+      runs = x.runs;
+      events = x.events;
+      heard = record {
+        may = x.heard.may;
+        arrived = x.heard.arrived;
+        did_arrive = x.heard.did_arrive;
+        orders = x.heard.orders;
+        marks = x.heard.marks;
+        texts = x.heard.texts;
+        begun = x.heard.begun;
+      };
+      told = x.told;
+      each = x.each;
+      refused = x.refused;
+      up = x.up;
+      opened = x.opened;
+      log = x.log;
+      unwritten = x.unwritten;
+      log_failed = x.log_failed;
+      logged = x.logged;
+      failure = x.failure;
+      log_told = x.log_told;
+      runs_told = x.runs_told;
+      runs_out = x.runs_out;
+    }
+
+pub ran_from : (lives : ℕ) (i : Supplied) (o : Received) (f f' : Faults) (b b' : Books) (after : Outside) (failures : Failures)
+    → f' ≡ f → Leaves lives (outside i o f' b') after failures → Leaves lives (outside i o f b) after failures
+ran_from lives i o f f' b b' after failures e x =
+    record {
+      told = subst (λ (h : Faults). AreTold (outside i o h b) after failures) e (record {
+        iface_read = x.told.iface_read;
+        iface_write = x.told.iface_write;
+        engine_read = x.told.engine_read;
+        engine_write = x.told.engine_write;
+        engine_start = x.told.engine_start;
+        log = x.told.log;
+        engine_wait = x.told.engine_wait;
+      });
+      runs = x.runs;
+      logs = x.logs;
+      few_runs = x.few_runs;
+      few_logs = x.few_logs;
+      some_run = x.some_run;
+      some_log = x.some_log;
+      nothing = x.nothing;
+      revived = λ some. revived_from lives i o f f' b b' after failures (x.revived some);
+    }
+
+early_told : (i : Supplied) (o : Received) (f f' : Faults) (b b' : Books) (failures : Failures) → f' ≡ record f { starts = f'.starts } → Tells f.starts f'.starts failures.engine_start
+    → (failures ≡ only_memory) ⊎ (failures ≡ only_start) → AreTold (outside i o f b) (outside i o f' b') failures
+early_told i o f f' b b' failures e t (inl w) =
+    subst (λ (x : Failures). AreTold (outside i o f b) (outside i o f' b') x) (sym w)
+    (record {
+      iface_read = none_told i.faults i.faults refl;
+      iface_write = none_told o.faults o.faults refl;
+      engine_read = none_told f.reads f'.reads (ap (λ (x : Faults). x.reads) e);
+      engine_write = none_told f.writes f'.writes (ap (λ (x : Faults). x.writes) e);
+      engine_start = subst (λ (x : Failures). Tells f.starts f'.starts x.engine_start) w t;
+      log = none_told f.logs f'.logs (ap (λ (x : Faults). x.logs) e);
+      engine_wait = none_told f.waits f'.waits (ap (λ (x : Faults). x.waits) e);
+    })
+early_told i o f f' b b' failures e t (inr w) =
+    subst (λ (x : Failures). AreTold (outside i o f b) (outside i o f' b') x) (sym w)
+    (record {
+      iface_read = none_told i.faults i.faults refl;
+      iface_write = none_told o.faults o.faults refl;
+      engine_read = none_told f.reads f'.reads (ap (λ (x : Faults). x.reads) e);
+      engine_write = none_told f.writes f'.writes (ap (λ (x : Faults). x.writes) e);
+      engine_start = subst (λ (x : Failures). Tells f.starts f'.starts x.engine_start) w t;
+      log = none_told f.logs f'.logs (ap (λ (x : Faults). x.logs) e);
+      engine_wait = none_told f.waits f'.waits (ap (λ (x : Faults). x.waits) e);
+    })
+
+neither : (failures : Failures) → (failures ≡ only_memory) ⊎ (failures ≡ only_start) → failures.memory ≡ false → failures.engine_start ≡ false → ⊥
+neither failures (inl w) m g = let z : true ≡ false = ap (λ (x : Failures). x.memory) (sym w) ∙ m in cc
+neither failures (inr w) m g = let z : true ≡ false = ap (λ (x : Failures). x.engine_start) (sym w) ∙ g in cc
+
+pub unstarted : (lives : ℕ) (i : Supplied) (o : Received) (f f' : Faults) (b b' : Books) (failures : Failures) → AreEarly f f' failures → b' ≡ unused → Leaves lives (outside i o f b) (outside i o f' b') failures
+unstarted lives i o f f' b b' failures early e =
+    let none = ap (λ (x : Books). x.runs_out) e in
+    let no_log = ap (λ (x : Books). x.logs_out) e in
+    record {
+      told = early_told i o f f' b b' failures early.others early.starts early.why;
+      runs = ap (λ (x : Books). length x.runs) e ∙ sym none;
+      logs = ap (λ (x : Books). length x.logs) e ∙ sym no_log;
+      few_runs = omega (arith, none);
+      few_logs = omega (arith, no_log);
+      some_run = λ m g. absurd (neither failures early.why m g);
+      some_log = λ _ _ some. absurd (omega (arith, none, some));
+      nothing = λ _. (refl, refl);
+      revived = λ some. absurd (omega (arith, none, some));
+    }
+
+-- THE LIVES
+
+-- none followed, and the host was not asked
+pub hands_none : (lives d d' : ℕ) (b0 b b' : Books) (h0 h h' : Faults) → b' ≡ b → h' ≡ h → b.runs_out ≡ d + 1 → d' ≡ d + 1 → b ≡ record b0 { runs_out = b.runs_out } → h ≡ h0 → suc d ≤ lives → HandsOut lives d' b0 b' h0 h' None
+hands_none lives d d' b0 b b' h0 h h' e f out more books counts few =
+    let all : h' ≡ h0 = f ∙ counts in
+    record {
+      out = ap (λ (x : Books). x.runs_out) e ∙ out ∙ sym more;
+      some = omega (arith, more);
+      few = omega (arith, more, few);
+      others = subst (λ (x : Books). x ≡ record b0 { runs_out = x.runs_out }) (sym e) books;
+      starts = none_told h0.starts h'.starts (ap (λ (x : Faults). x.starts) all);
+      other_counts = subst (λ (x : Faults). x ≡ record h0 { starts = x.starts }) (sym all) refl;
+    }
+
+-- none followed, since the host did not start it
+pub hands_refused : (lives d d' : ℕ) (b0 b b' : Books) (h0 h h' : Faults) (fault : HostFault) → b' ≡ b → Tells h.starts h'.starts (is_failed (Some fault)) → h' ≡ record h { starts = h'.starts }
+    → b.runs_out ≡ d + 1 → d' ≡ d + 1 → b ≡ record b0 { runs_out = b.runs_out } → h ≡ h0 → suc d ≤ lives → HandsOut lives d' b0 b' h0 h' (Some fault)
+hands_refused lives d d' b0 b b' h0 h h' fault e t f out more books counts few =
+    record {
+      out = ap (λ (x : Books). x.runs_out) e ∙ out ∙ sym more;
+      some = omega (arith, more);
+      few = omega (arith, more, few);
+      others = subst (λ (x : Books). x ≡ record b0 { runs_out = x.runs_out }) (sym e) books;
+      starts = subst (λ (x : Faults). Tells x.starts h'.starts (is_failed (Some fault))) counts t;
+      other_counts = subst (λ (x : Faults). h' ≡ record x { starts = h'.starts }) counts f;
+    }
+
+-- another one was handed out
+pub one_more : (b0 b b' : Books) (d d' : ℕ) → b' ≡ with_run b → b.runs_out ≡ d + 1 → d' ≡ d + 1 → b ≡ record b0 { runs_out = b.runs_out } → (b'.runs_out ≡ d' + 1) × (b' ≡ record b0 { runs_out = b'.runs_out })
+one_more b0 b b' d d' e out more books =
+    let runs : b'.runs_out ≡ b.runs_out + 1 = ap (λ (x : Books). x.runs_out) e in
+    (omega (arith, runs, out, more), subst (λ (x : Books). x ≡ record b0 { runs_out = x.runs_out }) (sym e) (ap (λ (x : Books). record x { runs_out = b.runs_out + 1 }) books))
+
+-- BEFORE AND BEHIND THE LIVES
+
+pub close_may : (lives n d : ℕ) (runs_len : ℕ) (b0 b1 b2 : Books) (h1 h2 : Faults) (start : Option HostFault) → b0 ≡ with_run unused → b1 ≡ record b0 { logs_out = n } → HandsOut lives d b1 b2 h1 h2 start
+    → d ≡ runs_len → length b2.runs + runs_len ≡ b2.runs_out
+close_may lives n d runs_len b0 b1 b2 h1 h2 start e f x k =
+    let runs : length b2.runs ≡ 0 = ap (λ (b : Books). length b.runs) x.others ∙ ap (λ (b : Books). length b.runs) f ∙ ap (λ (b : Books). length b.runs) e in
+    let out = x.out in
+    omega (arith, runs, out, k)
+
+pub log_may : (lives n d count : ℕ) (b0 b1 b2 : Books) (h1 h2 : Faults) (start : Option HostFault) → b0 ≡ with_run unused → b1 ≡ record b0 { logs_out = n } → HandsOut lives d b1 b2 h1 h2 start
+    → count ≡ n → length b2.logs + count ≡ b2.logs_out
+log_may lives n d count b0 b1 b2 h1 h2 start e f x k =
+    let logs : length b2.logs ≡ 0 = ap (λ (b : Books). length b.logs) x.others ∙ ap (λ (b : Books). length b.logs) f ∙ ap (λ (b : Books). length b.logs) e in
+    let out : b2.logs_out ≡ n = ap (λ (b : Books). b.logs_out) x.others ∙ ap (λ (b : Books). b.logs_out) f in
+    omega (arith, logs, out, k)
+
+-- THE LIVES
+
+pub keeps_both : (a b c : Parts) → KeepsEnds a b → KeepsEnds b c → KeepsEnds a c
+keeps_both a b c x y = record {
+  ready = y.ready;
+  sender = (y.sender.0, y.sender.1 ∙ x.sender.1, y.sender.2 ∙ x.sender.2);
+  taker = (y.taker.0, y.taker.1 ∙ x.taker.1);
+}
+
+pub keeps_same : (a : Parts) → AreReady a → KeepsEnds a a
+keeps_same a r = record { ready = r; sender = (r.sender, refl, refl); taker = (r.taker, refl) }
+
+pub empty : {T : Type 0} (xs : List T) (n : ℕ) → n ≡ length xs → n ≡ 0 → xs ≡ []
+empty [] n e z = refl
+empty (x ∷ xs) n e z = absurd (omega (arith, e, z))
+
+-- before the first life has ended
+pub goes_first : {S K : Type 0} (source : S → Supplied) (sink : K → Received) (s : State) (sent taken : List Event) (runs : List (Run S K)) (run : Run S K) (tally : Tally) (o l : Received) (f : LoopEnd)
+    → sent ≡ [] → taken ≡ [] → runs ≡ [] → Tallies [] tally → IsBegun (source run.src) (sink run.snk) false [] → f ≡ none_failed → GoesOn source sink s s sent taken runs run tally o o l l none_failed f
+goes_first source sink s sent taken runs run tally o l f e t r ts b z =
+    record {
+      text = [];
+      lived = record {
+        lives = [];
+        told = ap (told_of_runs source sink) r;
+        tallies = ts;
+        so_far = record {
+          events = [];
+          played = subst (λ (x : LoopEnd). PlayedUp s s [] o o l l none_failed x) (sym z) (up_none s o l none_failed);
+          given = refl;
+          refusal = refl;
+          taken_are = sym (ap told_of t);
+          ends = ap ends_in t;
+          sent_are = e;
+          lived = tt;
+        };
+      };
+      begun = subst (λ (x : LoopEnd). IsBegun (source run.src) (sink run.snk) x.engine []) (sym z) b;
+    }
+
+pub next_as : {S K : Type 0} (s : State) (n : ℕ) (x y : Next S K) → x ≡ y → Continues s n x → Continues s n y
+next_as s n x y e c = subst (λ (z : Next _ _). Continues s n z) e c
+
+pub hands_as : {S K : Type 0} (b b' : Books) (h h' : Faults) (x y : Next S K) → x ≡ y → Hands b b' h h' x → Hands b b' h h' y
+hands_as b b' h h' x y e c = subst (λ (z : Next _ _). Hands b b' h h' z) e c
+
+-- why there was no start
+pub why_refused : (start : Option HostFault) (refused engine_start memory : Bool) → refused ≡ is_some start → refused ≡ true → engine_start ≡ is_failed start → (is_no_memory start ≡ true → memory ≡ true)
+    → (engine_start ≡ true) ⊎ (memory ≡ true)
+why_refused None refused engine_start memory e h s m = let z : true ≡ false = sym h ∙ e in cc
+why_refused (Some faults.Failed) refused engine_start memory e h s m = inl s
+why_refused (Some faults.NoMemory) refused engine_start memory e h s m = inr (m refl)
+
+pub or_left : (x a b : Bool) → x ≡ (a || b) → a ≡ true → x ≡ true
+or_left x true b e h = e
+or_left x false b e h = cc
+
+or_over : (a : Bool) → (a || true) ≡ true
+or_over true = refl
+or_over false = refl
+
+pub or_right : (x a b : Bool) → x ≡ (a || b) → b ≡ true → x ≡ true
+or_right x a b e h = e ∙ ap (λ (c : Bool). a || c) h ∙ or_over a
+
+pub few_as : (d n m : ℕ) → suc d ≤ n → n ≡ m → suc d ≤ m
+few_as d n m few e = subst (λ (k : ℕ). suc d ≤ k) e few
+
+-- no life has ended
+pub none_tallied : {S K : Type 0} (source : S → Supplied) (sink : K → Received) (runs : List (Run S K)) (tally : Tally) → runs ≡ [] → tally.engine_read ≡ false → tally.engine_write ≡ false → AreTallied source sink runs tally
+none_tallied source sink runs tally e r w =
+    subst (λ (l : List (Run _ _)). AreTallied source sink l tally) (sym e)
+    (record {
+      reads = subst (λ (b : Bool). Tells 0 0 b) (sym r) (none_told 0 0 refl);
+      writes = subst (λ (b : Bool). Tells 0 0 b) (sym w) (none_told 0 0 refl);
+    })
+
+-- the ends of the channel behind the last life
+pub keeps_drained : (a b c : Parts) → KeepsEnds a b → c.to ≡ b.to → KeepsTaker b.from c.from → c.text.room ≡ b.text.room → KeepsEnds a c
+keeps_drained a b c k to taker room = record {
+  ready = record {
+    room = subst (λ (n : ℕ). EVENT_ROOM ≤ n) (sym room) k.ready.room;
+    sender = subst IsSender (sym to) k.ready.sender;
+    engine = ap (λ (s : PipeSend). s.peer) to ∙ k.ready.engine;
+    going = ap (λ (s : PipeSend). ended (sent s)) to ∙ k.ready.going;
+    taker = taker.0;
+  };
+  sender = subst (λ (s : PipeSend). KeepsSender a.to s) (sym to) k.sender;
+  taker = (taker.0, taker.1 ∙ k.taker.1);
+}
+
+-- as many lives as runs
+length-map : {A B : Type 0} (f : A → B) (xs : List A) → length (map f xs) ≡ length xs
+length-map f [] = refl
+length-map f (x ∷ xs) = ap suc (length-map f xs)
+
+pub lives_count : {S K : Type 0} (source : S → Supplied) (sink : K → Received) (runs : List (Run S K)) (lives : List Life) (n : ℕ) → n ≡ length runs → told_of_runs source sink runs ≡ told_of_lives lives → n ≡ length lives
+lives_count source sink runs lives n e t =
+    e ∙ sym (length-map (λ (r : Run _ _). told_by (source r.src) (sink r.snk)) runs) ∙ ap length t ∙ length-map (λ (l : Life). told_by l.read l.written) lives
+
+-- one more is waited for, or none
+pub more_kids : {S K : Type 0} (k k' d d' : ℕ) (x : Next S K) {run : Run S K} → x ≡ nexts.Life run → k' ≡ k + lives_in x → k ≡ d + 1 → d' ≡ d + 1 → k' ≡ d' + 1
+more_kids k k' d d' x e more was next = let one = ap lives_in e in omega (arith, more, one, was, next)
+
+pub same_kids : {S K : Type 0} (k k' d d' : ℕ) (x : Next S K) {y : Next S K} → x ≡ y → lives_in y ≡ 0 → k' ≡ k + lives_in x → k ≡ d + 1 → d' ≡ d + 1 → k' ≡ d'
+same_kids k k' d d' x e none more was next = let same = ap lives_in e ∙ none in omega (arith, more, same, was, next)
+
+-- there is room for one more
+pub room_for : (k room room0 d lives lives0 : ℕ) → k ≡ d + 1 → room ≡ room0 → 10 ≤ room0 → suc d ≤ lives → lives ≡ lives0 → lives0 ≤ 9 → k < room
+room_for k room room0 d lives lives0 e f g h i j = omega (arith, e, f, g, h, i, j)
+
+-- the same of a state that is the first one
+pub lived_from : {S K : Type 0} (source : S → Supplied) (sink : K → Received) (s0 z s : State) (sent taken : List Event) (runs : List (Run S K)) (tally : Tally) (text : List ℕ) (refused : Bool) (o o' l l' : Received) (f0 f : LoopEnd)
+    → s0 ≡ z → HasLived source sink s0 s sent taken runs tally text refused o o' l l' f0 f → HasLived source sink z s sent taken runs tally text refused o o' l l' f0 f
+lived_from source sink s0 z s sent taken runs tally text refused o o' l l' f0 f e x = subst (λ (y : State). HasLived source sink y s sent taken runs tally text refused o o' l l' f0 f) e x
+
+-- of as many lives, seen from before the engine was started
+pub ran_as : (n m : ℕ) (i : Supplied) (o : Received) (f f' : Faults) (b b' : Books) (after : Outside) (failures : Failures) → f' ≡ f → n ≡ m → Leaves n (outside i o f' b') after failures → Leaves m (outside i o f b) after failures
+ran_as n m i o f f' b b' after failures e h x = ran_from m i o f f' b b' after failures e (subst (λ (k : ℕ). Leaves k (outside i o f' b') after failures) h x)

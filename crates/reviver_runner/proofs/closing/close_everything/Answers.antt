@@ -1,0 +1,17 @@
+use Rattle.std.proofs.Common.{◌≡◌, ◌∙◌, List, Option, ℕ, length, ap, refl}
+use Rattle.reviver_runner.proofs.CloseSteps.{log_still}
+use Rattle.reviver_runner.proofs.closing.close_everything.Goals as goal
+
+pub close_log-requires : goal.close_log-requires
+close_log-requires g c = (c.type_bounds.send-H-Src, (c.type_bounds.send-H-Snk, (c.type_bounds.send-H-Log, log_still _ _ _ _ c.close_all-failed.ensures.books c.requires.logs)))
+
+pub returns : goal.returns
+returns g c = record {
+  between = _;
+  between_counts = _;
+  closed = c.close_all-failed.ensures.books;
+  closes = c.close_all-failed.ensures.counts;
+  logged = c.close_log.ensures.books;
+  log_rises = c.close_log.ensures.cause;
+  log_counts = c.close_log.ensures.others;
+}

@@ -1,0 +1,46 @@
+-- What closing runs, one after the other, changes.
+use Rattle.std.specs.Prelude.{◌≡◌, ℕ, ◌+◌, List, [], ◌∷◌, ◌++◌, map, length, Bool, Option}
+use Rattle.line_io.specs.Source.{Supplied, Received}
+use Rattle.event_pipe.specs.Counts.{Tells}
+use Rattle.child_engine.specs.Hosts.{Books, Told, RisesBy, told_by}
+use Rattle.child_engine.specs.declared.host.Faults.{Faults}
+use Rattle.reviver_runner.specs.declared.lives.Run.{Run}
+
+-- how often the runs' sources failed, and their sinks
+abbrev pub read_faults : {S K : Type 0} → (S → Supplied) → List (Run S K) → ℕ
+read_faults source [] = 0
+read_faults source (run ∷ runs) = (source run.src).faults + read_faults source runs
+
+abbrev pub write_faults : {S K : Type 0} → (K → Received) → List (Run S K) → ℕ
+write_faults sink [] = 0
+write_faults sink (run ∷ runs) = (sink run.snk).faults + write_faults sink runs
+
+-- what the host is told of the runs
+abbrev pub told_of_runs : {S K : Type 0} → (S → Supplied) → (K → Received) → List (Run S K) → List Told
+told_of_runs source sink runs = map (λ run. told_by (source run.src) (sink run.snk)) runs
+
+-- runs were closed whose sources and sinks had failed so often
+pub record ClosesAll (before now : Faults) (source sink : ℕ) (failed : Bool) : Type 0 where
+  pub waits : Tells before.waits now.waits failed
+  pub reads : RisesBy source before.reads now.reads
+  pub writes : RisesBy sink before.writes now.writes
+  pub starts : now.starts ≡ before.starts
+  pub logs : now.logs ≡ before.logs
+
+-- each run that was handed out is closed, and these were closed last
+pub record HasClosed (before now : Books) (told : List Told) : Type 0 where
+  pub all : length now.runs ≡ now.runs_out
+  pub told_are : now.runs ≡ before.runs ++ told
+  pub out : now.runs_out ≡ before.runs_out
+  pub logs_out : now.logs_out ≡ before.logs_out
+  pub logs : now.logs ≡ before.logs
+
+-- the runs were closed, and then the log, if there is one
+pub record ClosesEverything (before now : Books) (counts counts' : Faults) (told : List Told) (source sink log : ℕ) (logs : List (Option (List ℕ))) (failed : Bool) : Type 0 where
+  pub between : Books
+  pub between_counts : Faults
+  pub closed : HasClosed before between told
+  pub closes : ClosesAll counts between_counts source sink failed
+  pub logged : now ≡ record between { logs = between.logs ++ logs }
+  pub log_rises : RisesBy log between_counts.logs counts'.logs
+  pub log_counts : counts' ≡ record between_counts { logs = counts'.logs }

@@ -1,0 +1,227 @@
+-- How far the lives have come.
+use Rattle.std.specs.Prelude.{◌≡◌, ℕ, suc, ◌+◌, ◌≤◌, List, [], ◌∷◌, ◌++◌, map, length, Bool, true, false, ◌||◌, Option, Some}
+use Rattle.std.specs.List.{AllByRecursion, flat_map, list_any}
+use Rattle.line_io.specs.Event.{Event, EngineLong, EngineEnd}
+use Rattle.line_io.specs.Source.{Supplied, Received}
+use Rattle.event_pipe.specs.declared.message.Peer.TheVariants as peers
+use Rattle.event_pipe.specs.declared.reader.ReadEnd.{ReadEnd}
+use Rattle.event_pipe.specs.Arrivals.{failed as failed_of}
+use Rattle.event_pipe.specs.Counts.{Tells}
+use Rattle.event_pipe.specs.Ends.{IsSender, IsTaker, sent}
+use Rattle.event_pipe.specs.Rule.{ended}
+use Rattle.child_engine.specs.Hosts.{Books, Told, IsUnread, IsUnwritten, told_by, with_run}
+use Rattle.child_engine.specs.declared.host.Faults.{Faults}
+use Rattle.child_engine.specs.declared.host.HostFault.{HostFault}
+use Rattle.engine_revival.specs.declared.state.State.{State}
+use Rattle.engine_revival.specs.declared.words.LifeState.TheVariants as life
+use Rattle.engine_revival.specs.Steps.{opening, may_begin, is_alive}
+use Rattle.engine_revival.specs.Script.{AllMayHappen, state_after, state_behind, texts_from, may_happen}
+use Rattle.engine_revival.specs.declared.script.TheConstants.{EVENT_ROOM}
+use Rattle.host_run.specs.Logs.{is_failed}
+use Rattle.host_run.specs.Readers.{lacked_memory}
+use Rattle.sink_offers.specs.declared.offering.LoopEnd.{LoopEnd}
+use Rattle.sink_offers.specs.Streams.{Offered}
+use Rattle.sink_offers.specs.Took.{LogTook}
+use Rattle.reviver_runner.specs.declared.lives.Run.{Run}
+use Rattle.reviver_runner.specs.declared.lives.Tally.{Tally}
+use Rattle.reviver_runner.specs.declared.parts.Parts.{Parts}
+use Rattle.reviver_runner.specs.declared.turns.Next.{Next}
+use Rattle.reviver_runner.specs.declared.turns.Next.TheVariants as nexts
+use Rattle.reviver_runner.specs.Closing.{read_faults, write_faults, told_of_runs}
+use Rattle.life_runner.specs.Looped.{PlayedUp}
+use Rattle.life_runner.specs.Played.{event_child, lines_up, lines_to_child, is_close, has_close, has_refusal, as_long, told_of, ends_in}
+use Rattle.life_runner.specs.Reading.{LinesOf}
+
+-- the ends of the channel, and room for the text of an event
+pub record AreReady (parts : Parts) : Type 0 where
+  pub room : EVENT_ROOM ≤ parts.text.room
+  pub sender : IsSender parts.to
+  pub engine : parts.to.peer ≡ peers.Engine
+  pub going : ended (sent parts.to) ≡ false
+  pub taker : IsTaker parts.from
+
+-- the first of so many lives goes on
+abbrev pub begins : ℕ → State → Type 0
+begins lives s = s ≡ opening lives
+
+-- A life goes on where so many have ended: it is one more, and one of those that may be begun.
+pub record Goes (s : State) (ended : ℕ) : Type 0 where
+  pub alive : is_alive s.life ≡ true
+  pub begun : s.begun ≡ suc ended
+  pub few : suc ended ≤ s.lives
+
+-- The run of a life that goes on: nothing was read, and its sink, which had taken nothing, was offered this text.
+pub record IsBegun (source : Supplied) (sink : Received) (failed : Bool) (text : List ℕ) : Type 0 where
+  pub unread : IsUnread source
+  pub fresh : Received
+  pub unwritten : IsUnwritten fresh
+  pub offered : Offered false failed fresh sink text
+
+-- whether reading or writing failed in a life that has ended is what the runs' counts tell
+pub record AreTallied {S K : Type 0} (source : S → Supplied) (sink : K → Received) (runs : List (Run S K)) (tally : Tally) : Type 0 where
+  pub reads : Tells 0 (read_faults source runs) tally.engine_read
+  pub writes : Tells 0 (write_faults sink runs) tally.engine_write
+
+-- A LIFE THAT HAS ENDED
+
+-- What a life shows: its streams before and behind it, the lines that were sent of it, the text that it was offered, how its
+-- reader ended, and whether a write to it failed.
+pub record Life : Type 0 where
+  pub source : Supplied
+  pub read : Supplied
+  pub sink : Received
+  pub written : Received
+  pub lines : List Event
+  pub text : List ℕ
+  pub end : ReadEnd
+  pub broken : Bool
+
+-- Nothing was read of it or written to it before. Its lines are those that its source gave, and its sink took its text, or a
+-- front of it, where a write failed.
+pub record IsLife (l : Life) : Type 0 where
+  pub unread : IsUnread l.source
+  pub unwritten : IsUnwritten l.sink
+  pub lines : LinesOf l.source l.read l.lines l.end
+  pub text : LogTook l.text l.broken l.sink l.written
+
+abbrev pub AreLives : List Life → Type 0
+AreLives lives = AllByRecursion IsLife lives
+
+-- of each life its lines, and then the mark of its end
+abbrev pub life_events : List Life → List Event
+life_events lives = flat_map (λ l. l.lines ++ EngineLong ∷ []) lives
+
+-- what the host is told of them
+abbrev pub told_of_lives : List Life → List Told
+told_of_lives lives = map (λ l. told_by l.read l.written) lives
+
+-- the tally counts these lives
+pub record Tallies (lives : List Life) (tally : Tally) : Type 0 where
+  pub reads : tally.engine_read ≡ list_any (λ l. failed_of l.end) lives
+  pub writes : tally.engine_write ≡ list_any (λ l. l.broken) lives
+  pub memory : tally.memory ≡ list_any (λ l. lacked_memory l.end) lives
+
+-- WHAT IS WRITTEN TO EACH LIFE
+
+-- the text to each life that has ended, in their order, and to the life behind them
+pub record ToLives : Type 0 where
+  pub ended : List (List ℕ)
+  pub present : List ℕ
+
+abbrev pub to_none : ToLives
+to_none = record { ended = []; present = [] }
+
+-- Behind a mark of an engine's end it is the next life that is written to.
+abbrev pub to_next : Bool → ToLives → List ℕ → ToLives
+to_next true to text = record { ended = to.ended ++ to.present ∷ []; present = text }
+to_next false to text = record { ended = to.ended; present = to.present ++ text }
+
+abbrev pub to_lives : ToLives → State → List Event → ToLives
+to_lives to s [] = to
+to_lives to s (event ∷ events) = to_lives (to_next (is_close event) to (event_child s event)) (state_after s event) events
+
+-- SO FAR
+
+-- So many lives have ended since this state, and the next one, if there is one, was offered this text.
+pub record Lived (s0 s : State) (sent taken : List Event) (lives : List Life) (text : List ℕ) (refused : Bool)
+    (output output' log log' : Received) (failed failed' : LoopEnd) : Type 0 where
+  pub events : List Event
+  pub played : PlayedUp s0 s events output output' log log' failed failed'
+  pub given : to_lives to_none s0 events ≡ record { ended = map (λ l. l.text) lives; present = text }
+  pub refusal : has_refusal events ≡ refused
+  pub taken_are : map as_long events ≡ told_of taken
+  pub ends : ends_in taken ≡ length lives
+  pub sent_are : sent ≡ life_events lives
+  pub lived : AreLives lives
+
+abbrev pub none_failed : LoopEnd
+none_failed = record { output = false; engine = false; log = false }
+
+-- the same of the runs of the lives that have ended
+pub record HasLived {S K : Type 0} (source : S → Supplied) (sink : K → Received) (s0 s : State) (sent taken : List Event)
+    (runs : List (Run S K)) (tally : Tally) (text : List ℕ) (refused : Bool)
+    (output output' log log' : Received) (failed failed' : LoopEnd) : Type 0 where
+  pub lives : List Life
+  pub told : told_of_runs source sink runs ≡ told_of_lives lives
+  pub tallies : Tallies lives tally
+  pub so_far : Lived s0 s sent taken lives text refused output output' log log' failed failed'
+
+-- the same, where another life goes on
+pub record GoesOn {S K : Type 0} (source : S → Supplied) (sink : K → Received) (s0 s : State) (sent taken : List Event)
+    (runs : List (Run S K)) (run : Run S K) (tally : Tally)
+    (output output' log log' : Received) (failed failed' : LoopEnd) : Type 0 where
+  pub text : List ℕ
+  pub lived : HasLived source sink s0 s sent taken runs tally text false output output' log log' failed failed'
+  pub begun : IsBegun (source run.src) (sink run.snk) failed'.engine text
+
+-- FROM ONE LIFE TO THE NEXT
+
+-- Another life begins only where one may, and else orders may still come.
+abbrev pub Follows : {S K : Type 0} → State → State → Next S K → Type 0
+Follows s s' (nexts.Life run) = (may_begin s ≡ true) × (s'.begun ≡ s.begun + 1) × (s'.lives ≡ s.lives) × (is_alive s'.life ≡ true)
+Follows s s' next = (s'.lives ≡ s.lives) × (s'.begun ≡ s.begun) × (s'.life ≡ life.Over)
+
+-- the mark that is logged for a life's end
+abbrev pub mark_of : {S K : Type 0} → Next S K → Event
+mark_of (nexts.Refused fault) = EngineEnd
+mark_of next = EngineLong
+
+abbrev pub is_refused : {S K : Type 0} → Next S K → Bool
+is_refused (nexts.Refused fault) = true
+is_refused next = false
+
+-- how many lives follow
+abbrev pub lives_in : {S K : Type 0} → Next S K → ℕ
+lives_in (nexts.Life run) = 1
+lives_in next = 0
+
+-- the next life was offered this text, or there is none and no text
+abbrev pub IsNext : {S K : Type 0} → (S → Supplied) → (K → Received) → List ℕ → Next S K → Bool → Type 0
+IsNext source sink text (nexts.Life run) failed = IsBegun (source run.src) (sink run.snk) failed text
+IsNext source sink text next failed = text ≡ []
+
+-- what follows of a life's end
+pub record Ended {S K : Type 0} (source : S → Supplied) (sink : K → Received) (s s' : State) (next : Next S K)
+    (output output' log log' : Received) (failed failed' : LoopEnd) : Type 0 where
+  pub played : PlayedUp s s' (mark_of next ∷ []) output output' log log' failed failed'
+  pub next_is : IsNext source sink (event_child s (mark_of next)) next failed'.engine
+  pub follows : Follows s s' next
+
+-- One life that went on in this state, on a run that was offered a text: it ended, and this follows.
+pub record LivesOn {S K : Type 0} (source : S → Supplied) (sink : K → Received) (s s' : State) (sent sent' taken taken' : List Event)
+    (run : Run S K) (runs runs' : List (Run S K)) (tally tally' : Tally) (next : Next S K)
+    (output output' log log' : Received) (failed failed' : LoopEnd) : Type 0 where
+  -- what the revival heard of it
+  pub events : List Event
+  pub unended : has_close events ≡ false
+  pub played : PlayedUp s s' (events ++ mark_of next ∷ []) output output' log log' failed failed'
+  pub got : List Event
+  pub taken_is : taken' ≡ taken ++ got
+  pub got_are : map as_long (events ++ mark_of next ∷ []) ≡ told_of got
+  pub ends : ends_in got ≡ 1
+  -- its run
+  pub last : Run S K
+  pub runs_are : runs' ≡ runs ++ last ∷ []
+  pub lines : List Event
+  pub end : ReadEnd
+  pub sent_is : sent' ≡ sent ++ (lines ++ EngineLong ∷ [])
+  pub read : LinesOf (source run.src) (source last.src) lines end
+  pub broken : Bool
+  pub offered : Offered failed.engine broken (sink run.snk) (sink last.snk) (lines_to_child s events)
+  pub reads : tally'.engine_read ≡ (tally.engine_read || failed_of end)
+  pub writes : tally'.engine_write ≡ (tally.engine_write || broken)
+  pub memory : tally'.memory ≡ (tally.memory || lacked_memory end)
+  -- the next one
+  pub next_is : IsNext source sink (event_child (state_behind s events) (mark_of next)) next failed'.engine
+
+-- one more life has ended
+abbrev pub Continues : {S K : Type 0} → State → ℕ → Next S K → Type 0
+Continues s ended (nexts.Life run) = Goes s ended
+Continues s ended next = (s.begun ≡ ended) × (s.life ≡ life.Over)
+
+-- the host handed out a run for another life, or refused it, or was not asked
+abbrev pub Hands : {S K : Type 0} → Books → Books → Faults → Faults → Next S K → Type 0
+Hands books books' counts counts' (nexts.Life run) = (books' ≡ with_run books) × (counts' ≡ counts)
+Hands books books' counts counts' nexts.Over = (books' ≡ books) × (counts' ≡ counts)
+Hands books books' counts counts' (nexts.Refused fault) =
+    (books' ≡ books) × Tells counts.starts counts'.starts (is_failed (Some fault)) × (counts' ≡ record counts { starts = counts'.starts })

@@ -1,0 +1,121 @@
+-- What a run of all lives leaves.
+use Rattle.std.specs.Prelude.{◌≡◌, ◌⊎◌, ℕ, ◌<◌, ◌≤◌, List, [], ◌∷◌, map, length, Option, Some, None, Bool, true, false}
+use Rattle.std.specs.List.{list_any}
+use Rattle.std.specs.VecDeque.{deque_len, deque_capacity}
+use Rattle.line_io.specs.Event.{Event}
+use Rattle.line_io.specs.Source.{Supplied, Received}
+use Rattle.event_pipe.specs.declared.message.Peer.TheVariants as peers
+use Rattle.event_pipe.specs.declared.reader.ReadEnd.{ReadEnd}
+use Rattle.event_pipe.specs.Arrivals.{Arrived, failed}
+use Rattle.event_pipe.specs.Counts.{Tells}
+use Rattle.event_pipe.specs.Ends.{KeepsSender, KeepsTaker, sent, taken}
+use Rattle.event_pipe.specs.Rule.{sent_by}
+use Rattle.child_engine.specs.Hosts.{Books, IsUnwritten}
+use Rattle.child_engine.specs.declared.host.Faults.{Faults}
+use Rattle.child_engine.specs.declared.host.HostFault.{HostFault}
+use Rattle.engine_revival.specs.Script.{AllMayHappen, state_behind, revival_script}
+use Rattle.engine_revival.specs.Steps.{opening}
+use Rattle.host_run.specs.Logs.{is_failed}
+use Rattle.host_run.specs.Readers.{lacked_memory}
+use Rattle.host_run.specs.Outside.{Outside, AreTold}
+use Rattle.host_run.specs.declared.failures.Failures.{Failures}
+use Rattle.sink_offers.specs.Took.{LogTook}
+use Rattle.reviver_runner.specs.declared.lives.Run.{Run}
+use Rattle.reviver_runner.specs.declared.parts.Parts.{Parts}
+use Rattle.reviver_runner.specs.declared.run.Runs.{Runs}
+use Rattle.reviver_runner.specs.Lives.{AreReady, Goes, IsBegun, Life, AreLives, life_events, told_of_lives, ToLives, to_none, to_lives}
+use Rattle.life_runner.specs.Played.{lines_up, as_long, told_of, has_refusal}
+
+-- Runs were handed out, one for each of these lives that have ended, and the last start may have been refused.
+pub record HandsOut (lives ended : ℕ) (books books' : Books) (counts counts' : Faults) (refused : Option HostFault) : Type 0 where
+  pub out : books'.runs_out ≡ ended
+  pub some : 1 ≤ ended
+  pub few : ended ≤ lives
+  pub others : books' ≡ record books { runs_out = books'.runs_out }
+  pub starts : Tells counts.starts counts'.starts (is_failed refused)
+  pub other_counts : counts' ≡ record counts { starts = counts'.starts }
+
+-- the run of the first life is there, and was not touched yet
+abbrev pub HasFirst : {S K : Type 0} → (S → Supplied) → (K → Received) → Option (Run S K) → Type 0
+HasFirst source sink (Some run) = IsBegun (source run.src) (sink run.snk) false []
+HasFirst source sink None = ⊥
+
+-- The first of at most nine lives may go on, none has ended, nothing was sent or taken yet, and there is room for what all of
+-- them are waited for by.
+pub record MayRun {S K : Type 0} (source : S → Supplied) (sink : K → Received) (books : Books) (parts : Parts) (runs : Runs S K) (kids room : ℕ) : Type 0 where
+  pub words : 0 < length runs.words.items
+  pub few : parts.revival.state.lives ≤ 9
+  pub ready : AreReady parts
+  pub unsent : sent parts.to ≡ []
+  pub untaken : taken parts.from ≡ []
+  pub goes : Goes parts.revival.state 0
+  pub first : HasFirst source sink runs.first
+  pub none : deque_len runs.ended ≡ 0
+  pub space : 9 ≤ deque_capacity runs.ended
+  pub one_kid : kids ≡ 1
+  pub kids_room : 10 ≤ room
+  pub out : books.runs_out ≡ 1
+
+-- the ends of the channel are those of before
+pub record KeepsEnds (old new : Parts) : Type 0 where
+  pub ready : AreReady new
+  pub sender : KeepsSender old.to new.to
+  pub taker : KeepsTaker old.from new.from
+
+-- why there was no memory: a reader of a life or of the interface had none, or a log or a life was not opened
+pub record TellsRun (upper : ReadEnd) (lives : List Life) (failures : Failures) : Type 0 where
+  pub iface_read : failures.iface_read ≡ failed upper
+  pub engine_read : failures.engine_read ≡ list_any (λ l. failed l.end) lives
+  pub engine_write : failures.engine_write ≡ list_any (λ l. l.broken) lives
+  pub iface_memory : failures.memory ≡ false → lacked_memory upper ≡ false
+  pub life_memory : failures.memory ≡ false → list_any (λ l. lacked_memory l.end) lives ≡ false
+
+-- The revival of so many lives heard these events, in the order in which they came. Its orders are what arrived of the interface,
+-- without long lines; and of each life there are its lines, and a mark of its end.
+pub record Heard (lives : ℕ) (before after : Outside) (upper : ReadEnd) (runs : List Life) (events : List Event) : Type 0 where
+  pub may : AllMayHappen (opening lives) events
+  pub arrived : List Event
+  pub did_arrive : Arrived peers.Iface before.input after.input arrived upper
+  pub orders : sent_by peers.Iface events ≡ told_of arrived
+  pub marks : map as_long (sent_by peers.Engine events) ≡ life_events runs
+  -- what is written to each life, and behind the last one nothing is
+  pub texts : to_lives to_none (opening lives) events ≡ record { ended = map (λ l. l.text) runs; present = [] }
+  pub begun : (state_behind (opening lives) events).begun ≡ length runs
+
+-- One run of the lives: the log is the script of the events, up went what is given for them, and to each life what is written to it.
+-- A sink that failed took a front of that.
+pub record Revived (lives : ℕ) (before after : Outside) (failures : Failures) : Type 0 where
+  pub upper : ReadEnd
+  pub runs : List Life
+  pub events : List Event
+  pub heard : Heard lives before after upper runs events
+  pub told : TellsRun upper runs failures
+  pub each : AreLives runs
+  pub refused : has_refusal events ≡ true → (failures.engine_start ≡ true) ⊎ (failures.memory ≡ true)
+  pub up : LogTook (lines_up (opening lives) events) failures.iface_write before.output after.output
+  -- the log, which was fresh, and is in the books as it is at the end
+  pub opened : Received
+  pub log : Received
+  pub unwritten : IsUnwritten opened
+  pub log_failed : Bool
+  pub logged : LogTook (revival_script lives events) log_failed opened log
+  pub failure : failures.log ≡ false → log_failed ≡ false
+  pub log_told : (after.books.logs ≡ log.taken ∷ []) ⊎ (after.books.logs ≡ [])
+  -- so is each run
+  pub runs_told : after.books.runs ≡ told_of_lives runs
+  pub runs_out : after.books.runs_out ≡ length runs
+
+-- What a run leaves, whether an engine was started or not: each count of faults rose where its failure is told, and is as
+-- before else; each run that was handed out is closed, of so many lives at most, and the log if one was.
+pub record Leaves (lives : ℕ) (before after : Outside) (failures : Failures) : Type 0 where
+  pub told : AreTold before after failures
+  pub runs : length after.books.runs ≡ after.books.runs_out
+  pub logs : length after.books.logs ≡ after.books.logs_out
+  pub few_runs : after.books.runs_out ≤ lives
+  pub few_logs : after.books.logs_out ≤ 1
+  pub some_run : failures.memory ≡ false → failures.engine_start ≡ false → 0 < after.books.runs_out
+  pub some_log : failures.memory ≡ false → failures.log ≡ false → 0 < after.books.runs_out → after.books.logs_out ≡ 1
+  -- where no engine was started, nothing was read or written
+  pub nothing : after.books.runs_out ≡ 0
+      → (after.input ≡ before.input) × (after.output ≡ before.output)
+  pub revived : 0 < after.books.runs_out → Revived lives before after failures

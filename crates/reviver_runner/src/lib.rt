@@ -1,0 +1,11 @@
+//! One run of all lives of an engine over a host, beside the interface's reader.
+#![tactic(auto)]
+
+mod closing;
+mod drain;
+mod lives;
+mod parts;
+mod run;
+mod turns;
+
+pub use run::revive_run;

@@ -1,0 +1,50 @@
+// The lives that have ended.
+ghost use Rattle.std.specs.Prelude.{◌≡◌, ◌||◌, false};
+ghost use Rattle.event_pipe.specs.Arrivals.{failed};
+ghost use Rattle.host_run.specs.Readers.{lacked_memory};
+
+use event_pipe::ReadEnd;
+use host_run::{has_failed, has_lacked_memory};
+
+/// The streams of an engine that was started, until it is closed.
+#[derive(Drop)]
+pub(crate) struct Run<S, K> {
+    pub src: S,
+    pub snk: K,
+}
+
+/// What failed in the lives so far: reading or writing in one of them, or memory for a line.
+#[derive(Clone, Copy, Debug, PartialEq, Eq)]
+pub(crate) struct Tally {
+    pub engine_read: bool,
+    pub engine_write: bool,
+    pub memory: bool,
+}
+
+impl Tally {
+    /// Nothing failed.
+    pub(crate) fn none() -> Tally
+        ensures read { result.engine_read ≡ false }
+        ensures write { result.engine_write ≡ false }
+        ensures memory { result.memory ≡ false }
+    {
+        Tally {
+            engine_read: false,
+            engine_write: false,
+            memory: false,
+        }
+    }
+
+    /// With one more life.
+    pub(crate) fn with(self, end: ReadEnd, write_failed: bool) -> Tally
+        ensures read { result.engine_read ≡ (self.engine_read || failed end) }
+        ensures write { result.engine_write ≡ (self.engine_write || write_failed) }
+        ensures memory { result.memory ≡ (self.memory || lacked_memory end) }
+    {
+        Tally {
+            engine_read: self.engine_read || has_failed(end),
+            engine_write: self.engine_write || write_failed,
+            memory: self.memory || has_lacked_memory(end),
+        }
+    }
+}
