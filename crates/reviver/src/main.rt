@@ -1,0 +1,30 @@
+//! The program `reviver`: a UCI interface on standard input and output, and behind it a UCI engine that is started again
+//! when it dies.
+#![tactic(auto)]
+
+use child_engine::RealHost;
+use line_io::{ReadAdapter, WriteAdapter};
+use program_edges::{ClosedStreams, words_of};
+use reviver_app::{refuse_for_memory, revive_main};
+use std::process::ExitCode;
+
+fn main(rt: HostRuntime) -> ExitCode {
+    let closed = ClosedStreams::fill(&rt);
+    let mut input = ReadAdapter::new(closed.input(rt.stdin()));
+    let mut output = WriteAdapter::new(closed.output(rt.stdout()));
+    let mut diag = WriteAdapter::new(closed.diag(rt.stderr()));
+    let mut host = RealHost::new(&rt);
+    let status = match words_of(&rt, rt.alloc()) {
+        Ok(words) => revive_main(
+            &rt,
+            rt.alloc(),
+            words.as_slice(),
+            &mut input,
+            &mut output,
+            &mut host,
+            &mut diag,
+        ),
+        Err(_) => refuse_for_memory(&mut diag),
+    };
+    ExitCode::from(status.code)
+}

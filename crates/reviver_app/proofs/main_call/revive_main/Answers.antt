@@ -1,0 +1,14 @@
+use Rattle.host_run.proofs.Causes as causes
+use Rattle.reviver_app.proofs.main_call.revive_main.Goals as goal
+
+pub returns-clause-answers : goal.returns-clause-answers
+returns-clause-answers g c =
+    record {
+      ending = c.end_of-ending.result;
+      ends = c.end_of-ending.ensures;
+      code_is = c.code.ensures;
+      diagnosed = c.tell.ensures;
+    }
+
+pub returns-clause-status : goal.returns-clause-status
+returns-clause-status g c = causes.status_says _ _ _ _ _ _ c.code.ensures c.end_of-ending.ensures

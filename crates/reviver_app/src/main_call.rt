@@ -1,0 +1,123 @@
+// The program over any host.
+ghost use Rattle.std.specs.Prelude.{◌≡◌};
+ghost use Rattle.host_run.specs.Endings.{code_of, diagnostic};
+ghost use Rattle.host_run.specs.Outside.{outside, unused};
+ghost use Rattle.host_run.specs.Program.{Answers, Ends, IsToldTo, StatusSays};
+ghost use Rattle.host_run.specs.declared.ending.Ending.TheVariants as endings;
+ghost use Rattle.reviver_app.specs.Program.{program, LeavesFor};
+ghost use Rattle.reviver_app.specs.Words.{AreTaken, bytes_of, ending_for};
+
+use crate::{Refusal, Request, read_words};
+use child_engine::{Host, LetGo};
+use host_run::{Ending, tell};
+use line_io::{Sink, Source, Status};
+use reviver_runner::revive_run;
+use std::alloc::Global;
+use std::sync::Wait;
+use std::thread::Threads;
+
+fn refused(refusal: Refusal) -> Ending
+    ensures { result ≡ ending_for refusal }
+{
+    match refusal {
+        Refusal::Usage => Ending::Usage,
+        Refusal::NoMemory => Ending::NoMemory,
+    }
+}
+
+// What the words ask for, and how it ends.
+fn end_of<I: Source + Send, O: Sink + Send, H: Host + Send, R: Threads + Wait + Sync>(
+    rt: &R,
+    alloc: Global,
+    words: &[Vec<u8>],
+    input: &mut I,
+    output: &mut O,
+    host: &mut H,
+) -> Ending
+where
+    H::Src: Drop,
+    H::Snk: LetGo + Drop,
+    H::Kid: Drop + Send,
+    requires { H.books host.old ≡ unused }
+    ensures { Ends (AreTaken (bytes_of words.now)) (LeavesFor (bytes_of words.now)
+        (outside (I.state input.old) (O.state output.old) (H.faults host.old) (H.books host.old))
+        (outside (I.state input.new) (O.state output.new) (H.faults host.new) (H.books host.new)))
+        (outside (I.state input.old) (O.state output.old) (H.faults host.old) (H.books host.old))
+        (outside (I.state input.new) (O.state output.new) (H.faults host.new) (H.books host.new))
+        result }
+{
+    match read_words(alloc, words) {
+        Ok(request) => {
+            let Request {
+                lives,
+                log_name,
+                engine,
+            } = request;
+            Ending::of(revive_run(
+                rt,
+                alloc,
+                lives,
+                log_name.as_str(),
+                engine,
+                input,
+                output,
+                host,
+            ))
+        }
+        Err(refusal) => refused(refusal),
+    }
+}
+
+/// How a program ends that has no memory for its words.
+pub fn refuse_for_memory<D: Sink>(diag: &mut D) -> Status
+    ensures status { result.code ≡ code_of endings.NoMemory }
+    ensures told { IsToldTo (D.state diag.old) (D.state diag.new)
+        (diagnostic program endings.NoMemory) }
+{
+    tell(b"reviver", Ending::NoMemory, diag);
+    Status {
+        code: Ending::NoMemory.code(),
+    }
+}
+
+/// The program: between a UCI interface, whose orders come from `input` and whose answers go to
+/// `output`, and the UCI engine that the host starts, again when it dies. The words are how many
+/// lives may be begun at most, the name of the log, the engine's program and its arguments; the
+/// program's own name is not among them. A diagnostic that cannot be written changes no status.
+pub fn revive_main<
+    I: Source + Send,
+    O: Sink + Send,
+    H: Host + Send,
+    D: Sink,
+    R: Threads + Wait + Sync,
+>(
+    rt: &R,
+    alloc: Global,
+    words: &[Vec<u8>],
+    input: &mut I,
+    output: &mut O,
+    host: &mut H,
+    diag: &mut D,
+) -> Status
+where
+    H::Src: Drop,
+    H::Snk: LetGo + Drop,
+    H::Kid: Drop + Send,
+    requires { H.books host.old ≡ unused }
+    ensures answers { Answers program (AreTaken (bytes_of words.now)) (LeavesFor (bytes_of words.now)
+        (outside (I.state input.old) (O.state output.old) (H.faults host.old) (H.books host.old))
+        (outside (I.state input.new) (O.state output.new) (H.faults host.new) (H.books host.new)))
+        (outside (I.state input.old) (O.state output.old) (H.faults host.old) (H.books host.old))
+        (outside (I.state input.new) (O.state output.new) (H.faults host.new) (H.books host.new))
+        (D.state diag.old) (D.state diag.new) result.code }
+    ensures status { StatusSays (AreTaken (bytes_of words.now))
+        (outside (I.state input.old) (O.state output.old) (H.faults host.old) (H.books host.old))
+        (outside (I.state input.new) (O.state output.new) (H.faults host.new) (H.books host.new))
+        result.code }
+{
+    let ending = end_of(rt, alloc, words, input, output, host);
+    tell(b"reviver", ending, diag);
+    Status {
+        code: ending.code(),
+    }
+}
