@@ -4,13 +4,16 @@ use Rattle.std.proofs.Math.Seq.{take-length}
 use Rattle.std.specs.Io.KnownBytes.{Appends}
 use Rattle.line_io.specs.Lines.{Piece, items}
 use Rattle.line_io.specs.Runs.{whole}
+use Rattle.line_io.specs.Source.{Received, Supplied}
 use Rattle.command_endings.specs.declared.ending.Ending.{Ending}
 use Rattle.command_endings.specs.declared.ending.Ending.TheVariants as endings
 use Rattle.command_endings.specs.Diagnostics.{code_of, tail_of}
+use Rattle.command_endings.specs.Ran.{Ran}
 use Rattle.command_endings.specs.Streams.{Streams}
 use Rattle.command_endings.specs.Told.{Told}
 use Rattle.line_scribe.specs.Putting.{IsOfLine}
-use Rattle.line_scribe.specs.Scribed.{IsText, WroteAll, WroteFront, WroteWhole}
+use Rattle.line_scribe.specs.Scribed.{EndsBy, IsText, WroteAll, WroteFront, WroteWhole}
+use Rattle.line_scribe.proofs.Outcomes.{outcome}
 use Rattle.line_scribe.specs.Outcomes.{LineReported, Outcome, WroteLast}
 use Rattle.cecp_driver.specs.declared.driver.Parts.{Parts}
 use Rattle.cecp_driver.specs.Driver.{opening}
@@ -110,8 +113,9 @@ module _ (U : Type 0) (v0 : Parts) (first : v0 ≡ opening) (start now : Streams
   completed (inr (inl r)) = inr (inl (reported_code code r, reported code r))
   completed (inr (inr m)) = inr (inr m)
 
-  pub driven : Outcome drives v0 U start now code → Driven U start now code
-  driven o = record {
+  pub driven : Ran (λ e. EndsBy drives opening U e start now) start now code → Outcome drives v0 U start now code → Driven U start now code
+  driven ran o = record {
+    ended = ran;
     all_driven = λ z. let d = o.done z in (all_driven d.0, d.1);
     no_other = λ z. let n = reported_code 1 (o.found z) in cc;
     fault_reported = λ z. reported 2 (o.fault z);
@@ -124,31 +128,20 @@ module _ (U : Type 0) (v0 : Parts) (first : v0 ≡ opening) (start now : Streams
 
 -- WANT OF MEMORY
 
-short : (U : Type 0) (start now : Streams) (code : ℕ) → U → (text : List ℕ) → Told code 3 text start.diag now.diag → Driven U start now code
-short U start now code u text (inl t) =
-    let z = t.0 in
-    record {
-      all_driven = λ c. let n = sym c ∙ z in cc;
-      no_other = λ c. let n = sym c ∙ z in cc;
-      fault_reported = λ c. let n = sym c ∙ z in cc;
-      memory = λ c. u;
-      reading_failed = λ c. let n = sym c ∙ z in cc;
-      writing_failed = λ c. let n = sym c ∙ z in cc;
-      too_long = λ c. let n = sym c ∙ z in cc;
-      complete = λ x e l s. inr (inr z);
-    }
-short U start now code u text (inr t) =
-    let z = t.0 in
-    record {
-      all_driven = λ c. let n = sym c ∙ z in cc;
-      no_other = λ c. let n = sym c ∙ z in cc;
-      fault_reported = λ c. let n = sym c ∙ z in cc;
-      memory = λ c. u;
-      reading_failed = λ c. let n = sym c ∙ z in cc;
-      writing_failed = λ c. (inr t.1, inl u);
-      too_long = λ c. let n = sym c ∙ z in cc;
-      complete = λ x e l s. absurd (s.told t.1);
-    }
+memory_ran : (U : Type 0) (start now : Streams) (code : ℕ) → U → now.input ≡ start.input → now.output ≡ start.output → Told code 3 (tail_of endings.NoMemory) start.diag now.diag
+    → Ran (λ e. EndsBy drives opening U e start now) start now code
+memory_ran U start now code u i o t = record {
+  ending = endings.NoMemory;
+  ends = u;
+  tells = t;
+  reading = λ z. cc;
+  writing = λ z. cc;
+  read = λ a b. ap (λ (x : Supplied). x.faults) i;
+  written = λ a. ap (λ (x : Received). x.faults) o;
+}
 
-pub want_of_memory : (U : Type 0) (start now : Streams) (code : ℕ) → U → Told code (code_of endings.NoMemory) (tail_of endings.NoMemory) start.diag now.diag → Driven U start now code
-want_of_memory U start now code u told = short U start now code u (tail_of endings.NoMemory) told
+pub want_of_memory : (U : Type 0) (start now : Streams) (code : ℕ) → U → now.input ≡ start.input → now.output ≡ start.output → Told code (code_of endings.NoMemory) (tail_of endings.NoMemory) start.diag now.diag → Driven U start now code
+want_of_memory U start now code u i o told = driven U opening refl start now code r (outcome drives opening U start now code r)
+  where
+    r : Ran (λ e. EndsBy drives opening U e start now) start now code
+    r = memory_ran U start now code u i o told

@@ -6,10 +6,12 @@ use Rattle.line_io.specs.Lines.{Piece, items}
 use Rattle.line_io.specs.Runs.{whole}
 use Rattle.command_endings.specs.declared.ending.Ending.{Ending}
 use Rattle.command_endings.specs.Diagnostics.{diagnostic}
-use Rattle.command_endings.specs.Ran.{WritingBroke}
+use Rattle.command_endings.specs.Ran.{Ran, WritingBroke}
 use Rattle.command_endings.specs.Reads.{Got, IsAll, AreFirst, AreRead}
 use Rattle.command_endings.specs.Streams.{Streams, AreSame, IsSteady}
-use Rattle.driver_script.specs.Scripts.{IsDriven, IsFault}
+use Rattle.line_scribe.specs.Scribed.{EndsBy}
+use Rattle.cecp_driver.specs.Driver.{opening}
+use Rattle.driver_script.specs.Scripts.{IsDriven, IsFault, drives}
 use Rattle.line_io.specs.declared.limits.TheConstants.{SCRIPT_LINE}
 
 -- All of the input was read, its lines are marks of events that may come and of written lines, and the script of a
@@ -60,6 +62,8 @@ Completes before after code =
 
 -- `Untouched` says that the input and the output are just as they were.
 pub record Driven (Untouched : Type 0) (before after : Streams) (code : ℕ) : Type 0 where
+  -- The status, the diagnostic and the counts are those of one ending.
+  pub ended : Ran (λ ending. EndsBy drives opening Untouched ending before after) before after code
   -- what each status says
   pub all_driven : code ≡ 0 → AllDriven before after × AreSame before after
   pub no_other : code ≡ 1 → ⊥

@@ -10,13 +10,14 @@ use Rattle.policy_rules.specs.declared.settings.Settings.{Settings}
 use Rattle.command_endings.specs.declared.ending.Ending.{Ending}
 use Rattle.command_endings.specs.declared.ending.Ending.TheVariants as endings
 use Rattle.command_endings.specs.Diagnostics.{code_of, diagnostic}
+use Rattle.command_endings.specs.Ran.{Ran}
 use Rattle.command_endings.specs.Reads.{AreFirst, AreRead, IsAll}
 use Rattle.command_endings.specs.Streams.{Streams, AreSame}
 use Rattle.line_scribe.specs.Outcomes.{LineReported, Outcome, WroteLast}
 use Rattle.line_scribe.specs.Putting.{IsOfLine}
-use Rattle.line_scribe.specs.Scribed.{IsText, WroteFront, WroteAll, WroteWhole}
+use Rattle.line_scribe.specs.Scribed.{EndsBy, IsText, WroteFront, WroteAll, WroteWhole}
 use Rattle.script_migration.specs.declared.migration.Migration.{Migration}
-use Rattle.script_migration.specs.Begun.{IsReason, Migrates, PutFor, migrates}
+use Rattle.script_migration.specs.Begun.{IsReason, Migrates, PutFor, fresh, migrates}
 use Rattle.script_migration.specs.Migration.{AreMarked, IsUnmarked, mark_in, migrated}
 use Rattle.script_migration.specs.Migrated.{AllMigrated, CompletesMigration, FrontMigrated, Migrated, MigratesScripts, ReportsUnmarked, UnmarkedReported, WholeMigrated}
 use Rattle.script_migration.proofs.Traces.{trace_migrated}
@@ -65,7 +66,7 @@ put_text : (settings : Settings) (lines : List Piece) (last : Option ℕ) (text 
 put_text settings [] last text p some = let n = ap length p.1 in absurd (let z : ⊥ = omega (arith, n, some) in z)
 put_text settings (l ∷ ls) last text p some = p.1
 
-module _ (settings : Settings) (s0 : Migration) (same : s0.settings ≡ settings) (Unread Kept : Type 0) (start now : Streams) (code : ℕ) (o : Outcome migrates s0 (Unread × Kept) start now code) where
+module _ (settings : Settings) (s0 : Migration) (same : s0.settings ≡ settings) (Unread Kept : Type 0) (start now : Streams) (code : ℕ) (ran : Ran (λ e. EndsBy migrates (fresh settings) (Unread × Kept) e start now) start now code) (o : Outcome migrates s0 (Unread × Kept) start now code) where
   text_is : (lines : List Piece) (text : List ℕ) → text ≡ migrated s0.settings lines → text ≡ migrated settings lines
   text_is lines text e = e ∙ ap (λ (x : Settings). migrated x lines) same
 
@@ -169,6 +170,7 @@ module _ (settings : Settings) (s0 : Migration) (same : s0.settings ≡ settings
 
   pub migrated_by : Migrated settings Unread Kept start now code
   migrated_by = record {
+    ended = ran;
     all_migrated = all_migrated;
     no_other = no_other;
     unmarked = λ z. reported 2 (o.fault z);

@@ -31,6 +31,10 @@ abbrev pub IsNumber : Option ℕ → Type 0
 IsNumber None = ⊤
 IsNumber (Some number) = number < 10 ^ 18
 
+-- nothing is put yet
+abbrev pub fresh : Settings → Migration
+fresh settings = record { settings = settings; last = None }
+
 pub record IsSound (migration : Migration) : Type 0 where
   pub proper : IsProper migration.settings
   pub number : IsNumber migration.last

@@ -9,9 +9,11 @@ use Rattle.adapter_core.specs.Trace.{Step}
 use Rattle.session_script.specs.Script.{script1, script2}
 use Rattle.command_endings.specs.declared.ending.Ending.TheVariants as endings
 use Rattle.command_endings.specs.Diagnostics.{diagnostic}
-use Rattle.command_endings.specs.Ran.{WritingBroke}
+use Rattle.command_endings.specs.Ran.{Ran, WritingBroke}
 use Rattle.command_endings.specs.Reads.{AreFirst, AreRead, Got, IsAll}
 use Rattle.command_endings.specs.Streams.{Streams, AreSame, IsSteady}
+use Rattle.line_scribe.specs.Scribed.{EndsBy}
+use Rattle.script_migration.specs.Begun.{fresh, migrates}
 use Rattle.script_migration.specs.Migration.{AreMarked, IsUnmarked, migrated}
 use Rattle.script_migration.specs.Traces.{IsMarked}
 use Rattle.line_io.specs.declared.limits.TheConstants.{SCRIPT_LINE}
@@ -76,6 +78,9 @@ MigratesScripts settings before after code =
 -- `Unread` and `Kept` say that the input and the output are just as they were.
 pub record Migrated (settings : Settings) (Unread Kept : Type 0) (before after : Streams)
     (code : ℕ) : Type 0 where
+  -- The status, the diagnostic and the counts are those of one ending.
+  pub ended : Ran (λ ending. EndsBy migrates (fresh settings) (Unread × Kept) ending before after)
+      before after code
   -- what each status says
   pub all_migrated : code ≡ 0 → AllMigrated settings before after
   pub no_other : code ≡ 1 → ⊥

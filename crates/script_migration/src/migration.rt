@@ -1,8 +1,8 @@
 // The lines of a script of version 1, with the numbers of its steps.
-ghost use Rattle.std.specs.Prelude.{◌≡◌, ◌+◌, ◌<◌, ◌≤◌, ◌^◌, ◌∷◌, ◌++◌, [], length, None};
+ghost use Rattle.std.specs.Prelude.{◌≡◌, ◌+◌, ◌<◌, ◌≤◌, ◌^◌, ◌∷◌, ◌++◌, [], length};
 ghost use Rattle.line_io.specs.Out.{with};
 ghost use Rattle.policy_rules.specs.Policy.{IsProper};
-ghost use Rattle.script_migration.specs.Begun.{Begins};
+ghost use Rattle.script_migration.specs.Begun.{Begins, fresh};
 
 use command_endings::Ending;
 use line_io::Out;
@@ -56,8 +56,7 @@ ghost use Rattle.script_migration.specs.Migration.{beginning, line_text};
 impl Migration {
     /// A script of which nothing is put yet.
     pub fn new(settings: &Settings) -> Migration
-        ensures settings { result.settings ≡ settings.now }
-        ensures last { result.last ≡ None }
+        ensures { result ≡ fresh settings.now }
     {
         Migration {
             settings: *settings,
