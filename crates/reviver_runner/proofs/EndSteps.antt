@@ -266,7 +266,7 @@ module _ (number : ℕ) (s : State) (sent sent_up taken : List Event) (lives : L
   all_taken : sent ≡ of 2 taken
   all_taken =
       let none = nothing_left sent (of 2 taken) engine.left engine.front (ap ends_long lived.sent_are ∙ last lives some)
-          (ap ends_in lived.sent_are ∙ lives_ends lives lived.lived ∙ sym lived.ends ∙ sym (ends_of taken)) in
+      (ap ends_in lived.sent_are ∙ lives_ends lives lived.lived ∙ sym lived.ends ∙ sym (ends_of taken)) in
       engine.front ∙ ap (λ (x : List Event). of 2 taken ++ x) none ∙ append-nil (of 2 taken)
 
   pub marks : map as_long (of 2 lived.events) ≡ life_events lives

@@ -21,8 +21,8 @@ use crate::turns::{Next, life_turn};
 use child_engine::{Host, HostFault, LetGo, Started};
 use event_pipe::{Pipe, PipeSend, ReadEnd, read_pipe};
 use host_run::{
-    Failures, Opened, TriedThreads, has_failed, has_lacked_memory, is_open_failure,
-    is_open_memory, only_memory, only_start, open_log,
+    Failures, Opened, TriedThreads, has_failed, has_lacked_memory, is_open_failure, is_open_memory,
+    only_memory, only_start, open_log,
 };
 use line_io::{Sink, Source};
 use sink_offers::LoopEnd;
