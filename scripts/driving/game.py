@@ -38,7 +38,7 @@ class Peer:
         self.process.stdin.write(line + "\n")
         self.process.stdin.flush()
 
-    def wait_for(self, word, seconds=20):
+    def wait_for(self, word, seconds=60):
         """The line that begins with the word, and those before it."""
         before = []
         while True:
