@@ -1,6 +1,6 @@
 //! Moves whose texts were worked out by hand.
 use chess_board::{Kind, Position, Rights, Side, Square, equal_moves, read_move};
-use san_text::{SanFault, read_san, write_san};
+use san_text::{SanFault, read_long_form, read_san, write_san};
 use std::process::Abort;
 use std::test::Fail;
 
@@ -138,5 +138,72 @@ fn texts_are_read(rt: HostRuntime) -> Result<(), Fail> {
     let pawn = position_of("7k/P7/8/8/8/8/8/K7", Side::White, None)?;
     let queen = read_move(b"a7a8q").ok_or("no move")?;
     assert!(rt; read_san(&pawn, b"a8Q").is_ok_and(|n| equal_moves(queen, n)));
+    Ok(())
+}
+
+/// Reads each text as the move beside it, by its squares.
+fn reads_long_forms(
+    rt: &impl Abort,
+    at: &Position,
+    table: &[(&'static [u8], &'static [u8])],
+) -> Result<(), Fail> {
+    for (text, m) in table {
+        let m = read_move(m).ok_or("no move")?;
+        assert!(rt; read_long_form(at, text).is_some_and(|n| equal_moves(m, n)));
+    }
+    Ok(())
+}
+
+#[test]
+fn long_forms_are_read(rt: HostRuntime) -> Result<(), Fail> {
+    let start = Position::start();
+    let knights: [(&[u8], &[u8]); 5] = [
+        (b"Nb1-c3", b"b1c3"),
+        (b"Ng1-f3!?", b"g1f3"),
+        (b"Nb1xa3", b"b1a3"),
+        (b"e2-e4", b"e2e4"),
+        (b"d2-d3+", b"d2d3"),
+    ];
+    reads_long_forms(&rt, &start, &knights)?;
+    let promotion = position_of("3r4/4P1k1/8/8/8/8/6K1/8", Side::White, None)?;
+    let promotions: [(&[u8], &[u8]); 5] = [
+        (b"e7-e8Q", b"e7e8q"),
+        (b"e7xd8Q", b"e7d8q"),
+        (b"e7xd8=R", b"e7d8r"),
+        (b"e7-e8=N+", b"e7e8n"),
+        (b"Kg2-f3", b"g2f3"),
+    ];
+    reads_long_forms(&rt, &promotion, &promotions)?;
+    let rooks = position_of("r3k2r/8/8/8/8/8/8/R3K2R", Side::Black, None)?;
+    let castling: [(&[u8], &[u8]); 3] = [
+        (b"Ra8xa1", b"a8a1"),
+        (b"Ke8-g8", b"e8g8"),
+        (b"Rh8xh1#", b"h8h1"),
+    ];
+    reads_long_forms(&rt, &rooks, &castling)?;
+    let passant = position_of("4k3/8/8/3pP3/8/8/8/4K3", Side::White, Square::at(3, 5))?;
+    reads_long_forms(&rt, &passant, &[(b"e5xd6", b"e5d6")])?;
+    let refused: [(&Position, &[u8]); 17] = [
+        (&start, b"Bb1-c3"),
+        (&start, b"b1-c3"),
+        (&start, b"Ne2-e4"),
+        (&start, b"Nb1-d2"),
+        (&start, b"Nb8-c6"),
+        (&start, b"e4-e5"),
+        (&start, b"Nb1c3"),
+        (&start, b"Nb1--c3"),
+        (&start, b"nb1-c3"),
+        (&start, b"(e2-e4"),
+        (&start, b"e2-e4Q"),
+        (&start, b"e2-"),
+        (&start, b"N"),
+        (&start, b""),
+        (&promotion, b"e7-e8"),
+        (&promotion, b"e7-e8=K"),
+        (&promotion, b"e7-e8="),
+    ];
+    for (at, text) in refused {
+        assert!(rt; read_long_form(at, text).is_none());
+    }
     Ok(())
 }

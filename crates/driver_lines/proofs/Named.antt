@@ -1,5 +1,5 @@
 -- The move that a text names.
-use Rattle.std.proofs.Common.{◌≡◌, ◌≢◌, ℕ, List, Bool, true, false, cond, Option, Some, None, Result, Ok, Err, refl, sym, ap, subst, ◌∙◌, inl, inr}
+use Rattle.std.proofs.Common.{◌≡◌, ℕ, List, Bool, true, false, Option, Some, None, Result, Ok, Err, refl, sym, ◌∙◌, inr}
 use Rattle.std.specs.Prelude.{◌↔◌, IsTrue, MatchOption}
 use Rattle.chess_board.specs.declared.board.Move.{Move}
 use Rattle.chess_board.specs.Position.{Position}
@@ -9,8 +9,9 @@ use Rattle.chess_board.proofs.Legal.{legal-law}
 use Rattle.san_text.specs.declared.fault.SanFault.{SanFault}
 use Rattle.san_text.specs.declared.fault.SanFault.TheVariants.{BadSan, NoFit, Ambiguous}
 use Rattle.san_text.specs.Spelling.{Spelling, spelled}
-use Rattle.san_text.specs.Fit.{AgreesText, Fits, FitsAlone, IsRead}
-use Rattle.driver_lines.specs.Moves.{coordinates, Names, NamesNone, IsAlone}
+use Rattle.san_text.specs.Fit.{AgreesText, IsRead}
+use Rattle.san_text.specs.LongForm.{IsLongRead}
+use Rattle.driver_lines.specs.Moves.{coordinates, FitsNone, Writes, WritesNone, Names, NamesNone, IsAlone}
 
 same_truth : (a b : Bool) (P : Type 0) → (IsTrue a ↔ P) → (IsTrue b ↔ P) → a ≡ b
 same_truth true true P f g = refl
@@ -36,6 +37,13 @@ read_alone p text (Err BadSan) h = λ m alone. unspelled p (spelled text) m h al
 read_alone p text (Err NoFit) h = λ m alone. h.1 m alone.0
 read_alone p text (Err Ambiguous) h = λ m alone. h.1.1.2 (alone.1 h.0 h.1.1.0 ∙ sym (alone.1 h.1.0 h.1.1.1))
 
-pub alone_named : (p : Position) (text : List ℕ) (r : Option Move) → coordinates p text ≡ None → IsAlone p text r → MatchOption r (NamesNone p text) (Names p text)
-alone_named p text None e h = (e, h)
-alone_named p text (Some m) e h = inr (e, h)
+pub unread : (p : Position) (text : List ℕ) (fault : SanFault) → IsRead p text (Err fault) → FitsNone p text
+unread p text fault h = read_alone p text (Err fault) h
+
+pub long_written : (p : Position) (text : List ℕ) (r : Option Move) → FitsNone p text → IsLongRead p text r → MatchOption r (WritesNone p text) (Writes p text)
+long_written p text None e h = (e, h)
+long_written p text (Some m) e h = inr (e, h)
+
+pub written_named : (p : Position) (text : List ℕ) (r : Option Move) → coordinates p text ≡ None → MatchOption r (WritesNone p text) (Writes p text) → MatchOption r (NamesNone p text) (Names p text)
+written_named p text None e h = (e, h)
+written_named p text (Some m) e h = inr (e, h)

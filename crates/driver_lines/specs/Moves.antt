@@ -8,6 +8,7 @@ use Rattle.chess_board.specs.Spelling.{move_of}
 use Rattle.chess_board.specs.Text.{ComesBefore}
 use Rattle.san_text.specs.Spelling.{is_short, is_long}
 use Rattle.san_text.specs.Fit.{FitsAlone}
+use Rattle.san_text.specs.LongForm.{IsLongRead}
 
 abbrev pub if_legal : Position → Option Move → Option Move
 if_legal p None = None
@@ -17,12 +18,23 @@ if_legal p (Some m) = if legal p m then Some m else None
 abbrev pub coordinates : Position → List ℕ → Option Move
 coordinates p text = if_legal p (move_of text)
 
--- A text names a legal move by its squares, or else as the one legal move that fits it in standard algebraic notation.
+abbrev pub FitsNone : Position → List ℕ → Type 0
+FitsNone p text = (m : Move) → FitsAlone p text m → ⊥
+
+-- as the one legal move that fits in standard algebraic notation, or else in long algebraic form
+abbrev pub Writes : Position → List ℕ → Move → Type 0
+Writes p text m = FitsAlone p text m ⊎ (FitsNone p text × IsLongRead p text (Some m))
+
+abbrev pub WritesNone : Position → List ℕ → Type 0
+WritesNone p text = FitsNone p text × IsLongRead p text None
+
+-- A text names a legal move by its squares, or else as the one that fits it in standard algebraic notation, or else as the
+-- one that it is in long algebraic form.
 abbrev pub Names : Position → List ℕ → Move → Type 0
-Names p text m = (coordinates p text ≡ Some m) ⊎ ((coordinates p text ≡ None) × FitsAlone p text m)
+Names p text m = (coordinates p text ≡ Some m) ⊎ ((coordinates p text ≡ None) × Writes p text m)
 
 abbrev pub NamesNone : Position → List ℕ → Type 0
-NamesNone p text = (coordinates p text ≡ None) × ((m : Move) → FitsAlone p text m → ⊥)
+NamesNone p text = (coordinates p text ≡ None) × WritesNone p text
 
 -- `O-O`, `0-0`, `O-O-O`, `0-0-0`
 abbrev pub is_castling : List ℕ → Bool

@@ -9,8 +9,6 @@ mod feature;
 mod moves;
 mod numbers;
 mod said;
-#[cfg(test)]
-mod tests;
 mod tokens;
 mod up;
 mod words;

@@ -3,11 +3,11 @@ ghost use Rattle.std.specs.Prelude.{◌≡◌, ◌&&◌, ◌||◌, Some, None, M
 ghost use Rattle.peer_words.specs.Tokens.{tokens};
 ghost use Rattle.chess_board.specs.Place.{legal};
 ghost use Rattle.san_text.specs.Spelling.{is_short, is_long};
-ghost use Rattle.driver_lines.specs.Moves.{coordinates, Names, NamesNone, is_castling, IsShown, IsThought, IsFirstMove};
+ghost use Rattle.driver_lines.specs.Moves.{coordinates, Writes, WritesNone, Names, NamesNone, is_castling, IsShown, IsThought, IsFirstMove};
 
 use crate::tokens::next_token;
 use chess_board::{Move, Position, read_move};
-use san_text::read_san;
+use san_text::{read_long_form, read_san};
 
 fn is_legal(at: &Position, m: Move) -> bool
     ensures { result ≡ legal at.now m }
@@ -23,13 +23,23 @@ fn read_legal(at: &Position, text: &[u8]) -> Option<Move>
     if is_legal(at, m) { Some(m) } else { None }
 }
 
-/// The legal move that a text names, by its squares or in standard algebraic notation.
+/// The legal move that a text is in standard algebraic notation, or else in long algebraic form.
+fn written_move(at: &Position, text: &[u8]) -> Option<Move>
+    ensures { MatchOption result (WritesNone at.now text.now) (Writes at.now text.now) }
+{
+    match read_san(at, text) {
+        Ok(m) => Some(m),
+        Err(_) => read_long_form(at, text),
+    }
+}
+
+/// The legal move that a text names, by its squares or else in one of the two notations.
 fn named_move(at: &Position, text: &[u8]) -> Option<Move>
     ensures { MatchOption result (NamesNone at.now text.now) (Names at.now text.now) }
 {
     match read_legal(at, text) {
         Some(m) => Some(m),
-        None => read_san(at, text).ok(),
+        None => written_move(at, text),
     }
 }
 

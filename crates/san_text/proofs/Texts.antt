@@ -34,10 +34,10 @@ and_false false = refl
 named : (low high b n : ℕ) → low ≤ b → b ≤ high → b - low ≡ n → cond (nat_le low b && nat_le b high) (Some (b - low)) None ≡ Some n
 named low high b n h i e = rw (le_true low b h, le_true b high i) (ap (λ k. Some k) e)
 
-file_is : (f : ℕ) → f < 8 → file_named (97 + f) ≡ Some f
+pub file_is : (f : ℕ) → f < 8 → file_named (97 + f) ≡ Some f
 file_is f h = named 97 104 (97 + f) f (omega arith) (omega arith) (omega arith)
 
-rank_is : (r : ℕ) → r < 8 → rank_named (49 + r) ≡ Some r
+pub rank_is : (r : ℕ) → r < 8 → rank_named (49 + r) ≡ Some r
 rank_is r h = named 49 56 (49 + r) r (omega arith) (omega arith) (omega arith)
 
 -- a digit names no file, and a letter no rank
@@ -50,7 +50,7 @@ no_rank b h = rw (le_false b 56 (omega arith), and_false (nat_le 49 b)) refl
 abbrev pub target_text : ℕ → ℕ → Option Kind → List ℕ
 target_text f r promo = (97 + f) ∷ (49 + r) ∷ promotion promo
 
-promo_is : (promo : Option Kind) → IsOfficer promo → promotion_read (promotion promo) ≡ Some promo
+pub promo_is : (promo : Option Kind) → IsOfficer promo → promotion_read (promotion promo) ≡ Some promo
 promo_is None h = refl
 promo_is (Some Queen) h = refl
 promo_is (Some Rook) h = refl

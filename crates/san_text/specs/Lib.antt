@@ -1,3 +1,4 @@
 pub mod Fit
+pub mod LongForm
 pub mod Spelling
 pub mod Writing

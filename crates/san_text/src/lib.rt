@@ -1,11 +1,13 @@
-//! Moves in standard algebraic notation: `Nf3`, `exd6`, `e8=Q+`, `O-O`.
+//! Moves in standard algebraic notation, `Nf3`, `exd6`, `e8=Q+`, `O-O`, and in long algebraic form, `Ng1-f3`, which
+//! is only read.
 //!
-//! The spelling is that of appendix C of the FIDE Laws of Chess, with the distinctions of the export
+//! The spelling of the notation is that of appendix C of the FIDE Laws of Chess, with the distinctions of the export
 //! format of the PGN standard (8.2.3). No call takes memory.
 #![tactic(auto)]
 
 mod fault;
 mod laws;
+mod long_form;
 mod men;
 mod reading;
 mod spelling;
@@ -13,5 +15,6 @@ mod writing;
 
 pub use fault::SanFault;
 pub use laws::texts_tell_moves_apart;
+pub use long_form::read_long_form;
 pub use reading::read_san;
 pub use writing::write_san;

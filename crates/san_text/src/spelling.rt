@@ -31,8 +31,8 @@ fn is_mark(byte: u8) -> bool
     byte == b'+' || byte == b'#' || byte == b'!' || byte == b'?'
 }
 
-// The text without the signs at its end.
-fn unmarked(text: &[u8]) -> &[u8]
+/// The text without the signs at its end.
+pub fn unmarked(text: &[u8]) -> &[u8]
     ensures { result.now ≡ unmarked text.now }
 {
     let mut rest = text;
@@ -45,7 +45,8 @@ fn unmarked(text: &[u8]) -> &[u8]
     rest
 }
 
-fn file_named(byte: u8) -> Option<u8>
+/// The number of the file that a byte names.
+pub fn file_named(byte: u8) -> Option<u8>
     ensures value { result ≡ file_named byte }
     ensures below { IfSome result (λ file. file < 8) }
 {
@@ -56,7 +57,8 @@ fn file_named(byte: u8) -> Option<u8>
     }
 }
 
-fn rank_named(byte: u8) -> Option<u8>
+/// The number of the rank that a byte names.
+pub fn rank_named(byte: u8) -> Option<u8>
     ensures value { result ≡ rank_named byte }
     ensures below { IfSome result (λ rank. rank < 8) }
 {
@@ -67,8 +69,8 @@ fn rank_named(byte: u8) -> Option<u8>
     }
 }
 
-// The man that a capital letter names.
-fn kind_named(byte: u8) -> Option<Kind>
+/// The man that a capital letter names.
+pub fn kind_named(byte: u8) -> Option<Kind>
     ensures { result ≡ kind_named byte }
 {
     match byte {
@@ -105,8 +107,8 @@ fn read_promotion(text: &[u8]) -> Option<Option<Kind>>
     }
 }
 
-// A square, and perhaps a promotion.
-fn read_square(text: &[u8]) -> Option<Target>
+/// A square, and perhaps a promotion.
+pub fn read_square(text: &[u8]) -> Option<Target>
     ensures { plain_targets result ≡ square_read text.now }
 {
     let [file, rank, rest @ ..] = text else {
