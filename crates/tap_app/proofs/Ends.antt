@@ -1,5 +1,6 @@
 -- How the program ends.
 use Rattle.std.proofs.Common.{◌≡◌, ◌∙◌, ℕ, List, true, refl, sym, inl, inr, Result, Err}
+use Rattle.line_io.specs.Source.{Received}
 use Rattle.host_run.specs.declared.failures.Failures.{Failures}
 use Rattle.host_run.specs.declared.ending.Ending.{Ending}
 use Rattle.host_run.specs.declared.ending.Ending.TheVariants as endings
@@ -13,18 +14,18 @@ use Rattle.driver_app.specs.declared.words.Refusal.TheVariants as refusals
 use Rattle.driver_app.specs.declared.words.Request.{Request}
 use Rattle.driver_app.specs.Words.{AreTaken, ending_for}
 
-pub ran : (words : List (List ℕ)) (before after : Outside) (failures : Failures) (ending : Ending) → AreTaken words → Leaves before after failures → ending ≡ ending_of failures
-    → Ends (AreTaken words) (Leaves before after) before after ending
-ran words before after failures ending taken leaves first =
+pub ran : (G : Type 0) (E : Received → Type 0) (words : List (List ℕ)) (before after : Outside) (failures : Failures) (ending : Ending) → AreTaken words → Leaves G E before after failures → ending ≡ ending_of failures
+    → Ends (AreTaken words) (Leaves G E before after) before after ending
+ran G E words before after failures ending taken leaves first =
     causes.ran _ _ before after ending taken (record { failures = failures; first = first; told = leaves.told; left = leaves })
 
-pub refused : (words : List (List ℕ)) (before : Outside) (r : Refusal) (ending : Ending) → ending ≡ ending_for r
-    → (◌≡◌ {A = Result Request Refusal} (Err r) (Err refusals.Usage) → AreTaken words → ⊥) → Ends (AreTaken words) (Leaves before before) before before ending
-refused words before refusals.Usage ending e not =
+pub refused : (G : Type 0) (E : Received → Type 0) (words : List (List ℕ)) (before : Outside) (r : Refusal) (ending : Ending) → ending ≡ ending_for r
+    → (◌≡◌ {A = Result Request Refusal} (Err r) (Err refusals.Usage) → AreTaken words → ⊥) → Ends (AreTaken words) (Leaves G E before before) before before ending
+refused G E words before refusals.Usage ending e not =
     record { usage = λ u t. not refl t; refused = λ n. inl e; did = inl (record { same = refl; why = inl e }) }
-refused words before refusals.NoMemory ending e not =
+refused G E words before refusals.NoMemory ending e not =
     record { usage = λ u t. let z : endings.NoMemory ≡ endings.Usage = sym e ∙ u in cc; refused = λ n. inr e; did = inl (record { same = refl; why = inr e }) }
 
-pub unstarted : (before after : Outside) (failures : Failures) → Leaves before after failures → failures.engine_start ≡ true
+pub unstarted : (G : Type 0) (E : Received → Type 0) (before after : Outside) (failures : Failures) → Leaves G E before after failures → failures.engine_start ≡ true
     → (after.input ≡ before.input) × (after.output ≡ before.output)
-unstarted before after failures leaves e = leaves.nothing (leaves.unstarted e)
+unstarted G E before after failures leaves e = leaves.nothing (leaves.unstarted e)

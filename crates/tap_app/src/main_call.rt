@@ -1,5 +1,6 @@
 // The program over any host.
 ghost use Rattle.std.specs.Prelude.{◌≡◌};
+ghost use Rattle.child_engine.specs.Hosts.{WasLetGo};
 ghost use Rattle.driver_app.specs.Words.{AreTaken, bytes_of, ending_for};
 ghost use Rattle.host_run.specs.Endings.{code_of, diagnostic};
 ghost use Rattle.host_run.specs.Outside.{outside, unused};
@@ -38,7 +39,8 @@ fn end_of<I: Source + Send, O: LetGo + Send, H: Host, R: Threads + Wait + Sync>(
 where
     H::Snk: LetGo,
     requires { H.books host.old ≡ unused }
-    ensures { Ends (AreTaken (bytes_of words.now)) (Leaves
+    ensures { Ends (AreTaken (bytes_of words.now))
+        (Leaves (O.is_let_go output.new) (WasLetGo H.Snk.state H.Snk.is_let_go)
         (outside (I.state input.old) (O.state output.old) (H.faults host.old) (H.books host.old))
         (outside (I.state input.new) (O.state output.new) (H.faults host.new) (H.books host.new)))
         (outside (I.state input.old) (O.state output.old) (H.faults host.old) (H.books host.old))
@@ -87,7 +89,8 @@ pub fn tap_main<I: Source + Send, O: LetGo + Send, H: Host, D: Sink, R: Threads 
 where
     H::Snk: LetGo,
     requires { H.books host.old ≡ unused }
-    ensures answers { Answers program (AreTaken (bytes_of words.now)) (Leaves
+    ensures answers { Answers program (AreTaken (bytes_of words.now))
+        (Leaves (O.is_let_go output.new) (WasLetGo H.Snk.state H.Snk.is_let_go)
         (outside (I.state input.old) (O.state output.old) (H.faults host.old) (H.books host.old))
         (outside (I.state input.new) (O.state output.new) (H.faults host.new) (H.books host.new)))
         (outside (I.state input.old) (O.state output.old) (H.faults host.old) (H.books host.old))

@@ -9,9 +9,9 @@ use Rattle.tap_runner.specs.Tapped.{Tapped, Leaves}
 use Rattle.host_run.specs.Early.{AreEarly, only_memory, only_start}
 use Rattle.host_run.specs.Outside.{Outside, outside, unused, AreTold, IsClosed}
 
-tapped_from : (i : Supplied) (o : Received) (f f' : Faults) (b b' : Books) (after : Outside) (failures : Failures)
-    → Tapped (outside i o f b) after failures → Tapped (outside i o f' b') after failures
-tapped_from i o f f' b b' after failures x =
+tapped_from : (G : Type 0) (E : Received → Type 0) (i : Supplied) (o : Received) (f f' : Faults) (b b' : Books) (after : Outside) (failures : Failures)
+    → Tapped G E (outside i o f b) after failures → Tapped G E (outside i o f' b') after failures
+tapped_from G E i o f f' b b' after failures x =
     record {
       first = x.first;
       last = x.last;
@@ -26,6 +26,8 @@ tapped_from i o f f' b b' after failures x =
       log = x.log;
       run_told = x.run_told;
       log_told = x.log_told;
+      output_gone = x.output_gone;
+      engine_gone = x.engine_gone;
     }
 
 told_from : (i : Supplied) (o : Received) (f : Faults) (b b' : Books) (after : Outside) (failures : Failures)
@@ -41,15 +43,15 @@ told_from i o f b b' after failures x =
       engine_wait = x.engine_wait;
     }
 
-pub leaves_run : (i : Supplied) (o : Received) (f f' : Faults) (b b' : Books) (after : Outside) (failures : Failures)
-    → f ≡ f' → Leaves (outside i o f b) after failures → Leaves (outside i o f' b') after failures
-leaves_run i o f f' b b' after failures h x =
+pub leaves_run : (G : Type 0) (E : Received → Type 0) (i : Supplied) (o : Received) (f f' : Faults) (b b' : Books) (after : Outside) (failures : Failures)
+    → f ≡ f' → Leaves G E (outside i o f b) after failures → Leaves G E (outside i o f' b') after failures
+leaves_run G E i o f f' b b' after failures h x =
     record {
       told = subst (λ (g : Faults). AreTold (outside i o g b') after failures) h (told_from i o f b b' after failures x.told);
       closed = x.closed;
       nothing = x.nothing;
       unstarted = x.unstarted;
-      tapped = λ some. tapped_from i o f f' b b' after failures (x.tapped some);
+      tapped = λ some. tapped_from G E i o f f' b b' after failures (x.tapped some);
     }
 
 same_told : (a b : ℕ) → b ≡ a → Tells a b false
@@ -101,9 +103,9 @@ none_closed failures (inr w) =
       log = λ m s l. let z : true ≡ false = ap (λ (x : Failures). x.engine_start) (sym w) ∙ s in cc;
     }
 
-pub leaves_nothing : (i : Supplied) (o : Received) (f f' : Faults) (b b' : Books) (failures : Failures)
-    → AreEarly f f' failures → b' ≡ unused → Leaves (outside i o f b) (outside i o f' b') failures
-leaves_nothing i o f f' b b' failures early e =
+pub leaves_nothing : (G : Type 0) (E : Received → Type 0) (i : Supplied) (o : Received) (f f' : Faults) (b b' : Books) (failures : Failures)
+    → AreEarly f f' failures → b' ≡ unused → Leaves G E (outside i o f b) (outside i o f' b') failures
+leaves_nothing G E i o f f' b b' failures early e =
     let none = ap (λ (x : Books). x.runs_out) e in
     record {
       told = early_told i o f f' b b' early.others failures early.starts early.why;

@@ -1,5 +1,6 @@
 -- What a run of the tap leaves.
 use Rattle.std.specs.Prelude.{◌≡◌, ◌<◌, ◌⊎◌, true, false, [], ◌∷◌}
+use Rattle.line_io.specs.Source.{Received}
 use Rattle.child_engine.specs.Hosts.{Books, IsUnread, IsUnwritten, told_by}
 use Rattle.sink_offers.specs.Streams.{Streams}
 use Rattle.host_run.specs.declared.failures.Failures.{Failures}
@@ -28,8 +29,10 @@ LackedMemory books end =
     ⊎ ((end.engine.has_lacked_memory ≡ true) ⊎ (books.logs_out ≡ 0))
 
 -- What was read and written is that of one run of both directions, whose engine's streams and whose log were fresh,
--- and are in the books as they were at its end.
-pub record Tapped (before after : Outside) (failures : Failures) : Type 0 where
+-- and are in the books as they were at its end. `OutputGone` says that the output was let go, and `EngineGone` of what an
+-- engine's input showed that it was.
+pub record Tapped (OutputGone : Type 0) (EngineGone : Received → Type 0) (before after : Outside)
+    (failures : Failures) : Type 0 where
   pub first : Streams
   pub last : Streams
   pub end : TapEnd
@@ -43,13 +46,17 @@ pub record Tapped (before after : Outside) (failures : Failures) : Type 0 where
   pub log : IsUnwritten first.into.log
   pub run_told : after.books.runs ≡ told_by last.source last.into.engine ∷ []
   pub log_told : LogTold after.books last
+  -- the ends were handed on
+  pub output_gone : OutputGone
+  pub engine_gone : EngineGone last.into.engine
 
 -- what a run leaves, whether an engine was started or not
-pub record Leaves (before after : Outside) (failures : Failures) : Type 0 where
+pub record Leaves (OutputGone : Type 0) (EngineGone : Received → Type 0) (before after : Outside)
+    (failures : Failures) : Type 0 where
   pub told : AreTold before after failures
   pub closed : IsClosed after.books failures
   -- where no engine was started, nothing was read or written
   pub nothing : after.books.runs_out ≡ 0
       → (after.input ≡ before.input) × (after.output ≡ before.output)
   pub unstarted : failures.engine_start ≡ true → after.books.runs_out ≡ 0
-  pub tapped : 0 < after.books.runs_out → Tapped before after failures
+  pub tapped : 0 < after.books.runs_out → Tapped OutputGone EngineGone before after failures

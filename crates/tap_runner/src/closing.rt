@@ -77,6 +77,8 @@ impl<W: Write + Drop> Sink for Closing<W> {
 }
 
 impl<W: Write + Drop> LetGo for Closing<W> {
+    ghost is_let_go = { λ s. is_open s ≡ false };
+
     fn let_go(&mut self)
         ensures shown { shown_by self.new ≡ shown_by self.old }
         ensures shut { is_open self.new ≡ false }

@@ -2,7 +2,7 @@
 ghost use Rattle.std.specs.Prelude.{◌≡◌, ◌<◌, [], false, vec_len};
 ghost use Rattle.event_pipe.specs.Ends.{IsSender, KeepsSender, sent};
 ghost use Rattle.event_pipe.specs.Rule.{ended};
-ghost use Rattle.tap_runner.specs.Hearing.{fresh};
+ghost use Rattle.tap_runner.specs.Hearing.{EndsHearing, fresh};
 ghost use Rattle.tap_runner.specs.Passing.{Turned, Passed, is_last, has_failed_to_read, has_failed_to_write};
 
 use crate::Part;
@@ -85,6 +85,27 @@ fn pass_turn<S: Source, K: Sink, R: Wait>(
     }
 }
 
+// Ends a direction: a last line and the end go to the log, and then the sink is let go, so that
+// whoever reads there meets the end too.
+fn end_pass<K: LetGo, R: Wait>(
+    rt: &R,
+    alloc: Global,
+    sink: &mut K,
+    part: &mut Part,
+    to: &mut PipeSend,
+)
+    requires sender { IsSender to.old }
+    requires peer { to.old.peer ≡ part.old.peer }
+    requires going { ended (sent to.old) ≡ false }
+    ensures keeps { KeepsSender to.old to.new }
+    ensures ends { EndsHearing part.old part.new (sent to.old) (sent to.new) }
+    ensures shown { K.state sink.new ≡ K.state sink.old }
+    ensures gone { K.is_let_go sink.new }
+{
+    part.end(rt, alloc, to);
+    sink.let_go();
+}
+
 /// Hands on what the source gives, as it comes, to its end or to a failure. Each line is sent to the
 /// log before the bytes that end it are handed on. At last the sink is let go.
 pub fn hand_on<S: Source, K: LetGo, R: Wait>(
@@ -103,12 +124,12 @@ pub fn hand_on<S: Source, K: LetGo, R: Wait>(
     ensures keeps { KeepsSender to.old to.new }
     ensures passed { Passed to.old.peer (S.state source.old) (S.state source.new)
         (K.state sink.old) (K.state sink.new) (sent to.new) result }
+    ensures gone { K.is_let_go sink.new }
 {
     for _ in rt.forever() {
         let turn = pass_turn(rt, alloc, source, sink, buf, part, to);
         if turn.is_last() {
-            part.end(rt, alloc, to);
-            sink.let_go();
+            end_pass(rt, alloc, sink, part, to);
             return PassEnd {
                 read_failed: turn.has_failed_to_read(),
                 write_failed: turn.has_failed_to_write(),

@@ -52,6 +52,7 @@ fn run_engine<S: Source + Send, O: LetGo + Send, L: Sink + Send, R: Threads + Wa
     ensures taker { KeepsTaker taker.old taker.new }
     ensures passed { Passed peers.Engine (S.state source.old) (S.state source.new)
         (O.state output.old) (O.state output.new) (sent up.new.to) result.0 }
+    ensures output_gone { O.is_let_go output.new }
     ensures kept { is_some log.new ≡ is_some log.old }
     ensures logged { Logged (taken taker.new)
         (log_state L.state log.old) (log_state L.state log.new) result.1 }
@@ -109,6 +110,8 @@ fn run_both<
         (E.state engine.old) (E.state engine.new) (sent down.new.to) result.0 }
     ensures from_engine { Passed peers.Engine (S.state source.old) (S.state source.new)
         (O.state output.old) (O.state output.new) (sent up.new.to) result.1.0 }
+    ensures output_gone { O.is_let_go output.new }
+    ensures engine_gone { E.is_let_go engine.new }
     ensures kept { is_some log.new ≡ is_some log.old }
     ensures logged { Logged (taken taker.new)
         (log_state L.state log.old) (log_state L.state log.new) result.1.1 }
@@ -137,7 +140,7 @@ fn run_both<
 }
 
 /// Hands on what the bridge and the engine write, each in a thread of its own, and keeps the log,
-/// until both have ended.
+/// until both have ended. Then both sinks were let go.
 pub fn run_tap<
     I: Source + Send,
     S: Source + Send,
@@ -163,6 +166,8 @@ pub fn run_tap<
     requires up { IsReadyWay up peers.Engine }
     requires taker { IsFreshTaker taker }
     requires one { AreOne down.to up.to taker }
+    ensures output_gone { O.is_let_go output.new }
+    ensures engine_gone { E.is_let_go engine.new }
     ensures kept { is_some log.new ≡ is_some log.old }
     ensures ran { Ran
         (streams (I.state input.old) (S.state source.old)

@@ -1,6 +1,6 @@
 // One run of the tap over a host.
 ghost use Rattle.std.specs.Prelude.{◌≡◌, ◌<◌, ◌||◌, length, IfOk, IfErr, OnOk, OnErr};
-ghost use Rattle.child_engine.specs.Hosts.{IsUnread, IsUnwritten, with_run};
+ghost use Rattle.child_engine.specs.Hosts.{IsUnread, IsUnwritten, WasLetGo, with_run};
 ghost use Rattle.host_run.specs.Early.{AreEarly};
 ghost use Rattle.host_run.specs.Outside.{outside, unused};
 ghost use Rattle.tap_runner.specs.Parts.{AreReady};
@@ -46,7 +46,7 @@ where
     requires source { IsUnread (H.Src.state ready.run.src) }
     requires sink { IsUnwritten (H.Snk.state ready.run.snk) }
     requires books { H.books host.old ≡ with_run unused }
-    ensures { Leaves
+    ensures { Leaves (O.is_let_go output.new) (WasLetGo H.Snk.state H.Snk.is_let_go)
         (outside (I.state input.old) (O.state output.old) (H.faults host.old)
         (H.books host.old))
         (outside (I.state input.new) (O.state output.new) (H.faults host.new)
@@ -135,7 +135,7 @@ where
     H::Snk: LetGo,
     requires words { 0 < length words.now }
     requires unused { H.books host.old ≡ unused }
-    ensures { Leaves
+    ensures { Leaves (O.is_let_go output.new) (WasLetGo H.Snk.state H.Snk.is_let_go)
         (outside (I.state input.old) (O.state output.old) (H.faults host.old)
         (H.books host.old))
         (outside (I.state input.new) (O.state output.new) (H.faults host.new)

@@ -17,4 +17,4 @@ returns-clause-status g c = causes.status_says _ _ _ _ _ _ c.code.ensures c.end_
 
 pub returns-clause-unstarted : goal.returns-clause-unstarted
 returns-clause-unstarted g c z =
-    causes.unstarted _ _ _ _ _ c.end_of-ending.ensures (sym c.code.ensures ∙ z) (λ f left e. unstarted _ _ f left e)
+    causes.unstarted _ _ _ _ _ c.end_of-ending.ensures (sym c.code.ensures ∙ z) (λ f left e. unstarted _ _ _ _ f left e)

@@ -18,5 +18,5 @@ loop-preserved g c = record {
 
 pub returns-then-is_last-clause-passed : goal.returns-then-is_last-clause-passed
 returns-then-is_last-clause-passed g c =
-    passed_all _ _ _ _ _ _ _ _ _ _ _ _ c.loop.invariant.passing c.pass_turn-turn.ensures.turned (sym c.is_last.ensures ∙ c.if-is_last.true) _ _ c.end.ensures.ends _ c.let_go.ensures _
+    passed_all _ _ _ _ _ _ _ _ _ _ _ _ c.loop.invariant.passing c.pass_turn-turn.ensures.turned (sym c.is_last.ensures ∙ c.if-is_last.true) _ _ c.end_pass.ensures.ends _ c.end_pass.ensures.shown _
     c.has_failed_to_read.ensures c.has_failed_to_write.ensures c.has_lacked_memory.ensures

@@ -61,5 +61,7 @@ returns g c =
             log = c.open_log-log.ensures.fresh;
             run_told = ap (λ (b : Books). b.runs) all;
             log_told = told_or_none g.H.Log.Sink.state c.run_tap-end.new.log _ (ap (λ (b : Books). b.logs) all);
+            output_gone = c.run_tap-end.ensures.output_gone;
+            engine_gone = (c.run_tap-end.new.engine, refl, c.run_tap-end.ensures.engine_gone);
           };
     }
