@@ -6,18 +6,20 @@ use Rattle.std.specs.Io.KnownBytes.{Appends}
 use Rattle.line_io.specs.Causes.{Rose}
 use Rattle.line_io.specs.Lines.{Piece, items}
 use Rattle.line_io.specs.Runs.{whole}
+use Rattle.policy_rules.specs.Policy.{IsProper}
 use Rattle.policy_rules.specs.declared.settings.Settings.{Settings}
 use Rattle.game_record.specs.Game.{Game}
 use Rattle.adapter_core.specs.Trace.{Step, Lawful}
 use Rattle.adapter_core.specs.Parts.{Parts}
 use Rattle.adapter_core.specs.Stands.{Stands}
+use Rattle.adapter_core.proofs.Holds.{stands_first}
 use Rattle.adapter_core.proofs.Unique.{unique}
 use Rattle.session_script.specs.Script.{events}
 use Rattle.session_script.proofs.Scripts.{same_trace}
 use Rattle.command_endings.specs.declared.ending.Ending.{Ending}
 use Rattle.command_endings.specs.declared.ending.Ending.TheVariants as endings
 use Rattle.command_endings.specs.Diagnostics.{code_of, diagnostic, tail_of}
-use Rattle.command_endings.specs.Ran.{WritingBroke}
+use Rattle.command_endings.specs.Ran.{Ran, WritingBroke}
 use Rattle.command_endings.specs.Reads.{AreFirst, AreRead, IsAll}
 use Rattle.command_endings.specs.Streams.{Streams, AreSame}
 use Rattle.command_endings.specs.Told.{Told}
@@ -25,11 +27,12 @@ use Rattle.script_player.specs.Stages.{IsNumbered}
 use Rattle.script_player.specs.Versions.{script_events, script_fault, settings_by, version_in}
 use Rattle.script_player.proofs.VersionLines.{script_fault_stays}
 use Rattle.line_scribe.specs.Outcomes.{LineReported, Outcome, WroteLast}
+use Rattle.line_scribe.proofs.Outcomes.{memory_ran, outcome}
 use Rattle.line_scribe.specs.Putting.{IsOfLine}
-use Rattle.line_scribe.specs.Scribed.{IsText, WroteFront, WroteAll, WroteWhole}
+use Rattle.line_scribe.specs.Scribed.{EndsBy, IsText, WroteFront, WroteAll, WroteWhole}
 use Rattle.session_games.specs.declared.writer.GameWriter.{GameWriter}
 use Rattle.session_games.specs.Games.{game_of, games_over, games_text, running}
-use Rattle.session_games.specs.Gathering.{Faulted, Finished, Gathered, HasSession, IsUnused, MayGather, Says, text_all, text_over, unseen, writes_games}
+use Rattle.session_games.specs.Gathering.{Faulted, Finished, Gathered, HasSession, IsUnused, MayGather, Says, fresh, text_all, text_over, unseen, writes_games}
 use Rattle.session_games.specs.GamesWritten.{AllWritten, CompletesGames, FaultReported, FrontWritten, GamesWritten, IsSession, MuchWritten, TellsFault, WholeWritten, WritesGames}
 use Rattle.session_games.proofs.Sessions.{games_text-append}
 
@@ -37,6 +40,9 @@ use Rattle.session_games.proofs.Sessions.{games_text-append}
 
 settings_at_first : (o : Settings) (core : Parts) → Stands o core [] → core.settings ≡ o
 settings_at_first o core st = ap (λ (v : Parts). v.settings) st.0
+
+unused_fresh : (o : Settings) → IsProper o → IsUnused o (fresh o)
+unused_fresh o p = record { is_start = refl; stands = stands_first o p; same = refl }
 
 pub may_gather : (o : Settings) (w : GameWriter) → IsUnused o w → MayGather w
 may_gather o w u = record {
@@ -86,42 +92,12 @@ front_over q trace n =
     let f = front_of_more n (text_over q trace) (games_text last) in
     (f.0, f.1 ∙ ap (take f.0) (sym (games_text-append (games_over q trace) last)))
 
--- WANT OF MEMORY
-
-short_of_memory : (o : Settings) (Unread Kept : Type 0) (start now : Streams) (code : ℕ) → Unread → Kept → (text : List ℕ) → Told code 3 text start.diag now.diag → GamesWritten o Unread Kept start now code
-short_of_memory o Unread Kept start now code unread kept text (inl t) =
-    let z = t.0 in
-    record {
-      all_written = λ c. let n = sym c ∙ z in cc;
-      no_other = λ c. let n = sym c ∙ z in cc;
-      fault_reported = λ c. let n = sym c ∙ z in cc;
-      memory = λ c. (unread, kept);
-      reading_failed = λ c. let n = sym c ∙ z in cc;
-      writing_failed = λ c. let n = sym c ∙ z in cc;
-      too_long = λ c. let n = sym c ∙ z in cc;
-      complete = λ x e l n s. inr z;
-      faults_told = λ x f e l n s. inr z;
-    }
-short_of_memory o Unread Kept start now code unread kept text (inr t) =
-    let z = t.0 in
-    record {
-      all_written = λ c. let n = sym c ∙ z in cc;
-      no_other = λ c. let n = sym c ∙ z in cc;
-      fault_reported = λ c. let n = sym c ∙ z in cc;
-      memory = λ c. (unread, kept);
-      reading_failed = λ c. let n = sym c ∙ z in cc;
-      writing_failed = λ c. (inr t.1, inl (unread, kept));
-      too_long = λ c. let n = sym c ∙ z in cc;
-      complete = λ x e l n s. absurd (s.told t.1);
-      faults_told = λ x f e l n s. absurd (s.told t.1);
-    }
-
-pub want_of_memory : (o : Settings) (Unread Kept : Type 0) (start now : Streams) (code : ℕ) → Unread → Kept → Told code (code_of endings.NoMemory) (tail_of endings.NoMemory) start.diag now.diag → GamesWritten o Unread Kept start now code
-want_of_memory o Unread Kept start now code unread kept told = short_of_memory o Unread Kept start now code unread kept (tail_of endings.NoMemory) told
-
 -- WHAT THE STATUS SAYS
 
-module _ (o : Settings) (w0 : GameWriter) (unused : IsUnused o w0) (Unread Kept : Type 0) (start now : Streams) (code : ℕ) (out : Outcome writes_games w0 (Unread × Kept) start now code) where
+module _ (o : Settings) (w0 : GameWriter) (is_new : w0 ≡ fresh o) (unused : IsUnused o w0) (Unread Kept : Type 0) (start now : Streams) (code : ℕ) (ran : Ran (λ e. EndsBy writes_games w0 (Unread × Kept) e start now) start now code) where
+  out : Outcome writes_games w0 (Unread × Kept) start now code
+  out = outcome writes_games w0 (Unread × Kept) start now code ran
+
   abbrev Wrote : List ℕ → Type 0
   Wrote text = Appends start.output.taken now.output.taken text
 
@@ -280,6 +256,7 @@ module _ (o : Settings) (w0 : GameWriter) (unused : IsUnused o w0) (Unread Kept 
 
   pub games_written : GamesWritten o Unread Kept start now code
   games_written = record {
+    ended = subst (λ (w : GameWriter). Ran (λ e. EndsBy writes_games w (Unread × Kept) e start now) start now code) is_new ran;
     all_written = λ z. let d = out.done z in all_by d.0 d.1;
     no_other = no_other;
     fault_reported = λ z. reported 2 (out.fault z);
@@ -290,3 +267,10 @@ module _ (o : Settings) (w0 : GameWriter) (unused : IsUnused o w0) (Unread Kept 
     complete = complete;
     faults_told = faults_told;
   }
+
+-- WANT OF MEMORY
+
+pub want_of_memory : (o : Settings) → IsProper o → (Unread Kept : Type 0) (start now : Streams) (code : ℕ) → Unread → Kept → now.input ≡ start.input → now.output ≡ start.output
+    → Told code 3 (tail_of endings.NoMemory) start.diag now.diag → GamesWritten o Unread Kept start now code
+want_of_memory o proper Unread Kept start now code unread kept i u t =
+    games_written o (fresh o) refl (unused_fresh o proper) Unread Kept start now code (memory_ran writes_games (fresh o) (Unread × Kept) start now code (unread, kept) i u t)

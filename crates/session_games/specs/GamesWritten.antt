@@ -14,8 +14,9 @@ use Rattle.command_endings.specs.Diagnostics.{diagnostic}
 use Rattle.command_endings.specs.Ran.{Ran, WritingBroke}
 use Rattle.command_endings.specs.Reads.{AreFirst, AreRead, Got, IsAll}
 use Rattle.command_endings.specs.Streams.{Streams, AreSame, IsSteady}
+use Rattle.line_scribe.specs.Scribed.{EndsBy}
 use Rattle.script_player.specs.Versions.{script_events, script_fault, settings_by, version_in}
-use Rattle.session_games.specs.Gathering.{text_all, text_over}
+use Rattle.session_games.specs.Gathering.{fresh, text_all, text_over, writes_games}
 use Rattle.line_io.specs.declared.limits.TheConstants.{SCRIPT_LINE}
 
 -- The trace is the one lawful session of these lines: its settings are the header's, if there is one,
@@ -92,6 +93,9 @@ TellsFault before after code =
 -- `Unread` and `Kept` say that the input and the output are just as they were.
 pub record GamesWritten (o : Settings) (Unread Kept : Type 0) (before after : Streams)
     (code : ℕ) : Type 0 where
+  -- The status, the diagnostic and the counts are those of one ending.
+  pub ended : Ran (λ ending. EndsBy writes_games (fresh o) (Unread × Kept) ending before after)
+      before after code
   -- what each status says
   pub all_written : code ≡ 0 → AllWritten o before after
   pub no_other : code ≡ 1 → ⊥

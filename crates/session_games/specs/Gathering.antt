@@ -6,7 +6,8 @@ use Rattle.line_io.specs.Out.{Text, with}
 use Rattle.line_io.specs.Source.{Received}
 use Rattle.policy_rules.specs.declared.settings.Settings.{Settings}
 use Rattle.adapter_core.specs.Trace.{Step, Lawful}
-use Rattle.adapter_core.specs.Parts.{Parts}
+use Rattle.desk_rules.specs.Desk.{opening_desk}
+use Rattle.adapter_core.specs.Parts.{Parts, opening}
 use Rattle.adapter_core.specs.Stands.{Stands}
 use Rattle.session_script.specs.Script.{IsShortStep, events}
 use Rattle.command_endings.specs.declared.ending.Ending.{Ending}
@@ -50,6 +51,10 @@ HasOpened None core core' stage' more =
 HasOpened (Some settings) core core' stage' more =
     (set : Parts) × Stands settings set [] × GameSteps set core' Open more
     × (stage' ≡ stages.Headed)
+
+-- the writer that is made with these settings
+abbrev pub fresh : Settings → GameWriter
+fresh settings = record { core = opening settings; stage = stages.Start; game = opening_desk.game }
 
 -- a writer before its first line
 pub record IsUnused (o : Settings) (writer : GameWriter) : Type 0 where

@@ -8,6 +8,3 @@ mod writer;
 
 pub use run::write_games;
 pub use writer::GameWriter;
-
-#[cfg(test)]
-mod tests;

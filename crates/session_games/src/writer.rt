@@ -8,7 +8,7 @@ ghost use Rattle.adapter_core.specs.Stands.{Stands};
 ghost use Rattle.script_player.specs.Stages.{IsNumbered, is_start};
 ghost use Rattle.script_player.specs.Versions.{fault_said, kind_of, kind_says};
 ghost use Rattle.session_games.specs.Following.{IsReached};
-ghost use Rattle.session_games.specs.Gathering.{GameSteps, Gathers, HasOpened, HasPut, IsUnused, MayGather};
+ghost use Rattle.session_games.specs.Gathering.{GameSteps, Gathers, HasOpened, HasPut, IsUnused, MayGather, fresh};
 ghost use Rattle.game_text.specs.declared.write.TheConstants.{GAME_ROOM};
 
 use crate::follow::follow;
@@ -69,6 +69,7 @@ impl GameWriter {
     /// A session before the first line. It takes all memory that it ever uses.
     pub fn make(alloc: Global, settings: &Settings) -> Result<GameWriter, NoMemory>
         requires { IsProper settings.now }
+        ensures new { IfOk result (λ writer. writer ≡ fresh settings.now) }
         ensures unused { IfOk result (λ writer. IsUnused settings.now writer) }
     {
         Ok(GameWriter {

@@ -1,7 +1,5 @@
 use Rattle.std.proofs.Common.{refl}
 use Rattle.command_endings.specs.Streams.{Streams, streams}
-use Rattle.line_scribe.proofs.Outcomes.{outcome}
-use Rattle.session_games.specs.Gathering.{writes_games}
 use Rattle.session_games.proofs.Written.{games_written, may_gather, nothing_gathered, want_of_memory}
 use Rattle.session_games.proofs.run.write_games.Goals as goal
 
@@ -12,11 +10,11 @@ pub run_scribe-requires-clause-fresh : goal.run_scribe-requires-clause-fresh
 run_scribe-requires-clause-fresh g c = nothing_gathered c.in-Ok.writer
 
 pub returns-in_default : goal.returns-in_default
-returns-in_default g c = want_of_memory c.args.settings.now _ _ _ _ _ refl refl c.tell_short.ensures
+returns-in_default g c = want_of_memory c.args.settings.now c.requires _ _ _ _ _ refl refl refl refl c.tell_short.ensures
 
 pub returns : goal.returns
 returns g c =
     let start : Streams = streams (g.I.Source.state c.args.input.now) (g.O.Sink.state c.args.output.now) (g.D.Sink.state c.args.diag.now) in
     let now : Streams = streams (g.I.Source.state c.run_scribe.new.input) (g.O.Sink.state c.run_scribe.new.output) (g.D.Sink.state c.run_scribe.new.diag) in
     let writer = c.in-Ok.writer in
-    games_written c.args.settings.now writer c.in-Ok.ensures.unused _ _ start now _ (outcome writes_games writer _ start now _ c.run_scribe.ensures)
+    games_written c.args.settings.now writer c.in-Ok.ensures.new c.in-Ok.ensures.unused _ _ start now _ c.run_scribe.ensures
