@@ -20,7 +20,7 @@ use Rattle.driver_lines.specs.declared.words.Ordered.{Ordered}
 use Rattle.driver_lines.specs.declared.words.Ordered.TheVariants as orders
 use Rattle.driver_lines.specs.Says.{Says, Move as SaysMove, Over, Pong, Report, Feature}
 use Rattle.driver_lines.specs.Says as says
-use Rattle.driver_lines.specs.Moves.{if_legal, coordinates, Names, NamesNone, is_castling, IsAlone, ShownBy, IsShown, IsThought, IsFirstMove}
+use Rattle.driver_lines.specs.Moves.{if_legal, coordinates, Writes, Names, NamesNone, is_castling, IsAlone, ShownBy, IsShown, IsThought, IsFirstMove}
 use Rattle.cecp_driver.specs.declared.driver.Parts.{Parts}
 use Rattle.cecp_driver.specs.declared.told.TheConstants.{MOST_PLIES}
 use Rattle.cecp_driver.specs.Deeds.{CanSay}
@@ -64,9 +64,13 @@ shown_by false p text shown h = subst (AllLegal p) (sym h) (if_legal_is p (move_
 shown_legal : (p : Position) (text : List ℕ) (shown : Option Move) → IsShown p text shown → AllLegal p shown
 shown_legal p text shown h = shown_by (is_castling text) p text shown h
 
+written_legal : (p : Position) (text : List ℕ) (m : Move) → Writes p text m → legal p m ≡ true
+written_legal p text m (inl alone) = is_legal p m alone.0.0
+written_legal p text m (inr long) = is_legal p m long.1.0.0
+
 named_legal : (p : Position) (text : List ℕ) (m : Move) → Names p text m → legal p m ≡ true
 named_legal p text m (inl e) = subst (AllLegal p) e (if_legal_is p (move_of text))
-named_legal p text m (inr both) = is_legal p m both.1.0.0
+named_legal p text m (inr both) = written_legal p text m both.1
 
 thought_legal : (p : Position) (ts : List (List ℕ)) (best : Option Move) → IsThought p ts best → AllLegal p best
 thought_legal p [] best h = subst (AllLegal p) (sym h) tt

@@ -1,3 +1,4 @@
 mod Counts
 mod Busy
 mod Silent
+mod Pings

@@ -1,5 +1,6 @@
 -- Laws of every list of calls. The lists have the newest call first.
 use Rattle.std.specs.Prelude.{ℕ, ◌≡◌, ◌+◌, ◌⊎◌, if◌then◌else◌, Bool, true, false, ◌&&◌, ◌||◌, List, [], ◌∷◌, Option, Some, None, IsSome}
+use Rattle.std.specs.Option.{option_or}
 use Rattle.chess_board.specs.declared.board.Move.{Move}
 use Rattle.peer_words.specs.declared.kinds.GoKind.{GoKind}
 use Rattle.peer_words.specs.declared.kinds.GoKind.TheVariants as kinds
@@ -112,3 +113,35 @@ HasNoMove t c = ⊥
 -- `bestmove 0000` comes only so.
 abbrev pub NoMoveHasCause : Type 0
 NoMoveHasCause = (t : Talk) (c : Call) → (turn_of t c).deed.up ≡ ups.Best None → HasNoMove t c
+
+-- PINGS
+
+-- the number of the ping that is written
+abbrev pub written_ping : Down → Option ℕ
+written_ping (downs.Analyse clocks ping) = ping
+written_ping (downs.Leave ping) = Some ping
+written_ping (downs.Retreat ping) = Some ping
+written_ping down = None
+
+-- the last ping that was written
+abbrev pub last_ping : List Call → Option ℕ
+last_ping [] = None
+last_ping (c ∷ cs) = option_or (written_ping (deed_after cs c).down) (last_ping cs)
+
+-- A ping that is awaited was written, and none behind it.
+abbrev pub AwaitedWasWritten : Type 0
+AwaitedWasWritten = (cs : List Call) (n : ℕ) → (run cs).awaited ≡ Some n → last_ping cs ≡ Some n
+
+abbrev pub begins_search : Down → Bool
+begins_search (downs.Analyse clocks ping) = true
+begins_search down = tells_to_think down
+
+-- no ping is awaited, or this call is its pong
+abbrev pub IsAnswered : Option ℕ → Call → Type 0
+IsAnswered None c = Unit {0}
+IsAnswered (Some ping) (calls.Pong n) = ping ≡ n
+IsAnswered (Some ping) c = ⊥
+
+-- The engine is told to think or to analyse only if no ping is awaited, or by the pong.
+abbrev pub PongsComeFirst : Type 0
+PongsComeFirst = (t : Talk) (c : Call) → begins_search (turn_of t c).deed.down ≡ true → IsAnswered t.awaited c

@@ -1,5 +1,6 @@
 // Laws of every list of calls: functions that do nothing, whose contracts are the laws.
 ghost use Rattle.driver_talk.specs.Laws.{AnsweredOnce, OpenIsBusy, MovesAreIgnored, NoMoveHasCause};
+ghost use Rattle.driver_talk.specs.Laws.{AwaitedWasWritten, PongsComeFirst};
 
 /// Each `go` that is accepted gets one `bestmove` at most, and none comes without a `go`.
 pub fn searches_are_answered_once()
@@ -16,4 +17,11 @@ pub fn open_searches_are_busy()
 pub fn when_nothing_is_given()
     ensures ignored { MovesAreIgnored }
     ensures no_move { NoMoveHasCause }
+{}
+
+/// The `ping` that is awaited is the one written last, and before its `pong` the engine is told neither to think nor to
+/// analyse.
+pub fn searches_wait_for_pongs()
+    ensures written { AwaitedWasWritten }
+    ensures first { PongsComeFirst }
 {}

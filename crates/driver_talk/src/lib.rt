@@ -7,10 +7,11 @@
 mod laws;
 mod search;
 mod talk;
-#[cfg(test)]
-mod tests;
 mod words;
 
-pub use laws::{open_searches_are_busy, searches_are_answered_once, when_nothing_is_given};
+pub use laws::{
+    open_searches_are_busy, searches_are_answered_once, searches_wait_for_pongs,
+    when_nothing_is_given,
+};
 pub use talk::{Call, Reach, Stage, Talk, Turn, Wanted};
 pub use words::{Board, Clocks, Deed, Down, Next, Phase, Search, Thought, Up};

@@ -1,0 +1,8 @@
+use Rattle.driver_talk.proofs.Pings.{awaited_was_written, pongs_come_first}
+use Rattle.driver_talk.proofs.laws.searches_wait_for_pongs.Goals as goal
+
+pub returns-clause-written : goal.returns-clause-written
+returns-clause-written c = awaited_was_written
+
+pub returns-clause-first : goal.returns-clause-first
+returns-clause-first c = pongs_come_first
