@@ -9,3 +9,5 @@ mod fen;
 mod game;
 #[cfg(test)]
 mod san;
+#[cfg(test)]
+mod texts;

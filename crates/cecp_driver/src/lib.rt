@@ -13,8 +13,6 @@ mod ordered;
 mod played;
 mod same;
 mod script;
-#[cfg(test)]
-mod tests;
 mod told;
 
 pub use driver::{Both, DOWN_ROOM, Driver, LINE_LIMIT, UP_ROOM};

@@ -51,6 +51,10 @@ pub record IsUnwritten (sink : Received) : Type 0 where
   pub taken : IsFresh sink.taken
   pub faults : sink.faults ≡ 0
 
+-- it was shown by a sink that let go
+abbrev pub WasLetGo : {K : Type 0} → (K → Received) → (K → Type 0) → Received → Type 0
+WasLetGo {K} state is_let_go shown = (sink : K) × (state sink ≡ shown) × is_let_go sink
+
 -- The count doesn't fall, rose where the call failed, and is as before where it succeeded or where
 -- there was no memory.
 pub record FailsBy {T : Type 0} (before now : ℕ) (result : Result T HostFault) : Type 0 where

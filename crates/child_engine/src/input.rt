@@ -1,5 +1,5 @@
 // The input of an engine.
-ghost use Rattle.std.specs.Prelude.{◌≡◌, ◌<◌, ◌≤◌, length, take, not, None, IfOk, OnErr, IsErr, false};
+ghost use Rattle.std.specs.Prelude.{◌≡◌, ◌<◌, ◌≤◌, ⊤, length, take, not, None, IfOk, OnErr, IsErr, false};
 ghost use Rattle.std.specs.Io.KnownBytes.{WriteAppends};
 ghost use Rattle.line_io.specs.Causes.{HasCause};
 
@@ -9,15 +9,23 @@ use std::io::Write;
 /// A sink that can let go of what it writes to, so that an engine that reads there meets the end of
 /// its input. What the sink shows stays as it is. Nothing is to be written to it from then on.
 pub trait LetGo: Sink {
+    /// It let go. This holds of a sink that has nothing to let go of.
+    ghost is_let_go: { Self → Type 0 };
+
     fn let_go(&mut self)
-        ensures { Self.state self.new ≡ Self.state self.old };
+        ensures shown { Self.state self.new ≡ Self.state self.old }
+        ensures gone { is_let_go self.new };
 }
 
 impl LetGo for MemSink {
+    ghost is_let_go = { λ _. ⊤ };
+
     fn let_go(&mut self) {}
 }
 
 impl LetGo for NullSink {
+    ghost is_let_go = { λ _. ⊤ };
+
     fn let_go(&mut self) {}
 }
 
@@ -128,6 +136,8 @@ impl<W: Write + Drop> Sink for EngineInput<W> {
 impl<W: Write + Drop> LetGo for EngineInput<W> {
     ghost use Rattle.std.specs.Prelude.{◌≡◌};
     ghost use Rattle.child_engine.specs.Input.{shown_by, is_open};
+
+    ghost is_let_go = { λ s. is_open s ≡ false };
 
     fn let_go(&mut self)
         ensures shown { shown_by self.new ≡ shown_by self.old }

@@ -3,8 +3,6 @@
 
 mod ending;
 mod limits;
-#[cfg(test)]
-mod tests;
 
 pub use ending::{Ending, tell, tell_short, write_lines};
 pub use limits::{LINE_ROOM, TEXT_ROOM};

@@ -4,7 +4,5 @@
 
 mod run;
 mod scribe;
-#[cfg(test)]
-mod tests;
 
 pub use run::run_drive;

@@ -2,6 +2,8 @@
 #![tactic(auto)]
 
 #[cfg(test)]
+mod calls;
+#[cfg(test)]
 mod loops;
 #[cfg(test)]
 mod program;
@@ -13,3 +15,5 @@ mod sessions;
 mod talk;
 #[cfg(test)]
 mod talking_host;
+#[cfg(test)]
+mod turns;

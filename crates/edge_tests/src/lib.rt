@@ -2,7 +2,13 @@
 #![tactic(auto)]
 
 #[cfg(test)]
+mod edges;
+#[cfg(test)]
+mod hosts;
+#[cfg(test)]
 mod lines;
+#[cfg(test)]
+mod offers;
 #[cfg(test)]
 mod pipe;
 #[cfg(test)]

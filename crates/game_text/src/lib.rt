@@ -11,6 +11,3 @@ mod write;
 
 pub use laws::sans_are_lawful;
 pub use write::{GAME_ROOM, write_game};
-
-#[cfg(test)]
-mod tests;

@@ -10,6 +10,8 @@ mod iface_side;
 #[cfg(test)]
 mod script;
 #[cfg(test)]
+mod talk;
+#[cfg(test)]
 mod uci;
 #[cfg(test)]
 mod words;

@@ -6,8 +6,6 @@ mod ending;
 mod failures;
 mod log;
 mod readers;
-#[cfg(test)]
-mod tests;
 mod threads;
 
 pub use ending::{Ending, tell};

@@ -7,6 +7,3 @@ mod text;
 
 pub use report::{LAST_LINES, Report};
 pub use run::run_judge;
-
-#[cfg(test)]
-mod tests;

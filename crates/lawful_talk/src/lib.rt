@@ -22,17 +22,3 @@ pub fn scripts_are_clean(settings: Settings)
 {
     let _ = settings;
 }
-
-#[cfg(test)]
-mod tests {
-    use super::{logs_are_clean, scripts_are_clean};
-    use policy_rules::Settings;
-    use std::test::Fail;
-
-    #[test]
-    fn laws_can_be_called(_rt: HostRuntime) -> Result<(), Fail> {
-        logs_are_clean(Settings::usual());
-        scripts_are_clean(Settings::usual());
-        Ok(())
-    }
-}

@@ -4,9 +4,10 @@ use Rattle.std.specs.Io.KnownBytes.{Appends}
 use Rattle.line_io.specs.Causes.{Rose}
 use Rattle.line_io.specs.Lines.{items}
 use Rattle.line_io.specs.Runs.{whole}
+use Rattle.line_io.specs.Source.{Received, Supplied}
 use Rattle.command_endings.specs.declared.ending.Ending.{Ending}
 use Rattle.command_endings.specs.declared.ending.Ending.TheVariants as endings
-use Rattle.command_endings.specs.Diagnostics.{code_of, diagnostic}
+use Rattle.command_endings.specs.Diagnostics.{code_of, diagnostic, tail_of}
 use Rattle.command_endings.specs.Ran.{Ran, WritingBroke}
 use Rattle.command_endings.specs.Reads.{AreFirst, AreRead, IsAll}
 use Rattle.command_endings.specs.Streams.{Streams, AreSame, IsSteady}
@@ -197,3 +198,16 @@ module _ {S : Type 0} (means : Putting S) (s0 : S) (U : Type 0) (start now : Str
     too_long = λ z. (ending_is endings.TooLong 6 (λ a. cc) is_long z).1;
     complete = λ x e l s. complete_of r.ending refl r.ends r.tells x e l s;
   }
+
+-- a run for which there was no memory
+pub memory_ran : {S : Type 0} (means : Putting S) (s0 : S) (U : Type 0) (start now : Streams) (code : ℕ) → U → now.input ≡ start.input → now.output ≡ start.output
+    → Told code 3 (tail_of endings.NoMemory) start.diag now.diag → Ran (λ e. EndsBy means s0 U e start now) start now code
+memory_ran means s0 U start now code u i o t = record {
+  ending = endings.NoMemory;
+  ends = u;
+  tells = t;
+  reading = λ z. cc;
+  writing = λ z. cc;
+  read = λ a b. ap (λ (x : Supplied). x.faults) i;
+  written = λ a. ap (λ (x : Received). x.faults) o;
+}

@@ -9,8 +9,6 @@ mod play;
 mod replay;
 mod run;
 mod settings;
-#[cfg(test)]
-mod tests;
 mod verdict;
 
 pub use replay::{refuse_for_memory, replay_main};

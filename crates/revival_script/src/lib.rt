@@ -3,8 +3,6 @@
 
 mod reviver;
 mod run;
-#[cfg(test)]
-mod tests;
 
 pub use reviver::Reviver;
 pub use run::run_revive;

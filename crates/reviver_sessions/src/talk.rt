@@ -174,5 +174,9 @@ impl<'a> Sink for Telling<'a> {
 }
 
 impl<'a> LetGo for Telling<'a> {
+    ghost use Rattle.std.specs.Prelude.{⊤};
+
+    ghost is_let_go = { λ _. ⊤ };
+
     fn let_go(&mut self) {}
 }

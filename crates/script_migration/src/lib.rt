@@ -3,7 +3,5 @@
 
 mod migration;
 mod run;
-#[cfg(test)]
-mod tests;
 
 pub use run::migrate;

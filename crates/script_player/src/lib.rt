@@ -4,8 +4,6 @@
 
 mod player;
 mod stage;
-#[cfg(test)]
-mod tests;
 
 pub use player::Player;
 pub use stage::{Said, Stage};

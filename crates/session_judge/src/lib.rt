@@ -13,6 +13,3 @@ pub use deed::{Deed, Order, deed_of};
 pub use judge::Judge;
 pub use rule::Rule;
 pub use search::Search;
-
-#[cfg(test)]
-mod tests;

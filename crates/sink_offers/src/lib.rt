@@ -2,7 +2,5 @@
 #![tactic(auto)]
 
 mod offering;
-#[cfg(test)]
-mod tests;
 
 pub use offering::{LoopEnd, offer, offer_log};

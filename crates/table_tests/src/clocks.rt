@@ -3,9 +3,11 @@ ghost use Rattle.clock_map.specs.Clocks.{AreShort};
 
 use cecp_lines::read_iface;
 use chess_board::Side;
+use chess_board::Side::{Black, White};
 use clock_map::{Clocks, clocks_stay_short, searches_are_short};
 use line_io::Out;
 use peer_words::GoKind;
+use peer_words::GoKind::{Analyse, Move, Ponder};
 use std::test::Fail;
 
 fn hear(clocks: &mut Clocks, line: &[u8])
@@ -27,111 +29,69 @@ fn write(clocks: &Clocks, side: Side, plies: u32, kind: GoKind, out: &mut Out)
     }
 }
 
+/// Two lines of the interface, what is searched, and the `go` line.
+const GO_LINES: [((&str, &str), (Side, u32, GoKind), &str); 12] = [
+    // a whole game, and a clock that ran out
+    (
+        ("", ""),
+        (White, 0, Move),
+        "go wtime 300000 btime 300000 winc 0 binc 0",
+    ),
+    (
+        ("time -50", ""),
+        (White, 0, Move),
+        "go wtime 1 btime 300000 winc 0 binc 0",
+    ),
+    (
+        ("time 29900", "otim 29800"),
+        (Black, 1, Move),
+        "go wtime 298000 btime 299000 winc 0 binc 0",
+    ),
+    // sessions of 40 moves
+    (
+        ("level 40 0:30 0.5", ""),
+        (White, 78, Move),
+        "go wtime 30000 btime 30000 winc 500 binc 500 movestogo 1",
+    ),
+    (
+        ("level 40 0:30 0.5", ""),
+        (White, 80, Move),
+        "go wtime 30000 btime 30000 winc 500 binc 500 movestogo 40",
+    ),
+    (
+        ("level 40 5 0", ""),
+        (Black, 1, Move),
+        "go wtime 300000 btime 300000 winc 0 binc 0 movestogo 40",
+    ),
+    (
+        ("level 40 5 0", ""),
+        (Black, 3, Ponder),
+        "go ponder wtime 300000 btime 300000 winc 0 binc 0 movestogo 39",
+    ),
+    (
+        ("level 40 5 0", "sd 8"),
+        (White, 0, Move),
+        "go wtime 300000 btime 300000 winc 0 binc 0 movestogo 40 depth 8",
+    ),
+    // a time for each move
+    (
+        ("st 0.5", "sd 6"),
+        (White, 0, Move),
+        "go movetime 500 depth 6",
+    ),
+    (("st 0", "sd 0"), (White, 0, Ponder), "go ponder movetime 1"),
+    (
+        ("st 0.5", "level 0 2:30 1.5"),
+        (Black, 1, Move),
+        "go wtime 150000 btime 150000 winc 1500 binc 1500",
+    ),
+    (("st 0.5", "sd 6"), (White, 0, Analyse), "go infinite"),
+];
+
 #[test]
 fn writes_the_go_lines(rt: HostRuntime) -> Result<(), Fail> {
     let mut out = Out::make(rt.alloc(), 113)?;
-    let lines = [
-        // a whole game, and a clock that ran out
-        (
-            "",
-            "",
-            Side::White,
-            0,
-            GoKind::Move,
-            "go wtime 300000 btime 300000 winc 0 binc 0",
-        ),
-        (
-            "time -50",
-            "",
-            Side::White,
-            0,
-            GoKind::Move,
-            "go wtime 1 btime 300000 winc 0 binc 0",
-        ),
-        (
-            "time 29900",
-            "otim 29800",
-            Side::Black,
-            1,
-            GoKind::Move,
-            "go wtime 298000 btime 299000 winc 0 binc 0",
-        ),
-        // sessions of 40 moves
-        (
-            "level 40 0:30 0.5",
-            "",
-            Side::White,
-            78,
-            GoKind::Move,
-            "go wtime 30000 btime 30000 winc 500 binc 500 movestogo 1",
-        ),
-        (
-            "level 40 0:30 0.5",
-            "",
-            Side::White,
-            80,
-            GoKind::Move,
-            "go wtime 30000 btime 30000 winc 500 binc 500 movestogo 40",
-        ),
-        (
-            "level 40 5 0",
-            "",
-            Side::Black,
-            1,
-            GoKind::Move,
-            "go wtime 300000 btime 300000 winc 0 binc 0 movestogo 40",
-        ),
-        (
-            "level 40 5 0",
-            "",
-            Side::Black,
-            3,
-            GoKind::Ponder,
-            "go ponder wtime 300000 btime 300000 winc 0 binc 0 movestogo 39",
-        ),
-        (
-            "level 40 5 0",
-            "sd 8",
-            Side::White,
-            0,
-            GoKind::Move,
-            "go wtime 300000 btime 300000 winc 0 binc 0 movestogo 40 depth 8",
-        ),
-        // a time for each move
-        (
-            "st 0.5",
-            "sd 6",
-            Side::White,
-            0,
-            GoKind::Move,
-            "go movetime 500 depth 6",
-        ),
-        (
-            "st 0",
-            "sd 0",
-            Side::White,
-            0,
-            GoKind::Ponder,
-            "go ponder movetime 1",
-        ),
-        (
-            "st 0.5",
-            "level 0 2:30 1.5",
-            Side::Black,
-            1,
-            GoKind::Move,
-            "go wtime 150000 btime 150000 winc 1500 binc 1500",
-        ),
-        (
-            "st 0.5",
-            "sd 6",
-            Side::White,
-            0,
-            GoKind::Analyse,
-            "go infinite",
-        ),
-    ];
-    for (first, second, side, plies, kind, want) in lines {
+    for ((first, second), (side, plies, kind), want) in GO_LINES {
         let mut clocks = Clocks::new();
         hear(&mut clocks, first.as_bytes());
         hear(&mut clocks, second.as_bytes());
@@ -150,7 +110,7 @@ fn begins_a_new_game(rt: HostRuntime) -> Result<(), Fail> {
     hear(&mut clocks, b"time 100");
     hear(&mut clocks, b"sd 3");
     clocks.reset();
-    write(&clocks, Side::White, 0, GoKind::Move, &mut out);
+    write(&clocks, White, 0, Move, &mut out);
     assert_eq!(rt;
         out.bytes(),
         b"go wtime 60000 btime 60000 winc 2000 binc 2000".as_slice()

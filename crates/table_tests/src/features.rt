@@ -27,19 +27,8 @@ fn write(options: &Options, name: &str, out: &mut Out) {
     }
 }
 
-#[test]
-fn writes_the_list(rt: HostRuntime) -> Result<(), Fail> {
-    let mut out = Out::make(rt.alloc(), 3_000)?;
-    let engines: [(&str, &[&str], &str); 4] = [
-        (
-            "Toy 1.0",
-            &[
-                "option name Hash type spin default 16 min 1 max 1024",
-                "option name Ponder type check default false",
-                "option name Style type combo default Normal var Solid var Normal var Risky",
-            ],
-            "feature myname=\"Toy 1.0\"
-feature ping=1
+/// What each list has behind the engine's name.
+const USUAL: &str = "feature ping=1
 feature setboard=1
 feature playother=1
 feature san=0
@@ -52,63 +41,50 @@ feature reuse=1
 feature analyze=1
 feature variants=\"normal\"
 feature colors=0
-feature memory=1
+";
+
+/// The name and the options of an engine, the name that is shown, and what the list has behind the
+/// usual lines.
+const ENGINES: [(&str, &[&str], &str, &str); 4] = [
+    (
+        "Toy 1.0",
+        &[
+            "option name Hash type spin default 16 min 1 max 1024",
+            "option name Ponder type check default false",
+            "option name Style type combo default Normal var Solid var Normal var Risky",
+        ],
+        "Toy 1.0",
+        "feature memory=1
 feature smp=0
 feature option=\"Style -combo Solid /// *Normal /// Risky\"
 feature done=1
 ",
-        ),
-        (
-            "",
-            &["option name MultiPV type spin default 1 min 1 max 5"],
-            "feature myname=\"UCI engine\"
-feature ping=1
-feature setboard=1
-feature playother=1
-feature san=0
-feature usermove=1
-feature time=1
-feature draw=1
-feature sigint=0
-feature sigterm=0
-feature reuse=1
-feature analyze=1
-feature variants=\"normal\"
-feature colors=0
-feature memory=0
+    ),
+    (
+        "",
+        &["option name MultiPV type spin default 1 min 1 max 5"],
+        "UCI engine",
+        "feature memory=0
 feature smp=0
 feature option=\"MultiPV -spin 1 1 5\"
 feature done=1
 ",
-        ),
-        // some of what Stockfish 15.1 declares, with the path of a table base
-        (
-            "Stockfish 15.1",
-            &[
-                "option name Debug Log File type string default ",
-                "option name Threads type spin default 1 min 1 max 1024",
-                "option name Hash type spin default 16 min 1 max 33554432",
-                "option name NalimovPath type string default <empty>",
-                "option name Clear Hash type button",
-                "option name Ponder type check default false",
-                "option name UCI_Elo type spin default 1350 min 1350 max 2850",
-                "option name Use NNUE type check default true",
-            ],
-            "feature myname=\"Stockfish 15.1\"
-feature ping=1
-feature setboard=1
-feature playother=1
-feature san=0
-feature usermove=1
-feature time=1
-feature draw=1
-feature sigint=0
-feature sigterm=0
-feature reuse=1
-feature analyze=1
-feature variants=\"normal\"
-feature colors=0
-feature memory=1
+    ),
+    // some of what Stockfish 15.1 declares, with the path of a table base
+    (
+        "Stockfish 15.1",
+        &[
+            "option name Debug Log File type string default ",
+            "option name Threads type spin default 1 min 1 max 1024",
+            "option name Hash type spin default 16 min 1 max 33554432",
+            "option name NalimovPath type string default <empty>",
+            "option name Clear Hash type button",
+            "option name Ponder type check default false",
+            "option name UCI_Elo type spin default 1350 min 1350 max 2850",
+            "option name Use NNUE type check default true",
+        ],
+        "Stockfish 15.1",
+        "feature memory=1
 feature smp=1
 feature egt=\"nalimov\"
 feature option=\"Debug Log File -string \"
@@ -116,40 +92,37 @@ feature option=\"Clear Hash -button\"
 feature option=\"Use NNUE -check 1\"
 feature done=1
 ",
-        ),
-        // options of other kinds than the commands need
-        (
-            "Say \"no\"",
-            &[
-                "option name Hash type check default true",
-                "option name Threads type string default 4",
-                "option name NalimovPath type button",
-                "option name Number of Threads type spin default 1 min 1 max 16",
-            ],
-            "feature myname=\"UCI engine\"
-feature ping=1
-feature setboard=1
-feature playother=1
-feature san=0
-feature usermove=1
-feature time=1
-feature draw=1
-feature sigint=0
-feature sigterm=0
-feature reuse=1
-feature analyze=1
-feature variants=\"normal\"
-feature colors=0
-feature memory=0
+    ),
+    // options of other kinds than the commands need
+    (
+        "Say \"no\"",
+        &[
+            "option name Hash type check default true",
+            "option name Threads type string default 4",
+            "option name NalimovPath type button",
+            "option name Number of Threads type spin default 1 min 1 max 16",
+        ],
+        "UCI engine",
+        "feature memory=0
 feature smp=0
 feature option=\"Number of Threads -spin 1 1 16\"
 feature done=1
 ",
-        ),
-    ];
-    for (name, lines, want) in engines {
+    ),
+];
+
+/// A list: the name that is shown, the usual lines, and the others.
+fn listed(alloc: Global, name: &str, others: &str) -> Result<String, Fail> {
+    Ok(format!(in alloc; "feature myname=\"{name}\"\n{USUAL}{others}")?)
+}
+
+#[test]
+fn writes_the_list(rt: HostRuntime) -> Result<(), Fail> {
+    let mut out = Out::make(rt.alloc(), 3_000)?;
+    for (name, lines, shown, others) in ENGINES {
         let options = declared(&rt, rt.alloc(), lines)?;
         write(&options, name, &mut out);
+        let want = listed(rt.alloc(), shown, others)?;
         assert_eq!(rt; out.bytes(), want.as_bytes(), "{name}");
     }
     Ok(())
@@ -160,24 +133,8 @@ fn writes_the_bare_list(rt: HostRuntime) -> Result<(), Fail> {
     let mut out = Out::make(rt.alloc(), 1_000)?;
     feature_lists_are_short();
     write_bare_list(b"Toga II 3.0", &mut out);
-    let want = "feature myname=\"Toga II 3.0\"
-feature ping=1
-feature setboard=1
-feature playother=1
-feature san=0
-feature usermove=1
-feature time=1
-feature draw=1
-feature sigint=0
-feature sigterm=0
-feature reuse=1
-feature analyze=1
-feature variants=\"normal\"
-feature colors=0
-feature memory=0
-feature smp=0
-feature done=1
-";
+    let others = "feature memory=0\nfeature smp=0\nfeature done=1\n";
+    let want = listed(rt.alloc(), "Toga II 3.0", others)?;
     assert_eq!(rt; out.bytes(), want.as_bytes());
     Ok(())
 }

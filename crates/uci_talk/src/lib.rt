@@ -11,6 +11,3 @@ mod words;
 pub use kind::go_kind;
 pub use line::Spoken;
 pub use read::spoken;
-
-#[cfg(test)]
-mod tests;

@@ -27,3 +27,5 @@ mod session;
 mod settings;
 #[cfg(test)]
 mod start;
+#[cfg(test)]
+mod words;

@@ -1,7 +1,7 @@
 // Scripts that are played to engines that end.
-use crate::run_revive;
 use command_endings::Ending;
 use line_io::{MemSink, MemSource};
+use revival_script::run_revive;
 use std::alloc::Global;
 use std::process::Abort;
 use std::test::Fail;

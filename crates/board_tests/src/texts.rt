@@ -1,7 +1,7 @@
-use crate::{GAME_ROOM, sans_are_lawful, write_game};
 use chess_board::read_move;
 use fen_text::read_fen;
 use game_record::Game;
+use game_text::{GAME_ROOM, sans_are_lawful, write_game};
 use line_io::Out;
 use std::process::Abort;
 use std::test::Fail;

@@ -1,7 +1,7 @@
 // Orders as interfaces spell them.
-use crate::{go_kind, spoken};
 use fen_text::write_fen;
 use peer_words::GoKind;
+use uci_talk::{go_kind, spoken};
 
 const START: &[u8] = b"rnbqkbnr/pppppppp/8/8/8/8/PPPPPPPP/RNBQKBNR w KQkq - 0 1";
 

@@ -1,6 +1,6 @@
 // Worked sessions.
-use crate::{refuse_for_memory, replay_main};
 use line_io::{MemSink, MemSource};
+use replay_tool::{refuse_for_memory, replay_main};
 use std::alloc::Global;
 use std::test::Fail;
 

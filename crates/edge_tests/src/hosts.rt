@@ -1,10 +1,10 @@
 // Endings and what is reported of them.
-use crate::{
+use child_engine::{Fails, MemHost};
+use event_pipe::ReadEnd;
+use host_run::{
     Ending, Failures, Opened, TriedThreads, close_log, has_failed, has_lacked_memory,
     is_open_failure, is_open_memory, only_memory, only_start, open_log, tell,
 };
-use child_engine::{Fails, MemHost};
-use event_pipe::ReadEnd;
 use line_io::{MemSink, ReadFault, Sink};
 use std::test::Fail;
 

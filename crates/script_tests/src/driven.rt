@@ -1,6 +1,6 @@
 // Scripts of driven engines.
-use crate::run_drive;
 use command_endings::Ending;
+use driver_script::run_drive;
 use line_io::{MemSink, MemSource};
 use std::test::Fail;
 

@@ -1,7 +1,7 @@
 // A script as a session.
-use crate::Player;
 use line_io::{Lines, LinesEnd, MemSink, MemSource, SCRIPT_LINE, take_lines};
 use policy_rules::Settings;
+use script_player::Player;
 use std::test::Fail;
 
 const LOG: &[u8] =

@@ -1,8 +1,8 @@
 // Logs that break a rule, and logs that break none.
-use crate::{Judge, Rule, Search};
 use chess_board::read_move;
 use peer_words::GoKind;
 use script_lines::read_mark;
+use session_judge::{Judge, Rule, Search};
 use std::test::Fail;
 
 // Hears the lines of a log, and gives the line that breaks a rule.

@@ -1,6 +1,6 @@
 // Pieces offered to sinks in memory.
-use crate::{offer, offer_log};
 use line_io::MemSink;
+use sink_offers::{offer, offer_log};
 use std::test::Fail;
 
 #[test]

@@ -1,7 +1,7 @@
 // Scripts that are migrated.
-use crate::migrate;
 use line_io::{MemSink, MemSource};
 use policy_rules::Settings;
+use script_migration::migrate;
 use std::test::Fail;
 
 // A script of a session, and of the beginning of one that no bridge would write.

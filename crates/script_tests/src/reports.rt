@@ -1,6 +1,6 @@
 // Logs and the reports on them.
-use crate::{LAST_LINES, Report, run_judge};
 use command_endings::Ending;
+use judge_report::{LAST_LINES, Report, run_judge};
 use line_io::{MemSink, MemSource, Out};
 use std::test::Fail;
 

@@ -1,5 +1,5 @@
 // Endings, their statuses and their diagnostics.
-use crate::{Ending, tell, tell_short, write_lines};
+use command_endings::{Ending, tell, tell_short, write_lines};
 use line_io::{MemSink, Out, SCRIPT_LINE};
 use std::test::Fail;
 

@@ -1,5 +1,7 @@
 // Sessions, call by call: what each gives up to the interface, and to the engine.
-use crate::{Both, Driver, EVENT_ROOM, LINE_LIMIT, put_marks, searches_are_on_the_ordered_game};
+use cecp_driver::{
+    Both, Driver, EVENT_ROOM, LINE_LIMIT, put_marks, searches_are_on_the_ordered_game,
+};
 use line_io::{Event, Out};
 use std::test::Fail;
 
@@ -117,6 +119,37 @@ fn a_position_is_analysed(rt: HostRuntime) -> Result<(), Fail> {
         heard(b"10 +30 120 6000 d4", b"", b""),
         heard(b"pong 1", b"bestmove e2e4\n", b""),
         order(b"quit", b"", b"quit\n"),
+    ];
+    assert!(rt; plays(&mut driver, &rows));
+    Ok(())
+}
+
+#[test]
+fn moves_of_thinking_lines_are_read(rt: HostRuntime) -> Result<(), Fail> {
+    let mut driver = Driver::make(rt.alloc())?;
+    let rows = [
+        order(b"uci", b"", GREETING),
+        heard(FEATURES, READY, ANSWERS),
+        order(b"position startpos moves e2e4 a7a6 d2d4 h7h6", b"", b""),
+        order(
+            b"go infinite",
+            b"",
+            b"new\nforce\npost\nusermove e2e4\nusermove a7a6\nusermove d2d4\nusermove h7h6\nanalyze\n",
+        ),
+        heard(b"stat01: 0 1014 3 37 38 g1f3", b"", b""),
+        heard(
+            b"  3    208     0     1628  Ng1-f3  Ng8-f6  Nb1-c3  ",
+            b"info depth 3 score cp 208 time 0 nodes 1628 pv g1f3\n",
+            b"",
+        ),
+        heard(
+            b"  9    154    32   143184  Nb1-c3  e7-e6  Ng1-f3  Ng8-f6  Bc1-f4",
+            b"info depth 9 score cp 154 time 320 nodes 143184 pv b1c3\n",
+            b"",
+        ),
+        heard(b"10 150 51 232645 Nb8-c6", b"", b""),
+        order(b"stop", b"", b"exit\nping 1\n"),
+        heard(b"pong 1", b"bestmove b1c3\n", b""),
     ];
     assert!(rt; plays(&mut driver, &rows));
     Ok(())

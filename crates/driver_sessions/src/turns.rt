@@ -1,0 +1,85 @@
+// Searches, call by call.
+use chess_board::{Move, Square};
+use driver_talk::{Board, Call, Clocks, Deed, Down, Reach, Talk, Up, Wanted};
+use peer_words::GoKind;
+use std::test::Fail;
+
+const CLOCKS: Clocks = Clocks {
+    wtime: 1000,
+    btime: 1000,
+    winc: 0,
+    binc: 0,
+    movetime: None,
+    movestogo: 0,
+    depth: 0,
+};
+
+/// From a1 to b1.
+fn some_move() -> Move {
+    Move {
+        from: Square { index: 0 },
+        to: Square { index: 1 },
+        promo: None,
+    }
+}
+
+fn wanted(kind: GoKind) -> Call {
+    Call::Go(Wanted {
+        kind,
+        clocks: CLOCKS,
+        first: Some(some_move()),
+        reach: Reach::Analyse,
+    })
+}
+
+fn same(up: Up, down: Down) -> Deed {
+    Deed {
+        up,
+        down,
+        board: Board::Same,
+    }
+}
+
+#[test]
+fn a_pondered_search_is_played(rt: HostRuntime) -> Result<(), Fail> {
+    let talk = Talk::new();
+    let turn = talk.step(Call::Uci);
+    assert_eq!(rt; turn.deed, same(Up::Nothing, Down::Greeting));
+    assert!(rt; turn.talk.is_free());
+    let turn = turn.talk.step(wanted(GoKind::Ponder));
+    let clocks = CLOCKS;
+    assert_eq!(rt;
+        turn.deed,
+        same(Up::Nothing, Down::Analyse { clocks, ping: None })
+    );
+    let turn = turn.talk.step(Call::PonderHit);
+    assert_eq!(rt; turn.deed, same(Up::Nothing, Down::Leave { ping: 1 }));
+    let turn = turn.talk.step(Call::Moved(Some(some_move())));
+    assert_eq!(rt; turn.deed, same(Up::Nothing, Down::Nothing));
+    let turn = turn.talk.step(Call::Pong(1));
+    assert_eq!(rt; turn.deed, same(Up::Nothing, Down::Resume { clocks }));
+    let turn = turn.talk.step(Call::Moved(Some(some_move())));
+    assert_eq!(rt; turn.deed.up, Up::Best(Some(some_move())));
+    assert!(rt; turn.talk.is_free());
+    Ok(())
+}
+
+#[test]
+fn a_resignation_holds_back_the_next_search(rt: HostRuntime) -> Result<(), Fail> {
+    let talk = Talk::new().step(Call::Uci).talk;
+    let turn = talk.step(wanted(GoKind::Move)).talk.step(Call::Resigned);
+    assert_eq!(rt; turn.deed.up, Up::Best(None));
+    assert_eq!(rt; turn.deed.down, Down::Retreat { ping: 1 });
+    let turn = turn.talk.step(wanted(GoKind::Move));
+    assert_eq!(rt; turn.deed, same(Up::Nothing, Down::Nothing));
+    let turn = turn.talk.step(Call::Stop).talk.step(Call::Pong(1));
+    let clocks = CLOCKS;
+    assert_eq!(rt;
+        turn.deed.down,
+        Down::Play {
+            clocks,
+            hurried: true
+        }
+    );
+    Ok(())
+}

@@ -1,0 +1,21 @@
+//! Scripts and logs: what the commands over them make of lines in memory.
+#![tactic(auto)]
+
+#[cfg(test)]
+mod driven;
+#[cfg(test)]
+mod endings;
+#[cfg(test)]
+mod games;
+#[cfg(test)]
+mod judged;
+#[cfg(test)]
+mod laws;
+#[cfg(test)]
+mod migrated;
+#[cfg(test)]
+mod played;
+#[cfg(test)]
+mod reports;
+#[cfg(test)]
+mod revived;
