@@ -17,8 +17,6 @@ import chess
 
 PLIES = 40
 ANALYSED = "e2e4 a7a6 d2d4 h7h6 g1f3 b7b6 a2a4 g7g6".split()
-# its thinking lines have moves such as Nb1-c3, which the driver does not read, so it may show none of them
-UNREAD = ["phalanx"]
 
 
 class Peer:
@@ -84,10 +82,7 @@ def main():
         position = chess.play(position, move)
     ours.order("position startpos moves " + " ".join(ANALYSED))
     ours.order("go infinite")
-    if engine in UNREAD:
-        threading.Event().wait(1.5)
-    else:
-        ours.wait_for("info", 30)
+    ours.wait_for("info", 30)
     ours.order("stop")
     line, _ = ours.wait_for("bestmove")
     if line.split()[1] not in chess.legal_moves(position):
