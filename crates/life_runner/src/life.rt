@@ -54,6 +54,8 @@ pub fn one_life<
     ensures room { text.new.room ≡ text.old.room }
     ensures kept { is_some log.new ≡ is_some log.old }
     ensures alive { is_alive revival.new.state.life ≡ true }
+    ensures let_go { revival.old.state.quit ≡ false
+        → revival.new.state.quit ≡ true → K.is_let_go child.new }
     ensures read { ReadLife (S.state source.old) (S.state source.new)
         (sent to.old) (sent to.new) result }
     ensures looped { LoopedLife revival.old.state revival.new.state

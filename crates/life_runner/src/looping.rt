@@ -23,8 +23,8 @@ use sink_offers::{LoopEnd, offer, offer_log};
 use std::sync::Wait;
 use std::thread;
 
-/// Offers the lines that a call gave for an event to the interface and to the life, and the marks
-/// of both to the log, each unless it failed before.
+/// Offers the lines that a call gave for an event to the life and to the interface, and then the
+/// marks of both to the log, which nobody waits for; each unless it failed before.
 pub fn offer_all<K: Sink, O: Sink, L: Sink>(
     event: &Event,
     both: Both,
@@ -48,9 +48,9 @@ pub fn offer_all<K: Sink, O: Sink, L: Sink>(
     text.clear();
     put_marks(event, both, text);
     LoopEnd {
-        log: offer_log(log, text.bytes(), failed.log),
-        output: offer(output, both.up, failed.output),
         engine: offer(child, both.child, failed.engine),
+        output: offer(output, both.up, failed.output),
+        log: offer_log(log, text.bytes(), failed.log),
     }
 }
 
@@ -119,6 +119,7 @@ fn hear_to_quit<K: LetGo, O: Sink, L: Sink>(
         failed result }
     ensures room { text.new.room ≡ text.old.room }
     ensures kept { is_some log.new ≡ is_some log.old }
+    ensures let_go { revival.new.state.quit ≡ true → K.is_let_go child.new }
 {
     let end = hear(revival, event, child, output, log, failed, text);
     if revival.has_quit() {
@@ -162,6 +163,8 @@ fn hear_next<K: LetGo, O: Sink, L: Sink, R: Wait>(
     ensures room { text.new.room ≡ text.old.room }
     ensures kept { is_some log.new ≡ is_some log.old }
     ensures alive { is_alive revival.new.state.life ≡ true }
+    ensures let_go { (revival.old.state.quit ≡ true → K.is_let_go child.old)
+        → revival.new.state.quit ≡ true → K.is_let_go child.new }
     ensures next { (s : State) (first : List AnyEvent) (before : Sinks) (failed0 : LoopEnd)
         → Going s revival.old.state first (taken from.old) before
         (sinks (O.state output.old) (K.state child.old) (log_state L.state log.old))
@@ -206,6 +209,8 @@ pub(crate) fn life_loop<K: LetGo, O: Sink, L: Sink, R: Wait>(
     ensures room { text.new.room ≡ text.old.room }
     ensures kept { is_some log.new ≡ is_some log.old }
     ensures alive { is_alive revival.new.state.life ≡ true }
+    ensures let_go { revival.old.state.quit ≡ false
+        → revival.new.state.quit ≡ true → K.is_let_go child.new }
     ensures looped { LoopedLife revival.old.state revival.new.state
         (taken from.old) (taken from.new)
         (sinks (O.state output.old) (K.state child.old) (log_state L.state log.old))

@@ -4,4 +4,4 @@ use Rattle.life_runner.proofs.LoopSteps.{going_first}
 use Rattle.life_runner.proofs.looping.life_loop.Goals as goal
 
 pub loop-init : goal.loop-init
-loop-init g c = record { taker = (c.requires.taker, refl); room = refl; kept = refl; alive = c.requires.alive; going = going_first _ _ _ _ _ refl }
+loop-init g c = record { taker = (c.requires.taker, refl); room = refl; kept = refl; alive = c.requires.alive; let_go = λ a b. cc; going = going_first _ _ _ _ _ refl }
