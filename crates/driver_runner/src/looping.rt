@@ -52,7 +52,7 @@ impl Sides {
     }
 }
 
-// The driver takes an event, and its lines are offered, their marks last, which nobody waits for.
+// The driver takes an event, and its lines are offered, their marks first.
 fn loop_step<O: Sink, E: Sink, L: Sink>(
     driver: &mut Driver,
     event: &Event,
@@ -75,9 +75,9 @@ fn loop_step<O: Sink, E: Sink, L: Sink>(
     text.clear();
     driver.play(event, text);
     let lines = driver.lines();
-    let engine_failed = offer(engine, lines.child, at.engine);
-    let output_failed = offer(output, lines.up, at.output);
     let log_failed = offer_log(log, text.bytes(), at.log);
+    let output_failed = offer(output, lines.up, at.output);
+    let engine_failed = offer(engine, lines.child, at.engine);
     LoopEnd {
         output: output_failed,
         engine: engine_failed,

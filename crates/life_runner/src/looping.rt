@@ -1,6 +1,6 @@
 // The loop of a life: each event that comes is heard by the revival, whose lines go up, to the life
 // and into the log.
-ghost use Rattle.std.specs.Prelude.{◌≡◌, ◌≤◌, List, is_some, true};
+ghost use Rattle.std.specs.Prelude.{◌≡◌, ◌≤◌, List, is_some, true, false};
 ghost use Rattle.line_io.specs.Event.{Event as AnyEvent, event_of};
 ghost use Rattle.script_lines.specs.StepText.{step_marks};
 ghost use Rattle.engine_revival.specs.Marks.{HaveRoom};

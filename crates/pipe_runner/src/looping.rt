@@ -30,8 +30,7 @@ pub struct Progress {
     pub next: u64,
 }
 
-// One step of the core. The log gets the step's text behind what stands in the buffer, and last,
-// since nobody waits for it.
+// One step of the core. The log gets the step's text behind what stands in the buffer.
 fn loop_step<O: Sink, E: Sink, L: Sink>(
     core: &mut Core,
     event: &Event,
@@ -54,9 +53,9 @@ fn loop_step<O: Sink, E: Sink, L: Sink>(
 {
     let lines = core.step(event);
     put_numbered_step(at.next, event, lines.iface, lines.engine, text);
-    let engine_failed = offer(engine, lines.engine, at.end.engine);
-    let output_failed = offer(output, lines.iface, at.end.output);
     let log_failed = offer_log(log, text.bytes(), at.end.log);
+    let output_failed = offer(output, lines.iface, at.end.output);
+    let engine_failed = offer(engine, lines.engine, at.end.engine);
     Progress {
         end: LoopEnd {
             output: output_failed,

@@ -1,4 +1,4 @@
-use Rattle.std.proofs.Common.{◌≡◌, true}
+use Rattle.std.proofs.Common.{◌≡◌, true, false}
 use Rattle.std.specs.Prelude.{is_some}
 use Rattle.engine_revival.specs.Steps.{is_alive}
 use Rattle.event_pipe.specs.Ends.{KeepsTaker, taken}
