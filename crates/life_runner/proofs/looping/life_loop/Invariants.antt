@@ -12,7 +12,7 @@ invariant-loop g l = record {
   room : l.text.room ≡ l.fn.text.room;
   kept : is_some l.log ≡ is_some l.fn.log;
   alive : is_alive l.revival.state.life ≡ true;
-  let_go : l.fn.revival.state.quit ≡ false → l.revival.state.quit ≡ true → g.K.is_let_go l.child;
+  let_go : l.fn.revival.state.quit ≡ false → l.revival.state.quit ≡ true → g.K.LetGo.is_let_go l.child;
   going : Going l.fn.revival.state l.revival.state (taken l.fn.from) (taken l.from)
       (sinks (g.O.Sink.state l.fn.output) (g.K.Sink.state l.fn.child) (log_state g.L.Sink.state l.fn.log))
       (sinks (g.O.Sink.state l.output) (g.K.Sink.state l.child) (log_state g.L.Sink.state l.log)) l.fn.failed l.failed;
