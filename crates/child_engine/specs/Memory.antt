@@ -1,5 +1,5 @@
 -- What a host in memory keeps.
-use Rattle.std.specs.Prelude.{Some, map}
+use Rattle.std.specs.Prelude.{ℕ, List, Bool, Some, map}
 use Rattle.line_io.specs.Memory.{supply_of, store_of}
 use Rattle.line_io.specs.Source.{Supplied, Received}
 use Rattle.line_io.specs.declared.memory.MemSource.{MemSource}
@@ -21,4 +21,31 @@ books_of h =
       logs_out = h.logs_out;
       runs = map (λ run. told_by (shown_by_source run.src) (shown_by_sink run.snk)) h.runs.items;
       logs = map (λ log. (shown_by_sink log).taken) h.closed_logs.items;
+    }
+
+-- What a host is made with: what each engine says and how much of it a read gives, the room of each sink and log, and the
+-- calls that fail, those of sources, sinks and logs by their numbers.
+pub record Means : Type 0 where
+  pub engine : List ℕ
+  pub piece : ℕ
+  pub room : ℕ
+  pub reads : List ℕ
+  pub writes : List ℕ
+  pub logs : List ℕ
+  pub fails_start : Bool
+  pub fails_log : Bool
+  pub fails_wait : Bool
+
+abbrev pub means_of : MemHost → Means
+means_of h =
+    record {
+      engine = h.engine.items;
+      piece = h.piece;
+      room = h.room;
+      reads = h.failing_reads.items;
+      writes = h.failing_writes.items;
+      logs = h.failing_logs.items;
+      fails_start = h.fails_start;
+      fails_log = h.fails_log;
+      fails_wait = h.fails_wait;
     }

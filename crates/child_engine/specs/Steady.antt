@@ -31,3 +31,11 @@ books_of h =
       runs = map (λ source. told_by (shown_by_source source) untold_sink) h.runs.items;
       logs = untold_logs h.logs_closed;
     }
+
+-- what each engine says, and how much of it a read gives
+pub record Says : Type 0 where
+  pub engine : List ℕ
+  pub piece : ℕ
+
+abbrev pub says_of : SteadyHost → Says
+says_of h = record { engine = h.engine.items; piece = h.piece }

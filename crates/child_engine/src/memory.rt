@@ -49,7 +49,7 @@ pub struct MemHost {
 }
 
 impl MemHost {
-    ghost use Rattle.child_engine.specs.Memory.{books_of};
+    ghost use Rattle.child_engine.specs.Memory.{books_of, means_of};
     ghost use Rattle.child_engine.specs.Steady.{no_faults};
 
     /// A host that has handed out nothing. Each engine says these bytes, as many at a read as the
@@ -65,6 +65,17 @@ impl MemHost {
         ensures books { IfOk result (λ h. books_of h
             ≡ record { runs_out = 0; logs_out = 0; runs = []; logs = [] }) }
         ensures faults { IfOk result (λ h. h.faults ≡ no_faults) }
+        ensures means { IfOk result (λ h. means_of h ≡ record {
+          engine = engine.now;
+          piece = piece;
+          room = room;
+          reads = fails.now.reads.now;
+          writes = fails.now.writes.now;
+          logs = fails.now.logs.now;
+          fails_start = fails.now.start;
+          fails_log = fails.now.log;
+          fails_wait = fails.now.wait;
+        }) }
     {
         Ok(MemHost {
             engine: Vec::from_slice(alloc, engine)?,
@@ -102,9 +113,10 @@ impl MemHost {
 }
 
 impl Host for MemHost {
-    ghost use Rattle.std.specs.Prelude.{◌≡◌, ◌<◌, length};
-    ghost use Rattle.child_engine.specs.Hosts.{ClosesBy, with_closed_run};
-    ghost use Rattle.child_engine.specs.Memory.{books_of, shown_by_source, shown_by_sink};
+    ghost use Rattle.std.specs.Prelude.{◌≡◌, ◌<◌, length, true, IfOk, OnOk, OnErr, IsErr};
+    ghost use Rattle.line_io.specs.Memory.{supply_of, store_of, unread_supply, unwritten_store};
+    ghost use Rattle.child_engine.specs.Hosts.{ClosesBy, OpensBy, StartsBy, with_closed_run, with_log, with_run};
+    ghost use Rattle.child_engine.specs.Memory.{books_of, means_of, shown_by_source, shown_by_sink};
 
     type Src = MemSource;
 
@@ -121,8 +133,21 @@ impl Host for MemHost {
     fn start(
         &mut self,
         alloc: Global,
-        _words: &[String],
-    ) -> Result<Started<MemSource, MemSink, ()>, HostFault> {
+        words: &[String],
+    ) -> Result<Started<MemSource, MemSink, ()>, HostFault>
+        requires words { 0 < length words.now }
+        requires few { (books_of self.old).runs_out < 10 }
+        ensures out { OnOk result (books_of self.new ≡ with_run (books_of self.old)) }
+        ensures source { IfOk result (λ run. supply_of run.src ≡ unread_supply
+            (means_of self.old).engine (means_of self.old).piece (means_of self.old).reads) }
+        ensures sink { IfOk result (λ run. store_of run.snk
+            ≡ unwritten_store (means_of self.old).room (means_of self.old).writes) }
+        ensures err { OnErr result (books_of self.new ≡ books_of self.old) }
+        ensures cause { StartsBy self.old.faults self.new.faults result }
+        ensures fails { (means_of self.old).fails_start ≡ true → IsErr result }
+        ensures means { means_of self.new ≡ means_of self.old }
+    {
+        let _ = words;
         if self.fails_start {
             self.faults.starts = self.faults.starts.saturating_add(1);
             return Err(HostFault::Failed);
@@ -138,7 +163,16 @@ impl Host for MemHost {
         Ok(Started { src, snk, kid: () })
     }
 
-    fn open_log(&mut self, alloc: Global, _name: &str) -> Result<MemSink, HostFault> {
+    fn open_log(&mut self, alloc: Global, _name: &str) -> Result<MemSink, HostFault>
+        requires few { (books_of self.old).logs_out < 10 }
+        ensures out { OnOk result (books_of self.new ≡ with_log (books_of self.old)) }
+        ensures log { IfOk result (λ log. store_of log
+            ≡ unwritten_store (means_of self.old).room (means_of self.old).logs) }
+        ensures err { OnErr result (books_of self.new ≡ books_of self.old) }
+        ensures cause { OpensBy self.old.faults self.new.faults result }
+        ensures fails { (means_of self.old).fails_log ≡ true → IsErr result }
+        ensures means { means_of self.new ≡ means_of self.old }
+    {
         if self.fails_log {
             self.faults.logs = self.faults.logs.saturating_add(1);
             return Err(HostFault::Failed);
@@ -155,6 +189,8 @@ impl Host for MemHost {
             (shown_by_source run.src) (shown_by_sink run.snk) }
         ensures cause { ClosesBy self.old.faults self.new.faults
             (shown_by_source run.src).faults (shown_by_sink run.snk).faults result }
+        ensures fails { (means_of self.old).fails_wait ≡ true → IsErr result }
+        ensures means { means_of self.new ≡ means_of self.old }
     {
         let Started { src, snk, kid: () } = run;
         self.faults.reads = raised(self.faults.reads, src.faults());

@@ -21,14 +21,16 @@ pub struct SteadyHost {
 }
 
 impl SteadyHost {
-    ghost use Rattle.child_engine.specs.Steady.{books_of};
+    ghost use Rattle.child_engine.specs.Steady.{books_of, says_of};
 
     /// A host that has handed out nothing. Each engine says these bytes, as many at a read as the
     /// piece.
     pub fn make(alloc: Global, engine: &[u8], piece: usize) -> Result<SteadyHost, NoMemory>
         requires { 0 < piece }
-        ensures { IfOk result (λ h. books_of h
+        ensures books { IfOk result (λ h. books_of h
             ≡ record { runs_out = 0; logs_out = 0; runs = []; logs = [] }) }
+        ensures says { IfOk result (λ h. says_of h
+            ≡ record { engine = engine.now; piece = piece }) }
     {
         Ok(SteadyHost {
             engine: Vec::from_slice(alloc, engine)?,
@@ -42,9 +44,10 @@ impl SteadyHost {
 }
 
 impl Host for SteadyHost {
-    ghost use Rattle.std.specs.Prelude.{◌≡◌, ◌<◌, length};
-    ghost use Rattle.child_engine.specs.Hosts.{ClosesBy, with_closed_run};
-    ghost use Rattle.child_engine.specs.Steady.{no_faults, books_of, shown_by_source, untold_sink};
+    ghost use Rattle.std.specs.Prelude.{◌≡◌, ◌<◌, [], length, IfOk, OnOk, OnErr};
+    ghost use Rattle.line_io.specs.Memory.{steady_of, unread_supply};
+    ghost use Rattle.child_engine.specs.Hosts.{ClosesBy, StartsBy, with_closed_run, with_run};
+    ghost use Rattle.child_engine.specs.Steady.{no_faults, books_of, says_of, shown_by_source, untold_sink};
 
     type Src = SteadySource;
 
@@ -61,8 +64,18 @@ impl Host for SteadyHost {
     fn start(
         &mut self,
         alloc: Global,
-        _words: &[String],
-    ) -> Result<Started<SteadySource, NullSink, ()>, HostFault> {
+        words: &[String],
+    ) -> Result<Started<SteadySource, NullSink, ()>, HostFault>
+        requires words { 0 < length words.now }
+        requires few { (books_of self.old).runs_out < 10 }
+        ensures out { OnOk result (books_of self.new ≡ with_run (books_of self.old)) }
+        ensures source { IfOk result (λ run. steady_of run.src
+            ≡ unread_supply (says_of self.old).engine (says_of self.old).piece []) }
+        ensures err { OnErr result (books_of self.new ≡ books_of self.old) }
+        ensures cause { StartsBy no_faults no_faults result }
+        ensures says { says_of self.new ≡ says_of self.old }
+    {
+        let _ = words;
         let src = SteadySource::make(alloc, self.engine.as_slice(), self.piece)?;
         self.runs_out += 1;
         Ok(Started {
