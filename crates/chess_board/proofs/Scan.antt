@@ -1,5 +1,5 @@
 -- The next square of a set.
-use Rattle.std.proofs.Common.{◌≡◌, ◌≢◌, ◌+◌, ◌-◌, ◌/◌, ◌%◌, ◌^◌, ◌<◌, ◌≤◌, ◌==◌, ◌*◌, ◌&&◌, ℕ, zero, suc, Bool, true, false, refl, sym, ap, ⊎_elim, ◌∙◌, w64, arith}
+use Rattle.std.proofs.Common.{◌≡◌, ◌≢◌, ◌+◌, ◌-◌, ◌/◌, ◌%◌, ◌^◌, ◌<◌, ◌≤◌, ◌==◌, ◌*◌, ◌&&◌, ℕ, suc, Bool, true, false, refl, sym, ap, ⊎_elim, ◌∙◌, w64, arith}
 use Rattle.std.specs.Int.{bit_at}
 use Rattle.std.specs.Int.Bits.{bit_and}
 use Rattle.std.specs.Int.Count.{count_trailing_zeros}
@@ -55,15 +55,8 @@ some_first test set next beyond low passed = some_below-none next test (λ k les
 
 -- the squares of one file: each eighth bit of the set, shifted by the file's number
 file_bit : (r : ℕ) → r < 8 → bit_at 72340172838076673 (r * 8) ≡ 1
-file_bit zero h = refl
-file_bit (suc zero) h = refl
-file_bit (suc (suc zero)) h = refl
-file_bit (suc (suc (suc zero))) h = refl
-file_bit (suc (suc (suc (suc zero)))) h = refl
-file_bit (suc (suc (suc (suc (suc zero))))) h = refl
-file_bit (suc (suc (suc (suc (suc (suc zero)))))) h = refl
-file_bit (suc (suc (suc (suc (suc (suc (suc zero))))))) h = refl
 file_bit (suc (suc (suc (suc (suc (suc (suc (suc r)))))))) h = absurd (omega arith)
+file_bit r h = refl
 
 pub on_file : (set file rank : ℕ) → rank < 8 → has (bit_and (set / 2 ^ file) 72340172838076673) (rank * 8) ≡ false → has set (rank * 8 + file) ≡ false
 on_file set file rank low e =

@@ -10,12 +10,13 @@ use Rattle.std.proofs.lemmas.Simd.{bit_mask_l, mask_l-lt, ones-mask_l}
 use Rattle.std.proofs.lemmas.Bool.{eq-eqb, eqb-true, cases_eq, false_from_ne_true}
 use Rattle.chess_board.specs.declared.board.Side.{Side}
 use Rattle.chess_board.specs.declared.board.Side.TheVariants.{White, Black}
+use Rattle.chess_board.specs.declared.board.Kind.{Kind}
 use Rattle.chess_board.specs.declared.board.Kind.TheVariants.{Pawn, Knight, Bishop, Rook, Queen, King}
 use Rattle.chess_board.specs.declared.men.Board.TheInside.{Inside}
-use Rattle.chess_board.specs.Board.{Man, Men, man_at, is_of, is_king, squares}
+use Rattle.chess_board.specs.Board.{Man, Men, man_at, is_of, is_king, is_king_kind, same_side, squares}
 use Rattle.chess_board.specs.Play.{is_man, is_minor}
 use Rattle.chess_board.specs.Reach.{has}
-use Rattle.chess_board.specs.Sets.{is_a, kind_by, man_by, man_of, men_of, set_of, sets_of, AreSets}
+use Rattle.chess_board.specs.Sets.{same_kind, is_a, kind_by, man_by, man_of, men_of, set_of, sets_of, AreSets}
 
 pub get_or-other : (men : Men) (k : ℕ) (d e : Man) → k < length men → get_or men k d ≡ get_or men k e
 get_or-other [] k d e low = absurd (omega arith)
@@ -59,19 +60,9 @@ set_from test none men n size low same =
     (λ i h. same_bit (bit_at n i) (bit_at (set_of test men) i) (bit_at-lt n i) (bit_at-lt (set_of test men) i) (same i h ∙ sym (has-set_of test none men i)))
 
 man_back : (man : Man) → man_by (is_of White man) (is_of Black man) (kind_by (is_a Pawn man) (is_a Knight man) (is_a Bishop man) (is_a Rook man) (is_a Queen man)) ≡ man
-man_back None = refl
 man_back (Some (White, Pawn)) = refl
-man_back (Some (White, Knight)) = refl
-man_back (Some (White, Bishop)) = refl
-man_back (Some (White, Rook)) = refl
-man_back (Some (White, Queen)) = refl
-man_back (Some (White, King)) = refl
 man_back (Some (Black, Pawn)) = refl
-man_back (Some (Black, Knight)) = refl
-man_back (Some (Black, Bishop)) = refl
-man_back (Some (Black, Rook)) = refl
-man_back (Some (Black, Queen)) = refl
-man_back (Some (Black, King)) = refl
+man_back man = refl
 
 man_of-sets_of : (men : Men) (s : ℕ) → man_of (sets_of men) s ≡ man_at men s
 man_of-sets_of men s =
@@ -221,41 +212,17 @@ any_man (Some (White, piece)) = refl
 any_man (Some (Black, piece)) = refl
 
 pub minor_man : (man : Man) → (is_a Knight man || is_a Bishop man) ≡ is_minor man
-minor_man None = refl
 minor_man (Some (side, Pawn)) = refl
-minor_man (Some (side, Knight)) = refl
-minor_man (Some (side, Bishop)) = refl
-minor_man (Some (side, Rook)) = refl
-minor_man (Some (side, Queen)) = refl
-minor_man (Some (side, King)) = refl
+minor_man man = refl
+
+king_kind : (k : Kind) (b : Bool) → (same_kind King k && b) ≡ (b && is_king_kind k)
+king_kind King true = refl
+king_kind k false = refl
+king_kind k b = refl
 
 pub king_man : (side : Side) (man : Man) → (is_a King man && is_of side man) ≡ is_king side man
-king_man White None = refl
-king_man Black None = refl
-king_man White (Some (White, Pawn)) = refl
-king_man White (Some (White, Knight)) = refl
-king_man White (Some (White, Bishop)) = refl
-king_man White (Some (White, Rook)) = refl
-king_man White (Some (White, Queen)) = refl
-king_man White (Some (White, King)) = refl
-king_man White (Some (Black, Pawn)) = refl
-king_man White (Some (Black, Knight)) = refl
-king_man White (Some (Black, Bishop)) = refl
-king_man White (Some (Black, Rook)) = refl
-king_man White (Some (Black, Queen)) = refl
-king_man White (Some (Black, King)) = refl
-king_man Black (Some (White, Pawn)) = refl
-king_man Black (Some (White, Knight)) = refl
-king_man Black (Some (White, Bishop)) = refl
-king_man Black (Some (White, Rook)) = refl
-king_man Black (Some (White, Queen)) = refl
-king_man Black (Some (White, King)) = refl
-king_man Black (Some (Black, Pawn)) = refl
-king_man Black (Some (Black, Knight)) = refl
-king_man Black (Some (Black, Bishop)) = refl
-king_man Black (Some (Black, Rook)) = refl
-king_man Black (Some (Black, Queen)) = refl
-king_man Black (Some (Black, King)) = refl
+king_man side None = refl
+king_man side (Some man) = king_kind man.1 (same_side man.0 side)
 
 -- a set with a square, or without it
 pub placed_in : (old i : ℕ) (belongs : Bool) → belongs ≡ true → i < 64 → IsPlaced old (bit_or old (1 * 2 ^ i % 18446744073709551616)) i belongs

@@ -92,18 +92,10 @@ prepared_total p Queen from to whole rights f t = omega arith
 
 -- a pawn that goes forward is worth less, whatever it becomes
 pawn_falls : (side : Side) (from to : ℕ) (new : Kind) → from < 64 → to < 64 → IsForward side (rank_of from) (rank_of to) → worth to (Some (side, new)) < worth from (Some (side, Pawn))
-pawn_falls White from to Pawn f t h = let low : rank_of to < 8 = grind arith in omega arith
-pawn_falls White from to Knight f t h = let low : rank_of to < 8 = grind arith in omega arith
-pawn_falls White from to Bishop f t h = let low : rank_of to < 8 = grind arith in omega arith
-pawn_falls White from to Rook f t h = let low : rank_of to < 8 = grind arith in omega arith
-pawn_falls White from to Queen f t h = let low : rank_of to < 8 = grind arith in omega arith
-pawn_falls White from to King f t h = let low : rank_of to < 8 = grind arith in omega arith
 pawn_falls Black from to Pawn f t h = omega arith
-pawn_falls Black from to Knight f t h = omega arith
-pawn_falls Black from to Bishop f t h = omega arith
-pawn_falls Black from to Rook f t h = omega arith
-pawn_falls Black from to Queen f t h = omega arith
-pawn_falls Black from to King f t h = omega arith
+pawn_falls Black from to new f t h = omega arith
+pawn_falls side from to Pawn f t h = let low : rank_of to < 8 = grind arith in omega arith
+pawn_falls side from to new f t h = let low : rank_of to < 8 = grind arith in omega arith
 
 -- an officer is worth one
 officer_worth : (side : Side) (piece : Kind) (s : ℕ) → is_pawn_kind piece ≡ false → worth s (Some (side, piece)) ≡ 1
