@@ -6,7 +6,7 @@ use Rattle.std.specs.List.{slice_split}
 use Rattle.chess_board.specs.declared.board.Side.{Side}
 use Rattle.chess_board.specs.declared.board.Side.TheVariants.{White, Black}
 use Rattle.chess_board.specs.declared.board.Kind.{Kind}
-use Rattle.chess_board.specs.declared.board.Kind.TheVariants.{Pawn, Knight, Bishop, Rook, Queen, King}
+use Rattle.chess_board.specs.declared.board.Kind.TheVariants.{Pawn}
 use Rattle.chess_board.specs.Board.{Man, Men}
 use Rattle.chess_board.specs.Play.{fits_board}
 use Rattle.fen_text.specs.Squares.{joined, squares_of, squares_in, rank_of, men_of, ranks_in, placed, is_slash, board_of}
@@ -24,17 +24,8 @@ squares_of_digit n low high =
 
 squares_of_letter : (side : Side) (kind : Kind) → squares_of (letter_of side kind) ≡ Some (Some (side, kind) ∷ [])
 squares_of_letter White Pawn = refl
-squares_of_letter White Knight = refl
-squares_of_letter White Bishop = refl
-squares_of_letter White Rook = refl
-squares_of_letter White Queen = refl
-squares_of_letter White King = refl
 squares_of_letter Black Pawn = refl
-squares_of_letter Black Knight = refl
-squares_of_letter Black Bishop = refl
-squares_of_letter Black Rook = refl
-squares_of_letter Black Queen = refl
-squares_of_letter Black King = refl
+squares_of_letter side k = refl
 
 squares_in-run : (n : ℕ) → n ≤ 8 → squares_in (run n) ≡ Some (replicate n None)
 squares_in-run zero h = refl
@@ -95,17 +86,8 @@ above-run n = elim (ltb 0 n) as (λ v. Above 47 (cond v ((48 + n) ∷ []) [])) [
 
 above-letter : (side : Side) (kind : Kind) → 47 < letter_of side kind
 above-letter White Pawn = omega arith
-above-letter White Knight = omega arith
-above-letter White Bishop = omega arith
-above-letter White Rook = omega arith
-above-letter White Queen = omega arith
-above-letter White King = omega arith
 above-letter Black Pawn = omega arith
-above-letter Black Knight = omega arith
-above-letter Black Bishop = omega arith
-above-letter Black Rook = omega arith
-above-letter Black Queen = omega arith
-above-letter Black King = omega arith
+above-letter side k = omega arith
 
 above-rank_text : (squares : Men) (empty : ℕ) → Above 47 (rank_text empty squares)
 above-rank_text [] empty = above-run empty

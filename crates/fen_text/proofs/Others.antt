@@ -29,22 +29,11 @@ four wk wq bk bq = record { wk = wk; wq = wq; bk = bk; bq = bq }
 
 rights_of-four : (wk wq bk bq : Bool) → rights_of (rights_text (four wk wq bk bq)) ≡ Some (four wk wq bk bq)
 unfolding four
-rights_of-four true true true true = refl
-rights_of-four true true true false = refl
-rights_of-four true true false true = refl
 rights_of-four true true false false = refl
-rights_of-four true false true true = refl
-rights_of-four true false true false = refl
-rights_of-four true false false true = refl
-rights_of-four true false false false = refl
-rights_of-four false true true true = refl
-rights_of-four false true true false = refl
-rights_of-four false true false true = refl
 rights_of-four false true false false = refl
-rights_of-four false false true true = refl
-rights_of-four false false true false = refl
-rights_of-four false false false true = refl
-rights_of-four false false false false = refl
+rights_of-four wk wq false false = refl
+rights_of-four wk wq bk true = refl
+rights_of-four wk wq true bq = refl
 
 pub rights_of-text : (rights : Rights) → rights_of (rights_text rights) ≡ Some rights
 unfolding four
