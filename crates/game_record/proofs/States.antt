@@ -40,21 +40,8 @@ state-law p = fits_by p (has_legal p) (is_checked p.men p.side) (is_dead p.men) 
 -- a position stands in one way
 pub one_state : (p : Position) (a b : State) → StateFits p a → StateFits p b → a ≡ b
 one_state p states.Mate states.Mate h k = refl
-one_state p states.Mate states.Stale h k = absurd (k.0 h.0)
-one_state p states.Mate states.Dead h k = absurd (h.1 k.0)
-one_state p states.Mate states.Open h k = absurd (h.1 k.0)
-one_state p states.Stale states.Mate h k = absurd (h.0 k.0)
-one_state p states.Stale states.Stale h k = refl
-one_state p states.Stale states.Dead h k = absurd (h.1 k.0)
-one_state p states.Stale states.Open h k = absurd (h.1 k.0)
-one_state p states.Dead states.Mate h k = absurd (k.1 h.0)
-one_state p states.Dead states.Stale h k = absurd (k.1 h.0)
-one_state p states.Dead states.Dead h k = refl
-one_state p states.Dead states.Open h k = absurd (k.1 h.1)
-one_state p states.Open states.Mate h k = absurd (k.1 h.0)
-one_state p states.Open states.Stale h k = absurd (k.1 h.0)
-one_state p states.Open states.Dead h k = absurd (h.1 k.1)
-one_state p states.Open states.Open h k = refl
+one_state p a states.Mate h k = search (h.0, h.1, k.0, k.1)
+one_state p a b h k = search (h.0, h.1, k.0, k.1)
 
 at_least : (a b : ℕ) → leb a b ≡ true → a ≤ b
 at_least a b e = grind (arith, nat_tests)
