@@ -113,24 +113,6 @@ read_board line text e f = begun line (codes "setboard") e ∙ ap (λ t. Ok (say
 pub spells_reading : (line : List ℕ) (m : IfaceMsg) → Spells line m → reading line ≡ Ok m
 spells_reading line says.Blank h = read_blank line h
 spells_reading line (says.Ignored text) h = read_ignored line text h.0 h.1
-spells_reading line says.New h = begun line (codes "new") h
-spells_reading line says.Quit h = begun line (codes "quit") h
-spells_reading line says.Force h = begun line (codes "force") h
-spells_reading line says.Go h = begun line (codes "go") h
-spells_reading line says.PlayOther h = begun line (codes "playother") h
-spells_reading line says.MoveNow h = begun line (codes "?") h
-spells_reading line says.Draw h = begun line (codes "draw") h
-spells_reading line says.Hint h = begun line (codes "hint") h
-spells_reading line says.Undo h = begun line (codes "undo") h
-spells_reading line says.Remove h = begun line (codes "remove") h
-spells_reading line says.Hard h = begun line (codes "hard") h
-spells_reading line says.Easy h = begun line (codes "easy") h
-spells_reading line says.Post h = begun line (codes "post") h
-spells_reading line says.NoPost h = begun line (codes "nopost") h
-spells_reading line says.Analyze h = begun line (codes "analyze") h
-spells_reading line says.Exit h = begun line (codes "exit") h
-spells_reading line says.Dot h = begun line (codes ".") h
-spells_reading line says.Result h = begun line (codes "result") h
 spells_reading line (says.Protover n) h = read_version line n h.0 h.1
 spells_reading line (says.Ping n) h = read_with (λ x. says.Ping x) number line (codes "ping") n h refl
 spells_reading line (says.UserMove m) h = read_moved line m h
@@ -144,6 +126,7 @@ spells_reading line (says.SetOption name value) h = read_setting line name value
 spells_reading line (says.Memory n) h = read_with (λ x. says.Memory x) number line (codes "memory") n h refl
 spells_reading line (says.Cores n) h = read_with (λ x. says.Cores x) number line (codes "cores") n h refl
 spells_reading line (says.EgtPath kind path) h = read_path line kind path h.0 h.1 h.2 h.3
+spells_reading line m h = begun line _ h
 
 pub one_message : SpellsOneMessage
 one_message line a b h k = let both : Ok a ≡ Ok b = sym (spells_reading line a h) ∙ spells_reading line b k in cc

@@ -41,15 +41,7 @@ signed_short (negsuc k) h = omega (arith, decimal_short (suc k) (omega (arith, h
 
 reason_short : (r : Reason) → length (reason_text r) ≤ 17
 reason_short reasons.UnknownCommand = omega arith
-reason_short reasons.BadArgument = omega arith
-reason_short reasons.EngineEnded = omega arith
-reason_short reasons.NotAnalyzing = omega arith
-reason_short reasons.NoMoveToUndo = omega arith
-reason_short reasons.UnknownOption = omega arith
-reason_short reasons.BadValue = omega arith
-reason_short reasons.TooManySettings = omega arith
-reason_short reasons.TooManyPings = omega arith
-reason_short reasons.LineTooLong = omega arith
+reason_short r = omega arith
 
 tell_short : (t : UserError) → length (user_error_text t) ≤ 128
 tell_short tells.Position = omega arith
@@ -92,8 +84,6 @@ told_short (told.IllegalLong m) f = omega (arith, two_parts (codes "Illegal move
 told_short (told.Error r line) f = omega (arith, four_parts (codes "Error (") (reason_text r) (codes "): ") line, reason_short r)
 told_short (told.TellError tell) f = omega (arith, tell_short tell)
 told_short (told.Pong n) f = omega (arith, two_parts (codes "pong ") (decimal n), decimal_short n (omega arith))
-told_short told.OfferDraw f = omega arith
-told_short told.Resign f = omega arith
 told_short (told.Hint m) f = omega (arith, two_parts (codes "Hint: ") (text_of m), move_short m)
 told_short (told.Result outcome) f = omega (arith, outcome_short outcome)
 told_short (told.Thinking depth score time nodes hint pv) f =
@@ -111,3 +101,4 @@ told_short (told.Stat01 time nodes depth left all current) f =
     let e = decimal_short all f.4 in
     let g = current_short current in
     omega (arith, stat_parts (codes "stat01: ") (decimal time) (decimal nodes) (decimal depth) (decimal left) (decimal all) (current_text current))
+told_short t f = omega arith
