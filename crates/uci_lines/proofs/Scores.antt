@@ -45,16 +45,7 @@ or_small (Some s) b f g = f
 
 hear_small : (field : Field) (f : Info) (ts : List (List ℕ)) → HasSmall f → HasSmall (hear field f ts)
 hear_small fields.Score f ts h = or_small (first_score ts) f.score (first_small ts) h
-hear_small fields.Depth f ts h = h
-hear_small fields.Time f ts h = h
-hear_small fields.Nodes f ts h = h
-hear_small fields.MultiPv f ts h = h
-hear_small fields.Number f ts h = h
-hear_small fields.Bound f ts h = h
-hear_small fields.Current f ts h = h
-hear_small fields.Pv f ts h = h
-hear_small fields.Text f ts h = h
-hear_small fields.Other f ts h = h
+hear_small field f ts h = h
 
 end_small : (b : Bool) (f g : Info) → HasSmall f → HasSmall g → HasSmall (cond b f g)
 end_small true f g h k = h

@@ -102,12 +102,6 @@ setting_again name (Some value) h =
 
 pub order_again : (c : Order) → is_order c ≡ true → order_in (order_text c) ≡ Some c
 unfolding order_in order_text
-order_again Uci h = refl
-order_again IsReady h = refl
-order_again NewGame h = refl
-order_again Stop h = refl
-order_again PonderHit h = refl
-order_again Quit h = refl
 order_again (SetOption name value) h =
     ap long_order (append_assoc (codes "setoption name ") name (optional_text (codes " value ") value)) ∙ setting_again name value h
 order_again (Position fen moves) h =
@@ -118,6 +112,7 @@ order_again (Go ponder control depth) h =
   where
     regrouped : (a b d : List ℕ) → codes "go" ++ a ++ b ++ d ≡ codes "go" ++ (a ++ (b ++ d))
     regrouped a b d = simp append_assoc
+order_again c h = refl
 
 -- the same, as the call that reads an order knows it
 found_by : (line : List ℕ) (r : Option CodeOrder) (fault : BadOrder) → option_map order_of r ≡ order_in line → IfOk (ok_or r fault) (λ o. SpellsOrder line (order_of o))

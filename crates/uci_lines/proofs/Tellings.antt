@@ -206,25 +206,16 @@ take_bound f t ts (inr e) = given f (record f { bound = true }) t (codes "upperb
 
 take_by : (k : Field) (f : Info) (t : List ℕ) (ts : List (List ℕ)) → Named k t → taking_by k ts ≡ true → Take f (t ∷ ts)
 unfolding Named taking_by
-take_by fields.Depth f t [] e h = absurd (cc)
 take_by fields.Depth f t (u ∷ us) e h = let s = some_of (count u) h in given f (record f { depth = Some s.0 }) t (codes "depth") (u ∷ us) us e (one_less u us) (Takes.Depth s.1)
-take_by fields.Time f t [] e h = absurd (cc)
 take_by fields.Time f t (u ∷ us) e h = let s = some_of (count u) h in given f (record f { time = Some s.0 }) t (codes "time") (u ∷ us) us e (one_less u us) (Takes.Time s.1)
-take_by fields.Nodes f t [] e h = absurd (cc)
 take_by fields.Nodes f t (u ∷ us) e h = let s = some_of (count u) h in given f (record f { nodes = Some s.0 }) t (codes "nodes") (u ∷ us) us e (one_less u us) (Takes.Nodes s.1)
-take_by fields.MultiPv f t [] e h = absurd (cc)
 take_by fields.MultiPv f t (u ∷ us) e h = let s = some_of (count u) h in given f (record f { multipv = Some s.0 }) t (codes "multipv") (u ∷ us) us e (one_less u us) (Takes.MultiPv s.1)
-take_by fields.Number f t [] e h = absurd (cc)
 take_by fields.Number f t (u ∷ us) e h = let s = some_of (count u) h in given f (record f { number = Some s.0 }) t (codes "currmovenumber") (u ∷ us) us e (one_less u us) (Takes.Number s.1)
-take_by fields.Score f t [] e h = absurd (cc)
-take_by fields.Score f t (u ∷ []) e h = absurd (cc)
 take_by fields.Score f t (u ∷ v ∷ us) e h = take_score f t u v us (is_word (codes "cp") u) (is_word (codes "mate") u) e refl refl h
 take_by fields.Bound f t ts e h = take_bound f t ts e
-take_by fields.Current f t [] e h = absurd (cc)
 take_by fields.Current f t (u ∷ us) e h = let s = some_of (move_of u) h in given f (record f { current = Some s.0 }) t (codes "currmove") (u ∷ us) us e (one_less u us) (Takes.Current (move_spells u s.0 s.1))
 take_by fields.Pv f t ts e h = take_pv f t ts (run ts) e h (runs ts)
-take_by fields.Text f t ts e h = absurd (cc)
-take_by fields.Other f t ts e h = absurd (cc)
+take_by k f t ts e h = absurd (cc)
 
 take : (f : Info) (t : List ℕ) (ts : List (List ℕ)) → taking (t ∷ ts) ≡ true → Take f (t ∷ ts)
 unfolding taking
@@ -252,22 +243,12 @@ unheard fields.Score f ts h = ap (λ o. record f { score = option_or o f.score }
 unheard fields.Bound f ts h = absurd (cc)
 unheard fields.Current f ts h = ap (λ o. record f { current = option_or o f.current }) (none_of (first_move ts) h)
 unheard fields.Pv f ts h = ap (λ ms. record f { pv = newer_run ms f.pv }) (empty_of (run ts) h)
-unheard fields.Text f ts h = refl
-unheard fields.Other f ts h = refl
+unheard k f ts h = refl
 
 ends_by : (k : Field) (t : List ℕ) → Named k t → t ≢ codes "string" → ends_info k ≡ false
 unfolding Named
-ends_by fields.Depth t e h = refl
-ends_by fields.Time t e h = refl
-ends_by fields.Nodes t e h = refl
-ends_by fields.MultiPv t e h = refl
-ends_by fields.Number t e h = refl
-ends_by fields.Score t e h = refl
-ends_by fields.Bound t e h = refl
-ends_by fields.Current t e h = refl
-ends_by fields.Pv t e h = refl
 ends_by fields.Text t e h = absurd (h e)
-ends_by fields.Other t e h = refl
+ends_by k t e h = refl
 
 skipped : (f : Info) (t : List ℕ) (ts : List (List ℕ)) → t ≢ codes "string" → taking (t ∷ ts) ≡ false → facts_from f (t ∷ ts) ≡ facts_from f ts
 unfolding taking
