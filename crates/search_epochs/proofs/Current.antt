@@ -9,7 +9,7 @@ use Rattle.search_epochs.specs.declared.words.Call.TheVariants as calls
 use Rattle.search_epochs.specs.declared.words.Said.TheVariants as said
 use Rattle.search_epochs.specs.declared.words.Orders.{Orders}
 use Rattle.search_epochs.specs.declared.words.Orders.TheVariants as orders
-use Rattle.search_epochs.specs.Tickets.{Engine, Boot, Getting, Idle, Search, Gone, What, Says, Plays, Hurries, Quiet, Ticketed, Turn, TicketWithin, LastWithin, turned, is_move, is_nothing, kind_of}
+use Rattle.search_epochs.specs.Tickets.{Engine, Search, What, Says, Ticketed, Turn, TicketWithin, LastWithin, turned, is_move, is_nothing, kind_of}
 use Rattle.search_epochs.specs.Dialogue.{Dialogue, forget, stale_state, settled_state, choose, choose_search, after_what, mid_dialogue, kept}
 use Rattle.search_epochs.specs.History.{answers, answers_at, is_end}
 use Rattle.search_epochs.proofs.Turns.{twice}
@@ -41,41 +41,11 @@ heard_current : (P : GoKind → Call → Type 0) (v : Dialogue) (w : What) (call
 heard_current P v w call call' e h = by_state v.state w e h where
   by_state : (x : EngineState) (w : What) → call' ≡ cond (answers_kept w x || is_end w) calls.Nothing call → IfCurrent x (λ k. P k call)
       → IfCurrent (after_what (record { state = x; spent = v.spent; pondered = v.pondered }) w).state (λ k. P k call')
-  by_state states.Boot (Says said.UciOk) e h = tt
-  by_state states.Boot (Says said.ReadyOk) e h = tt
-  by_state states.Boot (Says said.Best) e h = tt
-  by_state states.Boot (Says said.Ended) e h = tt
-  by_state states.Boot (Plays m) e h = tt
-  by_state states.Boot Hurries e h = tt
-  by_state states.Boot Quiet e h = tt
-  by_state states.Getting (Says said.UciOk) e h = tt
-  by_state states.Getting (Says said.ReadyOk) e h = tt
-  by_state states.Getting (Says said.Best) e h = tt
-  by_state states.Getting (Says said.Ended) e h = tt
-  by_state states.Getting (Plays m) e h = tt
-  by_state states.Getting Hurries e h = tt
-  by_state states.Getting Quiet e h = tt
-  by_state states.Idle (Says said.UciOk) e h = tt
-  by_state states.Idle (Says said.ReadyOk) e h = tt
-  by_state states.Idle (Says said.Best) e h = tt
-  by_state states.Idle (Says said.Ended) e h = tt
-  by_state states.Idle (Plays m) e h = tt
-  by_state states.Idle Hurries e h = tt
-  by_state states.Idle Quiet e h = tt
-  by_state states.Gone (Says said.UciOk) e h = tt
-  by_state states.Gone (Says said.ReadyOk) e h = tt
-  by_state states.Gone (Says said.Best) e h = tt
-  by_state states.Gone (Says said.Ended) e h = tt
-  by_state states.Gone (Plays m) e h = tt
-  by_state states.Gone Hurries e h = tt
-  by_state states.Gone Quiet e h = tt
-  by_state (states.Search k stale s) (Says said.UciOk) e h = moved P k stale s call call' e h
-  by_state (states.Search k stale s) (Says said.ReadyOk) e h = moved P k stale s call call' e h
   by_state (states.Search k stale s) (Says said.Best) e h = tt
   by_state (states.Search k stale s) (Says said.Ended) e h = tt
-  by_state (states.Search k stale s) (Plays m) e h = moved P k stale s call call' e h
-  by_state (states.Search k stale s) Hurries e h = moved P k stale s call call' e h
-  by_state (states.Search k stale s) Quiet e h = moved P k stale s call call' e h
+  by_state (states.Search k stale s) w e h = moved P k stale s call call' e h
+  by_state x (Says said.UciOk) e h = tt
+  by_state x w e h = tt
 
 -- what holds of the kind and the call of an open current search goes on to the middle of a step
 pub mid_current : (P : GoKind → Call → Type 0) (v : Dialogue) (w : What) (begins_epoch : Bool) (call call' : Call)
@@ -86,18 +56,8 @@ mid_current P v w false call call' stays h = heard_current P v w call call' (sta
 
 answers_forgotten : (epoch : ℕ) (e : Engine) (w : What) → answers_kept w (forget epoch e) ≡ answers_at w epoch e
 answers_forgotten epoch (Search kinds.Move t s) (Says said.Best) = twice (t == epoch)
-answers_forgotten epoch (Search kinds.Ponder t s) (Says said.Best) = refl
-answers_forgotten epoch (Search kinds.Analyse t s) (Says said.Best) = refl
-answers_forgotten epoch Boot (Says said.Best) = refl
-answers_forgotten epoch Getting (Says said.Best) = refl
-answers_forgotten epoch Idle (Says said.Best) = refl
-answers_forgotten epoch Gone (Says said.Best) = refl
 answers_forgotten epoch e (Says said.UciOk) = refl
-answers_forgotten epoch e (Says said.ReadyOk) = refl
-answers_forgotten epoch e (Says said.Ended) = refl
-answers_forgotten epoch e (Plays m) = refl
-answers_forgotten epoch e Hurries = refl
-answers_forgotten epoch e Quiet = refl
+answers_forgotten epoch e w = refl
 
 -- the same of a dialogue
 pub turned_current : (P : GoKind → Call → Type 0) (t : Ticketed) (u : Turn) (call : Call) → TicketWithin t.epoch t.engine → LastWithin t.epoch t.last
@@ -111,31 +71,20 @@ turned_current P t u call w l stays h =
 module _ (P : Orders → GoKind → Type 0) where
   search_current : (k : GoKind) (stale wants matches hurry : Bool) → IfCurrent (states.Search k stale false) (P orders.None) → IfCurrent (states.Search k stale false) (P orders.Stop) → (wants ≡ true → P orders.Hit kinds.Move)
       → IfCurrent (settled_state (states.Search k stale false) (choose_search k stale wants matches hurry)) (P (choose_search k stale wants matches hurry))
-  search_current kinds.Move true wants matches hurry n s h = tt
   search_current kinds.Move false wants matches true n s h = s
-  search_current kinds.Move false wants matches false n s h = n
-  search_current kinds.Analyse true wants matches hurry n s h = tt
-  search_current kinds.Analyse false wants matches true n s h = n
-  search_current kinds.Analyse false wants matches false n s h = n
   search_current kinds.Ponder stale true true hurry n s h = h refl
-  search_current kinds.Ponder true false true hurry n s h = tt
-  search_current kinds.Ponder true wants false hurry n s h = tt
   search_current kinds.Ponder false false true true n s h = n
-  search_current kinds.Ponder false false true false n s h = n
-  search_current kinds.Ponder false wants false true n s h = n
-  search_current kinds.Ponder false wants false false n s h = n
+  search_current k false wants matches false n s h = n
+  search_current k true wants true hurry n s h = tt
+  search_current k true wants matches hurry n s h = tt
+  search_current k stale wants matches hurry n s h = n
 
   -- and on through the orders: a search is begun for what is owed, hit if a Move is owed, or goes on
   pub settled_current : (e : EngineState) (o : Call) (unsent matches hurry : Bool) → IfCurrent e (P orders.None) → IfCurrent e (P orders.Stop)
       → (is_nothing o ≡ false → P (orders.Begin o) (kind_of o)) → (is_move o ≡ true → P orders.Hit kinds.Move)
       → IfCurrent (settled_state e (choose e o unsent matches hurry)) (P (choose e o unsent matches hurry))
-  settled_current states.Boot o unsent matches hurry n s b h = tt
-  settled_current states.Getting o unsent matches hurry n s b h = tt
-  settled_current states.Gone o unsent matches hurry n s b h = tt
-  settled_current states.Idle o true matches hurry n s b h = tt
-  settled_current states.Idle calls.Nothing false matches hurry n s b h = tt
-  settled_current states.Idle calls.Move false matches hurry n s b h = b refl
-  settled_current states.Idle (calls.Ponder g) false matches hurry n s b h = b refl
-  settled_current states.Idle calls.Analyse false matches hurry n s b h = b refl
   settled_current (states.Search k stale true) o unsent matches hurry n s b h = n
   settled_current (states.Search k stale false) o unsent matches hurry n s b h = search_current k stale (is_move o) matches hurry n s h
+  settled_current states.Idle calls.Nothing false matches hurry n s b h = tt
+  settled_current states.Idle o false matches hurry n s b h = b refl
+  settled_current e o unsent matches hurry n s b h = tt

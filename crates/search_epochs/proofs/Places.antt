@@ -2,7 +2,7 @@
 use Rattle.std.proofs.Common.{◌≡◌, ℕ, List, [], ◌∷◌, ◌++◌, Bool, true, false, refl, sym, ap, subst, ◌∙◌}
 use Rattle.peer_words.specs.declared.kinds.GoKind.{GoKind}
 use Rattle.peer_words.specs.declared.kinds.GoKind.TheVariants as kinds
-use Rattle.search_epochs.specs.Tickets.{Engine, Boot, Getting, Idle, Search, Gone, Word, Uci, Setup, IsReady, Position, Go, Stop, PonderHit, Quit, MaySend, MaySendAll, Paired, turned, sent, sent_all, is_gone, has_quit}
+use Rattle.search_epochs.specs.Tickets.{Engine, Boot, Getting, Idle, Search, Gone, Word, Uci, Stop, PonderHit, Quit, MaySend, MaySendAll, Paired, turned, sent, sent_all, is_gone, has_quit}
 use Rattle.search_epochs.specs.History.{Exchange, Lawful, dialogue, is_closed, last_orders}
 use Rattle.search_epochs.specs.Laws.{needs_idle, IdleGetsThem, SearchGetsStop, PonderGetsHit, GoneGetsNothing, GoFollowsPosition, QuitIsLast}
 use Rattle.search_epochs.proofs.Stops.{may_all}
@@ -20,13 +20,10 @@ placed x xs before behind w l e =
 
 idle_needed : (e : Engine) (w : Word) → needs_idle w ≡ true → MaySend e w → e ≡ Idle
 idle_needed e Uci n m = absurd m
-idle_needed e Setup n m = m
-idle_needed e IsReady n m = m
-idle_needed e Position n m = m
-idle_needed e (Go k) n m = m
 idle_needed e Stop n m = cc
 idle_needed e PonderHit n m = cc
 idle_needed e Quit n m = cc
+idle_needed e w n m = m
 
 stop_needs : (e : Engine) → MaySend e Stop → (k : GoKind) × (ticket : ℕ) × (e ≡ Search k ticket false)
 stop_needs Boot m = absurd m
@@ -44,13 +41,10 @@ hit_needs (Search k t s) m = (t, ap (λ g. Search g t s) m.0 ∙ ap (Search kind
 
 gone_refuses : (w : Word) → MaySend Gone w → ⊥
 gone_refuses Uci m = m
-gone_refuses Setup m = cc
-gone_refuses IsReady m = cc
-gone_refuses Position m = cc
-gone_refuses (Go k) m = cc
 gone_refuses Stop m = m
 gone_refuses PonderHit m = m
 gone_refuses Quit m = m refl
+gone_refuses w m = cc
 
 pub idle_gets_them : IdleGetsThem
 idle_gets_them x xs before behind w l e n = idle_needed _ w n (placed x xs before behind w l e)

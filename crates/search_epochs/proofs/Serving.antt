@@ -10,7 +10,7 @@ use Rattle.search_epochs.specs.declared.words.Call.TheVariants as calls
 use Rattle.search_epochs.specs.declared.words.Said.TheVariants as said
 use Rattle.search_epochs.specs.declared.words.Orders.{Orders}
 use Rattle.search_epochs.specs.declared.words.Orders.TheVariants as orders
-use Rattle.search_epochs.specs.Tickets.{Engine, Boot, Getting, Idle, Search, Gone, What, Says, Plays, Hurries, Quiet, Ticketed, Turn, Word, TicketWithin, LastWithin, AllSetup, Serves, said_of, closed_ticket, is_some_equal, sent_all, spent, owed, turned, after, is_move, is_nothing, is_hurry, kind_of, has_go, has_hit}
+use Rattle.search_epochs.specs.Tickets.{Engine, Search, What, Says, Ticketed, Turn, Word, TicketWithin, LastWithin, AllSetup, Serves, said_of, closed_ticket, is_some_equal, sent_all, spent, owed, turned, after, is_move, is_nothing, is_hurry, kind_of, has_go, has_hit}
 use Rattle.search_epochs.specs.Dialogue.{forget, words, choose}
 use Rattle.search_epochs.specs.History.{Exchange, MayCome, AreLawful, IsSteady, Steady, Lawful, IsDeaf, dialogue, is_closed, last_call, last_hint, began, answers, answers_at, is_end}
 use Rattle.search_epochs.specs.Laws.{CurrentServes, MoveIsOwed}
@@ -89,18 +89,9 @@ answered kinds.Analyse epoch t s call call' e now h =
 heard_unspent : (epoch : ℕ) (e : Engine) (w : What) (last : Option ℕ) (closed : Bool) (call call' : Call) → call' ≡ cond (closed || (answers_at w epoch e || is_end w)) calls.Nothing call
     → (closed ≡ true → IsDeaf w) → (closed ≡ false → IfCurrent (forget epoch e) (λ k. Serves k call)) → (is_some_equal last epoch ≡ true → is_move call ≡ false)
     → is_some_equal (closed_ticket e (said_of w) last) epoch ≡ true → is_move call' ≡ false
-heard_unspent epoch Boot w last closed call call' e d h u n = no_move _ call call' e (u n)
-heard_unspent epoch Getting w last closed call call' e d h u n = no_move _ call call' e (u n)
-heard_unspent epoch Idle w last closed call call' e d h u n = no_move _ call call' e (u n)
-heard_unspent epoch Gone w last closed call call' e d h u n = no_move _ call call' e (u n)
-heard_unspent epoch (Search k t s) (Says said.UciOk) last closed call call' e d h u n = no_move _ call call' e (u n)
-heard_unspent epoch (Search k t s) (Says said.ReadyOk) last closed call call' e d h u n = no_move _ call call' e (u n)
-heard_unspent epoch (Search k t s) (Says said.Ended) last closed call call' e d h u n = no_move _ call call' e (u n)
-heard_unspent epoch (Search k t s) (Plays m) last closed call call' e d h u n = no_move _ call call' e (u n)
-heard_unspent epoch (Search k t s) Hurries last closed call call' e d h u n = no_move _ call call' e (u n)
-heard_unspent epoch (Search k t s) Quiet last closed call call' e d h u n = no_move _ call call' e (u n)
 heard_unspent epoch (Search k t s) (Says said.Best) last true call call' e d h u n = absurd (d refl)
 heard_unspent epoch (Search k t s) (Says said.Best) last false call call' e d h u n = answered k epoch t s call call' e n (h refl)
+heard_unspent epoch x w last closed call call' e d h u n = no_move _ call call' e (u n)
 
 -- A call for a Move is not spent in the middle of a turn: a Best that closes a current search for a Move begins an epoch or ends the
 -- call, and any other current search serves another call.

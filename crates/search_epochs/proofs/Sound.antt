@@ -55,31 +55,20 @@ turned_sound t u w h = record { stops = stops u.begins_epoch; unspent = unspent 
 -- the orders
 
 search_stops : (k : GoKind) (stale wants matches hurry : Bool) → StopsForMove (settled_state (states.Search k stale false) (choose_search k stale wants matches hurry))
-search_stops kinds.Move true wants matches hurry = tt
 search_stops kinds.Move false wants matches true = refl
-search_stops kinds.Move false wants matches false = tt
-search_stops kinds.Analyse true wants matches hurry = tt
-search_stops kinds.Analyse false wants matches true = tt
-search_stops kinds.Analyse false wants matches false = tt
 search_stops kinds.Ponder stale true true hurry = tt
-search_stops kinds.Ponder true false true hurry = tt
-search_stops kinds.Ponder true wants false hurry = tt
 search_stops kinds.Ponder false false true true = tt
-search_stops kinds.Ponder false false true false = tt
-search_stops kinds.Ponder false wants false true = tt
-search_stops kinds.Ponder false wants false false = tt
+search_stops k false wants matches false = tt
+search_stops k false wants matches hurry = tt
+search_stops k stale wants true hurry = tt
+search_stops k true wants matches hurry = tt
 
 settled_stops : (e : EngineState) (o : Call) (unsent matches hurry : Bool) → StopsForMove e → StopsForMove (settled_state e (choose e o unsent matches hurry))
-settled_stops states.Boot o unsent matches hurry h = tt
-settled_stops states.Getting o unsent matches hurry h = tt
-settled_stops states.Gone o unsent matches hurry h = tt
-settled_stops states.Idle o true matches hurry h = tt
-settled_stops states.Idle calls.Nothing false matches hurry h = tt
-settled_stops states.Idle calls.Move false matches hurry h = tt
-settled_stops states.Idle (calls.Ponder g) false matches hurry h = tt
-settled_stops states.Idle calls.Analyse false matches hurry h = tt
 settled_stops (states.Search k stale true) o unsent matches hurry h = h
 settled_stops (states.Search k stale false) o unsent matches hurry h = search_stops k stale (is_move o) matches hurry
+settled_stops states.Idle calls.Nothing false matches hurry h = tt
+settled_stops states.Idle o true matches hurry h = tt
+settled_stops e o unsent matches hurry h = tt
 
 -- if something is owed, nothing is spent
 pub unspent_if_owed : (b : Bool) (c : Call) → is_nothing (cond b calls.Nothing c) ≡ false → b ≡ false

@@ -1,7 +1,7 @@
 -- At most one `stop` in a search.
 use Rattle.std.proofs.Common.{◌≡◌, ℕ, ◌+◌, ◌≤◌, List, [], ◌∷◌, Bool, true, false, refl, sym, ap, subst, arith}
 use Rattle.peer_words.specs.declared.kinds.GoKind.TheVariants as kinds
-use Rattle.search_epochs.specs.Tickets.{Engine, Boot, Getting, Idle, Search, Gone, Word, Uci, Setup, IsReady, Position, Go, Stop, PonderHit, Quit, MaySendAll, Ticketed, turned, sent, sent_all, is_gone}
+use Rattle.search_epochs.specs.Tickets.{Engine, Boot, Getting, Idle, Search, Gone, Word, Setup, IsReady, Position, Go, Stop, PonderHit, Quit, MaySendAll, Ticketed, turned, sent, sent_all, is_gone}
 use Rattle.search_epochs.specs.History.{Exchange, AreLawful, Lawful, dialogue, is_closed, last_orders, stops_after, stops_since_go}
 use Rattle.search_epochs.specs.Laws.{StopsOnce}
 use Rattle.search_epochs.proofs.Turns.{heard_goes}
@@ -25,30 +25,18 @@ at_idle P e i p = subst P (sym i) p
 
 stops_sent : (epoch : ℕ) (e : Engine) (ws : List Word) (n : ℕ) → MaySendAll epoch e ws → AreStops n e → AreStops (stops_after n ws) (sent_all epoch e ws)
 stops_sent epoch e [] n m h = h
-stops_sent epoch e (Uci ∷ ws) n m h = absurd m.0
 stops_sent epoch e (Setup ∷ ws) n m h = stops_sent epoch (sent epoch e Setup) ws n m.1 (at_idle (λ x. AreStops n (sent epoch x Setup)) e m.0 (few n e h))
 stops_sent epoch e (IsReady ∷ ws) n m h = stops_sent epoch (sent epoch e IsReady) ws n m.1 (at_idle (λ x. AreStops n (sent epoch x IsReady)) e m.0 (few n e h))
 stops_sent epoch e (Position ∷ ws) n m h = stops_sent epoch (sent epoch e Position) ws n m.1 (at_idle (λ x. AreStops n (sent epoch x Position)) e m.0 (few n e h))
 stops_sent epoch e (Go k ∷ ws) n m h = stops_sent epoch (sent epoch e (Go k)) ws 0 m.1 (at_idle (λ x. AreStops 0 (sent epoch x (Go k))) e m.0 refl)
 stops_sent epoch (Search k t true) (Stop ∷ ws) n m h = cc (m.0)
 stops_sent epoch (Search k t false) (Stop ∷ ws) n m h = stops_sent epoch (Search k t true) ws (n + 1) m.1 (omega arith)
-stops_sent epoch Boot (Stop ∷ ws) n m h = absurd m.0
-stops_sent epoch Getting (Stop ∷ ws) n m h = absurd m.0
-stops_sent epoch Idle (Stop ∷ ws) n m h = absurd m.0
-stops_sent epoch Gone (Stop ∷ ws) n m h = absurd m.0
 stops_sent epoch (Search kinds.Ponder t true) (PonderHit ∷ ws) n m h = cc (m.0.1)
 stops_sent epoch (Search kinds.Ponder t false) (PonderHit ∷ ws) n m h = stops_sent epoch (Search kinds.Move epoch false) ws n m.1 h
-stops_sent epoch (Search kinds.Move t s) (PonderHit ∷ ws) n m h = cc (m.0.0)
-stops_sent epoch (Search kinds.Analyse t s) (PonderHit ∷ ws) n m h = cc (m.0.0)
-stops_sent epoch Boot (PonderHit ∷ ws) n m h = absurd m.0
-stops_sent epoch Getting (PonderHit ∷ ws) n m h = absurd m.0
-stops_sent epoch Idle (PonderHit ∷ ws) n m h = absurd m.0
-stops_sent epoch Gone (PonderHit ∷ ws) n m h = absurd m.0
 stops_sent epoch Boot (Quit ∷ ws) n m h = stops_sent epoch Boot ws n m.1 h
-stops_sent epoch Getting (Quit ∷ ws) n m h = stops_sent epoch Getting ws n m.1 h
-stops_sent epoch Idle (Quit ∷ ws) n m h = stops_sent epoch Idle ws n m.1 h
-stops_sent epoch Gone (Quit ∷ ws) n m h = stops_sent epoch Gone ws n m.1 h
-stops_sent epoch (Search k t s) (Quit ∷ ws) n m h = stops_sent epoch (Search k t s) ws n m.1 h
+stops_sent epoch e (Quit ∷ ws) n m h = stops_sent epoch e ws n m.1 h
+stops_sent epoch (Search k t s) (PonderHit ∷ ws) n m h = cc (m.0.0)
+stops_sent epoch e x n m h = absurd m.0
 
 -- each of the orders of a lawful exchange may be written at its place
 closing_may : (m : Ticketed) (closed : Bool) (gone : Bool) → is_gone m.engine ≡ gone → MaySendAll m.epoch m.engine (last_orders closed gone)

@@ -8,21 +8,12 @@ use Rattle.search_epochs.proofs.Whole.{heard_within, last_within}
 
 sent_within : (epoch : ℕ) (e : Engine) (w : Word) → TicketWithin epoch e → TicketWithin epoch (sent epoch e w)
 sent_within epoch Gone w t = tt
-sent_within epoch Boot (Go k) t = omega arith
-sent_within epoch Boot Uci t = tt
-sent_within epoch Boot IsReady t = tt
-sent_within epoch Boot w t = tt
-sent_within epoch Getting (Go k) t = omega arith
-sent_within epoch Getting w t = tt
-sent_within epoch Idle (Go k) t = omega arith
-sent_within epoch Idle w t = tt
+sent_within epoch (Search kinds.Ponder n s) PonderHit t = omega arith
+sent_within epoch e (Go k) t = omega arith
 sent_within epoch (Search k n s) Uci t = tt
 sent_within epoch (Search k n s) IsReady t = tt
-sent_within epoch (Search k n s) (Go g) t = omega arith
-sent_within epoch (Search kinds.Ponder n s) PonderHit t = omega arith
-sent_within epoch (Search kinds.Move n s) PonderHit t = t
-sent_within epoch (Search kinds.Analyse n s) PonderHit t = t
 sent_within epoch (Search k n s) w t = t
+sent_within epoch e w t = tt
 
 pub all_within : (epoch : ℕ) (e : Engine) (ws : List Word) → TicketWithin epoch e → TicketWithin epoch (sent_all epoch e ws)
 all_within epoch e [] t = t
