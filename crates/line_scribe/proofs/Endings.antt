@@ -24,13 +24,7 @@ to_line means s0 start now (endings.OutOfStep n) i r = r
 to_line means s0 start now (endings.MayNotCome n) i r = r
 to_line means s0 start now (endings.Differs n) i r = r
 to_line means s0 start now (endings.Unlawful n) i r = r
-to_line means s0 start now endings.Done i r = absurd i
-to_line means s0 start now endings.Usage i r = absurd i
-to_line means s0 start now (endings.NoPosition fault) i r = absurd i
-to_line means s0 start now endings.NoMemory i r = absurd i
-to_line means s0 start now endings.ReadingFailed i r = absurd i
-to_line means s0 start now endings.WritingFailed i r = absurd i
-to_line means s0 start now endings.TooLong i r = absurd i
+to_line means s0 start now e i r = absurd i
 
 stopped_cut : {S : Type 0} (means : Putting S) (s0 : S) (answer : Ending) (pieces : List Piece) (start now : Streams) → answer ≡ endings.WritingFailed → AreRead start now pieces → Broke means s0 pieces start.output now.output
     → Scribed means s0 answer start now
@@ -144,15 +138,5 @@ causes_by means s0 pieces ending answer input input_now output output_now (inr b
 }
 
 pub ended : {S : Type 0} (means : Putting S) (s0 : S) (untouched : Type 0) (e : Ending) (start now : Streams) → Scribed means s0 e start now → EndsBy means s0 untouched e start now
-ended means s0 untouched endings.Done start now x = x
-ended means s0 untouched (endings.Differs n) start now x = x
-ended means s0 untouched (endings.Unlawful n) start now x = x
-ended means s0 untouched endings.Usage start now x = x
-ended means s0 untouched (endings.NoPosition fault) start now x = x
-ended means s0 untouched (endings.NoMark n) start now x = x
-ended means s0 untouched (endings.OutOfStep n) start now x = x
-ended means s0 untouched (endings.MayNotCome n) start now x = x
 ended means s0 untouched endings.NoMemory start now x = absurd x
-ended means s0 untouched endings.ReadingFailed start now x = x
-ended means s0 untouched endings.WritingFailed start now x = x
-ended means s0 untouched endings.TooLong start now x = x
+ended means s0 untouched e start now x = x

@@ -21,73 +21,23 @@ use Rattle.line_scribe.specs.Outcomes.{LineReported, Outcome, WroteLast}
 
 is_done : (e : Ending) → code_of e ≡ 0 → e ≡ endings.Done
 is_done endings.Done h = refl
-is_done (endings.Differs n) h = cc
-is_done (endings.Unlawful n) h = cc
-is_done endings.Usage h = cc
-is_done (endings.NoMark n) h = cc
-is_done (endings.OutOfStep n) h = cc
-is_done (endings.MayNotCome n) h = cc
-is_done (endings.NoPosition f) h = cc
-is_done endings.NoMemory h = cc
-is_done endings.ReadingFailed h = cc
-is_done endings.WritingFailed h = cc
-is_done endings.TooLong h = cc
+is_done e h = cc
 
 is_memory : (e : Ending) → code_of e ≡ 3 → e ≡ endings.NoMemory
-is_memory endings.Done h = cc
-is_memory (endings.Differs n) h = cc
-is_memory (endings.Unlawful n) h = cc
-is_memory endings.Usage h = cc
-is_memory (endings.NoMark n) h = cc
-is_memory (endings.OutOfStep n) h = cc
-is_memory (endings.MayNotCome n) h = cc
-is_memory (endings.NoPosition f) h = cc
 is_memory endings.NoMemory h = refl
-is_memory endings.ReadingFailed h = cc
-is_memory endings.WritingFailed h = cc
-is_memory endings.TooLong h = cc
+is_memory e h = cc
 
 is_reading : (e : Ending) → code_of e ≡ 4 → e ≡ endings.ReadingFailed
-is_reading endings.Done h = cc
-is_reading (endings.Differs n) h = cc
-is_reading (endings.Unlawful n) h = cc
-is_reading endings.Usage h = cc
-is_reading (endings.NoMark n) h = cc
-is_reading (endings.OutOfStep n) h = cc
-is_reading (endings.MayNotCome n) h = cc
-is_reading (endings.NoPosition f) h = cc
-is_reading endings.NoMemory h = cc
 is_reading endings.ReadingFailed h = refl
-is_reading endings.WritingFailed h = cc
-is_reading endings.TooLong h = cc
+is_reading e h = cc
 
 is_writing : (e : Ending) → code_of e ≡ 5 → e ≡ endings.WritingFailed
-is_writing endings.Done h = cc
-is_writing (endings.Differs n) h = cc
-is_writing (endings.Unlawful n) h = cc
-is_writing endings.Usage h = cc
-is_writing (endings.NoMark n) h = cc
-is_writing (endings.OutOfStep n) h = cc
-is_writing (endings.MayNotCome n) h = cc
-is_writing (endings.NoPosition f) h = cc
-is_writing endings.NoMemory h = cc
-is_writing endings.ReadingFailed h = cc
 is_writing endings.WritingFailed h = refl
-is_writing endings.TooLong h = cc
+is_writing e h = cc
 
 is_long : (e : Ending) → code_of e ≡ 6 → e ≡ endings.TooLong
-is_long endings.Done h = cc
-is_long (endings.Differs n) h = cc
-is_long (endings.Unlawful n) h = cc
-is_long endings.Usage h = cc
-is_long (endings.NoMark n) h = cc
-is_long (endings.OutOfStep n) h = cc
-is_long (endings.MayNotCome n) h = cc
-is_long (endings.NoPosition f) h = cc
-is_long endings.NoMemory h = cc
-is_long endings.ReadingFailed h = cc
-is_long endings.WritingFailed h = cc
 is_long endings.TooLong h = refl
+is_long e h = cc
 
 module _ {S : Type 0} (means : Putting S) (s0 : S) (U : Type 0) (start now : Streams) (code : ℕ) (r : Ran (λ e. EndsBy means s0 U e start now) start now code) where
   abbrev By : Ending → Type 0
@@ -123,17 +73,13 @@ module _ {S : Type 0} (means : Putting S) (s0 : S) (U : Type 0) (start now : Str
 
   line_of : (e : Ending) (n : ℕ) → (n ≡ 0 → ⊥) → (n ≡ 3 → ⊥) → (n ≡ 4 → ⊥) → (n ≡ 5 → ⊥) → (n ≡ 6 → ⊥) → By e → Told' e → code ≡ n → LineReported means s0 start now n
   line_of endings.Done n a b c f d x t z = absurd (a (sym (code_by endings.Done n t z f)))
-  line_of (endings.Differs k) n a b c f d x t z = reported (endings.Differs k) n tt x t z f
-  line_of (endings.Unlawful k) n a b c f d x t z = reported (endings.Unlawful k) n tt x t z f
   line_of endings.Usage n a b c f d x t z = absurd x
-  line_of (endings.NoMark k) n a b c f d x t z = reported (endings.NoMark k) n tt x t z f
-  line_of (endings.OutOfStep k) n a b c f d x t z = reported (endings.OutOfStep k) n tt x t z f
-  line_of (endings.MayNotCome k) n a b c f d x t z = reported (endings.MayNotCome k) n tt x t z f
   line_of (endings.NoPosition k) n a b c f d x t z = absurd x
   line_of endings.NoMemory n a b c f d x t z = absurd (b (sym (code_by endings.NoMemory n t z f)))
   line_of endings.ReadingFailed n a b c f d x t z = absurd (c (sym (code_by endings.ReadingFailed n t z f)))
   line_of endings.WritingFailed n a b c f d x t z = absurd (f (sym (code_by endings.WritingFailed n t z f)))
   line_of endings.TooLong n a b c f d x t z = absurd (d (sym (code_by endings.TooLong n t z f)))
+  line_of e n a b c f d x t z = reported e n tt x t z f
 
   -- why the status is 5
   broke_by : (e : Ending) → r.ending ≡ e → Told' e → code ≡ 5 → WritingBroke start now
@@ -153,15 +99,11 @@ module _ {S : Type 0} (means : Putting S) (s0 : S) (U : Type 0) (start now : Str
   part_of endings.NoMemory x = inl x
   part_of endings.WritingFailed x = inr (inl x)
   part_of endings.Done x = inr (inr (record { ending = endings.Done; lines = items 131072 x.got; read = items_read start now x.got x.reads x.all; text = x.text; says = x.says; written = x.written }))
-  part_of (endings.Differs n) x = to_last (endings.Differs n) x
-  part_of (endings.Unlawful n) x = to_last (endings.Unlawful n) x
   part_of endings.Usage x = absurd x
-  part_of (endings.NoMark n) x = to_last (endings.NoMark n) x
-  part_of (endings.OutOfStep n) x = to_last (endings.OutOfStep n) x
-  part_of (endings.MayNotCome n) x = to_last (endings.MayNotCome n) x
   part_of (endings.NoPosition f) x = absurd x
   part_of endings.ReadingFailed x = whole_last endings.ReadingFailed 0 x
   part_of endings.TooLong x = whole_last endings.TooLong 4294967296 x
+  part_of e x = to_last e x
 
   abbrev Completed : Type 0
   Completed = ((code ≡ 0) × WroteAll means s0 start now) ⊎ LineReported means s0 start now code ⊎ (code ≡ 3)
@@ -175,17 +117,13 @@ module _ {S : Type 0} (means : Putting S) (s0 : S) (U : Type 0) (start now : Str
 
   complete_of : (e : Ending) → r.ending ≡ e → By e → Told' e → (x : List ℕ) → start.input.left ≡ Some x → length x < 2 ^ 32 → IsSteady start now → Completed
   complete_of endings.Done is b t x e l s = inl ((steady_told endings.Done t s).0, b)
-  complete_of (endings.Differs n) is b t x e l s = line_complete (endings.Differs n) tt b t s
-  complete_of (endings.Unlawful n) is b t x e l s = line_complete (endings.Unlawful n) tt b t s
   complete_of endings.Usage is b t x e l s = absurd b
-  complete_of (endings.NoMark n) is b t x e l s = line_complete (endings.NoMark n) tt b t s
-  complete_of (endings.OutOfStep n) is b t x e l s = line_complete (endings.OutOfStep n) tt b t s
-  complete_of (endings.MayNotCome n) is b t x e l s = line_complete (endings.MayNotCome n) tt b t s
   complete_of (endings.NoPosition f) is b t x e l s = absurd b
   complete_of endings.NoMemory is b t x e l s = inr (inr (steady_told endings.NoMemory t s).0)
   complete_of endings.ReadingFailed is b t x e l s = absurd (s.read (r.reading is))
   complete_of endings.WritingFailed is b t x e l s = absurd (s.written (r.writing is))
   complete_of endings.TooLong is b t x e l s = let few = few_got start.input.left now.input.left b.got x b.reads.left e in let many = b.least_is in absurd (let z : ⊥ = omega (arith, few, many, l) in z)
+  complete_of y is b t x e l s = line_complete y tt b t s
 
   pub outcome : Outcome means s0 U start now code
   outcome = record {

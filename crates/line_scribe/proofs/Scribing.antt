@@ -141,18 +141,12 @@ module _ {S : Type 0} (means : Putting S) where
   then_by scribe text see w0 o0 pieces (Some ending) w o h = h
 
   cut_is : (e : Ending) → is_cut e ≡ true → IsOfLine e → ⊥
-  cut_is endings.WritingFailed h i = i
   cut_is (endings.NoMark n) h i = cc
   cut_is (endings.OutOfStep n) h i = cc
   cut_is (endings.MayNotCome n) h i = cc
-  cut_is endings.Done h i = i
   cut_is (endings.Differs n) h i = cc
   cut_is (endings.Unlawful n) h i = cc
-  cut_is endings.Usage h i = i
-  cut_is (endings.NoPosition fault) h i = i
-  cut_is endings.NoMemory h i = i
-  cut_is endings.ReadingFailed h i = i
-  cut_is endings.TooLong h i = i
+  cut_is e h i = i
 
   pub left_cut : (s0 : S) (lines : List Piece) (ending : Ending) (held : List ℕ) (before after : Received) → is_cut ending ≡ true → Halted means s0 ending lines held before after → Left means s0 lines ending ending before after
   left_cut s0 lines ending held before after c (inl b) = inr b
