@@ -23,7 +23,7 @@ use Rattle.desk_rules.specs.declared.effect.Refusal.TheVariants as refusals
 use Rattle.desk_rules.specs.declared.desk.Desk.{Desk}
 use Rattle.desk_rules.specs.Desk.{Situation, table, plays, has_ended, is_gone, is_boot, owes_move, owed_at, call_of, call_before}
 use Rattle.desk_rules.specs.Lines.{verdict, judged, asks, or_else, where_true, refused_option, does_not_fit, refusal, change}
-use Rattle.desk_rules.specs.Steps.{Effect, Nothing, Opens, LongLine, Refuses, Accepts, Names, Declares, Boots, Readies, Thinks, Shows, Forfeits, Answers, Dies, classify, line_effect, desk_after_effect, answers_pings, is_death}
+use Rattle.desk_rules.specs.Steps.{Effect, Nothing, LongLine, Refuses, Accepts, Boots, Thinks, Shows, Dies, classify, line_effect, desk_after_effect, answers_pings, is_death}
 use Rattle.desk_rules.specs.Replies.{row, row_accepted, result_of, result_at, offer_where, hint_row, replies_of}
 use Rattle.adapter_core.specs.Ends.{ends_after}
 use Rattle.adapter_core.specs.Trace.{State, Step, IsLawful, Lawful, state, state_after, situation, effect, owing, closed_after, desk_of, replies}
@@ -107,18 +107,7 @@ idle_desk : (h : Situation) (d : Effect) → IsIdleDeed d → commanded (desk_af
 unfolding desk_after_effect
 idle_desk h (Refuses r line) i = refl
 idle_desk h (Accepts m) i = ap commanded (setting_changes (is_boot h.engine) h.desk m i)
-idle_desk h Nothing i = absurd i
-idle_desk h Opens i = absurd i
-idle_desk h LongLine i = absurd i
-idle_desk h (Names text) i = absurd i
-idle_desk h (Declares name shape) i = absurd i
-idle_desk h Boots i = absurd i
-idle_desk h Readies i = absurd i
-idle_desk h (Thinks k facts) i = absurd i
-idle_desk h (Shows best hint) i = absurd i
-idle_desk h Forfeits i = absurd i
-idle_desk h Answers i = absurd i
-idle_desk h Dies i = absurd i
+idle_desk h d i = absurd i
 
 -- THE CALL FOR A MOVE
 
@@ -187,11 +176,7 @@ module _ (o : Settings) (s : State) (a : Alone) (holds : Lasts s) (alike : Alike
   event_pair events.IfaceLong i n = closed_pair s.ends.closed a.ends.closed _ _ alike.closed n (λ x. Equal refl)
   event_pair events.IfaceEnd i n = Equal refl
   event_pair events.IfaceLost i n = Equal refl
-  event_pair events.Open i n = absurd (cc)
-  event_pair (events.Engine line) i n = absurd (cc)
-  event_pair events.EngineLong i n = absurd (cc)
-  event_pair events.EngineEnd i n = absurd (cc)
-  event_pair events.EngineLost i n = absurd (cc)
+  event_pair e i n = absurd (cc)
 
   -- THE DESK AFTER A DEED
 
@@ -201,16 +186,7 @@ module _ (o : Settings) (s : State) (a : Alone) (holds : Lasts s) (alike : Alike
   alike_effect Nothing i = alike.parts
   alike_effect LongLine i = alike.parts
   alike_effect (Refuses r line) i = alike.parts
-  alike_effect Opens i = absurd i
-  alike_effect (Names text) i = absurd i
-  alike_effect (Declares name shape) i = absurd i
-  alike_effect Boots i = absurd i
-  alike_effect Readies i = absurd i
-  alike_effect (Thinks k facts) i = absurd i
-  alike_effect (Shows best hint) i = absurd i
-  alike_effect Forfeits i = absurd i
-  alike_effect Answers i = absurd i
-  alike_effect Dies i = absurd i
+  alike_effect d i = absurd i
 
   pair_desk : (d x : Effect) → IsIfaceDeed d → Pair d x → commanded (desk_after_effect h d) ≡ commanded (desk_after_effect g x)
   pair_desk d x i (Equal q) = alike_effect d i ∙ ap (λ (y : Effect). commanded (desk_after_effect g y)) q
@@ -241,19 +217,11 @@ module _ (o : Settings) (s : State) (a : Alone) (holds : Lasts s) (alike : Alike
   row_alike : (d : Effect) → IsIfaceDeed d → tells_of_engine d ≡ false → row h d ≡ row g d
   unfolding row
   row_alike (Accepts m) i t = accepted_alike m t
-  row_alike (Refuses r line) i t = refl
-  row_alike LongLine i t = refl
-  row_alike Nothing i t = refl
-  row_alike Opens i t = refl
-  row_alike (Names text) i t = refl
-  row_alike (Declares name shape) i t = refl
   row_alike Boots i t = absurd i
-  row_alike Readies i t = refl
   row_alike (Thinks k facts) i t = absurd i
   row_alike (Shows best hint) i t = absurd i
-  row_alike Forfeits i t = refl
-  row_alike Answers i t = refl
   row_alike Dies i t = absurd i
+  row_alike d i t = refl
 
   -- THROUGH A STEP
 

@@ -33,13 +33,12 @@ opened_before false b c e = cc
 pub opened_later : (ends : Ends) (e : Event) → may ends e ≡ true → (ends_after ends e).opened ≡ true
 opened_later ends events.Open m = refl
 opened_later ends (events.Iface line) m = opened_before ends.opened (not ends.iface) (is_line line) m
-opened_later ends events.IfaceLong m = first_true ends.opened (not ends.iface) m
-opened_later ends events.IfaceEnd m = first_true ends.opened (not ends.iface) m
 opened_later ends events.IfaceLost m = opened_before ends.opened (not ends.iface) (not ends.iface_lost) m
 opened_later ends (events.Engine line) m = opened_before ends.opened (not ends.engine) (is_line line) m
 opened_later ends events.EngineLong m = first_true ends.opened (not ends.engine) m
 opened_later ends events.EngineEnd m = first_true ends.opened (not ends.engine) m
 opened_later ends events.EngineLost m = opened_before ends.opened (not ends.engine) (not ends.engine_lost) m
+opened_later ends e m = first_true ends.opened (not ends.iface) m
 
 -- LINES
 
@@ -100,28 +99,18 @@ dead_rises h false = refl
 
 pub closed_rises : (ends : Ends) (h : Situation) (held : List Order) (e : Event) → h.closed ≡ ends.closed → (ends_after ends e).closed ≡ true → begins_epoch h (classify h held e) ≡ false
 unfolding classify
-closed_rises ends h held events.Open same c = refl
 closed_rises ends h held (events.Iface line) same c = either_rises h held h.closed (is_quit line) line (reading line) refl (rw same c)
 closed_rises ends h held events.IfaceLong same c = nothing_rises h h.closed LongLine (same ∙ c)
-closed_rises ends h held events.IfaceEnd same c = refl
-closed_rises ends h held events.IfaceLost same c = refl
 closed_rises ends h held (events.Engine line) same c = nothing_rises h h.closed (engine_says h (engine_message line)) (same ∙ c)
-closed_rises ends h held events.EngineLong same c = refl
 closed_rises ends h held events.EngineEnd same c = dead_rises h (is_gone h.engine)
 closed_rises ends h held events.EngineLost same c = dead_rises h (is_gone h.engine)
+closed_rises ends h held e same c = refl
 
 -- nor at Open
 pub open_rises : (h : Situation) (held : List Order) (e : Event) → is_open e ≡ true → begins_epoch h (classify h held e) ≡ false
 unfolding classify
 open_rises h held events.Open o = refl
-open_rises h held (events.Iface line) o = cc
-open_rises h held events.IfaceLong o = cc
-open_rises h held events.IfaceEnd o = cc
-open_rises h held events.IfaceLost o = cc
-open_rises h held (events.Engine line) o = cc
-open_rises h held events.EngineLong o = cc
-open_rises h held events.EngineEnd o = cc
-open_rises h held events.EngineLost o = cc
+open_rises h held e o = cc
 
 -- WHAT CLOSES
 
@@ -158,12 +147,9 @@ dead_closes false = tt
 
 pub closing : (ends : Ends) (h : Situation) (held : List Order) (e : Event) → h.closed ≡ ends.closed → (ends_after ends e).closed ≡ true → Closes (classify h held e)
 unfolding classify
-closing ends h held events.Open same c = tt
 closing ends h held (events.Iface line) same c = either_closes h held h.closed (is_quit line) line (reading line) refl (rw same c)
 closing ends h held events.IfaceLong same c = cond_closes h.closed LongLine (same ∙ c)
-closing ends h held events.IfaceEnd same c = tt
-closing ends h held events.IfaceLost same c = tt
 closing ends h held (events.Engine line) same c = cond_closes h.closed (engine_says h (engine_message line)) (same ∙ c)
-closing ends h held events.EngineLong same c = tt
 closing ends h held events.EngineEnd same c = dead_closes (is_gone h.engine)
 closing ends h held events.EngineLost same c = dead_closes (is_gone h.engine)
+closing ends h held e same c = tt

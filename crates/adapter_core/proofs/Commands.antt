@@ -147,7 +147,6 @@ none_for_mode os false false e = refl
 -- every order fits where none is held and no option is declared
 pub lone_fits : (d : Desk) (m : IfaceMsg) → table d ≡ [] → is_setting m ≡ false → does_not_fit [] (asks false d m) ≡ false
 unfolding asks order_text
-lone_fits d says.New e p = refl
 lone_fits d says.Force e p = ap (does_not_fit []) (none_for_mode (table d) (analyses d.mode) false e)
 lone_fits d says.Go e p = ap (does_not_fit []) (none_for_mode (table d) (analyses d.mode) false e)
 lone_fits d says.PlayOther e p = ap (does_not_fit []) (none_for_mode (table d) (analyses d.mode) false e)
@@ -156,8 +155,4 @@ lone_fits d says.Exit e p = ap (does_not_fit []) (none_for_mode (table d) (analy
 lone_fits d says.Result e p = ap (does_not_fit []) (none_for_mode (table d) (analyses d.mode) false e)
 lone_fits d says.Hard e p = ap (does_not_fit []) (none_told (table d) ponder_name true e)
 lone_fits d says.Easy e p = ap (does_not_fit []) (none_told (table d) ponder_name false e)
-lone_fits d (says.SetOption name value) e p = cc
-lone_fits d (says.Memory n) e p = cc
-lone_fits d (says.Cores n) e p = cc
-lone_fits d (says.EgtPath kind path) e p = cc
-lone_fits d m e p = refl
+lone_fits d m e p = cc

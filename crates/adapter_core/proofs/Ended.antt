@@ -10,7 +10,7 @@ use Rattle.search_epochs.specs.Dialogue.{forget}
 use Rattle.desk_rules.specs.Desk.{is_gone}
 use Rattle.cecp_lines.specs.Messages.{IfaceMsg}
 use Rattle.cecp_lines.specs.Messages as says
-use Rattle.desk_rules.specs.Steps.{Effect, Nothing, Opens, LongLine, Refuses, Accepts, Names, Declares, Boots, Readies, Thinks, Shows, Forfeits, Answers, Dies, classify, what_of, what_accepted, is_death, dies}
+use Rattle.desk_rules.specs.Steps.{Effect, Accepts, Dies, classify, what_of, what_accepted, is_death, dies}
 use Rattle.desk_rules.specs.Orders.{word_of}
 use Rattle.search_epochs.specs.declared.words.Said.{Said}
 use Rattle.search_epochs.specs.declared.words.Said.TheVariants as said
@@ -43,12 +43,7 @@ ended_closed : (ends : Ends) (e : Event) → (iface_gone ends ≡ true → ends.
 ended_closed ends (events.Iface line) h g = by_line ends.iface ends.iface_lost ends.closed (is_quit line) h g
 ended_closed ends events.IfaceEnd h g = refl
 ended_closed ends events.IfaceLost h g = refl
-ended_closed ends events.Open h g = h g
-ended_closed ends events.IfaceLong h g = h g
-ended_closed ends (events.Engine line) h g = h g
-ended_closed ends events.EngineLong h g = h g
-ended_closed ends events.EngineEnd h g = h g
-ended_closed ends events.EngineLost h g = h g
+ended_closed ends e h g = h g
 
 closed_by : (o : Settings) (t : List Step) → iface_gone (state o t).ends ≡ true → (state o t).ends.closed ≡ true
 closed_by o [] g = cc
@@ -92,13 +87,7 @@ mid_gone : (s : State) (e : Event) → (engine_gone s.ends ≡ true → s.dialog
 unfolding classify
 mid_gone s events.EngineEnd h g = death s.dialogue.epoch s.dialogue.engine
 mid_gone s events.EngineLost h g = death s.dialogue.epoch s.dialogue.engine
-mid_gone s events.Open h g = stays_gone s events.Open (h g)
-mid_gone s (events.Iface line) h g = stays_gone s (events.Iface line) (h g)
-mid_gone s events.IfaceLong h g = stays_gone s events.IfaceLong (h g)
-mid_gone s events.IfaceEnd h g = stays_gone s events.IfaceEnd (h g)
-mid_gone s events.IfaceLost h g = stays_gone s events.IfaceLost (h g)
-mid_gone s (events.Engine line) h g = stays_gone s (events.Engine line) (h g)
-mid_gone s events.EngineLong h g = stays_gone s events.EngineLong (h g)
+mid_gone s e h g = stays_gone s e (h g)
 
 gone_by : (o : Settings) (t : List Step) → engine_gone (state o t).ends ≡ true → (state o t).dialogue.engine ≡ Gone
 gone_by o [] g = cc
@@ -125,71 +114,17 @@ gone_known epoch (Search k t s) b g = cc
 
 gone_is : (epoch : ℕ) (e : Engine) (d : Effect) → heard e (said_of (what_of d)) ≡ Gone → (is_gone (forget epoch e) || is_death d) ≡ true
 gone_is epoch e (Accepts m) g = gone_known epoch e false (not_gone e (said_of (what_accepted m)) (quiet_line m) g)
-gone_is epoch Boot Nothing g = cc
-gone_is epoch Boot Opens g = cc
-gone_is epoch Boot LongLine g = cc
-gone_is epoch Boot (Refuses r line) g = cc
-gone_is epoch Boot (Names text) g = cc
-gone_is epoch Boot (Declares name shape) g = cc
-gone_is epoch Boot Boots g = cc
-gone_is epoch Boot Readies g = cc
-gone_is epoch Boot (Thinks kind facts) g = cc
-gone_is epoch Boot (Shows best hint) g = cc
-gone_is epoch Boot Forfeits g = cc
-gone_is epoch Boot Answers g = cc
-gone_is epoch Boot Dies g = refl
-gone_is epoch Getting Nothing g = cc
-gone_is epoch Getting Opens g = cc
-gone_is epoch Getting LongLine g = cc
-gone_is epoch Getting (Refuses r line) g = cc
-gone_is epoch Getting (Names text) g = cc
-gone_is epoch Getting (Declares name shape) g = cc
-gone_is epoch Getting Boots g = cc
-gone_is epoch Getting Readies g = cc
-gone_is epoch Getting (Thinks kind facts) g = cc
-gone_is epoch Getting (Shows best hint) g = cc
-gone_is epoch Getting Forfeits g = cc
-gone_is epoch Getting Answers g = cc
-gone_is epoch Getting Dies g = refl
-gone_is epoch Idle Nothing g = cc
-gone_is epoch Idle Opens g = cc
-gone_is epoch Idle LongLine g = cc
-gone_is epoch Idle (Refuses r line) g = cc
-gone_is epoch Idle (Names text) g = cc
-gone_is epoch Idle (Declares name shape) g = cc
-gone_is epoch Idle Boots g = cc
-gone_is epoch Idle Readies g = cc
-gone_is epoch Idle (Thinks kind facts) g = cc
-gone_is epoch Idle (Shows best hint) g = cc
-gone_is epoch Idle Forfeits g = cc
-gone_is epoch Idle Answers g = cc
-gone_is epoch Idle Dies g = refl
-gone_is epoch (Search k t s) Nothing g = cc
-gone_is epoch (Search k t s) Opens g = cc
-gone_is epoch (Search k t s) LongLine g = cc
-gone_is epoch (Search k t s) (Refuses r line) g = cc
-gone_is epoch (Search k t s) (Names text) g = cc
-gone_is epoch (Search k t s) (Declares name shape) g = cc
-gone_is epoch (Search k t s) Boots g = cc
-gone_is epoch (Search k t s) Readies g = cc
-gone_is epoch (Search k t s) (Thinks kind facts) g = cc
-gone_is epoch (Search k t s) (Shows best hint) g = cc
-gone_is epoch (Search k t s) Forfeits g = cc
-gone_is epoch (Search k t s) Answers g = cc
-gone_is epoch (Search k t s) Dies g = refl
 gone_is epoch Gone d g = refl
+gone_is epoch e Dies g = refl
+gone_is epoch e d g = cc
 
 no_order : (epoch : ℕ) (os : List Order) → MaySendAll epoch Gone (map word_of os) → os ≡ []
 no_order epoch [] m = refl
 no_order epoch (orders.Uci ∷ os) m = absurd (m.0)
-no_order epoch (orders.IsReady ∷ os) m = let e = m.0 in cc
-no_order epoch (orders.NewGame ∷ os) m = let e = m.0 in cc
-no_order epoch (orders.SetOption name value ∷ os) m = let e = m.0 in cc
-no_order epoch (orders.Position fen moves ∷ os) m = let e = m.0 in cc
-no_order epoch (orders.Go ponder control depth ∷ os) m = let e = m.0 in cc
 no_order epoch (orders.Stop ∷ os) m = absurd (m.0)
 no_order epoch (orders.PonderHit ∷ os) m = absurd (m.0)
 no_order epoch (orders.Quit ∷ os) m = absurd (m.0 refl)
+no_order epoch x m = let e = m.0 in cc
 
 -- before the session is opened no engine has ended
 unopened : (o : Settings) (t : List Step) → Lawful o t → (state o t).ends.opened ≡ false → engine_gone (state o t).ends ≡ true → ⊥
@@ -207,14 +142,7 @@ not_opened ends events.Open o m = (not_true ends.opened m, refl) where
   not_true : (b : Bool) → not b ≡ true → b ≡ false
   not_true true e = cc
   not_true false e = refl
-not_opened ends (events.Iface line) o m = cc
-not_opened ends events.IfaceLong o m = cc
-not_opened ends events.IfaceEnd o m = cc
-not_opened ends events.IfaceLost o m = cc
-not_opened ends (events.Engine line) o m = cc
-not_opened ends events.EngineLong o m = cc
-not_opened ends events.EngineEnd o m = cc
-not_opened ends events.EngineLost o m = cc
+not_opened ends e o m = cc
 
 none_at_last : (gone : Bool) → gone ≡ true → last_orders gone ≡ []
 none_at_last true e = refl

@@ -68,15 +68,11 @@ risen v d true x = was_stale (after_what v (what_of d)).state x
 risen v d false x = x
 
 was_settled : (e : EngineState) (o : Orders) → settled_state e o ≡ states.Boot → e ≡ states.Boot
-was_settled e chosen.None x = x
 was_settled e chosen.Batch x = cc
 was_settled e (chosen.Begin c) x = cc
 was_settled e chosen.Hit x = cc
 was_settled (states.Search k stale s) chosen.Stop x = cc
-was_settled states.Boot chosen.Stop x = x
-was_settled states.Getting chosen.Stop x = x
-was_settled states.Idle chosen.Stop x = x
-was_settled states.Gone chosen.Stop x = x
+was_settled e o x = x
 
 batch_first : (b : Bool) (ls : List Order) → IsFirst ls → IsFirst (cond b [] ls)
 batch_first true ls f = inl refl

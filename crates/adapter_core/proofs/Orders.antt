@@ -15,11 +15,11 @@ use Rattle.clock_map.specs.Search.{search_order, time_of}
 use Rattle.search_epochs.specs.declared.words.Orders.{Orders}
 use Rattle.search_epochs.specs.declared.words.Orders.TheVariants as chosen
 use Rattle.search_epochs.specs.declared.words.Said.TheVariants as said
-use Rattle.search_epochs.specs.Tickets.{Engine, Boot, Getting, Idle, Search, Gone, Word, Uci, Setup, IsReady, Position, Go, Stop, PonderHit, Quit, AllSetup, What, Says, Plays, Hurries, Quiet, kind_of, leaves_boot, is_empty}
+use Rattle.search_epochs.specs.Tickets.{Engine, Boot, Getting, Idle, Search, Gone, Word, Setup, IsReady, Position, Go, AllSetup, What, Says, Quiet, kind_of, leaves_boot, is_empty}
 use Rattle.search_epochs.specs.Dialogue.{words, is_batch_order, forget}
 use Rattle.desk_rules.specs.declared.desk.Desk.{Desk}
 use Rattle.desk_rules.specs.Desk.{Situation, is_boot, on_move, plies}
-use Rattle.desk_rules.specs.Steps.{Effect, Nothing, Opens, LongLine, Refuses, Accepts, Names, Declares, Boots, Readies, Thinks, Shows, Forfeits, Answers, Dies, what_of, what_accepted, is_boots}
+use Rattle.desk_rules.specs.Steps.{Effect, Accepts, Boots, Readies, Shows, Forfeits, Answers, Dies, what_of, what_accepted, is_boots}
 use Rattle.desk_rules.specs.Orders.{order_list, searched, word_of, kind_named}
 use Rattle.desk_rules.specs.Fits.{Fits}
 use Rattle.adapter_core.specs.Trace.{has_ready}
@@ -52,13 +52,7 @@ words_are ws d chosen.Stop = refl
 batch_ready : (ws : List Word) → AllSetup ws → has_ready (ws ++ IsReady ∷ []) ≡ true
 batch_ready [] a = refl
 batch_ready (Setup ∷ ws) a = batch_ready ws a
-batch_ready (Uci ∷ ws) a = absurd a
-batch_ready (IsReady ∷ ws) a = absurd a
-batch_ready (Position ∷ ws) a = absurd a
-batch_ready (Go k ∷ ws) a = absurd a
-batch_ready (Stop ∷ ws) a = absurd a
-batch_ready (PonderHit ∷ ws) a = absurd a
-batch_ready (Quit ∷ ws) a = absurd a
+batch_ready x a = absurd a
 
 -- `isready` stands in the batch alone
 pub ready_words : (ws : List Word) (o : Orders) → AllSetup ws → has_ready (words ws o) ≡ is_batch_order o
@@ -80,16 +74,7 @@ is_uciok w = false
 
 not_boots : (e : Engine) (w : What) → is_uciok w ≡ false → false ≡ leaves_boot e w
 not_boots Boot (Says said.UciOk) n = cc
-not_boots Boot (Says said.ReadyOk) n = refl
-not_boots Boot (Says said.Best) n = refl
-not_boots Boot (Says said.Ended) n = refl
-not_boots Boot (Plays m) n = refl
-not_boots Boot Hurries n = refl
-not_boots Boot Quiet n = refl
-not_boots Getting w n = refl
-not_boots Idle w n = refl
-not_boots (Search k t s) w n = refl
-not_boots Gone w n = refl
+not_boots e w n = refl
 
 line_boots : (m : IfaceMsg) → is_uciok (what_accepted m) ≡ false
 line_boots (says.UserMove m) = refl
@@ -107,15 +92,9 @@ in_boot epoch (Search k t s) b = cc
 pub boots_are : (epoch : ℕ) (e : Engine) (h : Situation) (held : List Order) (d : Effect) → h.engine ≡ forget epoch e → Fits h held d → is_boots d ≡ leaves_boot e (what_of d)
 boots_are epoch e h held Boots same f = in_boot epoch e (rw (← same) (f.1))
 boots_are epoch e h held (Accepts m) same f = not_boots e (what_accepted m) (line_boots m)
-boots_are epoch e h held Nothing same f = not_boots e Quiet refl
-boots_are epoch e h held Opens same f = not_boots e Quiet refl
-boots_are epoch e h held LongLine same f = not_boots e Quiet refl
-boots_are epoch e h held (Refuses r line) same f = not_boots e Quiet refl
-boots_are epoch e h held (Names text) same f = not_boots e Quiet refl
-boots_are epoch e h held (Declares name shape) same f = not_boots e Quiet refl
 boots_are epoch e h held Readies same f = not_boots e (Says said.ReadyOk) refl
-boots_are epoch e h held (Thinks k facts) same f = not_boots e Quiet refl
 boots_are epoch e h held (Shows best hint) same f = not_boots e (Says said.Best) refl
 boots_are epoch e h held Forfeits same f = not_boots e (Says said.Best) refl
 boots_are epoch e h held Answers same f = not_boots e (Says said.Best) refl
 boots_are epoch e h held Dies same f = not_boots e (Says said.Ended) refl
+boots_are epoch e h held d same f = not_boots e Quiet refl

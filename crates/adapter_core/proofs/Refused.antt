@@ -88,13 +88,7 @@ shows_not g (Some m) hint r text e = by_legal (legal (now_of g) m) e where
 
 answers_not : (x : EngineState) (g : Game) (best hint : Option Move) (r : Refusal) (text : List ℕ) → answers x g best hint ≡ Refuses r text → ⊥
 answers_not (states.Search kinds.Move false stopped) g best hint r text e = shows_not g best hint r text e
-answers_not (states.Search kinds.Move true stopped) g best hint r text e = cc
-answers_not (states.Search kinds.Ponder stale stopped) g best hint r text e = cc
-answers_not (states.Search kinds.Analyse stale stopped) g best hint r text e = cc
-answers_not states.Boot g best hint r text e = cc
-answers_not states.Getting g best hint r text e = cc
-answers_not states.Idle g best hint r text e = cc
-answers_not states.Gone g best hint r text e = cc
+answers_not x g best hint r text e = cc
 
 thinks_not : (k : Option GoKind) (facts : Info) (r : Refusal) (text : List ℕ) → thinks k facts ≡ Refuses r text → ⊥
 thinks_not None facts r text e = cc
@@ -114,14 +108,11 @@ unfolding classify
 refused_line s (events.Iface line) r text e =
     let o = open_back s.ends.closed _ r text e in
     record { line = line; event = refl; is_open = o.0; stays = refused_stays (situation s) s.held line (reading line) r text o.1 }
-refused_line s events.Open r text e = absurd (cc)
 refused_line s events.IfaceLong r text e = absurd (not_where s.ends.closed LongLine r text (λ x. cc) e)
-refused_line s events.IfaceEnd r text e = absurd (cc)
-refused_line s events.IfaceLost r text e = absurd (cc)
 refused_line s (events.Engine line) r text e = absurd (not_where s.ends.closed (engine_says (situation s) (engine_message line)) r text (says_not (situation s) (engine_message line) r text) e)
-refused_line s events.EngineLong r text e = absurd (cc)
 refused_line s events.EngineEnd r text e = absurd (not_where (is_gone (situation s).engine) Dies r text (λ x. cc) e)
 refused_line s events.EngineLost r text e = absurd (not_where (is_gone (situation s).engine) Dies r text (λ x. cc) e)
+refused_line s x r text e = absurd (cc)
 
 or_no : (a b : Bool) → b ≡ false → (a || b) ≡ a
 or_no true b e = refl
@@ -163,14 +154,10 @@ same_ticket : (t epoch : ℕ) → t ≡ epoch → not (t == epoch) ≡ false
 same_ticket t epoch e = grind (arith, nat_tests)
 
 not_stopped : (epoch : ℕ) (e : Engine) → IsLiveOnlyAt epoch e → stops false epoch false e ≡ false
-not_stopped epoch Boot i = refl
-not_stopped epoch Getting i = refl
-not_stopped epoch Idle i = refl
-not_stopped epoch Gone i = refl
-not_stopped epoch (Search k t true) i = refl
 not_stopped epoch (Search kinds.Move t false) i = ap (λ (b : Bool). b || false) (same_ticket t epoch i)
-not_stopped epoch (Search kinds.Ponder t false) i = same_ticket t epoch i
-not_stopped epoch (Search kinds.Analyse t false) i = same_ticket t epoch i
+not_stopped epoch (Search k t true) i = refl
+not_stopped epoch (Search k t x) i = same_ticket t epoch i
+not_stopped epoch e i = refl
 
 chosen_none : (d h s i : Bool) (a b c f : List Word) → d ≡ false → h ≡ false → s ≡ false → i ≡ false → cond d a (cond h b (cond s c (cond i f []))) ≡ []
 chosen_none true h s i a b c f p q r t = cc

@@ -44,7 +44,7 @@ use Rattle.desk_rules.specs.declared.effect.Refusal.TheVariants as refusals
 use Rattle.desk_rules.specs.declared.desk.Desk.{Desk}
 use Rattle.desk_rules.specs.Desk.{Situation, is_boot, is_getting, is_gone, current, table, on_move, played, plays}
 use Rattle.desk_rules.specs.Lines.{verdict, judged, refusal, change}
-use Rattle.desk_rules.specs.Steps.{Effect, Nothing, Opens, LongLine, Refuses, Accepts, Names, Declares, Boots, Readies, Thinks, Shows, Forfeits, Answers as Closes, Dies, classify, line_effect, engine_says, answers, shows, thinks, searched_by, resigns_after, resigns_at_end, desk_after_effect}
+use Rattle.desk_rules.specs.Steps.{Effect, Nothing, LongLine, Refuses, Accepts, Names, Declares, Boots, Readies, Thinks, Shows, Forfeits, Dies, classify, line_effect, engine_says, answers, shows, thinks, searched_by, resigns_after, resigns_at_end, desk_after_effect}
 use Rattle.desk_rules.specs.Replies.{refused, result_by, result_of, protover_row, offer_where, hint_row, row_accepted, list_where, resign_where, row, is_told, named_hint, replies_of}
 use Rattle.adapter_core.specs.Trace.{State, state, situation, effect, replies, owing, closed_after}
 use Rattle.adapter_core.specs.Shown.{Answers, MovesAreShownInTime, MovesAreShownOnce, moves_told}
@@ -166,7 +166,6 @@ no_answer h says.Go = no_result_at (plays (change false h.desk says.Go).mode) (c
 no_answer h says.PlayOther = no_result_at (plays (change false h.desk says.PlayOther).mode) (change false h.desk says.PlayOther).game
 no_answer h says.Draw = no_offer _
 no_answer h says.Hint = no_hint h.desk.hint
-no_answer h says.Dot = refl
 no_answer h m = refl
 
 -- THE MOVES OF A STEP
@@ -179,7 +178,6 @@ shown_by d = []
 row_shows : (h : Situation) (d : Effect) → moves_told (row h d) ≡ shown_by d
 unfolding row
 row_shows h (Refuses r line) = no_refusal r line
-row_shows h LongLine = refl
 row_shows h (Accepts m) = no_answer h m
 row_shows h Boots = no_list h.desk.due (record h.desk { booted = true })
 row_shows h (Thinks k facts) =
@@ -187,14 +185,8 @@ row_shows h (Thinks k facts) =
     no_thinking (is_told h k) (thinking_line facts p (named_hint k h.desk.hint)) (no_line facts.depth facts.score (legal_run p facts.pv) facts (named_hint k h.desk.hint))
 row_shows h (Shows best hint) =
     ap (λ (l : List AnyMove). best ∷ l) (none_joined (result_of (played h.desk.game best)) (resign_where (resigns_after h best)) (no_result (on_move (played h.desk.game best)) (ended_of (played h.desk.game best))) (no_resign (resigns_after h best)))
-row_shows h Forfeits = refl
 row_shows h Dies = none_joined (list_where h.desk.due h.desk) (reply.TellError _ ∷ resign_where (resigns_at_end h)) (no_list h.desk.due h.desk) (no_resign (resigns_at_end h))
-row_shows h Nothing = refl
-row_shows h Opens = refl
-row_shows h (Names text) = refl
-row_shows h (Declares name shape) = refl
-row_shows h Readies = refl
-row_shows h Closes = refl
+row_shows h d = refl
 
 -- the moves that are told in an open session
 pub open_shows : (owes : Bool) (h : Situation) (d : Effect) → moves_told (replies_of false owes h d) ≡ shown_by d
@@ -247,13 +239,7 @@ shows_back h message stopped (Some b) hint m hint' i n e =
 answers_back : (h : Situation) (message : EngineMsg) (x : EngineState) (best hint : Option AnyMove) (m : AnyMove) (hint' : Option AnyMove) → message ≡ hears.Best best hint
     → h.engine ≡ x → answers x h.desk.game best hint ≡ Shows m hint' → SaysIt h message m
 answers_back h message (states.Search kinds.Move false stopped) best hint m hint' i n e = shows_back h message stopped best hint m hint' i n e
-answers_back h message (states.Search kinds.Move true stopped) best hint m hint' i n e = absurd (cc)
-answers_back h message (states.Search kinds.Ponder stale stopped) best hint m hint' i n e = absurd (cc)
-answers_back h message (states.Search kinds.Analyse stale stopped) best hint m hint' i n e = absurd (cc)
-answers_back h message states.Boot best hint m hint' i n e = absurd (cc)
-answers_back h message states.Getting best hint m hint' i n e = absurd (cc)
-answers_back h message states.Idle best hint m hint' i n e = absurd (cc)
-answers_back h message states.Gone best hint m hint' i n e = absurd (cc)
+answers_back h message x best hint m hint' i n e = absurd (cc)
 
 thinks_not : (k : Option GoKind) (facts : Info) (m : AnyMove) (hint : Option AnyMove) → thinks k facts ≡ Shows m hint → ⊥
 thinks_not None facts m hint e = cc
@@ -311,12 +297,8 @@ answer_back s (events.Engine line) m hint e =
       current = engine_back s.dialogue.epoch s.dialogue.engine said.stopped said.engine;
       is_legal = said.is_legal;
     }
-answer_back s events.Open m hint e = absurd (cc)
 answer_back s (events.Iface line) m hint e = absurd (line_not (situation s) _ line (reading line) m hint (open_back s.ends.closed _ m hint e).1)
 answer_back s events.IfaceLong m hint e = let o = open_back s.ends.closed LongLine m hint e in absurd (cc (o.1))
-answer_back s events.IfaceEnd m hint e = absurd (cc)
-answer_back s events.IfaceLost m hint e = absurd (cc)
-answer_back s events.EngineLong m hint e = absurd (cc)
 answer_back s events.EngineEnd m hint e = absurd (dies_not (is_gone (situation s).engine) e) where
   dies_not : (b : Bool) → cond b Nothing Dies ≡ Shows m hint → ⊥
   dies_not true e = cc
@@ -325,6 +307,7 @@ answer_back s events.EngineLost m hint e = absurd (dies_not (is_gone (situation 
   dies_not : (b : Bool) → cond b Nothing Dies ≡ Shows m hint → ⊥
   dies_not true e = cc
   dies_not false e = cc
+answer_back s x m hint e = absurd (cc)
 
 shown_is : (d : Effect) (m : AnyMove) → Contains (shown_by d) m → (hint : Option AnyMove) × (d ≡ Shows m hint)
 shown_is (Shows best hint) m c = (hint, ap (λ (x : AnyMove). Shows x hint) (alone (first_or_later best [] m c))) where

@@ -24,7 +24,7 @@ use Rattle.desk_rules.specs.declared.effect.Refusal.{Refusal}
 use Rattle.desk_rules.specs.declared.desk.Desk.{Desk}
 use Rattle.desk_rules.specs.Desk.{Situation, is_gone, is_boot, is_getting, current}
 use Rattle.desk_rules.specs.Lines.{verdict, judged, refusal, at_position, change}
-use Rattle.desk_rules.specs.Steps.{Effect, Nothing, Opens, LongLine, Refuses, Accepts, Names, Declares, Boots, Readies, Thinks, Shows, Forfeits, Answers, Dies, classify, line_effect, engine_says, answers, shows, thinks, desk_after_effect, answers_pings, scores_after, is_death}
+use Rattle.desk_rules.specs.Steps.{Effect, Nothing, LongLine, Refuses, Accepts, Names, Declares, Boots, Readies, Shows, Forfeits, Dies, classify, line_effect, engine_says, answers, shows, thinks, desk_after_effect, answers_pings, scores_after, is_death}
 use Rattle.adapter_core.specs.declared.ends.Ends.{Ends}
 use Rattle.adapter_core.specs.Ends.{ends_after}
 use Rattle.cecp_lines.specs.Quit.{is_quit}
@@ -59,27 +59,11 @@ iface_effect h held (events.Iface line) i = unless_closed h.closed _ (line_iface
 iface_effect h held events.IfaceLong i = unless_closed h.closed LongLine tt
 iface_effect h held events.IfaceEnd i = tt
 iface_effect h held events.IfaceLost i = tt
-iface_effect h held events.Open i = cc
-iface_effect h held (events.Engine line) i = cc
-iface_effect h held events.EngineLong i = cc
-iface_effect h held events.EngineEnd i = cc
-iface_effect h held events.EngineLost i = cc
+iface_effect h held e i = cc
 
 pub no_death : (d : Effect) → IsIfaceDeed d → is_death d ≡ false
-no_death Nothing i = refl
-no_death LongLine i = refl
-no_death (Refuses r line) i = refl
-no_death (Accepts m) i = refl
-no_death Opens i = refl
-no_death (Names text) i = refl
-no_death (Declares name shape) i = refl
-no_death Boots i = refl
-no_death Readies i = refl
-no_death (Thinks k facts) i = refl
-no_death (Shows best hint) i = refl
-no_death Forfeits i = refl
-no_death Answers i = refl
 no_death Dies i = absurd i
+no_death d i = refl
 
 pub no_answer : (d : Effect) → IsIfaceDeed d → is_answer d ≡ false
 no_answer (Shows best hint) i = absurd i
@@ -131,16 +115,7 @@ still_unbooted h (Accepts m) i e = change_booted (is_boot h.engine) h.desk m ∙
 still_unbooted h Nothing i e = e
 still_unbooted h LongLine i e = e
 still_unbooted h (Refuses r line) i e = e
-still_unbooted h Opens i e = absurd i
-still_unbooted h (Names text) i e = absurd i
-still_unbooted h (Declares name shape) i e = absurd i
-still_unbooted h Boots i e = absurd i
-still_unbooted h Readies i e = absurd i
-still_unbooted h (Thinks k facts) i e = absurd i
-still_unbooted h (Shows best hint) i e = absurd i
-still_unbooted h Forfeits i e = absurd i
-still_unbooted h Answers i e = absurd i
-still_unbooted h Dies i e = absurd i
+still_unbooted h d i e = absurd i
 
 -- DEEDS OF THE ENGINE
 
@@ -177,13 +152,7 @@ quiet_shows g (Some m) hint n = by_legal (legal (now_of g) m) n where
 
 quiet_answers : (x : EngineState) (g : Game) (best hint : Option Move) → is_answer (answers x g best hint) ≡ false → IsQuietDeed (answers x g best hint)
 quiet_answers (states.Search kinds.Move false stopped) g best hint n = quiet_shows g best hint n
-quiet_answers (states.Search kinds.Move true stopped) g best hint n = tt
-quiet_answers (states.Search kinds.Ponder stale stopped) g best hint n = tt
-quiet_answers (states.Search kinds.Analyse stale stopped) g best hint n = tt
-quiet_answers states.Boot g best hint n = tt
-quiet_answers states.Getting g best hint n = tt
-quiet_answers states.Idle g best hint n = tt
-quiet_answers states.Gone g best hint n = tt
+quiet_answers x g best hint n = tt
 
 quiet_says : (h : Situation) (m : EngineMsg) → is_answer (engine_says h m) ≡ false → IsQuietDeed (engine_says h m)
 quiet_says h (hears.Best best hint) n = quiet_answers h.engine h.desk.game best hint n
@@ -210,10 +179,7 @@ engine_effect h held (events.Engine line) i n m = quiet_open h.closed _ (quiet_s
 engine_effect h held events.EngineLong i n m = tt
 engine_effect h held events.EngineEnd i n m = quiet_dies (is_gone h.engine) m
 engine_effect h held events.EngineLost i n m = quiet_dies (is_gone h.engine) m
-engine_effect h held (events.Iface line) i n m = cc
-engine_effect h held events.IfaceLong i n m = cc
-engine_effect h held events.IfaceEnd i n m = cc
-engine_effect h held events.IfaceLost i n m = cc
+engine_effect h held e i n m = cc
 
 -- THE ENDS
 

@@ -90,14 +90,7 @@ rest t u h' ws w same e =
 open_engine : (s : State) (e : Event) → is_open e ≡ true → may s.ends e ≡ true → (s.ends.opened ≡ false → s.dialogue.engine ≡ Boot) → (mid s e).engine ≡ Boot
 unfolding classify
 open_engine s events.Open o m b = b (not_true s.ends.opened m)
-open_engine s (events.Iface line) o m b = cc
-open_engine s events.IfaceLong o m b = cc
-open_engine s events.IfaceEnd o m b = cc
-open_engine s events.IfaceLost o m b = cc
-open_engine s (events.Engine line) o m b = cc
-open_engine s events.EngineLong o m b = cc
-open_engine s events.EngineEnd o m b = cc
-open_engine s events.EngineLost o m b = cc
+open_engine s e o m b = cc
 
 module _ (s : State) (to_iface to_engine : Text) (e : Event) (holds : Holds s) (sound : IsSound s.desk) (line : IsLineEvent e) where
   abbrev old : Parts

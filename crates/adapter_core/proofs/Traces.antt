@@ -22,7 +22,7 @@ use Rattle.search_epochs.proofs.Within.{all_within, turned_within, turned_last}
 use Rattle.search_epochs.proofs.Same.{same}
 use Rattle.desk_rules.specs.declared.mode.Mode.TheVariants as modes
 use Rattle.desk_rules.specs.Desk.{Situation, current, call_of, call_before, is_gone}
-use Rattle.desk_rules.specs.Steps.{Effect, Accepts, Boots, Readies, Shows, Forfeits, Answers, Dies, what_of, what_accepted, begins_epoch, call_after, is_death, desk_after_effect, answers_pings}
+use Rattle.desk_rules.specs.Steps.{Effect, Accepts, Shows, Forfeits, Answers, what_of, what_accepted, begins_epoch, call_after, is_death, desk_after_effect, answers_pings}
 use Rattle.desk_rules.specs.Orders.{waiting, word_of, AreHeld}
 use Rattle.desk_rules.specs.Fits.{Fits, IsSound, IsServed, IsOther}
 use Rattle.desk_rules.proofs.Effects.{comes_fits}
@@ -75,46 +75,14 @@ ends_it (Some said.Ended) = true
 ends_it w = false
 
 gone_heard : (n m : ℕ) (e : Engine) (w : Option Said) → is_gone (forget n (heard e w)) ≡ (is_gone (forget m e) || ends_it w)
-gone_heard n m Boot None = refl
 gone_heard n m Boot (Some said.UciOk) = refl
-gone_heard n m Boot (Some said.ReadyOk) = refl
-gone_heard n m Boot (Some said.Best) = refl
-gone_heard n m Boot (Some said.Ended) = refl
-gone_heard n m Getting None = refl
-gone_heard n m Getting (Some said.UciOk) = refl
-gone_heard n m Getting (Some said.ReadyOk) = refl
-gone_heard n m Getting (Some said.Best) = refl
-gone_heard n m Getting (Some said.Ended) = refl
-gone_heard n m Idle None = refl
-gone_heard n m Idle (Some said.UciOk) = refl
-gone_heard n m Idle (Some said.ReadyOk) = refl
-gone_heard n m Idle (Some said.Best) = refl
-gone_heard n m Idle (Some said.Ended) = refl
-gone_heard n m (Search k t s) None = refl
-gone_heard n m (Search k t s) (Some said.UciOk) = refl
-gone_heard n m (Search k t s) (Some said.ReadyOk) = refl
-gone_heard n m (Search k t s) (Some said.Best) = refl
-gone_heard n m (Search k t s) (Some said.Ended) = refl
-gone_heard n m Gone None = refl
-gone_heard n m Gone (Some said.UciOk) = refl
-gone_heard n m Gone (Some said.ReadyOk) = refl
-gone_heard n m Gone (Some said.Best) = refl
-gone_heard n m Gone (Some said.Ended) = refl
+gone_heard n m e (Some said.UciOk) = refl
+gone_heard n m e w = refl
 
 gone_sent : (n epoch : ℕ) (e : Engine) (w : Word) → is_gone (forget n (sent epoch e w)) ≡ is_gone (forget n e)
-gone_sent n epoch Gone w = refl
-gone_sent n epoch Boot Uci = refl
-gone_sent n epoch Boot w = refl
-gone_sent n epoch Getting Uci = refl
-gone_sent n epoch Getting w = refl
-gone_sent n epoch Idle Uci = refl
-gone_sent n epoch Idle w = refl
 gone_sent n epoch (Search kinds.Move t s) Uci = refl
-gone_sent n epoch (Search kinds.Move t s) w = refl
-gone_sent n epoch (Search kinds.Ponder t s) Uci = refl
-gone_sent n epoch (Search kinds.Ponder t s) w = refl
-gone_sent n epoch (Search kinds.Analyse t s) Uci = refl
-gone_sent n epoch (Search kinds.Analyse t s) w = refl
+gone_sent n epoch e Uci = refl
+gone_sent n epoch e w = refl
 
 gone_sent_all : (n epoch : ℕ) (e : Engine) (ws : List Word) → is_gone (forget n (sent_all epoch e ws)) ≡ is_gone (forget n e)
 gone_sent_all n epoch e [] = refl
@@ -127,12 +95,6 @@ line_ends m = refl
 
 effect_ends : (d : Effect) → ends_it (said_of (what_of d)) ≡ is_death d
 effect_ends (Accepts m) = line_ends m
-effect_ends Boots = refl
-effect_ends Readies = refl
-effect_ends (Shows best hint) = refl
-effect_ends Forfeits = refl
-effect_ends Answers = refl
-effect_ends Dies = refl
 effect_ends d = refl
 
 -- WHAT IS SPENT
@@ -142,15 +104,8 @@ is_best (Some said.Best) = true
 is_best w = false
 
 pub other_ticket : (e : Engine) (w : Option Said) (last : Option ℕ) → is_best w ≡ false → closed_ticket e w last ≡ last
-other_ticket Boot w last n = refl
-other_ticket Getting w last n = refl
-other_ticket Idle w last n = refl
-other_ticket Gone w last n = refl
-other_ticket (Search k t s) None last n = refl
-other_ticket (Search k t s) (Some said.UciOk) last n = refl
-other_ticket (Search k t s) (Some said.ReadyOk) last n = refl
-other_ticket (Search k t s) (Some said.Ended) last n = refl
 other_ticket (Search k t s) (Some said.Best) last n = cc
+other_ticket e w last n = refl
 
 line_no_best : (m : IfaceMsg) → is_best (said_of (what_accepted m)) ≡ false
 line_no_best (says.UserMove m) = refl

@@ -30,16 +30,8 @@ plain (orders.IsReady ∷ os) b g p = cc
 plain (orders.NewGame ∷ os) b g p = cc
 plain (orders.SetOption name value ∷ os) b g p = cc
 plain (orders.Go ponder control depth ∷ os) b g p = cc
-plain (orders.Position fen moves ∷ []) b g p = absurd p
 plain (orders.Position fen moves ∷ orders.Go ponder control depth ∷ os) b g p = cc
-plain (orders.Position fen moves ∷ orders.Uci ∷ os) b g p = absurd p
-plain (orders.Position fen moves ∷ orders.IsReady ∷ os) b g p = absurd p
-plain (orders.Position fen moves ∷ orders.NewGame ∷ os) b g p = absurd p
-plain (orders.Position fen moves ∷ orders.SetOption name value ∷ os) b g p = absurd p
-plain (orders.Position fen moves ∷ orders.Position fen' moves' ∷ os) b g p = absurd p
-plain (orders.Position fen moves ∷ orders.Stop ∷ os) b g p = absurd p
-plain (orders.Position fen moves ∷ orders.PonderHit ∷ os) b g p = absurd p
-plain (orders.Position fen moves ∷ orders.Quit ∷ os) b g p = absurd p
+plain os b g p = absurd p
 
 module _ (s : State) (e : Event) (os os' : List Order) (a : AreSettled s e os) (b : AreSettled s e os') where
   same_words : map word_of os ≡ map word_of os'

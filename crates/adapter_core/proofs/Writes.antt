@@ -58,19 +58,12 @@ call_search closed gone d p = unless d.game (closed || gone || is_full d.game) (
 -- THE ORDERS
 
 search_writes : (g : Game) (k : GoKind) (stale wants matches hurry : Bool) → CanWrite g (choose_search k stale wants matches hurry)
-search_writes g kinds.Move true wants matches hurry = tt
-search_writes g kinds.Move false wants matches true = tt
-search_writes g kinds.Move false wants matches false = tt
-search_writes g kinds.Analyse true wants matches hurry = tt
-search_writes g kinds.Analyse false wants matches true = tt
-search_writes g kinds.Analyse false wants matches false = tt
 search_writes g kinds.Ponder stale true true hurry = tt
-search_writes g kinds.Ponder true false true hurry = tt
-search_writes g kinds.Ponder true wants false hurry = tt
 search_writes g kinds.Ponder false false true true = tt
-search_writes g kinds.Ponder false false true false = tt
-search_writes g kinds.Ponder false wants false true = tt
-search_writes g kinds.Ponder false wants false false = tt
+search_writes g k false wants matches true = tt
+search_writes g k false wants matches hurry = tt
+search_writes g k stale wants true hurry = tt
+search_writes g k true wants matches hurry = tt
 
 begun_writes : (g : Game) (c : Call) → CanSearch g c → CanWrite g (begins c)
 begun_writes g calls.Nothing s = tt
