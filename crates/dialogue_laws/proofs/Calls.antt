@@ -25,7 +25,7 @@ use Rattle.desk_rules.specs.declared.mode.Mode.TheVariants as modes
 use Rattle.desk_rules.specs.declared.desk.Desk.{Desk}
 use Rattle.desk_rules.specs.Desk.{Situation, call_of, call_in, call_for_hint, call_while_waiting, call_before, is_gone, is_boot, is_full, table, ponder_name, has_ended, on_move, played, owes_move, owed_at}
 use Rattle.desk_rules.specs.Lines.{asks, change, is_epoch_line}
-use Rattle.desk_rules.specs.Steps.{Effect, Nothing, Opens, LongLine, Refuses, Accepts, Names, Declares, Boots, Readies, Thinks, Shows, Forfeits, Answers, Dies, what_of, desk_after_effect, begins_epoch, is_death}
+use Rattle.desk_rules.specs.Steps.{Effect, Accepts, Names, Declares, Boots, Thinks, Shows, Forfeits, Answers, Dies, what_of, desk_after_effect, begins_epoch, is_death}
 use Rattle.desk_rules.specs.Fits.{Fits, IsCurrentMove, IsOther}
 use Rattle.adapter_core.specs.Trace.{State, situation}
 use Rattle.adapter_core.proofs.Fresh.{call_is}
@@ -153,20 +153,9 @@ told_call h b r =
 
 line_call : (h : Situation) (m : IfaceMsg) → is_epoch_line (owes_move h) (asks (is_gone h.engine) h.desk m) m ≡ false → call_of h.closed (is_gone h.engine) (change (is_boot h.engine) h.desk m) ≡ call_before h
 unfolding change is_epoch_line call_of
-line_call h says.New r = cc
-line_call h says.Force r = cc
-line_call h says.Go r = cc
-line_call h says.PlayOther r = cc
-line_call h (says.UserMove m) r = cc
-line_call h says.Undo r = cc
-line_call h says.Remove r = cc
-line_call h (says.SetBoard text) r = cc
-line_call h says.Analyze r = cc
-line_call h says.Exit r = cc
-line_call h says.Result r = cc
 line_call h says.Hard r = told_call h true r
 line_call h says.Easy r = told_call h false r
-line_call h m r = refl
+line_call h m r = cc
 
 as_gone : (c g : Bool) (d : Desk) → call_of c (g || false) d ≡ call_of c g d
 as_gone c true d = refl
@@ -245,15 +234,10 @@ module _ (s : State) (fresh : IsFreshInBoot s) where
   effect_call (Accepts m) f r =
       going (ends_situation s.dialogue.epoch s.dialogue.engine (Accepts m)) (call_of s.ends.closed (gone || false) (desk_after_effect (situation s) (Accepts m))) (call_before (situation s))
       (line_ends s.dialogue.epoch s.dialogue.engine m) (same_call (Accepts m) (line_call (situation s) m r))
-  effect_call Nothing f r = same_call Nothing refl
-  effect_call Opens f r = same_call Opens refl
-  effect_call LongLine f r = same_call LongLine refl
-  effect_call (Refuses reason line) f r = same_call (Refuses reason line) refl
   effect_call (Names text) f r = same_call (Names text) (unfold call_of in refl)
   effect_call (Declares name shape) f r =
       same_call (Declares name shape) (unbooted_call s.ends.closed gone s.desk (after_declared s.desk.options name shape) (fresh (boot_back s.dialogue.epoch s.dialogue.engine f.1)).0)
   effect_call Boots f r = same_call Boots (boots_call s.ends.closed gone s.desk (fresh (boot_back s.dialogue.epoch s.dialogue.engine f.1)).1)
-  effect_call Readies f r = same_call Readies refl
   effect_call (Thinks k facts) f r = same_call (Thinks k facts) (unfold call_of in refl)
   effect_call (Shows best hint) f r = cc
   effect_call Forfeits f r =
@@ -263,3 +247,4 @@ module _ (s : State) (fresh : IsFreshInBoot s) where
       going (ends_situation s.dialogue.epoch s.dialogue.engine Answers) (call_of s.ends.closed (gone || false) (desk_after_effect (situation s) Answers)) (call_before (situation s))
       (or_none (answers_at (Says said.Best) s.dialogue.epoch s.dialogue.engine) ∙ other_ends s.dialogue.epoch s.dialogue.engine f.1) (same_call Answers refl)
   effect_call Dies f r = gone_call s.ends.closed gone (desk_after_effect (situation s) Dies)
+  effect_call d f r = same_call d refl

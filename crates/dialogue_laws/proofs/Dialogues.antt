@@ -15,7 +15,7 @@ use Rattle.policy_rules.specs.declared.settings.Settings.{Settings}
 use Rattle.search_epochs.specs.declared.words.Said.{Said}
 use Rattle.search_epochs.specs.declared.words.Said.TheVariants as said
 use Rattle.search_epochs.specs.Tickets as talks
-use Rattle.search_epochs.specs.Tickets.{Engine, Boot, Getting, Idle, Search, Gone, Word, Ticketed, heard, said_of, sent, closed_ticket, turned, after}
+use Rattle.search_epochs.specs.Tickets.{Engine, Boot, Word, Ticketed, heard, said_of, sent, closed_ticket, turned, after}
 use Rattle.search_epochs.specs.History as history
 use Rattle.search_epochs.specs.History.{Exchange, IsDeaf, MayCome, AreLawful}
 use Rattle.search_epochs.proofs.Stops.{stops_once}
@@ -23,7 +23,7 @@ use Rattle.search_epochs.specs.Dialogue.{forget}
 use Rattle.desk_rules.specs.declared.effect.Refusal.{Refusal}
 use Rattle.desk_rules.specs.Desk.{Situation, is_gone}
 use Rattle.desk_rules.specs.Lines.{verdict, judged, refusal}
-use Rattle.desk_rules.specs.Steps.{Effect, Nothing, LongLine, Accepts, Boots, Readies, Shows, Forfeits, Answers, Dies, classify, line_effect, engine_says, what_of, what_accepted, is_death}
+use Rattle.desk_rules.specs.Steps.{Effect, Nothing, LongLine, Accepts, Dies, classify, line_effect, engine_says, what_of, what_accepted, is_death}
 use Rattle.desk_rules.specs.Orders.{waiting, word_of}
 use Rattle.desk_rules.proofs.Effects.{comes_fits}
 use Rattle.desk_rules.proofs.Waits.{all_setup, all_held}
@@ -48,25 +48,11 @@ opening_dialogue s events.Open os o m b u =
     not_true : (b : Bool) → not b ≡ true → b ≡ false
     not_true true e = cc
     not_true false e = refl
-opening_dialogue s (events.Iface line) os o m b u = cc
-opening_dialogue s events.IfaceLong os o m b u = cc
-opening_dialogue s events.IfaceEnd os o m b u = cc
-opening_dialogue s events.IfaceLost os o m b u = cc
-opening_dialogue s (events.Engine line) os o m b u = cc
-opening_dialogue s events.EngineLong os o m b u = cc
-opening_dialogue s events.EngineEnd os o m b u = cc
-opening_dialogue s events.EngineLost os o m b u = cc
+opening_dialogue s e os o m b u = cc
 
 opening_closed : (s : State) (e : Event) → is_open e ≡ true → s.ends.closed ≡ closed_after s e
 opening_closed s events.Open o = refl
-opening_closed s (events.Iface line) o = cc
-opening_closed s events.IfaceLong o = cc
-opening_closed s events.IfaceEnd o = cc
-opening_closed s events.IfaceLost o = cc
-opening_closed s (events.Engine line) o = cc
-opening_closed s events.EngineLong o = cc
-opening_closed s events.EngineEnd o = cc
-opening_closed s events.EngineLost o = cc
+opening_closed s e o = cc
 
 -- WHAT IS HEARD IN A STEP AFTER WHICH THE SESSION IS CLOSED
 
@@ -97,15 +83,12 @@ dead_deaf false = tt
 
 deaf : (s : State) (e : Event) → closed_after s e ≡ true → IsDeaf (what_of (effect s e))
 unfolding classify
-deaf s events.Open c = tt
 deaf s (events.Iface line) c = either_deaf (situation s) s.held s.ends.closed (is_quit line) line (reading line) refl c
 deaf s events.IfaceLong c = where_deaf s.ends.closed LongLine c
-deaf s events.IfaceEnd c = tt
-deaf s events.IfaceLost c = tt
 deaf s (events.Engine line) c = where_deaf s.ends.closed (engine_says (situation s) (engine_message line)) c
-deaf s events.EngineLong c = tt
 deaf s events.EngineEnd c = dead_deaf (is_gone (situation s).engine)
 deaf s events.EngineLost c = dead_deaf (is_gone (situation s).engine)
+deaf s e c = tt
 
 -- WHETHER THE ENGINE IS GONE
 
@@ -114,31 +97,9 @@ is_ending (Some said.Ended) = true
 is_ending w = false
 
 gone_heard : (n : ℕ) (e : Engine) (w : Option Said) → talks.is_gone (heard e w) ≡ (is_gone (forget n e) || is_ending w)
-gone_heard n Boot None = refl
 gone_heard n Boot (Some said.UciOk) = refl
-gone_heard n Boot (Some said.ReadyOk) = refl
-gone_heard n Boot (Some said.Best) = refl
-gone_heard n Boot (Some said.Ended) = refl
-gone_heard n Getting None = refl
-gone_heard n Getting (Some said.UciOk) = refl
-gone_heard n Getting (Some said.ReadyOk) = refl
-gone_heard n Getting (Some said.Best) = refl
-gone_heard n Getting (Some said.Ended) = refl
-gone_heard n Idle None = refl
-gone_heard n Idle (Some said.UciOk) = refl
-gone_heard n Idle (Some said.ReadyOk) = refl
-gone_heard n Idle (Some said.Best) = refl
-gone_heard n Idle (Some said.Ended) = refl
-gone_heard n (Search k t s) None = refl
-gone_heard n (Search k t s) (Some said.UciOk) = refl
-gone_heard n (Search k t s) (Some said.ReadyOk) = refl
-gone_heard n (Search k t s) (Some said.Best) = refl
-gone_heard n (Search k t s) (Some said.Ended) = refl
-gone_heard n Gone None = refl
-gone_heard n Gone (Some said.UciOk) = refl
-gone_heard n Gone (Some said.ReadyOk) = refl
-gone_heard n Gone (Some said.Best) = refl
-gone_heard n Gone (Some said.Ended) = refl
+gone_heard n e (Some said.UciOk) = refl
+gone_heard n e w = refl
 
 line_ending : (m : IfaceMsg) → is_ending (said_of (what_accepted m)) ≡ false
 line_ending (says.UserMove m) = refl
@@ -147,12 +108,6 @@ line_ending m = refl
 
 effect_ending : (d : Effect) → is_ending (said_of (what_of d)) ≡ is_death d
 effect_ending (Accepts m) = line_ending m
-effect_ending Boots = refl
-effect_ending Readies = refl
-effect_ending (Shows best hint) = refl
-effect_ending Forfeits = refl
-effect_ending Answers = refl
-effect_ending Dies = refl
 effect_ending d = refl
 
 gone_is : (s : State) (e : Event) → gone_after s e ≡ talks.is_gone (mid s e).engine

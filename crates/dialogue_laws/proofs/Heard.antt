@@ -32,42 +32,14 @@ use Rattle.dialogue_laws.specs.Wire.{Wire, said_in, said_by, hearing, writing, w
 -- WHAT IS HEARD AND WRITTEN
 
 heard_on_wire : (e : Engine) (w : Option Said) → on_wire (heard e w) ≡ hearing (on_wire e) w
-heard_on_wire e None = refl
 heard_on_wire Boot (Some said.UciOk) = refl
-heard_on_wire Boot (Some said.ReadyOk) = refl
-heard_on_wire Boot (Some said.Best) = refl
-heard_on_wire Boot (Some said.Ended) = refl
-heard_on_wire Getting (Some said.UciOk) = refl
-heard_on_wire Getting (Some said.ReadyOk) = refl
-heard_on_wire Getting (Some said.Best) = refl
-heard_on_wire Getting (Some said.Ended) = refl
-heard_on_wire Idle (Some said.UciOk) = refl
-heard_on_wire Idle (Some said.ReadyOk) = refl
-heard_on_wire Idle (Some said.Best) = refl
-heard_on_wire Idle (Some said.Ended) = refl
-heard_on_wire (Search k t s) (Some said.UciOk) = refl
-heard_on_wire (Search k t s) (Some said.ReadyOk) = refl
-heard_on_wire (Search k t s) (Some said.Best) = refl
-heard_on_wire (Search k t s) (Some said.Ended) = refl
-heard_on_wire Gone (Some said.UciOk) = refl
-heard_on_wire Gone (Some said.ReadyOk) = refl
-heard_on_wire Gone (Some said.Best) = refl
-heard_on_wire Gone (Some said.Ended) = refl
+heard_on_wire e (Some said.UciOk) = refl
+heard_on_wire e w = refl
 
 sent_on_wire : (n : ℕ) (e : Engine) (order : Order) → on_wire (sent n e (word_of order)) ≡ writing (on_wire e) order
-sent_on_wire n Gone order = refl
-sent_on_wire n Boot orders.Uci = refl
-sent_on_wire n Boot order = refl
-sent_on_wire n Getting orders.Uci = refl
-sent_on_wire n Getting order = refl
-sent_on_wire n Idle orders.Uci = refl
-sent_on_wire n Idle order = refl
 sent_on_wire n (Search kinds.Move t s) orders.Uci = refl
-sent_on_wire n (Search kinds.Move t s) order = refl
-sent_on_wire n (Search kinds.Ponder t s) orders.Uci = refl
-sent_on_wire n (Search kinds.Ponder t s) order = refl
-sent_on_wire n (Search kinds.Analyse t s) orders.Uci = refl
-sent_on_wire n (Search kinds.Analyse t s) order = refl
+sent_on_wire n e orders.Uci = refl
+sent_on_wire n e order = refl
 
 pub all_on_wire : (n : ℕ) (e : Engine) (os : List Order) → on_wire (sent_all n e (map word_of os)) ≡ writing_all (on_wire e) os
 all_on_wire n e [] = refl
@@ -161,15 +133,12 @@ module _ (s : State) where
   -- the engine after the event is as the event says
   pub event_heard : (e : Event) → heard engine (tells (effect s e)) ≡ heard engine (said_by s.ends.closed e)
   unfolding classify
-  event_heard events.Open = refl
   event_heard (events.Iface line) = ap (heard engine) (silent_where s.ends.closed _ (line_silent (verdict h s.held (reading line)) line))
   event_heard events.IfaceLong = ap (heard engine) (silent_where s.ends.closed LongLine refl)
-  event_heard events.IfaceEnd = refl
-  event_heard events.IfaceLost = refl
   event_heard (events.Engine line) = line_heard s.ends.closed (engine_message line)
-  event_heard events.EngineLong = refl
   event_heard events.EngineEnd = end_heard s.dialogue.epoch engine
   event_heard events.EngineLost = end_heard s.dialogue.epoch engine
+  event_heard e = refl
 
 -- THE LAW
 

@@ -89,16 +89,9 @@ shows_bare g (Some m) hint = by (legal (now_of g) m) where
   by false = tt
 
 answers_bare : (e : EngineState) (g : Game) (best hint : Option Move) → IsBareName (answers e g best hint)
-answers_bare states.Boot g best hint = tt
-answers_bare states.Getting g best hint = tt
-answers_bare states.Idle g best hint = tt
-answers_bare states.Gone g best hint = tt
 answers_bare (states.Search kinds.Move false stopped) g best hint = shows_bare g best hint
-answers_bare (states.Search kinds.Move true stopped) g best hint = tt
-answers_bare (states.Search kinds.Ponder true stopped) g best hint = tt
-answers_bare (states.Search kinds.Ponder false stopped) g best hint = tt
-answers_bare (states.Search kinds.Analyse true stopped) g best hint = tt
-answers_bare (states.Search kinds.Analyse false stopped) g best hint = tt
+answers_bare (states.Search x true stopped) g best hint = tt
+answers_bare e g best hint = tt
 
 says_bare : (h : Situation) (line : List ℕ) (m : EngineMsg) → is_line line ≡ true → engine_message line ≡ m → IsBareName (engine_says h m)
 says_bare h line (hears.Name text) l e = bare_where (is_boot h.engine) (Names text) (name_bare line text e l)
@@ -115,15 +108,12 @@ verdict_bare (Accepted m) line = tt
 
 comes_bare : (h : Situation) (held : List Order) (e : Event) → IsLineEvent e → IsBareName (classify h held e)
 unfolding classify
-comes_bare h held events.Open l = tt
 comes_bare h held (events.Iface line) l = bare_unless h.closed (line_effect (verdict h held (reading line)) line) (verdict_bare (verdict h held (reading line)) line)
 comes_bare h held events.IfaceLong l = bare_unless h.closed LongLine tt
-comes_bare h held events.IfaceEnd l = tt
-comes_bare h held events.IfaceLost l = tt
 comes_bare h held (events.Engine line) l = bare_unless h.closed (engine_says h (engine_message line)) (says_bare h line (engine_message line) l refl)
-comes_bare h held events.EngineLong l = tt
 comes_bare h held events.EngineEnd l = bare_unless (is_gone h.engine) Dies tt
 comes_bare h held events.EngineLost l = bare_unless (is_gone h.engine) Dies tt
+comes_bare h held e l = tt
 
 -- WHAT THE LINES SAY OF THE DESK
 
@@ -278,13 +268,7 @@ unfolding order_text
 plain_ordered [] e = tt
 plain_ordered (orders.Stop ∷ os) e = (record { line = refl; short = omega arith }, plain_ordered os e)
 plain_ordered (orders.PonderHit ∷ os) e = (record { line = refl; short = omega arith }, plain_ordered os e)
-plain_ordered (orders.Uci ∷ os) e = cc
-plain_ordered (orders.IsReady ∷ os) e = cc
-plain_ordered (orders.NewGame ∷ os) e = cc
-plain_ordered (orders.Quit ∷ os) e = cc
-plain_ordered (orders.SetOption name value ∷ os) e = cc
-plain_ordered (orders.Position fen moves ∷ os) e = cc
-plain_ordered (orders.Go ponder control depth ∷ os) e = cc
+plain_ordered x e = cc
 
 -- what is chosen without a batch and without a search is plain
 plain_by : (hits stops begins : Bool) (k : GoKind) → has_go (cond hits (PonderHit ∷ []) (cond stops (Stop ∷ []) (cond begins (Position ∷ Go k ∷ []) []))) ≡ false

@@ -28,14 +28,10 @@ use Rattle.dialogue_laws.proofs.Dialogues.{dialogues, lawful_in}
 
 idle_needed : (e : Engine) (order : Order) → needs_idle order ≡ true → MaySend e (word_of order) → on_wire e ≡ Idle
 idle_needed e orders.Uci n m = absurd m
-idle_needed e orders.NewGame n m = ap on_wire m
-idle_needed e (orders.SetOption name value) n m = ap on_wire m
-idle_needed e orders.IsReady n m = ap on_wire m
-idle_needed e (orders.Position start moves) n m = ap on_wire m
-idle_needed e (orders.Go ponder control depth) n m = ap on_wire m
 idle_needed e orders.Stop n m = cc
 idle_needed e orders.PonderHit n m = cc
 idle_needed e orders.Quit n m = cc
+idle_needed e order n m = ap on_wire m
 
 stop_needs : (e : Engine) → MaySend e talks.Stop → (k : GoKind) × (on_wire e ≡ Search k false)
 stop_needs talks.Boot m = absurd m
@@ -53,13 +49,10 @@ hit_needs (talks.Search k t s) m = ap (λ g. Search g s) m.0 ∙ ap (Search kind
 
 gone_refuses : (w : Word) → MaySend talks.Gone w → ⊥
 gone_refuses talks.Uci m = m
-gone_refuses talks.Setup m = cc
-gone_refuses talks.IsReady m = cc
-gone_refuses talks.Position m = cc
-gone_refuses (talks.Go k) m = cc
 gone_refuses talks.Stop m = m
 gone_refuses talks.PonderHit m = m
 gone_refuses talks.Quit m = m refl
+gone_refuses w m = cc
 
 not_gone : (e : Engine) (w : Word) → MaySend e w → on_wire e ≡ Gone → ⊥
 not_gone talks.Boot w m g = cc
@@ -77,28 +70,14 @@ opening_is (x ∷ y ∷ before) behind order other e = absurd (cc)
 
 opening_says : (closed : Bool) (e : Event) → is_open e ≡ true → said_by closed e ≡ None
 opening_says closed events.Open o = refl
-opening_says closed (events.Iface line) o = cc
-opening_says closed events.IfaceLong o = cc
-opening_says closed events.IfaceEnd o = cc
-opening_says closed events.IfaceLost o = cc
-opening_says closed (events.Engine line) o = cc
-opening_says closed events.EngineLong o = cc
-opening_says closed events.EngineEnd o = cc
-opening_says closed events.EngineLost o = cc
+opening_says closed e o = cc
 
 pub opening_may : (s : State) (e : Event) → is_open e ≡ true → may s.ends e ≡ true → s.ends.opened ≡ false
 opening_may s events.Open o m = not_true s.ends.opened m where
   not_true : (b : Bool) → not b ≡ true → b ≡ false
   not_true true e = cc
   not_true false e = refl
-opening_may s (events.Iface line) o m = cc
-opening_may s events.IfaceLong o m = cc
-opening_may s events.IfaceEnd o m = cc
-opening_may s events.IfaceLost o m = cc
-opening_may s (events.Engine line) o m = cc
-opening_may s events.EngineLong o m = cc
-opening_may s events.EngineEnd o m = cc
-opening_may s events.EngineLost o m = cc
+opening_may s e o m = cc
 
 -- AT EACH PLACE
 

@@ -26,7 +26,7 @@ use Rattle.desk_rules.specs.declared.effect.Refusal.TheVariants as refusals
 use Rattle.desk_rules.specs.declared.desk.Desk.{Desk}
 use Rattle.desk_rules.specs.Desk.{Situation, is_boot, table, on_move, played, plays}
 use Rattle.desk_rules.specs.Lines.{change}
-use Rattle.desk_rules.specs.Steps.{Effect, Nothing, Opens, LongLine, Refuses, Accepts, Names, Declares, Boots, Readies, Thinks, Shows, Forfeits, Answers as Closes, Dies, searched_by, resigns_after, resigns_at_end, desk_after_effect, answers_pings}
+use Rattle.desk_rules.specs.Steps.{Effect, Refuses, Accepts, Boots, Thinks, Shows, Dies, searched_by, resigns_after, resigns_at_end, desk_after_effect, answers_pings}
 use Rattle.desk_rules.specs.Replies.{refused, result_by, result_of, protover_row, offer_where, hint_row, row_accepted, list_where, resign_where, row, is_told, named_hint, replies_of}
 use Rattle.desk_rules.proofs.Quiet.{added_ping, quiet_pings}
 use Rattle.adapter_core.specs.Trace.{State, Step, IsLawful, state, situation, effect, owing, closed_after}
@@ -111,13 +111,11 @@ no_answer h says.Go = no_result_at (plays (change false h.desk says.Go).mode) (c
 no_answer h says.PlayOther = no_result_at (plays (change false h.desk says.PlayOther).mode) (change false h.desk says.PlayOther).game
 no_answer h says.Draw = no_offer _
 no_answer h says.Hint = no_hint h.desk.hint
-no_answer h says.Dot = refl
 no_answer h m = refl
 
 no_pong : (h : Situation) (d : Effect) → pongs_told (row h d) ≡ []
 unfolding row
 no_pong h (Refuses r line) = no_refusal r line
-no_pong h LongLine = refl
 no_pong h (Accepts m) = no_answer h m
 no_pong h Boots = no_list h.desk.due (record h.desk { booted = true })
 no_pong h (Thinks k facts) =
@@ -125,14 +123,8 @@ no_pong h (Thinks k facts) =
     no_thinking (is_told h k) (thinking_line facts p (named_hint k h.desk.hint)) (no_line facts.depth facts.score (legal_run p facts.pv) facts (named_hint k h.desk.hint))
 no_pong h (Shows best hint) =
     none_joined (result_of (played h.desk.game best)) (resign_where (resigns_after h best)) (no_result (on_move (played h.desk.game best)) (ended_of (played h.desk.game best))) (no_resign (resigns_after h best))
-no_pong h Forfeits = refl
 no_pong h Dies = none_joined (list_where h.desk.due h.desk) (told.TellError _ ∷ resign_where (resigns_at_end h)) (no_list h.desk.due h.desk) (no_resign (resigns_at_end h))
-no_pong h Nothing = refl
-no_pong h Opens = refl
-no_pong h (Names text) = refl
-no_pong h (Declares name shape) = refl
-no_pong h Readies = refl
-no_pong h Closes = refl
+no_pong h d = refl
 
 -- THE PONGS OF A STEP
 

@@ -41,7 +41,7 @@ use Rattle.desk_rules.specs.declared.effect.Refusal.TheVariants as refusals
 use Rattle.desk_rules.specs.declared.desk.Desk.{Desk}
 use Rattle.desk_rules.specs.Desk.{Situation, is_boot, on_move, played, plays}
 use Rattle.desk_rules.specs.Lines.{change}
-use Rattle.desk_rules.specs.Steps.{Effect, Nothing, Opens, LongLine, Refuses, Accepts, Names, Declares, Boots, Readies, Thinks, Shows, Forfeits, Answers, Dies, searched_by, resigns_after, resigns_at_end, desk_after_effect}
+use Rattle.desk_rules.specs.Steps.{Effect, LongLine, Refuses, Accepts, Boots, Thinks, Shows, Forfeits, Dies, searched_by, resigns_after, resigns_at_end, desk_after_effect}
 use Rattle.desk_rules.specs.Replies.{refused, outcome_of, result_by, result_of, protover_row, offer_where, hint_row, row_accepted, list_where, resign_where, row, is_told, named_hint, replies_of}
 use Rattle.desk_rules.specs.Fits.{Fits, IsSaid}
 use Rattle.desk_rules.proofs.Rooms.{line_le, list_le}
@@ -63,15 +63,7 @@ worded {n} words text w s p l = wide 131070 (words ++ text) (joined words text (
 
 reason_part : (r : Reason) → IsPart 20 (reason_text r)
 reason_part reasons.UnknownCommand = record { line = refl; short = omega arith }
-reason_part reasons.BadArgument = record { line = refl; short = omega arith }
-reason_part reasons.EngineEnded = record { line = refl; short = omega arith }
-reason_part reasons.NotAnalyzing = record { line = refl; short = omega arith }
-reason_part reasons.NoMoveToUndo = record { line = refl; short = omega arith }
-reason_part reasons.UnknownOption = record { line = refl; short = omega arith }
-reason_part reasons.BadValue = record { line = refl; short = omega arith }
-reason_part reasons.TooManySettings = record { line = refl; short = omega arith }
-reason_part reasons.TooManyPings = record { line = refl; short = omega arith }
-reason_part reasons.LineTooLong = record { line = refl; short = omega arith }
+reason_part r = record { line = refl; short = omega arith }
 
 error_told : (r : Reason) (line : List ℕ) → IsPart 65536 line → IsTold (told.Error r line)
 error_told r line p =
@@ -309,12 +301,7 @@ row_told h (Thinks k facts) t f = thought_told (is_told h k) facts (now_of (sear
 row_told h (Shows best hint) t f = shown_told h best
 row_told h Forfeits t f = (tell_told tell.Move, (record { line = refl; short = omega arith }, tt))
 row_told h Dies t f = all_both IsTold (list_where h.desk.due h.desk) _ (list_told h.desk.due h.desk t) (tell_told tell.Ended, resign_told (resigns_at_end h))
-row_told h Nothing t f = tt
-row_told h Opens t f = tt
-row_told h (Names text) t f = tt
-row_told h (Declares name shape) t f = tt
-row_told h Readies t f = tt
-row_told h Answers t f = tt
+row_told h d t f = tt
 
 pub replies_told : (closed owes : Bool) (h : Situation) (held : List _) (d : Effect) → HasTexts h.desk → Fits h held d → AreTold (replies_of closed owes h d)
 replies_told closed owes h held d t f =

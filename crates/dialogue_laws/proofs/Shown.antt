@@ -26,18 +26,9 @@ searches e = false
 
 heard_none : (e : Engine) (w : Option Said) → searches (heard e w) ≡ true → searches e ≡ true
 heard_none (Search k t s) w x = refl
-heard_none Boot None x = x
-heard_none Boot (Some said.UciOk) x = cc
-heard_none Boot (Some w) x = cc
-heard_none Getting None x = x
-heard_none Getting (Some said.ReadyOk) x = cc
-heard_none Getting (Some w) x = cc
-heard_none Idle None x = x
-heard_none Idle (Some said.Ended) x = cc
-heard_none Idle (Some w) x = cc
-heard_none Gone None x = x
-heard_none Gone (Some said.Ended) x = cc
-heard_none Gone (Some w) x = cc
+heard_none e (Some said.UciOk) x = cc
+heard_none e None x = x
+heard_none e w x = cc
 
 abbrev is_go : Word → Bool
 is_go (Go k) = true
@@ -45,13 +36,8 @@ is_go w = false
 
 sent_none : (n : ℕ) (e : Engine) (w : Word) → is_go w ≡ false → searches (sent n e w) ≡ true → searches e ≡ true
 sent_none n (Search k t s) w g x = refl
-sent_none n Boot (Go k) g x = cc
-sent_none n Boot w g x = cc
-sent_none n Getting (Go k) g x = cc
-sent_none n Getting w g x = cc
-sent_none n Idle (Go k) g x = cc
-sent_none n Idle w g x = cc
-sent_none n Gone w g x = cc
+sent_none n e (Go k) g x = cc
+sent_none n e w g x = cc
 
 written_none : (n : ℕ) (e : Engine) (os : List Order) → begins_search os ≡ false → searches (sent_all n e (map word_of os)) ≡ true → searches e ≡ true
 written_none n e [] b x = x

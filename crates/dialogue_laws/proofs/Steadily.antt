@@ -57,32 +57,18 @@ effect_hint h d r = refl
 
 heard_boot : (e : Engine) (w : Option Said) → heard e w ≡ Boot → e ≡ Boot
 heard_boot Boot w x = refl
-heard_boot Getting None x = x
-heard_boot Getting (Some said.ReadyOk) x = cc
-heard_boot Getting (Some w) x = cc
-heard_boot Idle None x = x
-heard_boot Idle (Some said.Ended) x = cc
-heard_boot Idle (Some w) x = cc
-heard_boot (Search k t s) None x = x
-heard_boot (Search k t s) (Some said.Best) x = cc
-heard_boot (Search k t s) (Some w) x = cc
-heard_boot Gone None x = x
-heard_boot Gone (Some said.Ended) x = cc
-heard_boot Gone (Some w) x = cc
+heard_boot e (Some said.ReadyOk) x = cc
+heard_boot e None x = x
+heard_boot e w x = cc
 
 sent_boot : (n : ℕ) (e : Engine) (w : Word) → MaySend e w → sent n e w ≡ Boot → e ≡ Boot
 sent_boot n Boot w m x = refl
 sent_boot n Getting talks.Uci m x = absurd m
-sent_boot n Getting w m x = cc
 sent_boot n Idle talks.Uci m x = absurd m
-sent_boot n Idle w m x = cc
-sent_boot n Gone w m x = cc
 sent_boot n (Search kinds.Move t s) talks.Uci m x = absurd m
-sent_boot n (Search kinds.Move t s) w m x = cc
 sent_boot n (Search kinds.Ponder t s) talks.Uci m x = absurd m
-sent_boot n (Search kinds.Ponder t s) w m x = cc
 sent_boot n (Search kinds.Analyse t s) talks.Uci m x = absurd m
-sent_boot n (Search kinds.Analyse t s) w m x = cc
+sent_boot n e w m x = cc
 
 all_boot : (n : ℕ) (e : Engine) (ws : List Word) → MaySendAll n e ws → sent_all n e ws ≡ Boot → e ≡ Boot
 all_boot n e [] m x = x
@@ -147,14 +133,7 @@ module _ (s : State) (step : Step) (last : Lasts s) (l : IsLawful s step) (new :
   open_effect : (x : Event) → is_open x ≡ true → (closed_after s x ≡ s.ends.closed) × (effect s x ≡ Opens)
   unfolding classify
   open_effect events.Open y = (refl, refl)
-  open_effect (events.Iface line) y = absurd (cc)
-  open_effect events.IfaceLong y = absurd (cc)
-  open_effect events.IfaceEnd y = absurd (cc)
-  open_effect events.IfaceLost y = absurd (cc)
-  open_effect (events.Engine line) y = absurd (cc)
-  open_effect events.EngineLong y = absurd (cc)
-  open_effect events.EngineEnd y = absurd (cc)
-  open_effect events.EngineLost y = absurd (cc)
+  open_effect x y = absurd (cc)
 
   or_none : (b : Bool) → (b || false) ≡ b
   or_none true = refl
