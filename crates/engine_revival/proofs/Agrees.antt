@@ -57,17 +57,9 @@ pub record Agrees (s : State) (w : Wire) : Type 0 where
   pub search : SearchIs s.upper s.search
 
 whole : (l : LifeState) (q : Bool) (u : DialogueState) (w : Wire) → WireIs l q u w → is_whole w ≡ true
-whole life.Fresh q u w h = ap is_whole h
-whole life.Ended q u w h = ap is_whole h
-whole life.Over q u w h = ap is_whole h
 whole life.Boot true u w h = ap is_whole h
-whole life.Boot false u w h = ap is_whole h
-whole life.Getting true u w h = ap is_whole h
-whole life.Getting false u w h = ap is_whole h
-whole life.Idle true u w h = ap is_whole h
-whole life.Idle false u w h = ap is_whole h
-whole life.Search true u w h = ap is_whole h
-whole life.Search false u w h = ap is_whole h
+whole l true u w h = ap is_whole h
+whole l q u w h = ap is_whole h
 
 -- THE LIFE IS HEARD
 
@@ -84,32 +76,15 @@ fresh_heard said.Best q got_all = record { upper_is = refl; wire_is = refl }
 fresh_heard said.Nothing q got_all = record { upper_is = refl; wire_is = refl }
 
 getting_heard : (word : Said) (got_all : Bool) (q : Bool) (w : Wire) → WireIs life.Getting q upper.Getting w → Stands (life_after_said life.Getting word) q (upper_heard word life.Getting upper.Getting got_all) (heard word w)
-getting_heard said.Introduction got_all true w h = record { upper_is = refl; wire_is = ap (heard said.Introduction) h }
-getting_heard said.Introduction got_all false w h = record { upper_is = refl; wire_is = ap (heard said.Introduction) h }
-getting_heard said.UciOk got_all true w h = record { upper_is = refl; wire_is = ap (heard said.UciOk) h }
-getting_heard said.UciOk got_all false w h = record { upper_is = refl; wire_is = ap (heard said.UciOk) h }
 getting_heard said.ReadyOk got_all true w h = record { upper_is = tt; wire_is = ap (heard said.ReadyOk) h }
 getting_heard said.ReadyOk got_all false w h = record { upper_is = tt; wire_is = ap (heard said.ReadyOk) h }
-getting_heard said.Report got_all true w h = record { upper_is = refl; wire_is = ap (heard said.Report) h }
-getting_heard said.Report got_all false w h = record { upper_is = refl; wire_is = ap (heard said.Report) h }
-getting_heard said.Best got_all true w h = record { upper_is = refl; wire_is = ap (heard said.Best) h }
-getting_heard said.Best got_all false w h = record { upper_is = refl; wire_is = ap (heard said.Best) h }
-getting_heard said.Nothing got_all true w h = record { upper_is = refl; wire_is = ap (heard said.Nothing) h }
-getting_heard said.Nothing got_all false w h = record { upper_is = refl; wire_is = ap (heard said.Nothing) h }
+getting_heard word got_all true w h = record { upper_is = refl; wire_is = ap (heard word) h }
+getting_heard word got_all q w h = record { upper_is = refl; wire_is = ap (heard word) h }
 
 boot_heard : (word : Said) (q : Bool) (u up : DialogueState) (w : Wire) → WireIs life.Boot q u w → Stands (life_after_said life.Boot word) q up (heard word w)
 boot_heard said.Introduction true u up w h = record { upper_is = tt; wire_is = ap (heard said.Introduction) h }
-boot_heard said.Introduction false u up w h = record { upper_is = tt; wire_is = ap (heard said.Introduction) h }
-boot_heard said.UciOk true u up w h = record { upper_is = tt; wire_is = ap (heard said.UciOk) h }
-boot_heard said.UciOk false u up w h = record { upper_is = tt; wire_is = ap (heard said.UciOk) h }
-boot_heard said.ReadyOk true u up w h = record { upper_is = tt; wire_is = ap (heard said.ReadyOk) h }
-boot_heard said.ReadyOk false u up w h = record { upper_is = tt; wire_is = ap (heard said.ReadyOk) h }
-boot_heard said.Report true u up w h = record { upper_is = tt; wire_is = ap (heard said.Report) h }
-boot_heard said.Report false u up w h = record { upper_is = tt; wire_is = ap (heard said.Report) h }
-boot_heard said.Best true u up w h = record { upper_is = tt; wire_is = ap (heard said.Best) h }
-boot_heard said.Best false u up w h = record { upper_is = tt; wire_is = ap (heard said.Best) h }
-boot_heard said.Nothing true u up w h = record { upper_is = tt; wire_is = ap (heard said.Nothing) h }
-boot_heard said.Nothing false u up w h = record { upper_is = tt; wire_is = ap (heard said.Nothing) h }
+boot_heard word true u up w h = record { upper_is = tt; wire_is = ap (heard word) h }
+boot_heard word q u up w h = record { upper_is = tt; wire_is = ap (heard word) h }
 
 search_heard : (word : Said) (got_all : Bool) (q : Bool) (u : DialogueState) (w : Wire) → is_search u ≡ true → WireIs life.Search q u w → Stands (life_after_said life.Search word) q (upper_heard word life.Search u got_all) (heard word w)
 search_heard word got_all q upper.Before w e h = absurd (true≢false (sym e))
@@ -117,18 +92,10 @@ search_heard word got_all q upper.Boot w e h = absurd (true≢false (sym e))
 search_heard word got_all q upper.Getting w e h = absurd (true≢false (sym e))
 search_heard word got_all q upper.Idle w e h = absurd (true≢false (sym e))
 search_heard word got_all q upper.Placed w e h = absurd (true≢false (sym e))
-search_heard said.Introduction got_all true (upper.Search k b) w e h = record { upper_is = refl; wire_is = ap (heard said.Introduction) h }
-search_heard said.Introduction got_all false (upper.Search k b) w e h = record { upper_is = refl; wire_is = ap (heard said.Introduction) h }
-search_heard said.UciOk got_all true (upper.Search k b) w e h = record { upper_is = refl; wire_is = ap (heard said.UciOk) h }
-search_heard said.UciOk got_all false (upper.Search k b) w e h = record { upper_is = refl; wire_is = ap (heard said.UciOk) h }
-search_heard said.ReadyOk got_all true (upper.Search k b) w e h = record { upper_is = refl; wire_is = ap (heard said.ReadyOk) h }
-search_heard said.ReadyOk got_all false (upper.Search k b) w e h = record { upper_is = refl; wire_is = ap (heard said.ReadyOk) h }
-search_heard said.Report got_all true (upper.Search k b) w e h = record { upper_is = refl; wire_is = ap (heard said.Report) h }
-search_heard said.Report got_all false (upper.Search k b) w e h = record { upper_is = refl; wire_is = ap (heard said.Report) h }
 search_heard said.Best got_all true (upper.Search k b) w e h = record { upper_is = tt; wire_is = ap (heard said.Best) h }
 search_heard said.Best got_all false (upper.Search k b) w e h = record { upper_is = tt; wire_is = ap (heard said.Best) h }
-search_heard said.Nothing got_all true (upper.Search k b) w e h = record { upper_is = refl; wire_is = ap (heard said.Nothing) h }
-search_heard said.Nothing got_all false (upper.Search k b) w e h = record { upper_is = refl; wire_is = ap (heard said.Nothing) h }
+search_heard word got_all true u w e h = record { upper_is = refl; wire_is = ap (heard word) h }
+search_heard word got_all q u w e h = record { upper_is = refl; wire_is = ap (heard word) h }
 
 heard_stands : (l : LifeState) (q : Bool) (u : DialogueState) (w : Wire) (word : Said) (got_all : Bool) → Stands l q u w → Stands (life_after_said l word) q (upper_heard word l u got_all) (heard word w)
 heard_stands life.Fresh q u w word got_all h =
@@ -138,11 +105,9 @@ heard_stands life.Boot q u w word got_all h = boot_heard word q u (upper_heard w
 heard_stands life.Getting q u w word got_all h =
     subst (λ (x : DialogueState). Stands (life_after_said life.Getting word) q (upper_heard word life.Getting x got_all) (heard word w)) (sym h.upper_is)
     (getting_heard word got_all q w (subst (λ (x : DialogueState). WireIs life.Getting q x w) h.upper_is h.wire_is))
-heard_stands life.Idle true u w word got_all h = record { upper_is = tt; wire_is = ap (heard word) h.wire_is }
-heard_stands life.Idle false u w word got_all h = record { upper_is = tt; wire_is = ap (heard word) h.wire_is }
 heard_stands life.Search q u w word got_all h = search_heard word got_all q u w h.upper_is h.wire_is
-heard_stands life.Ended q u w word got_all h = record { upper_is = tt; wire_is = ap (heard word) h.wire_is }
-heard_stands life.Over q u w word got_all h = record { upper_is = tt; wire_is = ap (heard word) h.wire_is }
+heard_stands l true u w word got_all h = record { upper_is = tt; wire_is = ap (heard word) h.wire_is }
+heard_stands l q u w word got_all h = record { upper_is = tt; wire_is = ap (heard word) h.wire_is }
 
 -- AN ORDER
 
@@ -154,25 +119,11 @@ some_is a b e = cc
 
 fresh_ordered : (c : AnyOrder) (up : DialogueState) → after_order c upper.Before ≡ Some up → Stands (after_at_once life.Fresh c) false up (all_written (as_it_comes life.Fresh c) (Open upper.Before))
 fresh_ordered orders.Uci up e = record { upper_is = tt; wire_is = refl }
-fresh_ordered orders.IsReady up e = absurd (cc)
-fresh_ordered orders.NewGame up e = absurd (cc)
-fresh_ordered orders.Stop up e = absurd (cc)
-fresh_ordered orders.PonderHit up e = absurd (cc)
-fresh_ordered orders.Quit up e = absurd (cc)
-fresh_ordered (orders.SetOption n v) up e = absurd (cc)
-fresh_ordered (orders.Position f m) up e = absurd (cc)
-fresh_ordered (orders.Go p t d) up e = absurd (cc)
+fresh_ordered c up e = absurd (cc)
 
 getting_takes_none : (c : AnyOrder) (up : DialogueState) → after_order c upper.Getting ≡ Some up → ⊥
 getting_takes_none orders.Uci up e = cc
-getting_takes_none orders.IsReady up e = cc
-getting_takes_none orders.NewGame up e = cc
-getting_takes_none orders.Stop up e = cc
-getting_takes_none orders.PonderHit up e = cc
-getting_takes_none orders.Quit up e = cc
-getting_takes_none (orders.SetOption n v) up e = cc
-getting_takes_none (orders.Position f m) up e = cc
-getting_takes_none (orders.Go p t d) up e = cc
+getting_takes_none c up e = cc
 
 stopped_search : (k : GoKind) (b : Bool) (up : DialogueState) → after_stop (upper.Search k b) ≡ Some up → is_search up ≡ true
 stopped_search k true up e = absurd (cc)
@@ -185,15 +136,9 @@ hit_search kinds.Ponder true up e = absurd (cc)
 hit_search kinds.Ponder false up e = subst (λ (x : DialogueState). is_search x ≡ true) (some_is (upper.Search kinds.Move false) up e) refl
 
 search_ordered : (k : GoKind) (b : Bool) (c : AnyOrder) (up : DialogueState) (w : Wire) → after_order c (upper.Search k b) ≡ Some up → w ≡ Open (upper.Search k b) → Stands (after_at_once life.Search c) false up (all_written (as_it_comes life.Search c) w)
-search_ordered k b orders.Uci up w e h = absurd (cc)
-search_ordered k b orders.IsReady up w e h = absurd (cc)
-search_ordered k b orders.NewGame up w e h = absurd (cc)
 search_ordered k b orders.Stop up w e h = record { upper_is = stopped_search k b up e; wire_is = ap (written orders.Stop) h ∙ ap open_or_broken e }
 search_ordered k b orders.PonderHit up w e h = record { upper_is = hit_search k b up e; wire_is = ap (written orders.PonderHit) h ∙ ap open_or_broken e }
-search_ordered k b orders.Quit up w e h = absurd (cc)
-search_ordered k b (orders.SetOption n v) up w e h = absurd (cc)
-search_ordered k b (orders.Position f m) up w e h = absurd (cc)
-search_ordered k b (orders.Go p t d) up w e h = absurd (cc)
+search_ordered k b c up w e h = absurd (cc)
 
 in_search : (u : DialogueState) (c : AnyOrder) (up : DialogueState) (w : Wire) → is_search u ≡ true → after_order c u ≡ Some up → w ≡ Open u → Stands (after_at_once life.Search c) false up (all_written (as_it_comes life.Search c) w)
 in_search upper.Before c up w s e h = absurd (true≢false (sym s))
@@ -223,20 +168,12 @@ quit_in_search upper.Placed s = absurd (true≢false (sym s))
 quit_in_search (upper.Search k b) s = refl
 
 quit_stands : (l : LifeState) (q : Bool) (u : DialogueState) (w : Wire) → Stands l q u w → Stands l true u (all_written (quit_to q l) w)
-quit_stands life.Fresh true u w h = record { upper_is = h.upper_is; wire_is = h.wire_is }
-quit_stands life.Fresh false u w h = record { upper_is = h.upper_is; wire_is = h.wire_is }
-quit_stands life.Ended true u w h = record { upper_is = h.upper_is; wire_is = h.wire_is }
-quit_stands life.Ended false u w h = record { upper_is = h.upper_is; wire_is = h.wire_is }
-quit_stands life.Over true u w h = record { upper_is = h.upper_is; wire_is = h.wire_is }
-quit_stands life.Over false u w h = record { upper_is = h.upper_is; wire_is = h.wire_is }
-quit_stands life.Boot true u w h = record { upper_is = h.upper_is; wire_is = h.wire_is }
 quit_stands life.Boot false u w h = record { upper_is = h.upper_is; wire_is = ap (written orders.Quit) h.wire_is }
-quit_stands life.Getting true u w h = record { upper_is = h.upper_is; wire_is = h.wire_is }
 quit_stands life.Getting false u w h = record { upper_is = h.upper_is; wire_is = ap (written orders.Quit) h.wire_is }
-quit_stands life.Idle true u w h = record { upper_is = h.upper_is; wire_is = h.wire_is }
 quit_stands life.Idle false u w h = record { upper_is = h.upper_is; wire_is = ap (written orders.Quit) h.wire_is }
-quit_stands life.Search true u w h = record { upper_is = h.upper_is; wire_is = h.wire_is }
 quit_stands life.Search false u w h = record { upper_is = h.upper_is; wire_is = ap (written orders.Quit) h.wire_is ∙ quit_in_search u h.upper_is }
+quit_stands l true u w h = record { upper_is = h.upper_is; wire_is = h.wire_is }
+quit_stands l q u w h = record { upper_is = h.upper_is; wire_is = h.wire_is }
 
 -- A LIFE BEGINS
 
@@ -276,12 +213,8 @@ idle_settles (upper.Search k b) w unsent search h a s = record {
 settles : (l : LifeState) (q : Bool) (u : DialogueState) (w : Wire) (unsent search : List AnyOrder) → Stands l q u w → AreSetups unsent → SearchIs u search → Stands (life_due (due_to l q u) l) q (upper_answered (answer_to l u) u) (all_written (due_orders (due_to l q u) unsent search) w)
 settles life.Idle true u w unsent search h a s = record { upper_is = tt; wire_is = h.wire_is }
 settles life.Idle false u w unsent search h a s = idle_settles u w unsent search h.wire_is a s
-settles life.Fresh q u w unsent search h a s = record { upper_is = h.upper_is; wire_is = h.wire_is }
-settles life.Boot q u w unsent search h a s = record { upper_is = h.upper_is; wire_is = h.wire_is }
-settles life.Getting q u w unsent search h a s = record { upper_is = h.upper_is; wire_is = h.wire_is }
-settles life.Search q u w unsent search h a s = record { upper_is = h.upper_is; wire_is = h.wire_is }
-settles life.Ended q u w unsent search h a s = record { upper_is = h.upper_is; wire_is = h.wire_is }
 settles life.Over q u w unsent search h a s = record { upper_is = tt; wire_is = h.wire_is }
+settles l q u w unsent search h a s = record { upper_is = h.upper_is; wire_is = h.wire_is }
 
 answered_as : (a : Answer) (s : State) (w : Wire) → Stands s.life s.quit (upper_answered a s.upper) w → AreSetups s.kept → AreSetups s.unsent → SearchIs (upper_answered a s.upper) s.search → Agrees (after_answer a s) w
 answered_as answers.Nothing s w h k u e = record { stands = h; kept = k; unsent = u; search = e }
@@ -365,16 +298,10 @@ ordering_agrees s line false w h = reading_agrees s (order_in line) w h
 -- EACH CALL
 
 said_search : (b : Bool) (u : DialogueState) (word : Said) (search : List AnyOrder) → SearchIs u search → SearchIs (if b then after_said u word else u) search
-said_search false u word search h = h
-said_search true upper.Before word search h = h
 said_search true upper.Boot said.UciOk search h = λ e. absurd (true≢false (sym e))
-said_search true upper.Boot word search h = h
 said_search true upper.Getting said.ReadyOk search h = λ e. absurd (true≢false (sym e))
-said_search true upper.Getting word search h = h
-said_search true upper.Idle word search h = h
-said_search true upper.Placed word search h = h
 said_search true (upper.Search k b) said.Best search h = λ e. absurd (true≢false (sym e))
-said_search true (upper.Search k b) word search h = h
+said_search b u word search h = h
 
 hearing_agrees : (s : State) (word : Said) (w : Wire) → Agrees s w → Agrees (hearing s word) (heard word w)
 hearing_agrees s word w h = record {
@@ -424,40 +351,12 @@ in_order lives calls m =
     whole s.life s.quit s.upper (wire_of lives calls) (agrees lives calls m).stands.wire_is
 
 given_fits : (word : Said) (l : LifeState) (u : DialogueState) (g : Bool) → UpperIs l u → is_given word l u g ≡ true → FitsUp word u
-given_fits said.Introduction l upper.Before g h e = absurd (true≢false (sym e))
 given_fits said.Introduction l upper.Boot g h e = refl
-given_fits said.Introduction l upper.Getting g h e = absurd (true≢false (sym e))
-given_fits said.Introduction l upper.Idle g h e = absurd (true≢false (sym e))
-given_fits said.Introduction l upper.Placed g h e = absurd (true≢false (sym e))
-given_fits said.Introduction l (upper.Search k b) g h e = absurd (true≢false (sym e))
-given_fits said.UciOk l upper.Before g h e = absurd (true≢false (sym e))
 given_fits said.UciOk l upper.Boot g h e = refl
-given_fits said.UciOk l upper.Getting g h e = absurd (true≢false (sym e))
-given_fits said.UciOk l upper.Idle g h e = absurd (true≢false (sym e))
-given_fits said.UciOk l upper.Placed g h e = absurd (true≢false (sym e))
-given_fits said.UciOk l (upper.Search k b) g h e = absurd (true≢false (sym e))
-given_fits said.ReadyOk life.Fresh u g h e = absurd (true≢false (sym e))
-given_fits said.ReadyOk life.Boot u g h e = absurd (true≢false (sym e))
 given_fits said.ReadyOk life.Getting u g h e = h
-given_fits said.ReadyOk life.Idle u g h e = absurd (true≢false (sym e))
-given_fits said.ReadyOk life.Search u g h e = absurd (true≢false (sym e))
-given_fits said.ReadyOk life.Ended u g h e = absurd (true≢false (sym e))
-given_fits said.ReadyOk life.Over u g h e = absurd (true≢false (sym e))
-given_fits said.Report life.Fresh u g h e = absurd (true≢false (sym e))
-given_fits said.Report life.Boot u g h e = absurd (true≢false (sym e))
-given_fits said.Report life.Getting u g h e = absurd (true≢false (sym e))
-given_fits said.Report life.Idle u g h e = absurd (true≢false (sym e))
 given_fits said.Report life.Search u g h e = h
-given_fits said.Report life.Ended u g h e = absurd (true≢false (sym e))
-given_fits said.Report life.Over u g h e = absurd (true≢false (sym e))
-given_fits said.Best life.Fresh u g h e = absurd (true≢false (sym e))
-given_fits said.Best life.Boot u g h e = absurd (true≢false (sym e))
-given_fits said.Best life.Getting u g h e = absurd (true≢false (sym e))
-given_fits said.Best life.Idle u g h e = absurd (true≢false (sym e))
 given_fits said.Best life.Search u g h e = h
-given_fits said.Best life.Ended u g h e = absurd (true≢false (sym e))
-given_fits said.Best life.Over u g h e = absurd (true≢false (sym e))
-given_fits said.Nothing l u g h e = absurd (true≢false (sym e))
+given_fits word l u g h e = absurd (true≢false (sym e))
 
 pub given_is_waited_for : GivenFits
 given_is_waited_for lives calls line m e =
@@ -465,40 +364,21 @@ given_is_waited_for lives calls line m e =
     given_fits (said_in line) s.life s.upper (is_nil s.unsent) (agrees lives calls m).stands.upper_is e
 
 answer_fits : (s : State) (l : LifeState) (u : DialogueState) → s.life ≡ l → s.upper ≡ u → IsAnswerIn (answer_to l u) s
-answer_fits s life.Fresh u e f = tt
-answer_fits s life.Boot u e f = tt
-answer_fits s life.Getting u e f = tt
-answer_fits s life.Idle u e f = tt
-answer_fits s life.Search u e f = tt
-answer_fits s life.Ended u e f = tt
-answer_fits s life.Over upper.Before e f = tt
-answer_fits s life.Over upper.Idle e f = tt
-answer_fits s life.Over upper.Placed e f = tt
 answer_fits s life.Over upper.Boot e f = (e, f)
 answer_fits s life.Over upper.Getting e f = (e, f)
 answer_fits s life.Over (upper.Search kinds.Move b) e f = (e, ap is_search f)
-answer_fits s life.Over (upper.Search kinds.Ponder true) e f = (e, ap is_search f)
-answer_fits s life.Over (upper.Search kinds.Ponder false) e f = tt
-answer_fits s life.Over (upper.Search kinds.Analyse true) e f = (e, ap is_search f)
-answer_fits s life.Over (upper.Search kinds.Analyse false) e f = tt
+answer_fits s life.Over (upper.Search x true) e f = (e, ap is_search f)
+answer_fits s l u e f = tt
 
 pub answers_are_waited_for : AnswersFit
 answers_are_waited_for s = answer_fits s s.life s.upper refl refl
 
 quiet : (l : LifeState) (q : Bool) (u : DialogueState) → due_to l q u ≡ due.Nothing → q ≡ false → is_idle_life l ≡ true → waits u ≡ false
-quiet life.Fresh q u d e i = absurd (true≢false (sym i))
-quiet life.Boot q u d e i = absurd (true≢false (sym i))
-quiet life.Getting q u d e i = absurd (true≢false (sym i))
-quiet life.Search q u d e i = absurd (true≢false (sym i))
-quiet life.Ended q u d e i = absurd (true≢false (sym i))
-quiet life.Over q u d e i = absurd (true≢false (sym i))
 quiet life.Idle true u d e i = absurd (true≢false e)
-quiet life.Idle false upper.Before d e i = refl
-quiet life.Idle false upper.Boot d e i = refl
 quiet life.Idle false upper.Getting d e i = absurd (cc)
-quiet life.Idle false upper.Idle d e i = refl
-quiet life.Idle false upper.Placed d e i = refl
 quiet life.Idle false (upper.Search k b) d e i = absurd (cc)
+quiet life.Idle q u d e i = refl
+quiet l q u d e i = absurd (true≢false (sym i))
 
 no_idle_by : (d : Due) (a : Answer) (t : State) → due_to t.life t.quit t.upper ≡ d → (after_answer a (after_due d t)).quit ≡ false → is_idle_life (after_answer a (after_due d t)).life ≡ true → waits (after_answer a (after_due d t)).upper ≡ false
 no_idle_by d answers.UciOk t e q i = refl

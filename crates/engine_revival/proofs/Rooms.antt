@@ -94,17 +94,10 @@ new_game_room l h = omega (arith, h, batch_last (staying_beside NewGame l) NewGa
 -- THE SEARCH
 
 all_search : (u : DialogueState) (search : List Order) → IsSearchIn u search → AreWithin search 4 SEARCH_BYTES
-all_search upper.Before search h = h
-all_search upper.Boot search h = h
-all_search upper.Getting search h = h
-all_search upper.Idle search h = h
 all_search upper.Placed search h = wider search 1 (MOST_LINE + 1) 4 SEARCH_BYTES h (omega arith) (omega arith)
 all_search (upper.Search kinds.Ponder false) search h = wider search 2 (2 * MOST_LINE + 2) 4 SEARCH_BYTES h (omega arith) (omega arith)
-all_search (upper.Search kinds.Move false) search h = wider search 3 (2 * MOST_LINE + 12) 4 SEARCH_BYTES h (omega arith) (omega arith)
-all_search (upper.Search kinds.Analyse false) search h = wider search 3 (2 * MOST_LINE + 12) 4 SEARCH_BYTES h (omega arith) (omega arith)
-all_search (upper.Search kinds.Ponder true) search h = h
-all_search (upper.Search kinds.Move true) search h = h
-all_search (upper.Search kinds.Analyse true) search h = h
+all_search (upper.Search x false) search h = wider search 3 (2 * MOST_LINE + 12) 4 SEARCH_BYTES h (omega arith) (omega arith)
+all_search u search h = h
 
 begun : (k : GoKind) (search : List Order) → AreWithin search 2 (2 * MOST_LINE + 2) → IsSearchIn (upper.Search k false) search
 begun kinds.Ponder search h = h
@@ -138,18 +131,11 @@ go_stage : (w : Bool) (k : GoKind) (up : DialogueState) (search : List Order) �
 go_stage w k up search e h = subst (λ (x : DialogueState). IsSearchIn x search) (where_is w (upper.Search k false) up e).1 (begun k search h)
 
 hit_stage : (u up : DialogueState) (search : List Order) → after_hit u ≡ Some up → IsSearchIn u search → IsSearchIn up (search ++ orders.PonderHit ∷ [])
-hit_stage upper.Before up search e h = absurd (cc)
-hit_stage upper.Boot up search e h = absurd (cc)
-hit_stage upper.Getting up search e h = absurd (cc)
-hit_stage upper.Idle up search e h = absurd (cc)
-hit_stage upper.Placed up search e h = absurd (cc)
-hit_stage (upper.Search kinds.Move b) up search e h = absurd (cc)
-hit_stage (upper.Search kinds.Analyse b) up search e h = absurd (cc)
-hit_stage (upper.Search kinds.Ponder true) up search e h = absurd (cc)
 hit_stage (upper.Search kinds.Ponder false) up search e h =
     let is : upper.Search kinds.Move false ≡ up = cc in
     let more = one_more search orders.PonderHit 2 (2 * MOST_LINE + 2) 9 h (omega (arith, hit_length)) in
     subst (λ (x : DialogueState). IsSearchIn x (search ++ orders.PonderHit ∷ [])) is (wider (search ++ orders.PonderHit ∷ []) 3 (2 * MOST_LINE + 12) 3 (2 * MOST_LINE + 12) more (omega arith) (omega arith))
+hit_stage u up search e h = absurd (cc)
 
 stop_stage : (u up : DialogueState) (search : List Order) → after_stop u ≡ Some up → IsSearchIn u search → IsSearchIn up (search ++ orders.Stop ∷ [])
 stop_stage upper.Before up search e h = absurd (cc)
@@ -279,16 +265,10 @@ ordering_roomy s line l h = ordering_by s line (is_quit line) l h
 -- THE OTHER CALLS
 
 said_stage : (w : Bool) (u : DialogueState) (word : Said) (search : List Order) → IsSearchIn u search → AreWithin search 4 SEARCH_BYTES → IsSearchIn (if w then after_said u word else u) search
-said_stage false u word search h k = h
-said_stage true upper.Before word search h k = h
 said_stage true upper.Boot said.UciOk search h k = k
-said_stage true upper.Boot word search h k = h
 said_stage true upper.Getting said.ReadyOk search h k = k
-said_stage true upper.Getting word search h k = h
-said_stage true upper.Idle word search h k = h
-said_stage true upper.Placed word search h k = h
 said_stage true (upper.Search kind b) said.Best search h k = k
-said_stage true (upper.Search kind b) word search h k = h
+said_stage w u word search h k = h
 
 pub hearing_roomy : (s : State) (word : Said) → IsRoomy s → IsRoomy (hearing s word)
 hearing_roomy s word h = record { kept = h.kept; settings = h.settings; unsent = h.unsent; search = h.search; stage = said_stage (gives s word) s.upper word s.search h.stage h.search }

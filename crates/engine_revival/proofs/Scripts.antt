@@ -4,7 +4,7 @@ use Rattle.std.specs.Prelude.{nat_le}
 use Rattle.std.specs.List.{AllByRecursion, flat_map}
 use Rattle.std.proofs.lemmas.Bool.Decides.{nat_tests}
 use Rattle.std.proofs.lemmas.List.Concat.{flat_map-append}
-use Rattle.line_io.specs.Event.{Event, Iface, IfaceEnd, IfaceLong, IfaceLost, Engine, EngineEnd, EngineLong, EngineLost, Open, has_feed, is_line}
+use Rattle.line_io.specs.Event.{Event, Iface, IfaceEnd, Engine, EngineLong, has_feed, is_line}
 use Rattle.line_io.specs.Lines.{parts}
 use Rattle.script_lines.specs.Marks.{Mark, Happens, ToIface, ToEngine, IsSpelled, event_marked, is_written, line_marked, mark_of, mark_line, mark_text}
 use Rattle.script_lines.specs.Scripts.{AreSpelled, script_of}
@@ -103,12 +103,10 @@ keeping_marks s (orders.SetOption name (Some value)) k h =
 keeping_marks s (orders.SetOption name None) k h = button_marks (can_join s.unsent (orders.SetOption name None)) s (orders.SetOption name None) k h
 keeping_marks s orders.NewGame k h = record { kept = h.kept; unsent = with_mark s.unsent NewGame h.unsent k; search = h.search }
 keeping_marks s (orders.Position fen moves) k h = record { kept = h.kept; unsent = h.unsent; search = (k, tt) }
-keeping_marks s (orders.Go ponder control depth) k h = search_marks s (orders.Go ponder control depth) k h
-keeping_marks s orders.PonderHit k h = search_marks s orders.PonderHit k h
-keeping_marks s orders.Stop k h = search_marks s orders.Stop k h
 keeping_marks s orders.Uci k h = h
 keeping_marks s orders.IsReady k h = h
 keeping_marks s orders.Quit k h = h
+keeping_marks s c k h = search_marks s c k h
 
 accepting_marks : (w : Option DialogueState) (s : State) (c : AnyOrder) → CanMark c → HasMarks s → HasMarks (accepting w s c)
 accepting_marks None s c k h = h
@@ -294,22 +292,11 @@ proper_call s (Iface line) h = h
 proper_call s IfaceEnd h = refl
 proper_call s (Engine line) h = h
 proper_call s EngineLong h = proper_by (may_begin s)
-proper_call s EngineEnd h = tt
-proper_call s IfaceLong h = tt
-proper_call s IfaceLost h = tt
-proper_call s EngineLost h = tt
-proper_call s Open h = tt
+proper_call s e h = tt
 
 before_marks : (s : State) (e : Event) → HasMarks s → HasMarks (state_before s e)
 before_marks s EngineLong h = record { kept = h.kept; unsent = h.unsent; search = h.search }
-before_marks s (Iface line) h = h
-before_marks s IfaceEnd h = h
-before_marks s (Engine line) h = h
-before_marks s EngineEnd h = h
-before_marks s IfaceLong h = h
-before_marks s IfaceLost h = h
-before_marks s EngineLost h = h
-before_marks s Open h = h
+before_marks s e h = h
 
 event_spelled : (s : State) (e : Event) → IsSpelled (Happens e) → HasMarks s → AreSpelled (marks_of s e)
 event_spelled s e l h =

@@ -46,47 +46,13 @@ other_value false v e = refl
 
 -- What is for the same as an order that does not set the option does not set it either.
 apart : (name : List ℕ) (c o : AnyOrder) → value_of name c ≡ None → are_for_same c o ≡ true → value_of name o ≡ None
-apart name orders.Uci o e h = absurd (true≢false (sym h))
-apart name orders.IsReady o e h = absurd (true≢false (sym h))
-apart name orders.NewGame orders.Uci e h = refl
-apart name orders.NewGame orders.IsReady e h = refl
-apart name orders.NewGame orders.NewGame e h = refl
-apart name orders.NewGame orders.Stop e h = refl
-apart name orders.NewGame orders.PonderHit e h = refl
-apart name orders.NewGame orders.Quit e h = refl
-apart name orders.NewGame (orders.SetOption k None) e h = refl
-apart name orders.NewGame (orders.SetOption k (Some w)) e h = absurd (true≢false (sym h))
-apart name orders.NewGame (orders.Position f m) e h = refl
-apart name orders.NewGame (orders.Go p t d) e h = refl
-apart name orders.Stop o e h = absurd (true≢false (sym h))
-apart name orders.PonderHit o e h = absurd (true≢false (sym h))
-apart name orders.Quit o e h = absurd (true≢false (sym h))
-apart name (orders.SetOption n None) orders.Uci e h = refl
-apart name (orders.SetOption n None) orders.IsReady e h = refl
-apart name (orders.SetOption n None) orders.NewGame e h = refl
-apart name (orders.SetOption n None) orders.Stop e h = refl
-apart name (orders.SetOption n None) orders.PonderHit e h = refl
-apart name (orders.SetOption n None) orders.Quit e h = refl
-apart name (orders.SetOption n None) (orders.SetOption k None) e h = refl
-apart name (orders.SetOption n None) (orders.SetOption k (Some w)) e h = absurd (true≢false (sym h))
-apart name (orders.SetOption n None) (orders.Position f m) e h = refl
-apart name (orders.SetOption n None) (orders.Go p t d) e h = refl
-apart name (orders.Position f m) o e h = absurd (true≢false (sym h))
-apart name (orders.Go p t d) o e h = absurd (true≢false (sym h))
-apart name (orders.SetOption n (Some v)) orders.Uci e h = refl
-apart name (orders.SetOption n (Some v)) orders.IsReady e h = refl
-apart name (orders.SetOption n (Some v)) orders.NewGame e h = refl
-apart name (orders.SetOption n (Some v)) orders.Stop e h = refl
-apart name (orders.SetOption n (Some v)) orders.PonderHit e h = refl
-apart name (orders.SetOption n (Some v)) orders.Quit e h = refl
-apart name (orders.SetOption n (Some v)) (orders.SetOption k None) e h = refl
 apart name (orders.SetOption n (Some v)) (orders.SetOption k (Some w)) e h = subst (λ (t : List ℕ). (if bytes_eq t name then Some w else None) ≡ None) (same_bytes n k h) (unset (bytes_eq n name) v w e)
   where
     unset : (b : Bool) (x y : List ℕ) → (if b then Some x else None) ≡ None → (if b then Some y else None) ≡ None
     unset true x y e = absurd (cc)
     unset false x y e = refl
-apart name (orders.SetOption n (Some v)) (orders.Position f m) e h = refl
-apart name (orders.SetOption n (Some v)) (orders.Go p t d) e h = refl
+apart name c (orders.SetOption k (Some w)) e h = absurd (true≢false (sym h))
+apart name c o e h = refl
 
 stay_step : (w : Bool) (name : List ℕ) (o : AnyOrder) (kept os : List AnyOrder) → (w ≡ false → value_of name o ≡ None) → value_in name kept ≡ value_in name os → value_in name (cond w (o ∷ kept) kept) ≡ value_in name (o ∷ os)
 stay_step true name o kept os h e = ap (λ (x : Option (List ℕ)). later_or x (value_of name o)) e
@@ -137,22 +103,10 @@ sets_none_by true name c h = h refl
 sets_none_by false name c h = refl
 
 at_once_none : (name : List ℕ) (l : LifeState) (c : AnyOrder) → takes_at_once l c ≡ true → value_of name c ≡ None
-at_once_none name l orders.Uci e = refl
-at_once_none name l orders.IsReady e = refl
-at_once_none name l orders.NewGame e = refl
-at_once_none name l orders.Stop e = refl
-at_once_none name l orders.PonderHit e = refl
-at_once_none name l orders.Quit e = refl
 at_once_none name l (orders.SetOption n None) e = refl
-at_once_none name life.Fresh (orders.SetOption n (Some v)) e = absurd (true≢false (sym e))
-at_once_none name life.Boot (orders.SetOption n (Some v)) e = absurd (true≢false (sym e))
-at_once_none name life.Getting (orders.SetOption n (Some v)) e = absurd (true≢false (sym e))
-at_once_none name life.Idle (orders.SetOption n (Some v)) e = absurd (true≢false (sym e))
-at_once_none name life.Search (orders.SetOption n (Some v)) e = absurd (true≢false (sym e))
-at_once_none name life.Ended (orders.SetOption n (Some v)) e = absurd (true≢false (sym e))
-at_once_none name life.Over (orders.SetOption n (Some v)) e = absurd (true≢false (sym e))
-at_once_none name l (orders.Position f m) e = refl
-at_once_none name l (orders.Go p t d) e = refl
+at_once_none name life.Fresh (orders.SetOption n m) e = absurd (true≢false (sym e))
+at_once_none name l (orders.SetOption n m) e = absurd (true≢false (sym e))
+at_once_none name l c e = refl
 
 comes_none : (name : List ℕ) (l : LifeState) (c : AnyOrder) → value_in name (as_it_comes l c) ≡ None
 comes_none name l c = sets_none_by (takes_at_once l c) name c (at_once_none name l c)
@@ -215,12 +169,9 @@ in_search : (name : List ℕ) (search : List AnyOrder) (c : AnyOrder) → value_
 in_search name search c e h = plain name search c e ∙ h
 
 accepting_values : (name : List ℕ) (s : State) (l a : List AnyOrder) (c : AnyOrder) (up : DialogueState) → (accepting (Some up) s c).full ≡ false → Values name s l a → Values name (accepting (Some up) s c) (l ++ as_it_comes s.life c) (a ++ c ∷ [])
-accepting_values name s l a orders.Uci up f h = other name s (accepting (Some up) s orders.Uci) l a (as_it_comes s.life orders.Uci) orders.Uci refl refl refl h.search (comes_none name s.life orders.Uci) h
-accepting_values name s l a orders.IsReady up f h = other name s (accepting (Some up) s orders.IsReady) l a (as_it_comes s.life orders.IsReady) orders.IsReady refl refl refl h.search (comes_none name s.life orders.IsReady) h
 accepting_values name s l a orders.NewGame up f h = joined name s (accepting (Some up) s orders.NewGame) l a (as_it_comes s.life orders.NewGame) orders.NewGame refl refl refl refl (comes_none name s.life orders.NewGame) h
 accepting_values name s l a orders.Stop up f h = other name s (accepting (Some up) s orders.Stop) l a (as_it_comes s.life orders.Stop) orders.Stop refl refl refl (in_search name s.search orders.Stop refl h.search) (comes_none name s.life orders.Stop) h
 accepting_values name s l a orders.PonderHit up f h = other name s (accepting (Some up) s orders.PonderHit) l a (as_it_comes s.life orders.PonderHit) orders.PonderHit refl refl refl (in_search name s.search orders.PonderHit refl h.search) (comes_none name s.life orders.PonderHit) h
-accepting_values name s l a orders.Quit up f h = other name s (accepting (Some up) s orders.Quit) l a (as_it_comes s.life orders.Quit) orders.Quit refl refl refl h.search (comes_none name s.life orders.Quit) h
 accepting_values name s l a (orders.SetOption n None) up f h =
     let c = orders.SetOption n None in
     button_step (can_join s.unsent c) name s l a c up (after_at_once s.life c) (as_it_comes s.life c) refl f (comes_none name s.life c) h
@@ -229,6 +180,7 @@ accepting_values name s l a (orders.SetOption n (Some v)) up f h =
     value_step (can_join s.kept c && can_join s.unsent c) name s l a c up (after_at_once s.life c) (as_it_comes s.life c) f (comes_none name s.life c) h
 accepting_values name s l a (orders.Position p m) up f h = other name s (accepting (Some up) s (orders.Position p m)) l a (as_it_comes s.life (orders.Position p m)) (orders.Position p m) refl refl refl refl (comes_none name s.life (orders.Position p m)) h
 accepting_values name s l a (orders.Go p t d) up f h = other name s (accepting (Some up) s (orders.Go p t d)) l a (as_it_comes s.life (orders.Go p t d)) (orders.Go p t d) refl refl refl (in_search name s.search (orders.Go p t d) refl h.search) (comes_none name s.life (orders.Go p t d)) h
+accepting_values name s l a c up f h = other name s (accepting (Some up) s c) l a (as_it_comes s.life c) c refl refl refl h.search (comes_none name s.life c) h
 
 same_nil : (name : List ℕ) (t : State) (l a : List AnyOrder) → Values name t l a → Values name t (l ++ []) (a ++ [])
 same_nil name t l a h = subst (λ (x : List AnyOrder). Values name t x (a ++ [])) (sym (nil_behind l)) (subst (λ (x : List AnyOrder). Values name t l x) (sym (nil_behind a)) h)
@@ -286,17 +238,8 @@ settled_values name t l a h = answered_values name (answer_of t) (after_due (due
 -- A list that was full stays so.
 settled_full : (w : Answer) (d : Due) (t : State) → (after_answer w (after_due d t)).full ≡ false → t.full ≡ false
 settled_full answers.Nothing due.Nothing t e = e
-settled_full answers.Nothing due.Settings t e = e
-settled_full answers.Nothing due.Search t e = e
-settled_full answers.UciOk due.Nothing t e = e
-settled_full answers.UciOk due.Settings t e = e
-settled_full answers.UciOk due.Search t e = e
-settled_full answers.ReadyOk due.Nothing t e = e
-settled_full answers.ReadyOk due.Settings t e = e
-settled_full answers.ReadyOk due.Search t e = e
-settled_full answers.NoMove due.Nothing t e = e
-settled_full answers.NoMove due.Settings t e = e
-settled_full answers.NoMove due.Search t e = e
+settled_full w due.Nothing t e = e
+settled_full w d t e = e
 
 value_full : (w : Bool) (s : State) (c : AnyOrder) → (with_value w s c).full ≡ false → s.full ≡ false
 value_full true s c e = e
@@ -307,21 +250,14 @@ button_full true s c e = e
 button_full false s c e = absurd (true≢false e)
 
 accepting_full : (s : State) (c : AnyOrder) (o : Option DialogueState) → (accepting o s c).full ≡ false → s.full ≡ false
-accepting_full s c None e = e
-accepting_full s orders.Uci (Some up) e = e
-accepting_full s orders.IsReady (Some up) e = e
-accepting_full s orders.NewGame (Some up) e = e
-accepting_full s orders.Stop (Some up) e = e
-accepting_full s orders.PonderHit (Some up) e = e
-accepting_full s orders.Quit (Some up) e = e
 accepting_full s (orders.SetOption n None) (Some up) e =
     let c = orders.SetOption n None in
     button_full (can_join s.unsent c) s c e
 accepting_full s (orders.SetOption n (Some v)) (Some up) e =
     let c = orders.SetOption n (Some v) in
     value_full (can_join s.kept c && can_join s.unsent c) s c e
-accepting_full s (orders.Position f m) (Some up) e = e
-accepting_full s (orders.Go p t d) (Some up) e = e
+accepting_full s c None e = e
+accepting_full s c o e = e
 
 reading_full : (s : State) (o : Option AnyOrder) → (reading s o).full ≡ false → s.full ≡ false
 reading_full s None e = e
@@ -356,33 +292,13 @@ values name lives (call ∷ calls) f =
 -- SEARCHES
 
 search_due : (l : LifeState) (q : Bool) (u : DialogueState) → due_to l q u ≡ due.Search → is_search u ≡ true
-search_due life.Fresh q u e = absurd (cc)
-search_due life.Boot q u e = absurd (cc)
-search_due life.Getting q u e = absurd (cc)
-search_due life.Search q u e = absurd (cc)
-search_due life.Ended q u e = absurd (cc)
-search_due life.Over q u e = absurd (cc)
-search_due life.Idle true u e = absurd (cc)
-search_due life.Idle false upper.Before e = absurd (cc)
-search_due life.Idle false upper.Boot e = absurd (cc)
-search_due life.Idle false upper.Getting e = absurd (cc)
-search_due life.Idle false upper.Idle e = absurd (cc)
-search_due life.Idle false upper.Placed e = absurd (cc)
 search_due life.Idle false (upper.Search k b) e = refl
+search_due l q u e = absurd (cc)
 
 none_unsent : (w : Answer) (d : Due) (t : State) → d ≡ due.Search → (after_answer w (after_due d t)).unsent ≡ []
-none_unsent answers.Nothing due.Nothing t e = absurd (cc)
-none_unsent answers.Nothing due.Settings t e = absurd (cc)
 none_unsent answers.Nothing due.Search t e = refl
-none_unsent answers.UciOk due.Nothing t e = absurd (cc)
-none_unsent answers.UciOk due.Settings t e = absurd (cc)
-none_unsent answers.UciOk due.Search t e = refl
-none_unsent answers.ReadyOk due.Nothing t e = absurd (cc)
-none_unsent answers.ReadyOk due.Settings t e = absurd (cc)
-none_unsent answers.ReadyOk due.Search t e = refl
-none_unsent answers.NoMove due.Nothing t e = absurd (cc)
-none_unsent answers.NoMove due.Settings t e = absurd (cc)
-none_unsent answers.NoMove due.Search t e = refl
+none_unsent w due.Search t e = refl
+none_unsent w d t e = absurd (cc)
 
 pub given_searches : SearchesAreGiven
 given_searches lives call calls m e =

@@ -17,15 +17,8 @@ telling [] d = Some d
 telling (c ∷ cs) d = option_and_then (telling cs) (after_order c d)
 
 one_written : (c : Order) (d next : DialogueState) → after_order c d ≡ Some next → written c (Open d) ≡ Open next
-one_written orders.Uci d next e = ap open_or_broken e
-one_written orders.IsReady d next e = ap open_or_broken e
-one_written orders.NewGame d next e = ap open_or_broken e
-one_written orders.Stop d next e = ap open_or_broken e
-one_written orders.PonderHit d next e = ap open_or_broken e
 one_written orders.Quit d next e = absurd (cc)
-one_written (orders.SetOption n v) d next e = ap open_or_broken e
-one_written (orders.Position f m) d next e = ap open_or_broken e
-one_written (orders.Go p c l) d next e = ap open_or_broken e
+one_written c d next e = ap open_or_broken e
 
 told_step : (o : Option DialogueState) (c : Order) (cs : List Order) (d last : DialogueState) → after_order c d ≡ o → option_and_then (telling cs) o ≡ Some last → ((next : DialogueState) → telling cs next ≡ Some last → all_written cs (Open next) ≡ Open last) → all_written cs (written c (Open d)) ≡ Open last
 told_step None c cs d last e f h = absurd (cc)
@@ -52,13 +45,7 @@ AreSetups list = AllByRecursion (λ c. is_setup c ≡ true) list
 setup_stays : (c : Order) → is_setup c ≡ true → after_order c upper.Idle ≡ Some upper.Idle
 setup_stays (orders.SetOption n v) e = refl
 setup_stays orders.NewGame e = refl
-setup_stays orders.Uci e = absurd (true≢false (sym e))
-setup_stays orders.IsReady e = absurd (true≢false (sym e))
-setup_stays orders.Stop e = absurd (true≢false (sym e))
-setup_stays orders.PonderHit e = absurd (true≢false (sym e))
-setup_stays orders.Quit e = absurd (true≢false (sym e))
-setup_stays (orders.Position f m) e = absurd (true≢false (sym e))
-setup_stays (orders.Go p c l) e = absurd (true≢false (sym e))
+setup_stays c e = absurd (true≢false (sym e))
 
 -- Settings leave an idle engine idle.
 pub behind_setups : (unsent more : List Order) → AreSetups unsent → telling (unsent ++ more) upper.Idle ≡ telling more upper.Idle
