@@ -51,28 +51,10 @@ is_order (deeds.Writes o) = true
 is_order d = false
 
 same_stage : (s : Stage) (d : Deed) → is_order d ≡ false → stage_after s d ≡ s
-same_stage stages.Over d n = refl
 same_stage stages.Start (deeds.Writes o) n = cc
-same_stage stages.Start deeds.Boots n = refl
-same_stage stages.Start deeds.GetsReady n = refl
-same_stage stages.Start (deeds.Answers best) n = refl
-same_stage stages.Start deeds.Ends n = refl
-same_stage stages.Start (deeds.Shows m) n = refl
-same_stage stages.Start deeds.Nothing n = refl
 same_stage stages.Placed (deeds.Writes o) n = cc
-same_stage stages.Placed deeds.Boots n = refl
-same_stage stages.Placed deeds.GetsReady n = refl
-same_stage stages.Placed (deeds.Answers best) n = refl
-same_stage stages.Placed deeds.Ends n = refl
-same_stage stages.Placed (deeds.Shows m) n = refl
-same_stage stages.Placed deeds.Nothing n = refl
 same_stage stages.Open (deeds.Writes o) n = cc
-same_stage stages.Open deeds.Boots n = refl
-same_stage stages.Open deeds.GetsReady n = refl
-same_stage stages.Open (deeds.Answers best) n = refl
-same_stage stages.Open deeds.Ends n = refl
-same_stage stages.Open (deeds.Shows m) n = refl
-same_stage stages.Open deeds.Nothing n = refl
+same_stage s d n = refl
 
 same_place : (p : Place) (d : Deed) → is_order d ≡ false → placed_after p d ≡ p
 same_place p (deeds.Writes o) n = cc
@@ -117,27 +99,8 @@ line_heard e (says.Name text) = nothing_heard e
 line_heard e (says.OptionLine name shape) = nothing_heard e
 line_heard e (says.Info facts) = nothing_heard e
 line_heard e says.Nothing = nothing_heard e
-line_heard talks.Boot says.UciOk = refl
-line_heard talks.Getting says.UciOk = refl
-line_heard talks.Idle says.UciOk = refl
-line_heard (talks.Search kinds.Move ticket s) says.UciOk = refl
-line_heard (talks.Search kinds.Ponder ticket s) says.UciOk = refl
-line_heard (talks.Search kinds.Analyse ticket s) says.UciOk = refl
-line_heard talks.Gone says.UciOk = refl
-line_heard talks.Boot says.ReadyOk = refl
-line_heard talks.Getting says.ReadyOk = refl
-line_heard talks.Idle says.ReadyOk = refl
-line_heard (talks.Search kinds.Move ticket s) says.ReadyOk = refl
-line_heard (talks.Search kinds.Ponder ticket s) says.ReadyOk = refl
-line_heard (talks.Search kinds.Analyse ticket s) says.ReadyOk = refl
-line_heard talks.Gone says.ReadyOk = refl
-line_heard talks.Boot (says.Best best hint) = refl
-line_heard talks.Getting (says.Best best hint) = refl
-line_heard talks.Idle (says.Best best hint) = refl
-line_heard (talks.Search kinds.Move ticket s) (says.Best best hint) = refl
-line_heard (talks.Search kinds.Ponder ticket s) (says.Best best hint) = refl
-line_heard (talks.Search kinds.Analyse ticket s) (says.Best best hint) = refl
-line_heard talks.Gone (says.Best best hint) = refl
+line_heard (talks.Search kinds.Move ticket s) m = refl
+line_heard e m = refl
 
 line_quiet : (m : EngineMsg) → is_order (answer_told m) ≡ false
 line_quiet (says.Name text) = refl
@@ -149,15 +112,8 @@ line_quiet says.ReadyOk = refl
 line_quiet (says.Best best hint) = refl
 
 event_quiet : (ev : Event) → is_order (deed_of (Happens ev)) ≡ false
-event_quiet events.Open = refl
-event_quiet (events.Iface line) = refl
-event_quiet events.IfaceLong = refl
-event_quiet events.IfaceEnd = refl
-event_quiet events.IfaceLost = refl
 event_quiet (events.Engine line) = line_quiet (engine_message line)
-event_quiet events.EngineLong = refl
-event_quiet events.EngineEnd = refl
-event_quiet events.EngineLost = refl
+event_quiet ev = refl
 
 abbrev dead : Engine → Engine
 dead e = heard e (said_by false events.EngineEnd)
@@ -170,15 +126,10 @@ all_die (talks.Search k ticket s) = refl
 all_die talks.Gone = refl
 
 event_heard : (e : Engine) (ev : Event) → engine_after (shown e) (deed_of (Happens ev)) ≡ shown (heard e (said_by false ev))
-event_heard e events.Open = nothing_heard e
-event_heard e (events.Iface line) = nothing_heard e
-event_heard e events.IfaceLong = nothing_heard e
-event_heard e events.IfaceEnd = nothing_heard e
-event_heard e events.IfaceLost = nothing_heard e
 event_heard e (events.Engine line) = line_heard e (engine_message line)
-event_heard e events.EngineLong = nothing_heard e
 event_heard e events.EngineEnd = ends_heard e ∙ sym (all_die e)
 event_heard e events.EngineLost = ends_heard e ∙ sym (all_die e)
+event_heard e ev = nothing_heard e
 
 answer_passes : (t : Talk) (m : EngineMsg) → broken t (answer_told m) ≡ None
 answer_passes t (says.Name text) = refl
@@ -191,26 +142,12 @@ answer_passes t (says.Best best hint) = refl
 
 -- an event breaks no rule
 event_passes : (t : Talk) (ev : Event) → broken t (deed_of (Happens ev)) ≡ None
-event_passes t events.Open = refl
-event_passes t (events.Iface line) = refl
-event_passes t events.IfaceLong = refl
-event_passes t events.IfaceEnd = refl
-event_passes t events.IfaceLost = refl
 event_passes t (events.Engine line) = answer_passes t (engine_message line)
-event_passes t events.EngineLong = refl
-event_passes t events.EngineEnd = refl
-event_passes t events.EngineLost = refl
+event_passes t ev = refl
 
 one_mark : (ev : Event) → is_open ev ≡ false → event_marks ev ≡ Happens ev ∷ []
 one_mark events.Open n = cc
-one_mark (events.Iface line) n = refl
-one_mark events.IfaceLong n = refl
-one_mark events.IfaceEnd n = refl
-one_mark events.IfaceLost n = refl
-one_mark (events.Engine line) n = refl
-one_mark events.EngineLong n = refl
-one_mark events.EngineEnd n = refl
-one_mark events.EngineLost n = refl
+one_mark ev n = refl
 
 -- what is heard of an event that is not Open
 pub event_runs : (t : Talk) (ev : Event) (P : Talk → Type 0) → is_open ev ≡ false → ((line : ℕ) → P (after t line (deed_of (Happens ev)))) → Runs t (event_marks ev) P

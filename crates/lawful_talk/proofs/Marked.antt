@@ -69,13 +69,8 @@ one_log l m e = more_log l m [] [] e none_log
 event_log : (e : Event) → IsTold e → IsLog (event_lines e) (event_marks e)
 event_log events.Open t = none_log
 event_log (events.Iface line) t = one_log _ _ (spelled_read (Happens (events.Iface line)) t)
-event_log events.IfaceLong t = one_log _ _ (spelled_read (Happens events.IfaceLong) tt)
-event_log events.IfaceEnd t = one_log _ _ (spelled_read (Happens events.IfaceEnd) tt)
-event_log events.IfaceLost t = one_log _ _ (spelled_read (Happens events.IfaceLost) tt)
 event_log (events.Engine line) t = one_log _ _ (spelled_read (Happens (events.Engine line)) t)
-event_log events.EngineLong t = one_log _ _ (spelled_read (Happens events.EngineLong) tt)
-event_log events.EngineEnd t = one_log _ _ (spelled_read (Happens events.EngineEnd) tt)
-event_log events.EngineLost t = one_log _ _ (spelled_read (Happens events.EngineLost) tt)
+event_log e t = one_log _ _ (spelled_read (Happens e) tt)
 
 -- LINES
 

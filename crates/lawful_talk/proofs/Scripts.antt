@@ -41,25 +41,11 @@ differ false p q = cc
 
 opening_says : (closed : Bool) (e : Event) → is_open e ≡ true → said_by closed e ≡ None
 opening_says closed events.Open x = refl
-opening_says closed (events.Iface line) x = cc
-opening_says closed events.IfaceLong x = cc
-opening_says closed events.IfaceEnd x = cc
-opening_says closed events.IfaceLost x = cc
-opening_says closed (events.Engine line) x = cc
-opening_says closed events.EngineLong x = cc
-opening_says closed events.EngineEnd x = cc
-opening_says closed events.EngineLost x = cc
+opening_says closed e x = cc
 
 still_opened : (ends : Ends) (e : Event) → is_open e ≡ false → (ends_after ends e).opened ≡ ends.opened
 still_opened ends events.Open x = cc
-still_opened ends (events.Iface line) x = refl
-still_opened ends events.IfaceLong x = refl
-still_opened ends events.IfaceEnd x = refl
-still_opened ends events.IfaceLost x = refl
-still_opened ends (events.Engine line) x = refl
-still_opened ends events.EngineLong x = refl
-still_opened ends events.EngineEnd x = refl
-still_opened ends events.EngineLost x = refl
+still_opened ends e x = refl
 
 -- STEP BY STEP
 

@@ -35,7 +35,7 @@ use Rattle.desk_rules.specs.declared.desk.Desk.{Desk}
 use Rattle.desk_rules.specs.Desk as desks
 use Rattle.desk_rules.specs.Desk.{Situation, is_boot, is_gone, owes_move, on_move, plies}
 use Rattle.desk_rules.specs.Lines.{asks, change, is_epoch_line}
-use Rattle.desk_rules.specs.Steps.{Effect, Accepts, Boots, Readies, Shows, Forfeits, Answers, Dies, what_of, what_accepted, begins_epoch, desk_after_effect, searched_by, is_death}
+use Rattle.desk_rules.specs.Steps.{Effect, Accepts, Shows, what_of, what_accepted, begins_epoch, desk_after_effect, searched_by, is_death}
 use Rattle.desk_rules.specs.Orders.{kind_named, word_of, start_of, searched, search_orders}
 use Rattle.desk_rules.specs.Fits.{IsSound}
 use Rattle.desk_rules.proofs.Hints.{hint_kept, call_hint}
@@ -73,26 +73,10 @@ game_kept h d r = refl
 
 heard_search : (e : Engine) (w : Option Said) (k : GoKind) (t : ℕ) (st : Bool) → heard e w ≡ talks.Search k t st → e ≡ talks.Search k t st
 heard_search e None k t st x = x
-heard_search talks.Boot (Some said.UciOk) k t st x = cc
-heard_search talks.Boot (Some said.ReadyOk) k t st x = cc
-heard_search talks.Boot (Some said.Best) k t st x = cc
-heard_search talks.Boot (Some said.Ended) k t st x = cc
-heard_search talks.Getting (Some said.UciOk) k t st x = cc
-heard_search talks.Getting (Some said.ReadyOk) k t st x = cc
-heard_search talks.Getting (Some said.Best) k t st x = cc
-heard_search talks.Getting (Some said.Ended) k t st x = cc
-heard_search talks.Idle (Some said.UciOk) k t st x = cc
-heard_search talks.Idle (Some said.ReadyOk) k t st x = cc
-heard_search talks.Idle (Some said.Best) k t st x = cc
-heard_search talks.Idle (Some said.Ended) k t st x = cc
-heard_search talks.Gone (Some said.UciOk) k t st x = cc
-heard_search talks.Gone (Some said.ReadyOk) k t st x = cc
-heard_search talks.Gone (Some said.Best) k t st x = cc
-heard_search talks.Gone (Some said.Ended) k t st x = cc
 heard_search (talks.Search k' t' s') (Some said.UciOk) k t st x = x
 heard_search (talks.Search k' t' s') (Some said.ReadyOk) k t st x = x
-heard_search (talks.Search k' t' s') (Some said.Best) k t st x = cc
-heard_search (talks.Search k' t' s') (Some said.Ended) k t st x = cc
+heard_search e (Some said.UciOk) k t st x = cc
+heard_search e w k t st x = cc
 
 -- an order that is neither `go` nor `ponderhit`
 abbrev goes_on : Word → Bool
@@ -108,50 +92,18 @@ record Later (w : Word) (ws : List Word) : Type 0 where
 later : (w : Word) (ws : List Word) → has_go (w ∷ ws) ≡ false → has_hit (w ∷ ws) ≡ false → Later w ws
 later (talks.Go k) ws g h = absurd (cc)
 later talks.PonderHit ws g h = absurd (cc)
-later talks.Uci ws g h = record { first = refl; no_go = g; no_hit = h }
-later talks.Setup ws g h = record { first = refl; no_go = g; no_hit = h }
-later talks.IsReady ws g h = record { first = refl; no_go = g; no_hit = h }
-later talks.Position ws g h = record { first = refl; no_go = g; no_hit = h }
-later talks.Stop ws g h = record { first = refl; no_go = g; no_hit = h }
-later talks.Quit ws g h = record { first = refl; no_go = g; no_hit = h }
+later w ws g h = record { first = refl; no_go = g; no_hit = h }
 
 stop_one : (k k' : GoKind) (t t' : ℕ) (s' st : Bool) → talks.Search k' t' true ≡ talks.Search k t st → talks.Search k' t' s' ≡ talks.Search k t s'
 stop_one k k' t t' s' st x = let a : k' ≡ k = cc in let b : t' ≡ t = cc in ap (λ (y : GoKind). talks.Search y t' s') a ∙ ap (λ (y : ℕ). talks.Search k y s') b
 
 sent_one : (n : ℕ) (e : Engine) (w : Word) (k : GoKind) (t : ℕ) (st : Bool) → goes_on w ≡ true → sent n e w ≡ talks.Search k t st → (st' : Bool) × (e ≡ talks.Search k t st')
-sent_one n talks.Gone w k t st g x = absurd (cc)
-sent_one n talks.Boot talks.Uci k t st g x = absurd (cc)
-sent_one n talks.Boot talks.Setup k t st g x = absurd (cc)
-sent_one n talks.Boot talks.IsReady k t st g x = absurd (cc)
-sent_one n talks.Boot talks.Position k t st g x = absurd (cc)
-sent_one n talks.Boot (talks.Go j) k t st g x = absurd (cc)
-sent_one n talks.Boot talks.Stop k t st g x = absurd (cc)
-sent_one n talks.Boot talks.PonderHit k t st g x = absurd (cc)
-sent_one n talks.Boot talks.Quit k t st g x = absurd (cc)
-sent_one n talks.Getting talks.Uci k t st g x = absurd (cc)
-sent_one n talks.Getting talks.Setup k t st g x = absurd (cc)
-sent_one n talks.Getting talks.IsReady k t st g x = absurd (cc)
-sent_one n talks.Getting talks.Position k t st g x = absurd (cc)
-sent_one n talks.Getting (talks.Go j) k t st g x = absurd (cc)
-sent_one n talks.Getting talks.Stop k t st g x = absurd (cc)
-sent_one n talks.Getting talks.PonderHit k t st g x = absurd (cc)
-sent_one n talks.Getting talks.Quit k t st g x = absurd (cc)
-sent_one n talks.Idle talks.Uci k t st g x = absurd (cc)
-sent_one n talks.Idle talks.Setup k t st g x = absurd (cc)
-sent_one n talks.Idle talks.IsReady k t st g x = absurd (cc)
-sent_one n talks.Idle talks.Position k t st g x = absurd (cc)
-sent_one n talks.Idle (talks.Go j) k t st g x = absurd (cc)
-sent_one n talks.Idle talks.Stop k t st g x = absurd (cc)
-sent_one n talks.Idle talks.PonderHit k t st g x = absurd (cc)
-sent_one n talks.Idle talks.Quit k t st g x = absurd (cc)
-sent_one n (talks.Search k' t' s') talks.Uci k t st g x = absurd (cc)
 sent_one n (talks.Search k' t' s') talks.Setup k t st g x = (st, x)
-sent_one n (talks.Search k' t' s') talks.IsReady k t st g x = absurd (cc)
 sent_one n (talks.Search k' t' s') talks.Position k t st g x = (st, x)
-sent_one n (talks.Search k' t' s') (talks.Go j) k t st g x = absurd (cc)
 sent_one n (talks.Search k' t' s') talks.Stop k t st g x = (s', stop_one k k' t t' s' st x)
-sent_one n (talks.Search k' t' s') talks.PonderHit k t st g x = absurd (cc)
 sent_one n (talks.Search k' t' s') talks.Quit k t st g x = (st, x)
+sent_one n e talks.Uci k t st g x = absurd (cc)
+sent_one n e w k t st g x = absurd (cc)
 
 sent_search : (n : ℕ) (e : Engine) (ws : List Word) (k : GoKind) (t : ℕ) (st : Bool) → has_go ws ≡ false → has_hit ws ≡ false → sent_all n e ws ≡ talks.Search k t st → (st' : Bool) × (e ≡ talks.Search k t st')
 sent_search n e [] k t st g h x = (st, x)
@@ -195,36 +147,7 @@ same_kind_is Bishop Bishop e = refl
 same_kind_is Rook Rook e = refl
 same_kind_is Queen Queen e = refl
 same_kind_is King King e = refl
-same_kind_is Pawn Knight e = cc
-same_kind_is Pawn Bishop e = cc
-same_kind_is Pawn Rook e = cc
-same_kind_is Pawn Queen e = cc
-same_kind_is Pawn King e = cc
-same_kind_is Knight Pawn e = cc
-same_kind_is Knight Bishop e = cc
-same_kind_is Knight Rook e = cc
-same_kind_is Knight Queen e = cc
-same_kind_is Knight King e = cc
-same_kind_is Bishop Pawn e = cc
-same_kind_is Bishop Knight e = cc
-same_kind_is Bishop Rook e = cc
-same_kind_is Bishop Queen e = cc
-same_kind_is Bishop King e = cc
-same_kind_is Rook Pawn e = cc
-same_kind_is Rook Knight e = cc
-same_kind_is Rook Bishop e = cc
-same_kind_is Rook Queen e = cc
-same_kind_is Rook King e = cc
-same_kind_is Queen Pawn e = cc
-same_kind_is Queen Knight e = cc
-same_kind_is Queen Bishop e = cc
-same_kind_is Queen Rook e = cc
-same_kind_is Queen King e = cc
-same_kind_is King Pawn e = cc
-same_kind_is King Knight e = cc
-same_kind_is King Bishop e = cc
-same_kind_is King Rook e = cc
-same_kind_is King Queen e = cc
+same_kind_is a b e = cc
 
 same_promo_is : (a b : Option Kind) → option_eq same_kind a b ≡ true → a ≡ b
 same_promo_is None None e = refl
@@ -270,12 +193,6 @@ accepted_plays h message m e x = absurd (cc)
 
 effect_plays : (h : Situation) (d : Effect) (m : Move) → what_of d ≡ talks.Plays m → is_hint h.desk.hint (what_of d) ≡ true → Plays h d
 effect_plays h (Accepts message) m e x = accepted_plays h message m e x
-effect_plays h Boots m e x = absurd (cc)
-effect_plays h Readies m e x = absurd (cc)
-effect_plays h (Shows best hint) m e x = absurd (cc)
-effect_plays h Forfeits m e x = absurd (cc)
-effect_plays h Answers m e x = absurd (cc)
-effect_plays h Dies m e x = absurd (cc)
 effect_plays h d m e x = absurd (cc)
 
 hit_plays : (h : Situation) (d : Effect) → is_hint h.desk.hint (what_of d) ≡ true → Plays h d

@@ -91,14 +91,7 @@ is_shown d = IsShown.Quiet refl
 opens_quiet : (h : Situation) (held : List Order) (e : Event) → is_open e ≡ true → shown_by (classify h held e) ≡ []
 unfolding classify
 opens_quiet h held events.Open x = refl
-opens_quiet h held (events.Iface line) x = cc
-opens_quiet h held events.IfaceLong x = cc
-opens_quiet h held events.IfaceEnd x = cc
-opens_quiet h held events.IfaceLost x = cc
-opens_quiet h held (events.Engine line) x = cc
-opens_quiet h held events.EngineLong x = cc
-opens_quiet h held events.EngineEnd x = cc
-opens_quiet h held events.EngineLost x = cc
+opens_quiet h held e x = cc
 
 module _ (o : Settings) (step : Step) (trace : List Step) (l : Lawful o (step ∷ trace)) where
   abbrev s : State
@@ -185,14 +178,7 @@ module _ (o : Settings) (step : Step) (trace : List Step) (l : Lawful o (step �
 
   no_event : (e : Event) → is_open e ≡ true → event_marks e ≡ []
   no_event events.Open x = refl
-  no_event (events.Iface line) x = cc
-  no_event events.IfaceLong x = cc
-  no_event events.IfaceEnd x = cc
-  no_event events.IfaceLost x = cc
-  no_event (events.Engine line) x = cc
-  no_event events.EngineLong x = cc
-  no_event events.EngineEnd x = cc
-  no_event events.EngineLost x = cc
+  no_event e x = cc
 
   pub opening_parts : (t : Talk) → is_open ev ≡ true → t.engine ≡ wires.Boot → t.stage ≡ stages.Start → Runs t (step_marks step) Opened
   opening_parts t n e g =

@@ -57,15 +57,9 @@ go_deed false (Clock w b i j m) depth = refl
 
 pub order_deed : (o : Order) → deed_of (engine_mark o) ≡ deeds.Writes (as_order o)
 unfolding order_text
-order_deed orders.Uci = refl
-order_deed orders.IsReady = refl
-order_deed orders.NewGame = refl
-order_deed orders.Stop = refl
-order_deed orders.PonderHit = refl
-order_deed orders.Quit = refl
-order_deed (orders.SetOption name value) = refl
 order_deed (orders.Position fen moves) = start_deed fen moves
 order_deed (orders.Go ponder control depth) = go_deed ponder control depth
+order_deed o = refl
 
 -- NUMBERS
 
@@ -199,26 +193,11 @@ thinking_quiet : (depth : ℕ) (text others : List ℕ) → text ≡ decimal dep
 thinking_quiet depth text others e = ap told_move e ∙ digits_other (decimal depth) (32 ∷ others) (numeral depth)
 
 pub reply_deed : (r : Reply) → shows_none r ≡ true → deed_of (iface_mark r) ≡ deeds.Nothing
-reply_deed (told.Feature name value) h = refl
 reply_deed (told.Move m) h = absurd (cc)
-reply_deed (told.Illegal m) h = refl
-reply_deed (told.IllegalLong m) h = refl
-reply_deed (told.Error reason line) h = refl
-reply_deed (told.TellError tells.Position) h = refl
-reply_deed (told.TellError tells.Move) h = refl
-reply_deed (told.TellError tells.Ended) h = refl
-reply_deed (told.Pong n) h = refl
-reply_deed told.OfferDraw h = refl
-reply_deed told.Resign h = refl
-reply_deed (told.Hint m) h = refl
-reply_deed (told.Result outcomes.WhiteMates) h = refl
-reply_deed (told.Result outcomes.BlackMates) h = refl
-reply_deed (told.Result outcomes.Stalemate) h = refl
-reply_deed (told.Result outcomes.Dead) h = refl
-reply_deed (told.Result outcomes.Repetition) h = refl
-reply_deed (told.Result outcomes.Fifty) h = refl
 reply_deed (told.Thinking depth score time nodes hint pv) h =
     let others = signed_decimal score ++ (32 ∷ (decimal time ++ (32 ∷ (decimal nodes ++ (32 ∷ (hint_text hint ++ pv)))))) in
     let whole : reply_text (told.Thinking depth score time nodes hint pv) ≡ decimal depth ++ (32 ∷ others) = simp append_assoc in
     thinking_quiet depth (reply_text (told.Thinking depth score time nodes hint pv)) others whole
-reply_deed (told.Stat01 time nodes depth left all current) h = refl
+reply_deed (told.TellError tells.Position) h = refl
+reply_deed (told.Result outcomes.WhiteMates) h = refl
+reply_deed r h = refl

@@ -99,22 +99,12 @@ takes n e orders.NewGame t p a s m = by_idle n e talks.Setup t hears.Setup m (se
 takes n e (orders.SetOption name value) t p a s m = by_idle n e talks.Setup t hears.Setup m (setup_takes t (a ∙ ap shown m) s)
 takes n e orders.Stop t p a s m = stops_at n e t a s m
 takes n e orders.PonderHit t p a s m = hits_at n e t a s m
-takes n e orders.Uci t p a s m = absurd (cc)
-takes n e orders.Quit t p a s m = absurd (cc)
-takes n e (orders.Position start moves) t p a s m = absurd (cc)
-takes n e (orders.Go ponder control depth) t p a s m = absurd (cc)
+takes n e o t p a s m = absurd (cc)
 
 -- `position` stands only before `go`
 no_position : (ws : List Word) → Paired (talks.Position ∷ ws) → has_go ws ≡ false → ⊥
-no_position [] p g = p
-no_position (talks.Uci ∷ ws) p g = p
-no_position (talks.Setup ∷ ws) p g = p
-no_position (talks.IsReady ∷ ws) p g = p
-no_position (talks.Position ∷ ws) p g = p
 no_position (talks.Go k ∷ ws) p g = cc
-no_position (talks.Stop ∷ ws) p g = p
-no_position (talks.PonderHit ∷ ws) p g = p
-no_position (talks.Quit ∷ ws) p g = p
+no_position ws p g = p
 
 record Plain (o : Order) (os : List Order) : Type 0 where
   plain : is_plain o ≡ true
@@ -128,11 +118,7 @@ plain_first e orders.Uci os m p g q = absurd m
 plain_first e orders.Quit os m p g q = absurd (cc)
 plain_first e (orders.Position start moves) os m p g q = absurd (no_position (map word_of os) p g)
 plain_first e (orders.Go ponder control depth) os m p g q = absurd (cc)
-plain_first e orders.IsReady os m p g q = record { plain = refl; paired = p; no_go = g; no_quit = q }
-plain_first e orders.NewGame os m p g q = record { plain = refl; paired = p; no_go = g; no_quit = q }
-plain_first e (orders.SetOption name value) os m p g q = record { plain = refl; paired = p; no_go = g; no_quit = q }
-plain_first e orders.Stop os m p g q = record { plain = refl; paired = p; no_go = g; no_quit = q }
-plain_first e orders.PonderHit os m p g q = record { plain = refl; paired = p; no_go = g; no_quit = q }
+plain_first e o os m p g q = record { plain = refl; paired = p; no_go = g; no_quit = q }
 
 -- orders without a search
 pub plain_runs : (n : ℕ) (e : Engine) (os : List Order) (t : Talk) (p : Place) → Agrees t e p → MaySendAll n e (map word_of os) → Paired (map word_of os) → has_go (map word_of os) ≡ false
