@@ -59,13 +59,7 @@ placed_keeps v line k = place_by (is_free v.talk) v _ k refl
 
 pub placed_if_keeps : (o : Ordered) (v : Parts) (line : List ℕ) → Keeps v → Keeps (placed_if o v line)
 placed_if_keeps orders.Position v line k = placed_keeps v line k
-placed_if_keeps orders.Quit v line k = k
-placed_if_keeps orders.Uci v line k = k
-placed_if_keeps orders.IsReady v line k = k
-placed_if_keeps orders.Go v line k = k
-placed_if_keeps orders.Stop v line k = k
-placed_if_keeps orders.PonderHit v line k = k
-placed_if_keeps orders.Other v line k = k
+placed_if_keeps o v line k = k
 
 abbrev IsBlank : Parts → Type 0
 IsBlank v = (length v.up.text ≡ 0) × (length v.down.text ≡ 0)
@@ -77,13 +71,7 @@ blank_by false v w a b = a
 -- a position gives nothing
 pub placed_blank : (o : Ordered) (v : Parts) (line : List ℕ) → IsBlank (placed_if o (cleared v) line)
 placed_blank orders.Position v line = blank_by (is_free v.talk) (cleared v) _ (refl, refl) (refl, refl)
-placed_blank orders.Quit v line = (refl, refl)
-placed_blank orders.Uci v line = (refl, refl)
-placed_blank orders.IsReady v line = (refl, refl)
-placed_blank orders.Go v line = (refl, refl)
-placed_blank orders.Stop v line = (refl, refl)
-placed_blank orders.PonderHit v line = (refl, refl)
-placed_blank orders.Other v line = (refl, refl)
+placed_blank o v line = (refl, refl)
 
 features_keep : (stage : Stage) (v : Parts) (text : List ℕ) → Keeps v → Keeps (features_at stage v text)
 features_keep stages.Over v text k = k

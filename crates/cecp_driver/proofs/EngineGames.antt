@@ -17,7 +17,7 @@ use Rattle.san_text.specs.Writing.{same_kind}
 use Rattle.driver_talk.specs.declared.words.Clocks.{Clocks}
 use Rattle.driver_talk.specs.declared.words.Down.{Down}
 use Rattle.driver_talk.specs.declared.words.Down.TheVariants as downs
-use Rattle.driver_lines.specs.Lines.{Line, XBoard, Protover, Quit, New, Force, Post, SetBoard, Played, St, Level, Time, Otim, Sd, Go, Analyze, Hurry, Exit, Ping, Accepted, Rejected, lines_text}
+use Rattle.driver_lines.specs.Lines.{Line, SetBoard, Sd, Go, Analyze, lines_text}
 use Rattle.driver_lines.specs.Clocks.{clock_lines, control_lines, depth_lines}
 use Rattle.cecp_driver.specs.Same.{same_position, same_ply}
 use Rattle.cecp_driver.specs.SetUp.{Told, further, continued, played, start_lines, setup_lines, set_up, limited}
@@ -89,24 +89,7 @@ AreQuiet lines = AllByRecursion IsQuiet lines
 quiet_first : (o g : Game) (line : Line) (lines : List Line) → IsQuiet line → SearchesOn o (set_by g line) lines → SearchesOn o g (line ∷ lines)
 quiet_first o g Go lines q s = absurd q
 quiet_first o g Analyze lines q s = absurd q
-quiet_first o g XBoard lines q s = s
-quiet_first o g Protover lines q s = s
-quiet_first o g Quit lines q s = s
-quiet_first o g New lines q s = s
-quiet_first o g Force lines q s = s
-quiet_first o g Post lines q s = s
-quiet_first o g (SetBoard p) lines q s = s
-quiet_first o g (Played has_usermove m) lines q s = s
-quiet_first o g (St seconds) lines q s = s
-quiet_first o g (Level moves seconds increment) lines q s = s
-quiet_first o g (Time centis) lines q s = s
-quiet_first o g (Otim centis) lines q s = s
-quiet_first o g (Sd plies) lines q s = s
-quiet_first o g Hurry lines q s = s
-quiet_first o g Exit lines q s = s
-quiet_first o g (Ping n) lines q s = s
-quiet_first o g (Accepted name) lines q s = s
-quiet_first o g (Rejected name) lines q s = s
+quiet_first o g line lines q s = s
 
 searches_then : (o g : Game) (a b : List Line) → AreQuiet a → SearchesOn o (set_by_all g a) b → SearchesOn o g (a ++ b)
 searches_then o g [] b q s = s
@@ -247,12 +230,6 @@ abbrev pub DeedOn : Game → Game → Told → Bool → Down → Type 0
 DeedOn g eg told has_usermove down = SearchesOn g eg (down_lines told g has_usermove down) × IsKnown (down_told g down told) (set_by_all eg (down_lines told g has_usermove down))
 
 pub deed_on : (g eg : Game) (told : Told) (has_usermove : Bool) (down : Down) → FitsTold g told down → IsKnown told eg → DeedOn g eg told has_usermove down
-deed_on g eg told has_usermove downs.Nothing f k = (tt, k)
-deed_on g eg told has_usermove downs.Greeting f k = (tt, k)
-deed_on g eg told has_usermove downs.Quit f k = (tt, k)
-deed_on g eg told has_usermove downs.Hurry f k = (tt, k)
-deed_on g eg told has_usermove (downs.Leave ping) f k = (tt, k)
-deed_on g eg told has_usermove (downs.Retreat ping) f k = (tt, k)
 deed_on g eg told has_usermove (downs.Resume c) f k = (think_on g eg g c false (k f.0 ∙ f.1), λ h. think_sets eg g c false ∙ k h)
 deed_on g eg told has_usermove (downs.Play c hurried) f k =
     let o = continued told g (has_depth c) in
@@ -268,3 +245,4 @@ deed_on g eg told has_usermove (downs.Analyse c ping) f k =
       searches_then g eg setup (Analyze ∷ leave_lines ping) (setup_quiet o has_usermove g) (whole, leave_on g (set_by_all eg setup) ping),
       λ h. sets_then eg setup (Analyze ∷ leave_lines ping) ∙ leave_sets (set_by_all eg setup) ping ∙ whole,
     )
+deed_on g eg told has_usermove down f k = (tt, k)

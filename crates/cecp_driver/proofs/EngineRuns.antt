@@ -4,7 +4,7 @@ use Rattle.std.specs.List.{AllByRecursion}
 use Rattle.chess_board.specs.declared.board.Move.{Move}
 use Rattle.chess_board.specs.Position.{Position}
 use Rattle.game_record.specs.Game.{Game, now_of, ply_of, with_ply}
-use Rattle.line_io.specs.Event.{Event, Open, Iface, IfaceLong, IfaceEnd, IfaceLost, Engine, EngineLong, EngineEnd, EngineLost}
+use Rattle.line_io.specs.Event.{Event, Iface, IfaceEnd, Engine, EngineEnd}
 use Rattle.driver_talk.specs.declared.words.Board.{Board}
 use Rattle.driver_talk.specs.declared.words.Board.TheVariants as boards
 use Rattle.driver_talk.specs.declared.talk.Stage.{Stage}
@@ -74,13 +74,7 @@ told_by false v w e = refl
 
 placed_told : (o : Ordered) (v : Parts) (line : List ℕ) → (placed_if o v line).told ≡ v.told
 placed_told orders.Position v line = told_by (is_free v.talk) v _ refl
-placed_told orders.Quit v line = refl
-placed_told orders.Uci v line = refl
-placed_told orders.IsReady v line = refl
-placed_told orders.Go v line = refl
-placed_told orders.Stop v line = refl
-placed_told orders.PonderHit v line = refl
-placed_told orders.Other v line = refl
+placed_told o v line = refl
 
 down_by : (free : Bool) (v w : Parts) → v.down.text ≡ [] → w.down.text ≡ [] → (cond free w v).down.text ≡ []
 down_by true v w a b = b
@@ -88,23 +82,11 @@ down_by false v w a b = a
 
 placed_down : (o : Ordered) (v : Parts) (line : List ℕ) → (placed_if o (cleared v) line).down.text ≡ []
 placed_down orders.Position v line = down_by (is_free v.talk) (cleared v) _ refl refl
-placed_down orders.Quit v line = refl
-placed_down orders.Uci v line = refl
-placed_down orders.IsReady v line = refl
-placed_down orders.Go v line = refl
-placed_down orders.Stop v line = refl
-placed_down orders.PonderHit v line = refl
-placed_down orders.Other v line = refl
+placed_down o v line = refl
 
 asked_other : (v : Parts) (line : List ℕ) (o : Ordered) (c : Call) → IsAsked v line o c → IsOther c
-asked_other v line orders.Quit c e = subst IsOther (sym e) tt
-asked_other v line orders.Uci c e = subst IsOther (sym e) tt
-asked_other v line orders.IsReady c e = subst IsOther (sym e) tt
 asked_other v line orders.Go c e = subst IsOther (sym e.1.1) tt
-asked_other v line orders.Stop c e = subst IsOther (sym e) tt
-asked_other v line orders.PonderHit c e = subst IsOther (sym e) tt
-asked_other v line orders.Position c e = subst IsOther (sym e) tt
-asked_other v line orders.Other c e = subst IsOther (sym e) tt
+asked_other v line o c e = subst IsOther (sym e) tt
 
 order_sets : (event : Event) (v v' : Parts) (line : List ℕ) (g : Game) → ((own : Option Move) → own ≡ None → IsOwn event v own) → Keeps v → IsKnown v.told g → Orders line v v' → Result event v v' g
 order_sets event v v' line g own keeps known h =
@@ -194,11 +176,7 @@ event_sets (Iface line) v v' g keeps known h = order_sets (Iface line) v v' line
 event_sets IfaceEnd v v' g keeps known h = order_sets IfaceEnd v v' _ g (λ own e. e) keeps known h
 event_sets (Engine line) v v' g keeps known h = heard_sets (says_in line) v v' line g keeps known refl h
 event_sets EngineEnd v v' g keeps known h = end_sets v v' g keeps known h
-event_sets Open v v' g keeps known h = absurd h
-event_sets IfaceLong v v' g keeps known h = absurd h
-event_sets IfaceLost v v' g keeps known h = absurd h
-event_sets EngineLong v v' g keeps known h = absurd h
-event_sets EngineLost v v' g keeps known h = absurd h
+event_sets event v v' g keeps known h = absurd h
 
 all_on : (events : List Event) (after : List Parts) (v : Parts) (g : Game) → Keeps v → IsKnown v.told g → Goes v events after → AllOn v g events after
 all_on [] after v g keeps known h = tt

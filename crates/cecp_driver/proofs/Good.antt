@@ -51,15 +51,9 @@ FitsTold g told (downs.Resume clocks) = IsTold g told
 FitsTold g told down = Unit {0}
 
 pub fits_down : (g : Game) (told : Told) (down : Down) → FitsTold g told down → FitsDown g down
-fits_down g told downs.Nothing f = tt
-fits_down g told downs.Greeting f = tt
-fits_down g told downs.Quit f = tt
 fits_down g told (downs.Play clocks hurried) f = f
-fits_down g told (downs.Resume clocks) f = tt
 fits_down g told (downs.Analyse clocks ping) f = f
-fits_down g told downs.Hurry f = tt
-fits_down g told (downs.Leave ping) f = tt
-fits_down g told (downs.Retreat ping) f = tt
+fits_down g told down f = tt
 
 -- what a turn gives can be written, and what is open then is served
 abbrev pub IsGood : Game → Told → Turn → Type 0
@@ -168,9 +162,7 @@ resume_phase g told gone awaited pings kind clocks best (Leaves Play) l n t = (t
 resume_phase g told gone awaited pings kind clocks best (WaitsToThink hurried) l n t = (tt, n, tt, (l, n, (refl, refl)))
 resume_phase g told gone awaited pings kind clocks best (WaitsToAnalyse None) l n t = (tt, n, tt, (l, n, (refl, refl)))
 resume_phase g told gone awaited pings kind clocks best (WaitsToAnalyse (Some next)) l n t = (tt, n, tt, (l, n, (refl, refl)))
-resume_phase g told gone awaited pings kind clocks best Analyses l n t = (tt, tt, tt, (l, n, t))
-resume_phase g told gone awaited pings kind clocks best Rests l n t = (tt, tt, tt, (l, n, t))
-resume_phase g told gone awaited pings kind clocks best (Thinks hurried) l n t = (tt, tt, tt, (l, n, t))
+resume_phase g told gone awaited pings kind clocks best p l n t = (tt, tt, tt, (l, n, t))
 
 pong_search : (g : Game) (told : Told) (gone : Bool) (awaited : Option ℕ) (pings : ℕ) (search : Option Search) (b : Bool) → Serves search g told
     → IsGood g told (cond b (resume_in search (unawaited (talk_of stages.Open gone awaited pings search))) (quiet (talk_of stages.Open gone awaited pings search)))

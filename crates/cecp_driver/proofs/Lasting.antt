@@ -106,14 +106,8 @@ reach_fits v reach e = subst (λ (r : Reach). (r ≡ reaches.Nothing) ⊎ (lengt
 -- CALLS
 
 pub asked_fits : (v : Parts) (line : List ℕ) (o : Ordered) (c : Call) → IsAsked v line o c → CallFits v.game c
-asked_fits v line orders.Quit c e = subst (CallFits v.game) (sym e) tt
-asked_fits v line orders.Uci c e = subst (CallFits v.game) (sym e) tt
-asked_fits v line orders.IsReady c e = subst (CallFits v.game) (sym e) tt
 asked_fits v line orders.Go c e = subst (CallFits v.game) (sym e.1.1) (first_legal (now_of v.game) e.0.first e.1.0.first, reach_fits v e.0.reach e.1.0.reach)
-asked_fits v line orders.Stop c e = subst (CallFits v.game) (sym e) tt
-asked_fits v line orders.PonderHit c e = subst (CallFits v.game) (sym e) tt
-asked_fits v line orders.Position c e = subst (CallFits v.game) (sym e) tt
-asked_fits v line orders.Other c e = subst (CallFits v.game) (sym e) tt
+asked_fits v line o c e = subst (CallFits v.game) (sym e) tt
 
 thought_fits : (g : Game) (depth : ℕ) (score : ℤ) (time nodes : ℕ) (best : Option Move) → AllLegal (now_of g) best → CallFits g (thought_call depth score time nodes best)
 thought_fits g depth score time nodes None h = tt

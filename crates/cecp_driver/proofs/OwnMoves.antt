@@ -96,13 +96,8 @@ go_none false t w = refl
 
 resumed_none : (t : Talk) (s : Search) (p : Phase) → Adds (resumed t s p) None
 resumed_none t s (Leaves Answer) = refl
-resumed_none t s (Leaves Play) = refl
-resumed_none t s (WaitsToThink hurried) = refl
 resumed_none t s (WaitsToAnalyse None) = refl
-resumed_none t s (WaitsToAnalyse (Some next)) = refl
-resumed_none t s Analyses = refl
-resumed_none t s Rests = refl
-resumed_none t s (Thinks hurried) = refl
+resumed_none t s p = refl
 
 resume_none : (t : Talk) (o : Option Search) → Adds (resume_in o t) None
 resume_none t None = refl
