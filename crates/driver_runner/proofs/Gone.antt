@@ -101,14 +101,9 @@ hit_stays None t = refl
 hit_stays (Some s) t = hit_kind s.kind t s
 
 resumed_stays : (t : Talk) (s : Search) (phase : Phase) → Stays t (resumed t s phase)
-resumed_stays t s (Thinks hurried) = refl
-resumed_stays t s Analyses = refl
-resumed_stays t s Rests = refl
 resumed_stays t s (Leaves Play) = refl
-resumed_stays t s (Leaves Answer) = refl
-resumed_stays t s (WaitsToThink hurried) = refl
 resumed_stays t s (WaitsToAnalyse None) = refl
-resumed_stays t s (WaitsToAnalyse (Some next)) = refl
+resumed_stays t s phase = refl
 
 resume_stays : (search : Option Search) (t : Talk) → Stays t (resume_in search t)
 resume_stays None t = refl
@@ -143,11 +138,10 @@ turn_stays t calls.IsReady e = ready_stays t t.stage
 turn_stays t (calls.Go wanted) e = if_stays (is_free t) t (after_begin t wanted) (quiet t) (from_stays wanted.first t.gone t wanted) refl
 turn_stays t calls.Stop e = stop_stays (open_search t) t
 turn_stays t calls.PonderHit e = hit_stays (open_search t) t
-turn_stays t (calls.Moved shown) e = if_stays (is_thinking t) t _ (quiet t) refl refl
-turn_stays t calls.Resigned e = if_stays (is_thinking t) t _ (quiet t) refl refl
 turn_stays t (calls.Pong n) e = if_stays (is_open_stage t.stage && is_awaited t.awaited n) t (resume_in t.search (unawaited t)) (quiet t) (resume_stays t.search (unawaited t)) refl
 turn_stays t (calls.Thought thought) e = thought_stays (open_search t) t thought
 turn_stays t calls.Ended e = cc
+turn_stays t call e = if_stays (is_thinking t) t _ (quiet t) refl refl
 
 pub turn_ends : (t : Talk) → (turn_of t calls.Ended).talk.gone ≡ true
 unfolding turn_of

@@ -1,7 +1,7 @@
 -- A turn of the loop.
 use Rattle.std.proofs.Common.{◌≡◌, ℕ, List, [], ◌∷◌, ◌++◌, Bool, true, false, cond, ◌&&◌, ◌||◌, refl, sym, ap, subst, ◌∙◌, append-nil}
 use Rattle.std.proofs.lemmas.List.Elements.{filter-append}
-use Rattle.line_io.specs.Event.{Event, Open, Iface, IfaceLong, IfaceEnd, IfaceLost, Engine, EngineLong, EngineEnd, EngineLost}
+use Rattle.line_io.specs.Event.{Event, Iface, IfaceEnd, EngineEnd}
 use Rattle.line_io.specs.Source.{Received}
 use Rattle.cecp_lines.specs.Quit.{is_quit}
 use Rattle.event_pipe.specs.Message.{is_end, is_good}
@@ -39,26 +39,13 @@ more_ended : (role : ℕ) (r xs : List Event) → ended (of role (r ++ xs)) ≡ 
 more_ended role r xs = ap ended (of-append role r xs) ∙ any_append is_end (of role r) (of role xs)
 
 iface_by : (e : Sides) (x : Event) (b : Bool) → e.iface_ended ≡ b → (ended_by e x).iface_ended ≡ (b || ended (of 1 (x ∷ [])))
-iface_by e Open b h = h ∙ or_none b
 iface_by e (Iface line) b h = ap (λ x. x || is_quit line) h ∙ or_one b (is_quit line)
-iface_by e IfaceLong b h = h ∙ or_none b
 iface_by e IfaceEnd b h = or_true b
-iface_by e IfaceLost b h = h ∙ or_none b
-iface_by e (Engine line) b h = h ∙ or_none b
-iface_by e EngineLong b h = h ∙ or_none b
-iface_by e EngineEnd b h = h ∙ or_none b
-iface_by e EngineLost b h = h ∙ or_none b
+iface_by e x b h = h ∙ or_none b
 
 engine_by : (e : Sides) (x : Event) (b : Bool) → e.engine_ended ≡ b → (ended_by e x).engine_ended ≡ (b || ended (of 2 (x ∷ [])))
-engine_by e Open b h = h ∙ or_none b
-engine_by e (Iface line) b h = h ∙ or_none b
-engine_by e IfaceLong b h = h ∙ or_none b
-engine_by e IfaceEnd b h = h ∙ or_none b
-engine_by e IfaceLost b h = h ∙ or_none b
-engine_by e (Engine line) b h = h ∙ or_none b
-engine_by e EngineLong b h = h ∙ or_none b
 engine_by e EngineEnd b h = or_true b
-engine_by e EngineLost b h = h ∙ or_none b
+engine_by e x b h = h ∙ or_none b
 
 -- long lines are passed over
 without_next : (received : List Event) (x : Event) (b : Bool) → is_told x ≡ b → without_long (received ++ x ∷ []) ≡ without_long received ++ cond b (x ∷ []) []
@@ -124,15 +111,8 @@ module _ (old : Parts) (received : List Event) (sides : Sides) (b m : Sinks) (at
 
     -- it is not an end
     long_stays : (e : Event) → is_told e ≡ false → (ended_by sides e).engine_ended ≡ sides.engine_ended
-    long_stays Open t = refl
-    long_stays (Iface line) t = refl
-    long_stays IfaceLong t = refl
-    long_stays IfaceEnd t = refl
-    long_stays IfaceLost t = refl
-    long_stays (Engine line) t = refl
-    long_stays EngineLong t = refl
     long_stays EngineEnd t = cc
-    long_stays EngineLost t = refl
+    long_stays e t = refl
 
     -- a long line was passed over
     pub reached_same : may_come old x ≡ false → Reached old received' (ended_by sides x) b m at

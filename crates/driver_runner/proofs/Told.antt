@@ -2,7 +2,7 @@
 use Rattle.std.proofs.Common.{◌≡◌, ◌≢◌, ◌≤◌, ℕ, ℤ, Bool, true, false, not, cond, ◌&&◌, nat_le, List, [], ◌∷◌, length, Option, Some, None, refl, sym, ap, ◌∙◌, arith}
 use Rattle.std.proofs.lemmas.Bool.Decides.{nat_tests}
 use Rattle.chess_board.specs.declared.board.Move.{Move}
-use Rattle.line_io.specs.Event.{Event, Open, Iface, IfaceLong, IfaceEnd, IfaceLost, Engine, EngineLong, EngineEnd, EngineLost, is_line, has_feed}
+use Rattle.line_io.specs.Event.{Event, Open, Iface, IfaceEnd, IfaceLost, Engine, EngineEnd, EngineLost, is_line, has_feed}
 use Rattle.event_pipe.specs.Message.{is_good}
 use Rattle.event_pipe.specs.Rule.{of, ended, Follows}
 use Rattle.driver_talk.specs.declared.talk.Stage.{Stage}
@@ -22,14 +22,8 @@ use Rattle.driver_runner.proofs.Gone.{is_ended, turn_stays, turn_ends}
 
 -- no order and no line of the engine is its end
 asked_other : (o : Ordered) (v : Parts) (line : List ℕ) (call : Call) → IsAsked v line o call → is_ended call ≡ false
-asked_other orders.Quit v line call e = ap is_ended e
-asked_other orders.Uci v line call e = ap is_ended e
-asked_other orders.IsReady v line call e = ap is_ended e
 asked_other orders.Go v line call e = ap is_ended e.1.1
-asked_other orders.Stop v line call e = ap is_ended e
-asked_other orders.PonderHit v line call e = ap is_ended e
-asked_other orders.Position v line call e = ap is_ended e
-asked_other orders.Other v line call e = ap is_ended e
+asked_other o v line call e = ap is_ended e
 
 thought_other : (depth : ℕ) (score : ℤ) (time nodes : ℕ) (best : Option Move) → is_ended (thought_call depth score time nodes best) ≡ false
 thought_other depth score time nodes None = refl
@@ -49,13 +43,7 @@ if_gone false v w e = refl
 
 placed_gone : (o : Ordered) (v : Parts) (line : List ℕ) → (placed_if o v line).talk.gone ≡ v.talk.gone
 placed_gone orders.Position v line = if_gone _ v _ refl
-placed_gone orders.Quit v line = refl
-placed_gone orders.Uci v line = refl
-placed_gone orders.IsReady v line = refl
-placed_gone orders.Go v line = refl
-placed_gone orders.Stop v line = refl
-placed_gone orders.PonderHit v line = refl
-placed_gone orders.Other v line = refl
+placed_gone o v line = refl
 
 order_gone : (o : Ordered) (line : List ℕ) (v v' : Parts) → OrdersBy o line v v' → v'.talk.gone ≡ v.talk.gone
 order_gone o line v v' x =
@@ -79,27 +67,20 @@ line_gone (Report depth score time nodes moves) v v' h = said_gone (Report depth
 line_gone SaysOther v v' h = said_gone SaysOther v v' h.0 h.1.0 h.1.1
 
 pub gone_next : (e : Event) (v v' : Parts) (sides : Sides) → Comes e v v' → v.talk.gone ≡ sides.engine_ended → v'.talk.gone ≡ (ended_by sides e).engine_ended
-gone_next Open v v' sides c g = absurd c
 gone_next (Iface line) v v' sides c g = order_gone _ line v v' c ∙ g
-gone_next IfaceLong v v' sides c g = absurd c
 gone_next IfaceEnd v v' sides c g = order_gone _ _ v v' c ∙ g
-gone_next IfaceLost v v' sides c g = absurd c
 gone_next (Engine line) v v' sides c g = line_gone _ (cleared v) v' c ∙ g
-gone_next EngineLong v v' sides c g = absurd c
 gone_next EngineEnd v v' sides c g = ap (λ (p : Parts). p.talk.gone) c ∙ turn_ends v.talk
-gone_next EngineLost v v' sides c g = absurd c
+gone_next e v v' sides c g = absurd c
 
 -- A long line is passed over, and what else is received may come.
 pub may_is : (e : Event) (v : Parts) (received : List Event) → v.talk.gone ≡ ended (of 2 received) → Follows received e → may_come v e ≡ is_told e
 may_is Open v received g f = absurd (f.2 refl)
-may_is (Iface line) v received g f = refl
-may_is IfaceLong v received g f = refl
-may_is IfaceEnd v received g f = refl
 may_is IfaceLost v received g f = absurd (f.2 refl)
 may_is (Engine line) v received g f = ap not (g ∙ f.0)
-may_is EngineLong v received g f = refl
 may_is EngineEnd v received g f = ap not (g ∙ f.0)
 may_is EngineLost v received g f = absurd (f.2 refl)
+may_is e v received g f = refl
 
 first_true : (a b : Bool) → (a && b) ≡ true → a ≡ true
 first_true true b e = refl
@@ -109,12 +90,6 @@ short_line : (line : List ℕ) → is_line line ≡ true → length line ≤ 655
 short_line line e = let h : nat_le (length line) 65536 ≡ true = first_true (nat_le (length line) 65536) (not (has_feed line)) e in grind (arith, nat_tests)
 
 pub is_short : (e : Event) → is_good e ≡ true → IsShort e
-is_short Open g = tt
 is_short (Iface line) g = short_line line g
-is_short IfaceLong g = tt
-is_short IfaceEnd g = tt
-is_short IfaceLost g = tt
 is_short (Engine line) g = short_line line g
-is_short EngineLong g = tt
-is_short EngineEnd g = tt
-is_short EngineLost g = tt
+is_short e g = tt
