@@ -1,6 +1,6 @@
 -- Steps of the loop of a life.
 use Rattle.std.proofs.Common.{◌≡◌, ℕ, List, [], ◌∷◌, ◌++◌, Bool, true, false, filter, cond, not, ◌||◌, refl, sym, ap, subst, ◌∙◌, append-nil, append_assoc}
-use Rattle.line_io.specs.Event.{Event, Open, Iface, IfaceLong, IfaceEnd, IfaceLost, Engine, EngineLong, EngineEnd, EngineLost}
+use Rattle.line_io.specs.Event.{Event, Iface, IfaceLong, IfaceEnd, Engine, EngineLong}
 use Rattle.engine_revival.specs.declared.state.State.{State}
 use Rattle.engine_revival.specs.Steps.{is_alive, is_ended}
 use Rattle.engine_revival.specs.declared.words.LifeState.{LifeState}
@@ -36,15 +36,10 @@ one_more : (first now now' events : List Event) (e : Event) → now ≡ first ++
 one_more first now now' events e h t = t ∙ ap (λ (l : List Event). l ++ e ∷ []) h ∙ append_assoc first events (e ∷ [])
 
 not_closed : (e : Event) → is_heard e ≡ true → is_close e ≡ false
-not_closed Open h = cc
 not_closed (Iface line) h = refl
-not_closed IfaceLong h = cc
 not_closed IfaceEnd h = refl
-not_closed IfaceLost h = cc
 not_closed (Engine line) h = refl
-not_closed EngineLong h = cc
-not_closed EngineEnd h = cc
-not_closed EngineLost h = cc
+not_closed e h = cc
 
 alive_unended : (state : LifeState) → is_alive state ≡ true → is_ended state ≡ false
 alive_unended life.Fresh h = refl
@@ -57,15 +52,10 @@ alive_unended life.Over h = refl
 
 -- what is heard may come while a life goes on
 pub may_hear : (s : State) (e : Event) → is_alive s.life ≡ true → is_heard e ≡ true → may_happen s e ≡ true
-may_hear s Open a h = cc
 may_hear s (Iface line) a h = ap not (alive_unended s.life a)
-may_hear s IfaceLong a h = cc
 may_hear s IfaceEnd a h = ap not (alive_unended s.life a)
-may_hear s IfaceLost a h = cc
 may_hear s (Engine line) a h = a
-may_hear s EngineLong a h = cc
-may_hear s EngineEnd a h = cc
-may_hear s EngineLost a h = cc
+may_hear s e a h = cc
 
 pub going_heard : (s s' s'' : State) (first now now' : List Event) (e : Event) (a b c : Sinks) (f g h : LoopEnd) → Going s s' first now a b f g → now' ≡ now ++ e ∷ [] → is_heard e ≡ true
     → is_alive s'.life ≡ true → s'' ≡ state_after s' e → Offers (event_up s' e) (event_child s' e) (event_text s' e) b c g h → Going s s'' first now' a c f h

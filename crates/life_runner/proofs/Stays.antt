@@ -1,6 +1,6 @@
 -- What an order or a line of the present life leaves as it is.
 use Rattle.std.proofs.Common.{◌≡◌, ℕ, List, [], ◌∷◌, ◌++◌, codes, Bool, true, false, cond, ◌||◌, ◌&&◌, not, Option, Some, None, refl, sym, ap, subst, ◌∙◌}
-use Rattle.line_io.specs.Event.{Event, Open, Iface, IfaceLong, IfaceEnd, IfaceLost, Engine, EngineLong, EngineEnd, EngineLost}
+use Rattle.line_io.specs.Event.{Event, Iface, IfaceEnd, Engine}
 use Rattle.cecp_lines.specs.Quit.{is_quit}
 use Rattle.uci_lines.specs.Orders.{Order}
 use Rattle.uci_lines.specs.Orders as orders
@@ -37,37 +37,16 @@ same s = record { lives = refl; begun = refl; alive = λ h. h; unended = λ h. h
 -- WHAT FOLLOWS OF A CALL
 
 due_stays : (l : LifeState) (q : Bool) (u : DialogueState) (s : State) → Stays s (after_due (due_to l q u) s)
-due_stays life.Idle false upper.Before s = same s
-due_stays life.Idle false upper.Boot s = same s
-due_stays life.Idle false upper.Idle s = same s
-due_stays life.Idle false upper.Placed s = same s
 due_stays life.Idle false upper.Getting s = record { lives = refl; begun = refl; alive = λ h. refl; unended = λ h. refl }
 due_stays life.Idle false (upper.Search kind stopped) s = record { lives = refl; begun = refl; alive = λ h. refl; unended = λ h. refl }
-due_stays life.Idle true u s = same s
-due_stays life.Fresh q u s = same s
-due_stays life.Boot q u s = same s
-due_stays life.Getting q u s = same s
-due_stays life.Search q u s = same s
-due_stays life.Ended q u s = same s
-due_stays life.Over q u s = same s
+due_stays l q u s = same s
 
 answer_stays : (l : LifeState) (u : DialogueState) (s : State) → Stays s (after_answer (answer_to l u) s)
-answer_stays life.Over upper.Before s = same s
-answer_stays life.Over upper.Idle s = same s
-answer_stays life.Over upper.Placed s = same s
 answer_stays life.Over upper.Boot s = record { lives = refl; begun = refl; alive = λ h. h; unended = λ h. h }
 answer_stays life.Over upper.Getting s = record { lives = refl; begun = refl; alive = λ h. h; unended = λ h. h }
 answer_stays life.Over (upper.Search kinds.Move stopped) s = record { lives = refl; begun = refl; alive = λ h. h; unended = λ h. h }
-answer_stays life.Over (upper.Search kinds.Ponder true) s = record { lives = refl; begun = refl; alive = λ h. h; unended = λ h. h }
-answer_stays life.Over (upper.Search kinds.Ponder false) s = same s
-answer_stays life.Over (upper.Search kinds.Analyse true) s = record { lives = refl; begun = refl; alive = λ h. h; unended = λ h. h }
-answer_stays life.Over (upper.Search kinds.Analyse false) s = same s
-answer_stays life.Fresh u s = same s
-answer_stays life.Boot u s = same s
-answer_stays life.Getting u s = same s
-answer_stays life.Idle u s = same s
-answer_stays life.Search u s = same s
-answer_stays life.Ended u s = same s
+answer_stays life.Over (upper.Search kind true) s = record { lives = refl; begun = refl; alive = λ h. h; unended = λ h. h }
+answer_stays l u s = same s
 
 pub settled_stays : (s : State) → Stays s (settled s)
 settled_stays s = stays_both s (after_due (due_of s) s) (settled s) (due_stays s.life s.quit s.upper s) (answer_stays s.life s.upper (after_due (due_of s) s))
@@ -85,25 +64,11 @@ button_stays false s order = record { lives = refl; begun = refl; alive = λ h. 
 keeping_stays : (s : State) (order : Order) → Stays s (keeping s order)
 keeping_stays s (orders.SetOption name (Some value)) = value_stays (can_join s.kept (orders.SetOption name (Some value)) && can_join s.unsent (orders.SetOption name (Some value))) s (orders.SetOption name (Some value))
 keeping_stays s (orders.SetOption name None) = button_stays (can_join s.unsent (orders.SetOption name None)) s (orders.SetOption name None)
-keeping_stays s orders.NewGame = record { lives = refl; begun = refl; alive = λ h. h; unended = λ h. h }
-keeping_stays s (orders.Position fen moves) = record { lives = refl; begun = refl; alive = λ h. h; unended = λ h. h }
-keeping_stays s (orders.Go ponder control depth) = record { lives = refl; begun = refl; alive = λ h. h; unended = λ h. h }
-keeping_stays s orders.PonderHit = record { lives = refl; begun = refl; alive = λ h. h; unended = λ h. h }
-keeping_stays s orders.Stop = record { lives = refl; begun = refl; alive = λ h. h; unended = λ h. h }
-keeping_stays s orders.Uci = same s
-keeping_stays s orders.IsReady = same s
-keeping_stays s orders.Quit = same s
+keeping_stays s order = record { lives = refl; begun = refl; alive = λ h. h; unended = λ h. h }
 
 fresh_alive : (order : Order) → is_alive (after_at_once life.Fresh order) ≡ true
 fresh_alive orders.Uci = refl
-fresh_alive orders.IsReady = refl
-fresh_alive orders.NewGame = refl
-fresh_alive orders.Stop = refl
-fresh_alive orders.PonderHit = refl
-fresh_alive orders.Quit = refl
-fresh_alive (orders.SetOption name value) = refl
-fresh_alive (orders.Position fen moves) = refl
-fresh_alive (orders.Go ponder control depth) = refl
+fresh_alive order = refl
 
 once_alive : (state : LifeState) (order : Order) → is_alive state ≡ true → is_alive (after_at_once state order) ≡ true
 once_alive life.Fresh order h = fresh_alive order
@@ -116,14 +81,7 @@ once_alive life.Over order h = cc
 
 fresh_open : (order : Order) → is_ended (after_at_once life.Fresh order) ≡ false
 fresh_open orders.Uci = refl
-fresh_open orders.IsReady = refl
-fresh_open orders.NewGame = refl
-fresh_open orders.Stop = refl
-fresh_open orders.PonderHit = refl
-fresh_open orders.Quit = refl
-fresh_open (orders.SetOption name value) = refl
-fresh_open (orders.Position fen moves) = refl
-fresh_open (orders.Go ponder control depth) = refl
+fresh_open order = refl
 
 once_open : (state : LifeState) (order : Order) → is_ended state ≡ false → is_ended (after_at_once state order) ≡ false
 once_open life.Fresh order h = fresh_open order
@@ -160,52 +118,15 @@ order_stays s line = stays_both s (ordering s line) (settled (ordering s line)) 
 -- A LINE OF THE LIFE
 
 said_alive : (state : LifeState) (word : Said) → is_alive state ≡ true → is_alive (life_after_said state word) ≡ true
-said_alive life.Boot said.UciOk h = refl
-said_alive life.Getting said.ReadyOk h = refl
-said_alive life.Search said.Best h = refl
-said_alive life.Fresh word h = refl
-said_alive life.Idle word h = refl
-said_alive life.Boot said.Introduction h = refl
-said_alive life.Boot said.ReadyOk h = refl
-said_alive life.Boot said.Report h = refl
-said_alive life.Boot said.Best h = refl
-said_alive life.Boot said.Nothing h = refl
-said_alive life.Getting said.Introduction h = refl
-said_alive life.Getting said.UciOk h = refl
-said_alive life.Getting said.Report h = refl
-said_alive life.Getting said.Best h = refl
-said_alive life.Getting said.Nothing h = refl
-said_alive life.Search said.Introduction h = refl
-said_alive life.Search said.UciOk h = refl
-said_alive life.Search said.ReadyOk h = refl
-said_alive life.Search said.Report h = refl
-said_alive life.Search said.Nothing h = refl
 said_alive life.Ended word h = cc
 said_alive life.Over word h = cc
+said_alive state said.UciOk h = refl
+said_alive state word h = refl
 
 said_open : (state : LifeState) (word : Said) → is_ended state ≡ false → is_ended (life_after_said state word) ≡ false
-said_open life.Boot said.UciOk h = refl
-said_open life.Getting said.ReadyOk h = refl
-said_open life.Search said.Best h = refl
-said_open life.Fresh word h = refl
-said_open life.Idle word h = refl
-said_open life.Boot said.Introduction h = refl
-said_open life.Boot said.ReadyOk h = refl
-said_open life.Boot said.Report h = refl
-said_open life.Boot said.Best h = refl
-said_open life.Boot said.Nothing h = refl
-said_open life.Getting said.Introduction h = refl
-said_open life.Getting said.UciOk h = refl
-said_open life.Getting said.Report h = refl
-said_open life.Getting said.Best h = refl
-said_open life.Getting said.Nothing h = refl
-said_open life.Search said.Introduction h = refl
-said_open life.Search said.UciOk h = refl
-said_open life.Search said.ReadyOk h = refl
-said_open life.Search said.Report h = refl
-said_open life.Search said.Nothing h = refl
 said_open life.Ended word h = cc
-said_open life.Over word h = refl
+said_open state said.UciOk h = refl
+said_open state word h = refl
 
 hearing_stays : (s : State) (word : Said) → Stays s (hearing s word)
 hearing_stays s word = record { lives = refl; begun = refl; alive = λ h. said_alive s.life word h; unended = λ h. said_open s.life word h }
@@ -214,15 +135,10 @@ heard_stays : (s : State) (line : List ℕ) → Stays s (after s (Heard line))
 heard_stays s line = stays_both s (hearing s (said_in line)) (settled (hearing s (said_in line))) (hearing_stays s (said_in line)) (settled_stays (hearing s (said_in line)))
 
 pub event_stays : (s : State) (e : Event) → is_heard e ≡ true → Stays s (state_after s e)
-event_stays s Open h = cc
 event_stays s (Iface line) h = order_stays s line
-event_stays s IfaceLong h = cc
 event_stays s IfaceEnd h = order_stays s (codes "quit")
-event_stays s IfaceLost h = cc
 event_stays s (Engine line) h = heard_stays s line
-event_stays s EngineLong h = cc
-event_stays s EngineEnd h = cc
-event_stays s EngineLost h = cc
+event_stays s e h = cc
 
 hear_or_pass : (b : Bool) (s : State) (e : Event) (es : List Event) → is_heard e ≡ b → Stays (state_after s e) (state_behind (state_after s e) (heard_of es)) → Stays s (state_behind s (heard_of es))
     → Stays s (state_behind s (cond b (e ∷ heard_of es) (heard_of es)))
