@@ -361,26 +361,7 @@ option_again line name value h = option_by line name value (position is_equals (
 -- ALL
 
 pub again : (line : List ℕ) (m : IfaceMsg) → Spells line m → Spells (message_text m) m
-again line says.Blank h = refl
 again line (says.Ignored text) h = ignored_again line text h.0 h.1
-again line says.New h = refl
-again line says.Quit h = refl
-again line says.Force h = refl
-again line says.Go h = refl
-again line says.PlayOther h = refl
-again line says.MoveNow h = refl
-again line says.Draw h = refl
-again line says.Hint h = refl
-again line says.Undo h = refl
-again line says.Remove h = refl
-again line says.Hard h = refl
-again line says.Easy h = refl
-again line says.Post h = refl
-again line says.NoPost h = refl
-again line says.Analyze h = refl
-again line says.Exit h = refl
-again line says.Dot h = refl
-again line says.Result h = refl
 again line (says.Protover n) h = (number_again (codes "protover") line n refl h.0, h.1)
 again line (says.Ping n) h = number_again (codes "ping") line n refl h
 again line (says.UserMove m) h = move_again line m h
@@ -394,3 +375,4 @@ again line (says.SetOption name value) h = option_again line name value h.1
 again line (says.Memory n) h = number_again (codes "memory") line n refl h
 again line (says.Cores n) h = number_again (codes "cores") line n refl h
 again line (says.EgtPath kind path) h = path_again line kind path h.1 h.2 h.3
+again line m h = refl

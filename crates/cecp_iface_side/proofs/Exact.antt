@@ -51,39 +51,15 @@ feature_read name value h =
 
 reason_found : (r : Reason) → reason_of (reason_text r) ≡ Some r
 reason_found reasons.UnknownCommand = refl
-reason_found reasons.BadArgument = refl
-reason_found reasons.EngineEnded = refl
-reason_found reasons.NotAnalyzing = refl
-reason_found reasons.NoMoveToUndo = refl
-reason_found reasons.UnknownOption = refl
-reason_found reasons.BadValue = refl
-reason_found reasons.TooManySettings = refl
-reason_found reasons.TooManyPings = refl
-reason_found reasons.LineTooLong = refl
+reason_found r = refl
 
 reason_solid : (r : Reason) → list_all (λ b. not (eqb b 41)) (reason_text r) ≡ true
 reason_solid reasons.UnknownCommand = refl
-reason_solid reasons.BadArgument = refl
-reason_solid reasons.EngineEnded = refl
-reason_solid reasons.NotAnalyzing = refl
-reason_solid reasons.NoMoveToUndo = refl
-reason_solid reasons.UnknownOption = refl
-reason_solid reasons.BadValue = refl
-reason_solid reasons.TooManySettings = refl
-reason_solid reasons.TooManyPings = refl
-reason_solid reasons.LineTooLong = refl
+reason_solid r = refl
 
 repeats : (r : Reason) (line : List ℕ) → IsRepeated r line → is_repeated r line ≡ true
-repeats reasons.UnknownCommand line h = (bytes_eq-Decides (trimmed line) line).1 h
-repeats reasons.BadArgument line h = (bytes_eq-Decides (trimmed line) line).1 h
-repeats reasons.EngineEnded line h = (bytes_eq-Decides (trimmed line) line).1 h
-repeats reasons.NotAnalyzing line h = (bytes_eq-Decides (trimmed line) line).1 h
-repeats reasons.NoMoveToUndo line h = (bytes_eq-Decides (trimmed line) line).1 h
-repeats reasons.UnknownOption line h = (bytes_eq-Decides (trimmed line) line).1 h
-repeats reasons.BadValue line h = (bytes_eq-Decides (trimmed line) line).1 h
-repeats reasons.TooManySettings line h = (bytes_eq-Decides (trimmed line) line).1 h
-repeats reasons.TooManyPings line h = (bytes_eq-Decides (trimmed line) line).1 h
 repeats reasons.LineTooLong line h = (bytes_eq-Decides line (codes "...")).1 h
+repeats r line h = (bytes_eq-Decides (trimmed line) line).1 h
 
 error_text : (words line : List ℕ) → codes "Error (" ++ words ++ codes "): " ++ line ≡ codes "Error (" ++ (words ++ (41 ∷ (58 ∷ 32 ∷ line)))
 error_text words line = simp append_assoc
@@ -179,8 +155,6 @@ told_again (told.IllegalLong m) h f = ap (option_map (λ x. told.IllegalLong x))
 told_again (told.Error r line) h f = ap reply_in (error_text (reason_text r) line) ∙ error_read r line h
 told_again (told.TellError tell) h f = tell_read tell
 told_again (told.Pong n) h f = pong_read n f
-told_again told.OfferDraw h f = refl
-told_again told.Resign h f = refl
 told_again (told.Hint m) h f = ap (option_map (λ x. told.Hint x)) (move_written m h)
 told_again (told.Result outcome) h f = outcome_read outcome
 told_again (told.Thinking depth score time nodes hint pv) h f =
@@ -190,6 +164,7 @@ told_again (told.Thinking depth score time nodes hint pv) h f =
 told_again (told.Stat01 time nodes depth left all current) h f =
     ap reply_in (sym (stat_text (codes "stat01: ") (decimal time) (decimal nodes) (decimal depth) (decimal left) (decimal all) (current_text current)))
     ∙ stat01_read time nodes depth left all current f.0 f.1 f.2 f.3 f.4 h
+told_again t h f = refl
 
 -- the clause on what was read
 pub told_exact : (line : List ℕ) (r : Option CodeReply) → option_map reply_of r ≡ reply_in line → (t : Reply) → (option_map reply_of r ≡ Some t) ↔ SpellsReply line t

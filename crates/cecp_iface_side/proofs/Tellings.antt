@@ -46,16 +46,8 @@ reason_is : (words : List ℕ) (r : Reason) → reason_of words ≡ Some r → w
 reason_is words r h = look (λ u k. u ≡ reason_text k) reason_words (refl, (refl, (refl, (refl, (refl, (refl, (refl, (refl, (refl, (refl, tt)))))))))) words r h
 
 repeated : (r : Reason) (line : List ℕ) → is_repeated r line ≡ true → IsRepeated r line
-repeated reasons.UnknownCommand line h = (bytes_eq-Decides (trimmed line) line).0 h
-repeated reasons.BadArgument line h = (bytes_eq-Decides (trimmed line) line).0 h
-repeated reasons.EngineEnded line h = (bytes_eq-Decides (trimmed line) line).0 h
-repeated reasons.NotAnalyzing line h = (bytes_eq-Decides (trimmed line) line).0 h
-repeated reasons.NoMoveToUndo line h = (bytes_eq-Decides (trimmed line) line).0 h
-repeated reasons.UnknownOption line h = (bytes_eq-Decides (trimmed line) line).0 h
-repeated reasons.BadValue line h = (bytes_eq-Decides (trimmed line) line).0 h
-repeated reasons.TooManySettings line h = (bytes_eq-Decides (trimmed line) line).0 h
-repeated reasons.TooManyPings line h = (bytes_eq-Decides (trimmed line) line).0 h
 repeated reasons.LineTooLong line h = (bytes_eq-Decides line (codes "...")).0 h
+repeated r line h = (bytes_eq-Decides (trimmed line) line).0 h
 
 feature_by : (text : List ℕ) (o : Option ℕ) (t : Reply) → position is_equals text ≡ o → feature_at o text ≡ Some t → SpellsReply (codes "feature " ++ text) t
 feature_by text None t e h = absurd (cc)

@@ -135,16 +135,10 @@ other_search : (e f : EngineState) → e ≡ f → IsOther f → IsOther e
 other_search e f p i = subst IsOther (sym p) i
 
 answers_fits : (h : Situation) (held : List Order) (e : EngineState) (best hint : Option Move) → h.closed ≡ false → h.engine ≡ e → Fits h held (answers e h.desk.game best hint)
-answers_fits h held states.Boot best hint c e = tt
-answers_fits h held states.Getting best hint c e = tt
-answers_fits h held states.Idle best hint c e = tt
-answers_fits h held states.Gone best hint c e = tt
 answers_fits h held (states.Search kinds.Move false stopped) best hint c e = shows_fits h held best hint c (ap current e)
-answers_fits h held (states.Search kinds.Move true stopped) best hint c e = (c, other_search h.engine _ e tt)
-answers_fits h held (states.Search kinds.Ponder true stopped) best hint c e = (c, other_search h.engine _ e tt)
-answers_fits h held (states.Search kinds.Ponder false stopped) best hint c e = (c, other_search h.engine _ e tt)
-answers_fits h held (states.Search kinds.Analyse true stopped) best hint c e = (c, other_search h.engine _ e tt)
-answers_fits h held (states.Search kinds.Analyse false stopped) best hint c e = (c, other_search h.engine _ e tt)
+answers_fits h held (states.Search x true stopped) best hint c e = (c, other_search h.engine _ e tt)
+answers_fits h held (states.Search x y stopped) best hint c e = (c, other_search h.engine _ e tt)
+answers_fits h held x best hint c e = tt
 
 -- an effect that comes only in one state
 only_in : (h : Situation) (held : List Order) (b : Bool) (d : Effect) (x : Bool) → x ≡ b → (x ≡ true → Fits h held d) → Fits h held (cond b d Nothing)
@@ -173,14 +167,11 @@ dies_fits h held false e = e
 
 pub comes_fits : (h : Situation) (held : List Order) (e : Event) → IsLineEvent e → Fits h held (classify h held e)
 unfolding classify
-comes_fits h held events.Open l = tt
 comes_fits h held (events.Iface line) l =
     unless_closed h held h.closed (line_effect (verdict h held (reading line)) line) refl (λ c. line_fits h held line (reading line) c l refl)
 comes_fits h held events.IfaceLong l = unless_closed h held h.closed LongLine refl (λ c. tt)
-comes_fits h held events.IfaceEnd l = tt
-comes_fits h held events.IfaceLost l = tt
 comes_fits h held (events.Engine line) l =
     unless_closed h held h.closed (engine_says h (engine_message line)) refl (λ c. says_fits h held line (engine_message line) c l refl)
-comes_fits h held events.EngineLong l = tt
 comes_fits h held events.EngineEnd l = dies_fits h held (is_gone h.engine) refl
 comes_fits h held events.EngineLost l = dies_fits h held (is_gone h.engine) refl
+comes_fits h held e l = tt

@@ -87,13 +87,7 @@ asked_sets os m = tt
 setting_held : (o : Order) → IsSetting o → is_order o ≡ true → IsHeld o
 setting_held orders.NewGame s e = tt
 setting_held (orders.SetOption name value) s e = e
-setting_held orders.Uci s e = absurd s
-setting_held orders.IsReady s e = absurd s
-setting_held (orders.Position fen moves) s e = absurd s
-setting_held (orders.Go ponder control depth) s e = absurd s
-setting_held orders.Stop s e = absurd s
-setting_held orders.PonderHit s e = absurd s
-setting_held orders.Quit s e = absurd s
+setting_held o s e = absurd s
 
 -- WHAT A LINE ASKS
 
@@ -181,13 +175,7 @@ all_held h held d s f a = all_stay IsHeld held (asked_by_effect h d) a (asked_he
 held_word : (o : Order) (ws : List Word) → IsHeld o → AllSetup ws → AllSetup (word_of o ∷ ws)
 held_word orders.NewGame ws h a = a
 held_word (orders.SetOption name value) ws h a = a
-held_word orders.Uci ws h a = absurd h
-held_word orders.IsReady ws h a = absurd h
-held_word (orders.Position fen moves) ws h a = absurd h
-held_word (orders.Go ponder control depth) ws h a = absurd h
-held_word orders.Stop ws h a = absurd h
-held_word orders.PonderHit ws h a = absurd h
-held_word orders.Quit ws h a = absurd h
+held_word o ws h a = absurd h
 
 -- to the dialogue it is what is set up
 pub all_setup : (os : List Order) → AreHeld os → AllSetup (map word_of os)

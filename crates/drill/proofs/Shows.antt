@@ -57,28 +57,12 @@ thinking_begins depth a b c d e f g =
 
 -- lines that tell no move do not begin with one
 none_first : (rs : List Reply) → moves_told rs ≡ [] → shows_move (reply_lines rs) ≡ false
-none_first [] e = refl
-none_first (told.Feature name value ∷ rs) e = refl
 none_first (told.Move m ∷ rs) e = cc
-none_first (told.Illegal m ∷ rs) e = refl
-none_first (told.IllegalLong m ∷ rs) e = refl
-none_first (told.Error reason line ∷ rs) e = refl
-none_first (told.TellError tells.Position ∷ rs) e = refl
-none_first (told.TellError tells.Move ∷ rs) e = refl
-none_first (told.TellError tells.Ended ∷ rs) e = refl
-none_first (told.Pong n ∷ rs) e = refl
-none_first (told.OfferDraw ∷ rs) e = refl
-none_first (told.Resign ∷ rs) e = refl
-none_first (told.Hint m ∷ rs) e = refl
-none_first (told.Result outcomes.WhiteMates ∷ rs) e = refl
-none_first (told.Result outcomes.BlackMates ∷ rs) e = refl
-none_first (told.Result outcomes.Stalemate ∷ rs) e = refl
-none_first (told.Result outcomes.Dead ∷ rs) e = refl
-none_first (told.Result outcomes.Repetition ∷ rs) e = refl
-none_first (told.Result outcomes.Fifty ∷ rs) e = refl
 none_first (told.Thinking depth score time nodes hint pv ∷ rs) e =
     none_shown (reply_lines (told.Thinking depth score time nodes hint pv ∷ rs)) (begins_more _ (reply_lines rs) (thinking_begins depth (32 ∷ []) _ _ _ _ pv (10 ∷ [])))
-none_first (told.Stat01 time nodes depth left all current ∷ rs) e = refl
+none_first (told.TellError tells.Position ∷ rs) e = refl
+none_first (told.Result outcomes.WhiteMates ∷ rs) e = refl
+none_first rs e = refl
 
 -- the count of moves of lines, by how they begin
 shown_next : (n : ℕ) (rs : List Reply) (ms : List AnyMove) → moves_told rs ≡ ms → ms ≡ [] → cond (shows_move (reply_lines rs)) (n + 1) n ≡ n + length (moves_told rs)

@@ -4,7 +4,7 @@ use Rattle.std.specs.Prelude.{IsTrue, nat_le, Result, Ok, IfOk}
 use Rattle.std.specs.List.{flat_map, AllByRecursion}
 use Rattle.std.proofs.lemmas.Grind.{flat_map-append}
 use Rattle.std.proofs.lemmas.Bool.Decides.{nat_tests}
-use Rattle.line_io.specs.Event.{Event, Open, Iface, IfaceLong, IfaceEnd, IfaceLost, Engine, EngineLong, EngineEnd, EngineLost, event_of, has_feed}
+use Rattle.line_io.specs.Event.{Event, Iface, Engine, event_of, has_feed}
 use Rattle.line_io.specs.declared.events.Event as borrowed
 use Rattle.line_io.specs.Lines.{Piece}
 use Rattle.line_io.specs.Out.{Text, with}
@@ -28,15 +28,9 @@ line_short n true h = grind (arith, nat_tests)
 line_short n false h = grind (arith, nat_tests)
 
 pub short_event : (event : Event) → IsSpelled (Happens event) → IsShort event
-short_event Open s = tt
 short_event (Iface line) s = line_short (length line) (not (has_feed line)) s
-short_event IfaceLong s = tt
-short_event IfaceEnd s = tt
-short_event IfaceLost s = tt
 short_event (Engine line) s = line_short (length line) (not (has_feed line)) s
-short_event EngineLong s = tt
-short_event EngineEnd s = tt
-short_event EngineLost s = tt
+short_event event s = tt
 
 pub spelled_short : (line : List ℕ) (r : Result code.Mark BadMark) (e : borrowed.Event) → r ≡ Ok (marks.Event e) → IfOk r (λ mark. SpellsMark line (plain mark)) → IsShort (event_of e)
 spelled_short line r e is h = short_event (event_of e) (subst (λ (x : Result code.Mark BadMark). IfOk x (λ mark. SpellsMark line (plain mark))) is h).0
@@ -136,18 +130,12 @@ puts_unmarked n p v held none = record {
 }
 
 said : (lines : List Piece) (ending : Ending) (text : List ℕ) → (IsOfLine ending → ⊥) → IsDriven lines text → Says lines ending text
-said lines endings.Done text i d = d
-said lines endings.Usage text i d = d
-said lines (endings.NoPosition f) text i d = d
-said lines endings.NoMemory text i d = d
-said lines endings.ReadingFailed text i d = d
-said lines endings.WritingFailed text i d = d
-said lines endings.TooLong text i d = d
 said lines (endings.NoMark n) text i d = absurd (i tt)
 said lines (endings.MayNotCome n) text i d = absurd (i tt)
 said lines (endings.OutOfStep n) text i d = absurd (i tt)
 said lines (endings.Differs n) text i d = absurd (i tt)
 said lines (endings.Unlawful n) text i d = absurd (i tt)
+said lines ending text i d = d
 
 pub closes : (ending : Ending) (v : Parts) (held : Text) → (IsOfLine ending → ⊥) → Closes drives ending v held held
 closes ending v held i = record {

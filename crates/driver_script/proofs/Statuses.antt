@@ -28,27 +28,12 @@ fault_of lines (endings.MayNotCome n) text i s = s
 fault_of lines (endings.OutOfStep n) text i s = absurd s
 fault_of lines (endings.Differs n) text i s = absurd s
 fault_of lines (endings.Unlawful n) text i s = absurd s
-fault_of lines endings.Done text i s = absurd i
-fault_of lines endings.Usage text i s = absurd i
-fault_of lines (endings.NoPosition f) text i s = absurd i
-fault_of lines endings.NoMemory text i s = absurd i
-fault_of lines endings.ReadingFailed text i s = absurd i
-fault_of lines endings.WritingFailed text i s = absurd i
-fault_of lines endings.TooLong text i s = absurd i
+fault_of lines ending text i s = absurd i
 
 fault_code : (lines : List Piece) (ending : Ending) (text : List ℕ) → IsFault lines ending text → code_of ending ≡ 2
 fault_code lines (endings.NoMark n) text f = refl
 fault_code lines (endings.MayNotCome n) text f = refl
-fault_code lines (endings.OutOfStep n) text f = absurd f.wrong
-fault_code lines (endings.Differs n) text f = absurd f.wrong
-fault_code lines (endings.Unlawful n) text f = absurd f.wrong
-fault_code lines endings.Done text f = absurd f.wrong
-fault_code lines endings.Usage text f = absurd f.wrong
-fault_code lines (endings.NoPosition x) text f = absurd f.wrong
-fault_code lines endings.NoMemory text f = absurd f.wrong
-fault_code lines endings.ReadingFailed text f = absurd f.wrong
-fault_code lines endings.WritingFailed text f = absurd f.wrong
-fault_code lines endings.TooLong text f = absurd f.wrong
+fault_code lines ending text f = absurd f.wrong
 
 abbrev IsAnyText : List Piece → List ℕ → Type 0
 IsAnyText lines text = IsDriven lines text ⊎ ((fault : Ending) × IsFault lines fault text)
@@ -59,13 +44,7 @@ any_said lines (endings.MayNotCome n) text s = inr (endings.MayNotCome n, s)
 any_said lines (endings.OutOfStep n) text s = absurd s
 any_said lines (endings.Differs n) text s = absurd s
 any_said lines (endings.Unlawful n) text s = absurd s
-any_said lines endings.Done text s = inl s
-any_said lines endings.Usage text s = inl s
-any_said lines (endings.NoPosition x) text s = inl s
-any_said lines endings.NoMemory text s = inl s
-any_said lines endings.ReadingFailed text s = inl s
-any_said lines endings.WritingFailed text s = inl s
-any_said lines endings.TooLong text s = inl s
+any_said lines ending text s = inl s
 
 -- WHAT THE STATUS SAYS
 

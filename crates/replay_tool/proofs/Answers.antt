@@ -102,17 +102,7 @@ module _ (o : Settings) (unread kept : Type 0) (start now : Streams) where
 
   same_of : (e : Ending) → 0 ≡ code_of e → e ≡ endings.Done
   same_of endings.Done c = refl
-  same_of (endings.Differs n) c = cc
-  same_of (endings.Unlawful n) c = cc
-  same_of endings.Usage c = cc
-  same_of (endings.NoPosition fault) c = cc
-  same_of endings.NoMemory c = cc
-  same_of (endings.NoMark n) c = cc
-  same_of (endings.OutOfStep n) c = cc
-  same_of (endings.MayNotCome n) c = cc
-  same_of endings.ReadingFailed c = cc
-  same_of endings.WritingFailed c = cc
-  same_of endings.TooLong c = cc
+  same_of e c = cc
 
   done : (code : ℕ) → R code → code ≡ 0 → AllReplayed o start now
   done code r z =
@@ -122,69 +112,33 @@ module _ (o : Settings) (unread kept : Type 0) (start now : Streams) where
       (record { read = r.read (λ f. let g = sym e ∙ f in cc) (λ f. let g = sym e ∙ f in cc); written = r.written (λ f. let g = sym e ∙ f in cc); told = c.2 })
 
   script_of : (e : Ending) → Ends e → 2 ≡ code_of e → Appends start.diag.taken now.diag.taken (diagnostic e) → FaultReported o start now
-  script_of (endings.Differs n) ends c a = cc
-  script_of (endings.Unlawful n) ends c a = cc
   script_of endings.Usage ends c a = absurd ends
   script_of (endings.NoPosition fault) ends c a = absurd ends
   script_of (endings.NoMark n) ends c a = fault_of (endings.NoMark n) ends a
   script_of (endings.OutOfStep n) ends c a = fault_of (endings.OutOfStep n) ends a
   script_of (endings.MayNotCome n) ends c a = fault_of (endings.MayNotCome n) ends a
-  script_of endings.Done ends c a = cc
-  script_of endings.NoMemory ends c a = cc
-  script_of endings.ReadingFailed ends c a = cc
-  script_of endings.WritingFailed ends c a = cc
-  script_of endings.TooLong ends c a = cc
+  script_of e ends c a = cc
 
   script : (code : ℕ) → R code → code ≡ 2 → FaultReported o start now
   script code r z = let c = code_is code r.ending r.tells (λ f. cc) in script_of r.ending r.ends (sym z ∙ c.0) c.1
 
   memory_of : (e : Ending) → Ends e → 3 ≡ code_of e → untouched
   memory_of endings.NoMemory ends c = ends
-  memory_of endings.Done ends c = cc
-  memory_of (endings.Differs n) ends c = cc
-  memory_of (endings.Unlawful n) ends c = cc
-  memory_of endings.Usage ends c = cc
-  memory_of (endings.NoPosition fault) ends c = cc
-  memory_of (endings.NoMark n) ends c = cc
-  memory_of (endings.OutOfStep n) ends c = cc
-  memory_of (endings.MayNotCome n) ends c = cc
-  memory_of endings.ReadingFailed ends c = cc
-  memory_of endings.WritingFailed ends c = cc
-  memory_of endings.TooLong ends c = cc
+  memory_of e ends c = cc
 
   pub memory : (code : ℕ) → R code → code ≡ 3 → untouched
   memory code r z = memory_of r.ending r.ends (sym z ∙ (code_is code r.ending r.tells (λ f. cc)).0)
 
   reading_of : (e : Ending) → Ends e → 4 ≡ code_of e → (e ≡ endings.ReadingFailed → Rose start.input.faults now.input.faults) → Rose start.input.faults now.input.faults × WholeReplayed o start now
   reading_of endings.ReadingFailed ends c rose = (rose refl, whole_of 0 ends)
-  reading_of endings.Done ends c rose = cc
-  reading_of (endings.Differs n) ends c rose = cc
-  reading_of (endings.Unlawful n) ends c rose = cc
-  reading_of endings.Usage ends c rose = cc
-  reading_of (endings.NoPosition fault) ends c rose = cc
-  reading_of (endings.NoMark n) ends c rose = cc
-  reading_of (endings.OutOfStep n) ends c rose = cc
-  reading_of (endings.MayNotCome n) ends c rose = cc
-  reading_of endings.NoMemory ends c rose = cc
-  reading_of endings.WritingFailed ends c rose = cc
-  reading_of endings.TooLong ends c rose = cc
+  reading_of e ends c rose = cc
 
   reading : (code : ℕ) → R code → code ≡ 4 → Rose start.input.faults now.input.faults × WholeReplayed o start now
   reading code r z = reading_of r.ending r.ends (sym z ∙ (code_is code r.ending r.tells (λ f. cc)).0) r.reading
 
   long_of : (e : Ending) → Ends e → 6 ≡ code_of e → MuchReplayed o start now
   long_of endings.TooLong ends c = much_of ends
-  long_of endings.Done ends c = cc
-  long_of (endings.Differs n) ends c = cc
-  long_of (endings.Unlawful n) ends c = cc
-  long_of endings.Usage ends c = cc
-  long_of (endings.NoPosition fault) ends c = cc
-  long_of (endings.NoMark n) ends c = cc
-  long_of (endings.OutOfStep n) ends c = cc
-  long_of (endings.MayNotCome n) ends c = cc
-  long_of endings.NoMemory ends c = cc
-  long_of endings.WritingFailed ends c = cc
-  long_of endings.ReadingFailed ends c = cc
+  long_of e ends c = cc
 
   too_long : (code : ℕ) → R code → code ≡ 6 → MuchReplayed o start now
   too_long code r z = long_of r.ending r.ends (sym z ∙ (code_is code r.ending r.tells (λ f. cc)).0)
@@ -217,10 +171,6 @@ module _ (o : Settings) (unread kept : Type 0) (start now : Streams) where
       cut_all (whole 131072 r.got) (record { got = r.got; reads = r.reads; of_got = (w.0, ap (items 131072) (sym (append-nil r.got)) ∙ w.1); of_left = r.first }) r.scripted
 
   ends_cut : (e : Ending) → Ends e → untouched ⊎ CutShort o start now
-  ends_cut (endings.Differs n) ends = absurd ends
-  ends_cut (endings.Unlawful n) ends = absurd ends
-  ends_cut endings.Usage ends = absurd ends
-  ends_cut (endings.NoPosition fault) ends = absurd ends
   ends_cut endings.NoMemory ends = inl ends
   ends_cut endings.WritingFailed ends = inr ends
   ends_cut endings.Done ends = inr (cut_done ends)
@@ -229,20 +179,11 @@ module _ (o : Settings) (unread kept : Type 0) (start now : Streams) where
   ends_cut (endings.MayNotCome n) ends = inr (cut_to (endings.MayNotCome n) ends)
   ends_cut endings.ReadingFailed ends = inr (cut_whole 0 ends)
   ends_cut endings.TooLong ends = inr (cut_whole (2 ^ 32) ends.replays)
+  ends_cut e ends = absurd ends
 
   writing_of : (e : Ending) → 5 ≡ code_of e → (e ≡ endings.WritingFailed → Rose start.output.faults now.output.faults) → Rose start.output.faults now.output.faults
   writing_of endings.WritingFailed c rose = rose refl
-  writing_of endings.Done c rose = cc
-  writing_of (endings.Differs n) c rose = cc
-  writing_of (endings.Unlawful n) c rose = cc
-  writing_of endings.Usage c rose = cc
-  writing_of (endings.NoPosition fault) c rose = cc
-  writing_of (endings.NoMark n) c rose = cc
-  writing_of (endings.OutOfStep n) c rose = cc
-  writing_of (endings.MayNotCome n) c rose = cc
-  writing_of endings.NoMemory c rose = cc
-  writing_of endings.ReadingFailed c rose = cc
-  writing_of endings.TooLong c rose = cc
+  writing_of e c rose = cc
 
   rises : (code : ℕ) (e : Ending) → Said code e → code ≡ 5 → (e ≡ endings.WritingFailed → Rose start.output.faults now.output.faults) → Rose start.output.faults now.output.faults ⊎ Rose start.diag.faults now.diag.faults
   rises code e (inl x) z rose = inl (writing_of e (sym z ∙ x.0) rose)
@@ -260,16 +201,13 @@ module _ (o : Settings) (unread kept : Type 0) (start now : Streams) where
   complete_of : (e : Ending) → Premises e → (x : List ℕ) → start.input.left ≡ Some x → length x < 2 ^ 32 → script_fault (items 131072 x) ≡ None → IsSteady start now → (code_of e ≡ 0) ⊎ (code_of e ≡ 3)
   complete_of endings.Done p x e l n s = inl refl
   complete_of endings.NoMemory p x e l n s = inr refl
-  complete_of (endings.Differs k) p x e l n s = absurd p.0
-  complete_of (endings.Unlawful k) p x e l n s = absurd p.0
-  complete_of endings.Usage p x e l n s = absurd p.0
-  complete_of (endings.NoPosition fault) p x e l n s = absurd p.0
   complete_of (endings.NoMark k) p x e l n s = let r = p.0 in absurd (not_none (script_fault (items 131072 x)) (endings.NoMark k) n (same_fault start.input.left r.lines x (endings.NoMark k) r.read.of_left e r.is_fault))
   complete_of (endings.OutOfStep k) p x e l n s = let r = p.0 in absurd (not_none (script_fault (items 131072 x)) (endings.OutOfStep k) n (same_fault start.input.left r.lines x (endings.OutOfStep k) r.read.of_left e r.is_fault))
   complete_of (endings.MayNotCome k) p x e l n s = let r = p.0 in absurd (not_none (script_fault (items 131072 x)) (endings.MayNotCome k) n (same_fault start.input.left r.lines x (endings.MayNotCome k) r.read.of_left e r.is_fault))
   complete_of endings.ReadingFailed p x e l n s = absurd (s.read (p.1 refl))
   complete_of endings.WritingFailed p x e l n s = absurd (s.written (p.2 refl))
   complete_of endings.TooLong p x e l n s = let r = p.0.replays in let few = few_got start.input.left now.input.left r.got x r.reads.left e in absurd (omega (arith, r.least_is))
+  complete_of y p x e l n s = absurd p.0
 
   told_as : (code : ℕ) (e : Ending) → Said code e → IsSteady start now → (code ≡ code_of e) × Appends start.diag.taken now.diag.taken (diagnostic e)
   told_as code e (inl t) s = (t.0, t.1)
@@ -288,16 +226,13 @@ module _ (o : Settings) (unread kept : Type 0) (start now : Streams) where
   faulty_of : (e : Ending) → Premises e → (x : List ℕ) (fault : Ending) → start.input.left ≡ Some x → length x < 2 ^ 32 → script_fault (items 131072 x) ≡ Some fault → IsSteady start now → Tellable e fault
   faulty_of endings.Done p x fault e l n s = let r = p.0 in absurd (not_none (script_fault (items 131072 x)) fault (no_fault start.input.left r.got x r.all e r.fine) n)
   faulty_of endings.NoMemory p x fault e l n s = inr refl
-  faulty_of (endings.Differs k) p x fault e l n s = absurd p.0
-  faulty_of (endings.Unlawful k) p x fault e l n s = absurd p.0
-  faulty_of endings.Usage p x fault e l n s = absurd p.0
-  faulty_of (endings.NoPosition bad) p x fault e l n s = absurd p.0
   faulty_of (endings.NoMark k) p x fault e l n s = let r = p.0 in inl (refl, one_fault (script_fault (items 131072 x)) (endings.NoMark k) fault (same_fault start.input.left r.lines x (endings.NoMark k) r.read.of_left e r.is_fault) n)
   faulty_of (endings.OutOfStep k) p x fault e l n s = let r = p.0 in inl (refl, one_fault (script_fault (items 131072 x)) (endings.OutOfStep k) fault (same_fault start.input.left r.lines x (endings.OutOfStep k) r.read.of_left e r.is_fault) n)
   faulty_of (endings.MayNotCome k) p x fault e l n s = let r = p.0 in inl (refl, one_fault (script_fault (items 131072 x)) (endings.MayNotCome k) fault (same_fault start.input.left r.lines x (endings.MayNotCome k) r.read.of_left e r.is_fault) n)
   faulty_of endings.ReadingFailed p x fault e l n s = absurd (s.read (p.1 refl))
   faulty_of endings.WritingFailed p x fault e l n s = absurd (s.written (p.2 refl))
   faulty_of endings.TooLong p x fault e l n s = let r = p.0.replays in let few = few_got start.input.left now.input.left r.got x r.reads.left e in absurd (omega (arith, r.least_is))
+  faulty_of y p x fault e l n s = absurd p.0
 
   fault_told : (code : ℕ) (e fault : Ending) → (code ≡ code_of e) × Appends start.diag.taken now.diag.taken (diagnostic e) → Tellable e fault → ((code ≡ 2) × Appends start.diag.taken now.diag.taken (diagnostic fault)) ⊎ (code ≡ 3)
   fault_told code e fault c (inl t) = inl (c.0 ∙ t.0, subst (λ (x : Ending). Appends start.diag.taken now.diag.taken (diagnostic x)) t.1 c.1)
@@ -342,10 +277,6 @@ module _ (o : Settings) (unread kept : Type 0) (start now : Streams) where
 
     again_of : (e : Ending) → Ends e → (code : ℕ) → code ≡ code_of e → code ≢ 3 → code ≢ 4 → code ≢ 5 → code ≢ 6 → (code ≡ 0) × Appends start.output.taken now.output.taken (script_by v t)
     again_of endings.Done p code c n3 n4 n5 n6 = (c, whole_again p)
-    again_of (endings.Differs k) p code c n3 n4 n5 n6 = absurd p
-    again_of (endings.Unlawful k) p code c n3 n4 n5 n6 = absurd p
-    again_of endings.Usage p code c n3 n4 n5 n6 = absurd p
-    again_of (endings.NoPosition fault) p code c n3 n4 n5 n6 = absurd p
     again_of (endings.NoMark k) p code c n3 n4 n5 n6 = absurd (no_fault_to (endings.NoMark k) p)
     again_of (endings.OutOfStep k) p code c n3 n4 n5 n6 = absurd (no_fault_to (endings.OutOfStep k) p)
     again_of (endings.MayNotCome k) p code c n3 n4 n5 n6 = absurd (no_fault_to (endings.MayNotCome k) p)
@@ -353,6 +284,7 @@ module _ (o : Settings) (unread kept : Type 0) (start now : Streams) where
     again_of endings.ReadingFailed p code c n3 n4 n5 n6 = absurd (n4 c)
     again_of endings.WritingFailed p code c n3 n4 n5 n6 = absurd (n5 c)
     again_of endings.TooLong p code c n3 n4 n5 n6 = absurd (n6 c)
+    again_of e p code c n3 n4 n5 n6 = absurd p
 
   again : (code : ℕ) → R code → WritesItAgain o start now code
   again code r v t p l op e n3 n4 n5 n6 = again_of v p t l op e r.ending r.ends code (code_is code r.ending r.tells n5).0 n3 n4 n5 n6

@@ -46,44 +46,26 @@ some_lines (Second s) l ls = omega arith
 
 standing_begins : (o : Settings) (v : Version) (core : AnyParts) (stage : Stage) (due : List ℕ) (before : List Piece) → Standing o v core stage due before → IsSomeIn v before → BeginBy o v before
 standing_begins o First core stages.Plain due before st some = shows_begin o First core stages.Plain due before st some st.at
-standing_begins o First core stages.Start due before st some = absurd st.at
-standing_begins o First core stages.Headed due before st some = absurd st.at
-standing_begins o First core (stages.Told n) due before st some = absurd st.at
-standing_begins o First core (stages.Numbered n) due before st some = absurd st.at
-standing_begins o (Second s) core stages.Plain due before st some = absurd st.at
-standing_begins o (Second s) core stages.Start due before st some = absurd st.at
-standing_begins o (Second s) core stages.Headed due before st some = absurd st.at
 standing_begins o (Second s) core (stages.Told n) due before st some = shows_begin o (Second s) core (stages.Told n) due before st some st.at.0
 standing_begins o (Second s) core (stages.Numbered n) due before st some =
     begin_number o s st.proper st.trace st.lawful st.opened core st.stands st.at.not_over before
     (ap (λ k. lines_by (Second s) st.trace ++ Whole (step_line k) ∷ []) (sym st.at.number_is) ∙ st.at.same)
+standing_begins o v core stage due before st some = absurd st.at
 
 standing_ends : (o : Settings) (v : Version) (core : AnyParts) (stage : Stage) (due : List ℕ) (before : List Piece) → Standing o v core stage due before → IsSomeIn v before
     → (n : ℕ) (answer : Ending) → EndsAt core stage due n answer → Ended o v before n answer
 standing_ends o First core stages.Plain due before st some n answer e = shows_end o First core stages.Plain due before st some st.at n answer e
-standing_ends o First core stages.Start due before st some n answer e = absurd st.at
-standing_ends o First core stages.Headed due before st some n answer e = absurd st.at
-standing_ends o First core (stages.Told k) due before st some n answer e = absurd st.at
-standing_ends o First core (stages.Numbered k) due before st some n answer e = absurd st.at
-standing_ends o (Second s) core stages.Plain due before st some n answer e = absurd st.at
-standing_ends o (Second s) core stages.Start due before st some n answer e = absurd st.at
-standing_ends o (Second s) core stages.Headed due before st some n answer e = absurd st.at
 standing_ends o (Second s) core (stages.Told k) due before st some n answer e = shows_end o (Second s) core (stages.Told k) due before st some st.at.0 n answer e
 standing_ends o (Second s) core (stages.Numbered k) due before st some n answer e = inr (e, no_whole o s st.proper st.trace st.lawful st.opened k before st.at.same)
+standing_ends o v core stage due before st some n answer e = absurd st.at
 
 standing_takes : (o : Settings) (v : Version) (core : AnyParts) (stage : Stage) (due : List ℕ) (before : List Piece) → Standing o v core stage due before → IsSomeIn v before
     → (line : List ℕ) (number : ℕ) (answer : Option Ending) (core' : AnyParts) (stage' : Stage) (due' : List ℕ) → TakesLater core stage due number line answer core' stage' due'
     → Taken o v before (Whole line) number answer core' stage' due'
 standing_takes o First core stages.Plain due before st some line number answer core' stage' due' k = taken_plain o core due before st line number core' stage' due' answer k.ending k.follows
-standing_takes o First core stages.Start due before st some line number answer core' stage' due' k = absurd st.at
-standing_takes o First core stages.Headed due before st some line number answer core' stage' due' k = absurd st.at
-standing_takes o First core (stages.Told n) due before st some line number answer core' stage' due' k = absurd st.at
-standing_takes o First core (stages.Numbered n) due before st some line number answer core' stage' due' k = absurd st.at
-standing_takes o (Second s) core stages.Plain due before st some line number answer core' stage' due' k = absurd st.at
-standing_takes o (Second s) core stages.Start due before st some line number answer core' stage' due' k = absurd st.at
-standing_takes o (Second s) core stages.Headed due before st some line number answer core' stage' due' k = absurd st.at
 standing_takes o (Second s) core (stages.Told n) due before st some line number answer core' stage' due' k = taken_told o s core n due before st some line number core' stage' due' answer k.ending k.follows
 standing_takes o (Second s) core (stages.Numbered n) due before st some line number answer core' stage' due' k = taken_numbered o s core n due before st line number core' stage' due' answer k.ending k.follows
+standing_takes o v core stage due before st some line number answer core' stage' due' k = absurd st.at
 
 -- no session stands before its first line
 started : (o : Settings) (v : Version) (core : AnyParts) (stage : Stage) (due : List ℕ) (before : List Piece) → Standing o v core stage due before

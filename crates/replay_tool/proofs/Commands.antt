@@ -75,10 +75,6 @@ module _ (unread kept silent : Type 0) (start now : Streams) (code : ℕ) where
   memory None d z = absurd (told.no_told code start.diag now.diag 2 _ 3 (λ e. cc) (λ e. cc) d.told z)
   memory (Some (asked.Replay o)) d z = ran.memory o unread kept start now code d.1 z
   memory (Some (asked.Check o)) d z = checks.memory o unread kept start now d.0 code d.1 z
-  memory (Some (asked.Migrate o)) d z = d.memory z
-  memory (Some asked.Judge) d z = d.memory z
-  memory (Some (asked.Revive lives)) d z = d.memory z
-  memory (Some asked.Drive) d z = d.memory z
-  memory (Some (asked.Games o)) d z = d.memory z
   memory (Some (asked.Drill number count)) d z = (d.0, drilling.wants _ _ _ _ _ _ _ _ _ d.1 z)
   memory (Some (asked.Moves text)) d z = (d.0, listing.wants _ _ _ _ _ _ _ _ d.1 z)
+  memory command d z = d.memory z

@@ -6,15 +6,5 @@ use Rattle.replay_tool.specs.Replay.{EndsAs, Stopped}
 use Rattle.command_endings.specs.Streams.{Streams}
 
 pub ended : (o : Settings) (untouched : Type 0) (e : Ending) (start now : Streams) → Stopped o e start now → EndsAs o untouched e start now
-ended o untouched endings.Done start now x = x
-ended o untouched (endings.Differs n) start now x = x
-ended o untouched (endings.Unlawful n) start now x = x
-ended o untouched endings.Usage start now x = x
-ended o untouched (endings.NoPosition fault) start now x = x
-ended o untouched (endings.NoMark n) start now x = x
-ended o untouched (endings.OutOfStep n) start now x = x
-ended o untouched (endings.MayNotCome n) start now x = x
 ended o untouched endings.NoMemory start now x = absurd x
-ended o untouched endings.ReadingFailed start now x = x
-ended o untouched endings.WritingFailed start now x = x
-ended o untouched endings.TooLong start now x = x
+ended o untouched e start now x = x

@@ -159,23 +159,13 @@ one_said n place k = by place.stage k where
   due_by m false = refl
 
   by : (stage : Stage) (k : Kind) → fault_said n (kind_says stage place.ends k) ≡ None → (place_said place (kind_says stage place.ends k)).ends ≡ ends_along place.ends (kind_told k)
-  by stages.Start k f = cc
   by stages.Plain (Tells x) f = may_by x (may place.ends x) f
   by stages.Plain Writes f = refl
-  by stages.Plain (Numbers m) f = cc
-  by stages.Plain HasNone f = cc
-  by stages.Headed (Tells x) f = cc
-  by stages.Headed Writes f = cc
   by stages.Headed (Numbers m) f = due_by m (m == 0)
-  by stages.Headed HasNone f = cc
-  by (stages.Told last) (Tells x) f = cc
   by (stages.Told last) Writes f = refl
   by (stages.Told last) (Numbers m) f = due_by m (m == step_number (last + 1))
-  by (stages.Told last) HasNone f = cc
   by (stages.Numbered last) (Tells x) f = may_by x (may place.ends x) f
-  by (stages.Numbered last) Writes f = cc
-  by (stages.Numbered last) (Numbers m) f = cc
-  by (stages.Numbered last) HasNone f = cc
+  by stage k f = cc
 
 over_told : (n : ℕ) (place : Place) (ls : List Piece) → first_fault n place ls ≡ None → (place_over place ls).ends ≡ ends_along place.ends (all_told_of ls)
 over_told n place [] e = refl

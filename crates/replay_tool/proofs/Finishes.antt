@@ -26,15 +26,7 @@ to_fault : (o : Settings) (start now : Streams) (f : Ending) → IsLineFault f �
 to_fault o start now (endings.NoMark n) i r = r
 to_fault o start now (endings.OutOfStep n) i r = r
 to_fault o start now (endings.MayNotCome n) i r = r
-to_fault o start now endings.Done i r = absurd i
-to_fault o start now (endings.Differs n) i r = absurd i
-to_fault o start now (endings.Unlawful n) i r = absurd i
-to_fault o start now endings.Usage i r = absurd i
-to_fault o start now (endings.NoPosition fault) i r = absurd i
-to_fault o start now endings.NoMemory i r = absurd i
-to_fault o start now endings.ReadingFailed i r = absurd i
-to_fault o start now endings.WritingFailed i r = absurd i
-to_fault o start now endings.TooLong i r = absurd i
+to_fault o start now f i r = absurd i
 
 took_fine : (o : Settings) (lines : List Piece) (core : Parts) (stage : Stage) (text : List ℕ) (before after : Received) → Took o lines core stage text before after → script_fault lines ≡ None
 took_fine o [] core stage text before after t = refl

@@ -42,21 +42,8 @@ from_nothing words = of (all_set words) where
 
 is_added : (g : Given) (x y : Setting) → is_given (add g x) y ≡ (is_same_name x y || is_given g y)
 is_added g (sets.Resign a) (sets.Resign b) = refl
-is_added g (sets.Resign a) (sets.ShowPonder b) = refl
-is_added g (sets.Resign a) (sets.ResignMoves n) = refl
-is_added g (sets.Resign a) (sets.ResignScore n) = refl
-is_added g (sets.ShowPonder a) (sets.Resign b) = refl
-is_added g (sets.ShowPonder a) (sets.ShowPonder b) = refl
-is_added g (sets.ShowPonder a) (sets.ResignMoves n) = refl
-is_added g (sets.ShowPonder a) (sets.ResignScore n) = refl
-is_added g (sets.ResignMoves a) (sets.Resign b) = refl
-is_added g (sets.ResignMoves a) (sets.ShowPonder b) = refl
-is_added g (sets.ResignMoves a) (sets.ResignMoves n) = refl
-is_added g (sets.ResignMoves a) (sets.ResignScore n) = refl
-is_added g (sets.ResignScore a) (sets.Resign b) = refl
-is_added g (sets.ResignScore a) (sets.ShowPonder b) = refl
-is_added g (sets.ResignScore a) (sets.ResignMoves n) = refl
-is_added g (sets.ResignScore a) (sets.ResignScore n) = refl
+is_added g x (sets.Resign b) = refl
+is_added g x y = refl
 
 -- booleans of a head and a tail change places
 swap : (a b c d : Bool) → (not (a || b) && (not c && d)) ≡ ((not b && not (a || c)) && d)

@@ -1,6 +1,6 @@
 -- The version that a script tells, and its lines behind the header.
 use Rattle.std.proofs.Common.{◌≡◌, ℕ, ◌≤◌, List, [], ◌∷◌, ◌++◌, map, length, Bool, true, false, cond, nat_le, Some, None, refl, ap, sym, ◌∙◌, arith}
-use Rattle.line_io.specs.Event.{Event, Open, Iface, IfaceLong, IfaceEnd, IfaceLost, Engine, EngineLong, EngineEnd, EngineLost}
+use Rattle.line_io.specs.Event.{Event, Open}
 use Rattle.line_io.specs.Lines.{Piece, Whole, TooLong, items, parts, piece_of}
 use Rattle.policy_rules.specs.declared.settings.Settings.{Settings}
 use Rattle.policy_rules.specs.Policy.{IsProper}
@@ -35,14 +35,7 @@ none_engine (l ∷ ls) = (refl, none_engine ls)
 
 none_event : (e : Event) → HaveNone (event_lines e)
 none_event Open = tt
-none_event (Iface line) = (refl, tt)
-none_event IfaceLong = (refl, tt)
-none_event IfaceEnd = (refl, tt)
-none_event IfaceLost = (refl, tt)
-none_event (Engine line) = (refl, tt)
-none_event EngineLong = (refl, tt)
-none_event EngineEnd = (refl, tt)
-none_event EngineLost = (refl, tt)
+none_event e = (refl, tt)
 
 none_lines : (t : List Step) → HaveNone (lines_of t)
 none_lines [] = tt

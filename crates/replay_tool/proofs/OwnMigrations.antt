@@ -26,13 +26,8 @@ use Rattle.replay_tool.specs.OwnScripts.{MigratesOwnScripts}
 event_spelled : (ends : Ends) (e : Event) → ends.opened ≡ true → may ends e ≡ true → IsSpelled (Happens e)
 event_spelled ends events.Open o m = let n = sym (ap not o) ∙ m in cc
 event_spelled ends (events.Iface line) o m = told ends (events.Iface line) m
-event_spelled ends events.IfaceLong o m = tt
-event_spelled ends events.IfaceEnd o m = tt
-event_spelled ends events.IfaceLost o m = tt
 event_spelled ends (events.Engine line) o m = told ends (events.Engine line) m
-event_spelled ends events.EngineLong o m = tt
-event_spelled ends events.EngineEnd o m = tt
-event_spelled ends events.EngineLost o m = tt
+event_spelled ends e o m = tt
 
 events_marked : (o : Settings) (t : List Step) → Lawful o t → IsOpened o t → AreEventsMarked t
 events_marked o [] l op = cc

@@ -12,7 +12,7 @@ use Rattle.adapter_core.specs.Stands.{Stands}
 use Rattle.script_player.specs.declared.stage.Stage.{Stage}
 use Rattle.script_player.specs.declared.stage.Stage.TheVariants as stages
 use Rattle.replay_tool.specs.Walked.{IsOpen, MayTake}
-use Rattle.script_player.specs.Versions.{Kind, Tells, Writes, Numbers, HasNone, Comes, Starts, IsOutOfStep, Cannot, event_says, number_says, kind_says, stage_started}
+use Rattle.script_player.specs.Versions.{Kind, Tells, Numbers, Comes, Starts, IsOutOfStep, Cannot, event_says, number_says, kind_says, stage_started}
 
 no_event : (ends : Ends) (e : Event) (n : ℕ) → event_says ends e ≡ Starts n → ⊥
 no_event ends e n h = by (may ends e) h where
@@ -34,17 +34,9 @@ pub starts_open : (stage : Stage) (ends : Ends) (kind : Kind) (m : ℕ) → IsOp
 starts_open stages.Start ends kind m o h = absurd o
 starts_open stages.Headed ends kind m o h = absurd o
 starts_open stages.Plain ends (Tells x) m o h = absurd (no_event ends x m h)
-starts_open stages.Plain ends Writes m o h = cc
-starts_open stages.Plain ends (Numbers n) m o h = cc
-starts_open stages.Plain ends HasNone m o h = cc
-starts_open (stages.Told last) ends (Tells x) m o h = cc
-starts_open (stages.Told last) ends Writes m o h = cc
 starts_open (stages.Told last) ends (Numbers n) m o h = due_below (last + 1) n m h
-starts_open (stages.Told last) ends HasNone m o h = cc
 starts_open (stages.Numbered n) ends (Tells x) m o h = absurd (no_event ends x m h)
-starts_open (stages.Numbered n) ends Writes m o h = cc
-starts_open (stages.Numbered n) ends (Numbers k) m o h = cc
-starts_open (stages.Numbered n) ends HasNone m o h = cc
+starts_open stage ends kind m o h = cc
 
 -- a line may be taken in a session that was opened
 pub open_takes : (core : Parts) (stage : Stage) → IsOpen stage → MayTake core stage
@@ -80,13 +72,12 @@ swap false b e = cc
 pub over_may : (ends : Ends) (e : Event) → ends.opened ≡ true → is_over ends ≡ true → may ends e ≡ true → ⊥
 over_may ends events.Open o v m = let n = sym (ap not o) ∙ m in cc
 over_may ends (events.Iface line) o v m = over_by ends.iface ends.engine ends.opened (is_line line) v m
-over_may ends events.IfaceLong o v m = over_short ends.iface ends.engine ends.opened v m
-over_may ends events.IfaceEnd o v m = over_short ends.iface ends.engine ends.opened v m
 over_may ends events.IfaceLost o v m = over_by ends.iface ends.engine ends.opened (not ends.iface_lost) v m
 over_may ends (events.Engine line) o v m = over_by ends.engine ends.iface ends.opened (is_line line) (swap ends.iface ends.engine v) m
 over_may ends events.EngineLong o v m = over_short ends.engine ends.iface ends.opened (swap ends.iface ends.engine v) m
 over_may ends events.EngineEnd o v m = over_short ends.engine ends.iface ends.opened (swap ends.iface ends.engine v) m
 over_may ends events.EngineLost o v m = over_by ends.engine ends.iface ends.opened (not ends.engine_lost) (swap ends.iface ends.engine v) m
+over_may ends e o v m = over_short ends.iface ends.engine ends.opened v m
 
 -- else an event may come
 pub some_may : (ends : Ends) → ends.opened ≡ true → is_over ends ≡ false → (e : Event) × (may ends e ≡ true)

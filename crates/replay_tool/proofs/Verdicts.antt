@@ -30,18 +30,13 @@ module _ (o : Settings) (unread kept : Type 0) (start now : Streams) where
   pub wrote : (found answer : Ending) → Finds o found start now → answer ≡ found → Appends start.output.taken now.output.taken (verdict found) → (verdict found ≡ [] → kept) → Ends answer
   wrote found answer f e a k = subst Ends (sym e) (as_found found f a k) where
     as_found : (x : Ending) → Finds o x start now → Appends start.output.taken now.output.taken (verdict x) → (verdict x ≡ [] → kept) → Ends x
-    as_found endings.Done f a k = (f, a, k)
-    as_found (endings.Differs n) f a k = (f, a, k)
-    as_found (endings.NoMark n) f a k = (f, a, k)
-    as_found (endings.MayNotCome n) f a k = (f, a, k)
-    as_found endings.ReadingFailed f a k = (f, a, k)
-    as_found endings.TooLong f a k = (f, a, k)
     as_found endings.WritingFailed f a k = absurd f
     as_found endings.Usage f a k = absurd f
     as_found (endings.Unlawful n) f a k = absurd f
     as_found (endings.OutOfStep n) f a k = absurd f
     as_found (endings.NoPosition fault) f a k = absurd f
     as_found endings.NoMemory f a k = absurd f
+    as_found x f a k = (f, a, k)
 
   pub broke : (found answer : Ending) → Finds o found start now → answer ≡ endings.WritingFailed → TakesPrefix start.output.taken now.output.taken (verdict found) → Ends answer
   broke found answer f e p = subst Ends (sym e) (record { found = found; finds = f; part = p })
@@ -53,16 +48,11 @@ module _ (o : Settings) (unread kept : Type 0) (start now : Streams) where
   ends_part : (e : Ending) → Ends e → (unread × kept) ⊎ WritesPart o start now
   ends_part endings.NoMemory x = inl x
   ends_part endings.WritingFailed x = inr x
-  ends_part endings.Done x = inr (all_part endings.Done x.0 x.1)
-  ends_part (endings.Differs n) x = inr (all_part (endings.Differs n) x.0 x.1)
-  ends_part (endings.NoMark n) x = inr (all_part (endings.NoMark n) x.0 x.1)
-  ends_part (endings.MayNotCome n) x = inr (all_part (endings.MayNotCome n) x.0 x.1)
-  ends_part endings.ReadingFailed x = inr (all_part endings.ReadingFailed x.0 x.1)
-  ends_part endings.TooLong x = inr (all_part endings.TooLong x.0 x.1)
   ends_part endings.Usage x = absurd x.0
   ends_part (endings.Unlawful n) x = absurd x.0
   ends_part (endings.OutOfStep n) x = absurd x.0
   ends_part (endings.NoPosition fault) x = absurd x.0
+  ends_part e x = inr (all_part e x.0 x.1)
 
   abbrev R : ℕ → Type 0
   R code = Ran Ends start now code
@@ -104,31 +94,12 @@ module _ (o : Settings) (unread kept : Type 0) (start now : Streams) where
     -- by status
     ending_0 : (e : Ending) → 0 ≡ code_of e → e ≡ endings.Done
     ending_0 endings.Done c = refl
-    ending_0 (endings.Differs n) c = cc
-    ending_0 (endings.NoMark n) c = cc
-    ending_0 (endings.MayNotCome n) c = cc
-    ending_0 endings.ReadingFailed c = cc
-    ending_0 endings.TooLong c = cc
-    ending_0 endings.WritingFailed c = cc
-    ending_0 endings.Usage c = cc
-    ending_0 (endings.Unlawful n) c = cc
-    ending_0 (endings.OutOfStep n) c = cc
-    ending_0 (endings.NoPosition fault) c = cc
-    ending_0 endings.NoMemory c = cc
+    ending_0 e c = cc
 
     ending_1 : (e : Ending) → Ends e → 1 ≡ code_of e → (n : ℕ) × (e ≡ endings.Differs n)
-    ending_1 endings.Done x c = cc
     ending_1 (endings.Differs n) x c = (n, refl)
     ending_1 (endings.Unlawful n) x c = absurd x.0
-    ending_1 (endings.NoMark n) x c = cc
-    ending_1 (endings.MayNotCome n) x c = cc
-    ending_1 endings.ReadingFailed x c = cc
-    ending_1 endings.TooLong x c = cc
-    ending_1 endings.WritingFailed x c = cc
-    ending_1 endings.Usage x c = cc
-    ending_1 (endings.OutOfStep n) x c = cc
-    ending_1 (endings.NoPosition fault) x c = cc
-    ending_1 endings.NoMemory x c = cc
+    ending_1 e x c = cc
 
     same_by : (e : Ending) (code : ℕ) (r : R code) → r.ending ≡ e → (e ≡ endings.ReadingFailed → ⊥) → (e ≡ endings.WritingFailed → ⊥) → (code ≡ 5 → ⊥) → AreSame start now
     same_by e code r is f g five = record {
@@ -155,83 +126,37 @@ module _ (o : Settings) (unread kept : Type 0) (start now : Streams) where
     bad_of (endings.NoMark n) x c a = record { fault = endings.NoMark n; is_fault = refl; found = x.0; told = a; unwritten = x.2 refl }
     bad_of (endings.MayNotCome n) x c a = record { fault = endings.MayNotCome n; is_fault = refl; found = x.0; told = a; unwritten = x.2 refl }
     bad_of endings.Usage x c a = absurd x.0
-    bad_of (endings.Unlawful n) x c a = cc
     bad_of (endings.OutOfStep n) x c a = absurd x.0
     bad_of (endings.NoPosition fault) x c a = absurd x.0
-    bad_of endings.Done x c a = cc
-    bad_of (endings.Differs n) x c a = cc
-    bad_of endings.ReadingFailed x c a = cc
-    bad_of endings.TooLong x c a = cc
-    bad_of endings.WritingFailed x c a = cc
-    bad_of endings.NoMemory x c a = cc
+    bad_of e x c a = cc
 
     script : (code : ℕ) → R code → code ≡ 2 → FoundBadLine o kept start now
     script code r z = let c = code_is code r.ending r.tells (λ f. cc) in bad_of r.ending r.ends (sym z ∙ c.0) c.1
 
     memory_of : (e : Ending) → Ends e → 3 ≡ code_of e → unread × kept
     memory_of endings.NoMemory x c = x
-    memory_of endings.Done x c = cc
-    memory_of (endings.Differs n) x c = cc
-    memory_of (endings.NoMark n) x c = cc
-    memory_of (endings.MayNotCome n) x c = cc
-    memory_of endings.ReadingFailed x c = cc
-    memory_of endings.TooLong x c = cc
-    memory_of endings.WritingFailed x c = cc
-    memory_of endings.Usage x c = cc
-    memory_of (endings.Unlawful n) x c = cc
-    memory_of (endings.OutOfStep n) x c = cc
-    memory_of (endings.NoPosition fault) x c = cc
+    memory_of e x c = cc
 
     pub memory : (code : ℕ) → R code → code ≡ 3 → unread × kept
     memory code r z = memory_of r.ending r.ends (sym z ∙ (code_is code r.ending r.tells (λ f. cc)).0)
 
     reading_of : (e : Ending) → Ends e → 4 ≡ code_of e → (e ≡ endings.ReadingFailed → Rose start.input.faults now.input.faults) → Rose start.input.faults now.input.faults × BeginsWhole o start now × kept
     reading_of endings.ReadingFailed x c rose = (rose refl, x.0, x.2 refl)
-    reading_of endings.NoMemory x c rose = cc
-    reading_of endings.Done x c rose = cc
-    reading_of (endings.Differs n) x c rose = cc
-    reading_of (endings.NoMark n) x c rose = cc
-    reading_of (endings.MayNotCome n) x c rose = cc
-    reading_of endings.TooLong x c rose = cc
-    reading_of endings.WritingFailed x c rose = cc
-    reading_of endings.Usage x c rose = cc
-    reading_of (endings.Unlawful n) x c rose = cc
-    reading_of (endings.OutOfStep n) x c rose = cc
-    reading_of (endings.NoPosition fault) x c rose = cc
+    reading_of e x c rose = cc
 
     reading : (code : ℕ) → R code → code ≡ 4 → Rose start.input.faults now.input.faults × BeginsWhole o start now × kept
     reading code r z = reading_of r.ending r.ends (sym z ∙ (code_is code r.ending r.tells (λ f. cc)).0) r.reading
 
     long_of : (e : Ending) → Ends e → 6 ≡ code_of e → BeginsMuch o start now × kept
     long_of endings.TooLong x c = (x.0, x.2 refl)
-    long_of endings.NoMemory x c = cc
-    long_of endings.Done x c = cc
-    long_of (endings.Differs n) x c = cc
-    long_of (endings.NoMark n) x c = cc
-    long_of (endings.MayNotCome n) x c = cc
-    long_of endings.ReadingFailed x c = cc
-    long_of endings.WritingFailed x c = cc
-    long_of endings.Usage x c = cc
-    long_of (endings.Unlawful n) x c = cc
-    long_of (endings.OutOfStep n) x c = cc
-    long_of (endings.NoPosition fault) x c = cc
+    long_of e x c = cc
 
     too_long : (code : ℕ) → R code → code ≡ 6 → BeginsMuch o start now × kept
     too_long code r z = long_of r.ending r.ends (sym z ∙ (code_is code r.ending r.tells (λ f. cc)).0)
 
     writing_of : (e : Ending) → 5 ≡ code_of e → (e ≡ endings.WritingFailed → Rose start.output.faults now.output.faults) → Rose start.output.faults now.output.faults
     writing_of endings.WritingFailed c rose = rose refl
-    writing_of endings.NoMemory c rose = cc
-    writing_of endings.Done c rose = cc
-    writing_of (endings.Differs n) c rose = cc
-    writing_of (endings.NoMark n) c rose = cc
-    writing_of (endings.MayNotCome n) c rose = cc
-    writing_of endings.ReadingFailed c rose = cc
-    writing_of endings.TooLong c rose = cc
-    writing_of endings.Usage c rose = cc
-    writing_of (endings.Unlawful n) c rose = cc
-    writing_of (endings.OutOfStep n) c rose = cc
-    writing_of (endings.NoPosition fault) c rose = cc
+    writing_of e c rose = cc
 
     rises : (code : ℕ) (e : Ending) → Said code e → code ≡ 5 → (e ≡ endings.WritingFailed → Rose start.output.faults now.output.faults) → Rose start.output.faults now.output.faults ⊎ Rose start.diag.faults now.diag.faults
     rises code e (inl x) z rose = inl (writing_of e (sym z ∙ x.0) rose)
@@ -267,11 +192,8 @@ module _ (o : Settings) (unread kept : Type 0) (start now : Streams) where
     exact_of endings.ReadingFailed y code c x e n3 n4 n5 n6 = absurd (n4 c)
     exact_of endings.TooLong y code c x e n3 n4 n5 n6 = absurd (n6 c)
     exact_of endings.WritingFailed y code c x e n3 n4 n5 n6 = absurd (n5 c)
-    exact_of endings.Usage y code c x e n3 n4 n5 n6 = absurd y.0
-    exact_of (endings.Unlawful n) y code c x e n3 n4 n5 n6 = absurd y.0
-    exact_of (endings.OutOfStep n) y code c x e n3 n4 n5 n6 = absurd y.0
-    exact_of (endings.NoPosition fault) y code c x e n3 n4 n5 n6 = absurd y.0
     exact_of endings.NoMemory y code c x e n3 n4 n5 n6 = absurd (n3 c)
+    exact_of z y code c x e n3 n4 n5 n6 = absurd y.0
 
     exact : (code : ℕ) → R code → IsExactCheck o start code
     exact code r x e n3 n4 n5 n6 = exact_of r.ending r.ends code (code_is code r.ending r.tells n5).0 x e n3 n4 n5 n6
@@ -291,11 +213,8 @@ module _ (o : Settings) (unread kept : Type 0) (start now : Streams) where
     complete_of endings.NoMemory y read written code c x e l s = inr (inr (inr c))
     complete_of endings.ReadingFailed y read written code c x e l s = absurd (s.read (read refl))
     complete_of endings.WritingFailed y read written code c x e l s = absurd (s.written (written refl))
-    complete_of endings.Usage y read written code c x e l s = absurd y.0
-    complete_of (endings.Unlawful n) y read written code c x e l s = absurd y.0
-    complete_of (endings.OutOfStep n) y read written code c x e l s = absurd y.0
-    complete_of (endings.NoPosition fault) y read written code c x e l s = absurd y.0
     complete_of endings.TooLong y read written code c x e l s = let few = few_got start.input.left now.input.left y.0.begins.got x y.0.begins.reads.left e in absurd (omega (arith, y.0.least))
+    complete_of z y read written code c x e l s = absurd y.0
 
     complete : (code : ℕ) → R code → CompletesCheck start now code
     complete code r x e l s = complete_of r.ending r.ends r.reading r.writing code (told_as code r.ending r.tells s) x e l s
@@ -318,15 +237,9 @@ module _ (o : Settings) (unread kept : Type 0) (start now : Streams) where
         let at = cut_at x p.parts.before p.parts.line p.parts.read.of_left e in
         may_behind o p.parts.before p.parts.line at.0 p.event p.awaited p.parts.differs (ap script_fault (sym at.1) ∙ free) p.is_event p.may_not
     no_fault_of endings.Usage y x e free c = y.0
-    no_fault_of (endings.Unlawful n) y x e free c = cc
     no_fault_of (endings.OutOfStep n) y x e free c = y.0
     no_fault_of (endings.NoPosition fault) y x e free c = y.0
-    no_fault_of endings.Done y x e free c = cc
-    no_fault_of (endings.Differs n) y x e free c = cc
-    no_fault_of endings.ReadingFailed y x e free c = cc
-    no_fault_of endings.TooLong y x e free c = cc
-    no_fault_of endings.WritingFailed y x e free c = cc
-    no_fault_of endings.NoMemory y x e free c = cc
+    no_fault_of z y x e free c = cc
 
     without : (code : ℕ) → (code ≡ 2 → ⊥) → (code ≡ 0) ⊎ (code ≡ 1) ⊎ (code ≡ 2) ⊎ (code ≡ 3) → (code ≡ 0) ⊎ (code ≡ 1) ⊎ (code ≡ 3)
     without code never (inl c) = inl c

@@ -134,14 +134,10 @@ puts_by number p None (Some ending) s s' held held' m t = record {
 
 -- a fault is one of a line
 pub of_line : (number : ℕ) (m : Option Mark) (result : Option Ending) (s s' : State) (held held' : Text) → Takes number m result s held s' held' → IfSome result (λ ending. IsOfLine ending)
-of_line number (Some (Happens e)) None s s' held held' t = tt
 of_line number (Some (Happens e)) (Some ending) s s' held held' t = subst (λ (x : Ending). IsOfLine x) (sym t.1.ending_is) tt
-of_line number (Some (ToIface line)) None s s' held held' t = tt
-of_line number (Some (ToIface line)) (Some ending) s s' held held' t = absurd t
-of_line number (Some (ToEngine line)) None s s' held held' t = tt
-of_line number (Some (ToEngine line)) (Some ending) s s' held held' t = absurd t
-of_line number None None s s' held held' t = tt
 of_line number None (Some ending) s s' held held' t = subst (λ (x : Ending). IsOfLine x) (sym t.ending_is) tt
+of_line number m (Some ending) s s' held held' t = absurd t
+of_line number m result s s' held held' t = tt
 
 -- a line that is too long
 pub puts_long : (number : ℕ) (s : State) (held : Text) → Puts revives number TooLong (Some (endings.NoMark number)) s held s held
@@ -151,15 +147,7 @@ closed_by : (lives : ℕ) (lines : List Piece) (text : List ℕ) (ending : Endin
 closed_by lives lines text endings.Done i c = c
 closed_by lives lines text endings.ReadingFailed i c = c
 closed_by lives lines text endings.TooLong i c = c
-closed_by lives lines text (endings.Differs n) i c = absurd i
-closed_by lives lines text (endings.Unlawful n) i c = absurd i
-closed_by lives lines text endings.Usage i c = absurd i
-closed_by lives lines text (endings.NoMark n) i c = absurd i
-closed_by lives lines text (endings.OutOfStep n) i c = absurd i
-closed_by lives lines text (endings.MayNotCome n) i c = absurd i
-closed_by lives lines text (endings.NoPosition f) i c = absurd i
-closed_by lives lines text endings.NoMemory i c = absurd i
-closed_by lives lines text endings.WritingFailed i c = absurd i
+closed_by lives lines text ending i c = absurd i
 
 -- no more lines
 pub closes_by : (ending : Ending) (s : State) (held held' : Text) → IsInputEnd ending → held' ≡ held → scribe.Closes revives ending s held held'

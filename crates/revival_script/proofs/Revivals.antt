@@ -75,16 +75,7 @@ not_reason lives before line more n (endings.MayNotCome k) p r =
     let comes = may_part (opening lives) (events_in before) (events_in more) e (subst (λ (es : List Event). AllMayHappen (opening lives) es) all p.may_come) in
     let both = sym comes ∙ r.1.2 in
     cc
-not_reason lives before line more n (endings.OutOfStep k) p r = r
-not_reason lives before line more n (endings.Differs k) p r = r
-not_reason lives before line more n (endings.Unlawful k) p r = r
-not_reason lives before line more n endings.Done p r = r
-not_reason lives before line more n endings.Usage p r = r
-not_reason lives before line more n (endings.NoPosition k) p r = r
-not_reason lives before line more n endings.NoMemory p r = r
-not_reason lives before line more n endings.ReadingFailed p r = r
-not_reason lives before line more n endings.WritingFailed p r = r
-not_reason lives before line more n endings.TooLong p r = r
+not_reason lives before line more n f p r = r
 
 no_fault : (lives : ℕ) (lines more all : List Piece) (f : Ending) → all ≡ lines ++ more → IsFault lives lines f → ArePlayed lives all → ⊥
 no_fault lives lines more all f e i p =
@@ -113,13 +104,7 @@ module _ (lives : ℕ) (U : Type 0) (start now : Streams) (code : ℕ) (r : Ran 
   stops_by lines (endings.OutOfStep n) text i s = absurd s
   stops_by lines (endings.Differs n) text i s = absurd s
   stops_by lines (endings.Unlawful n) text i s = absurd s
-  stops_by lines endings.Done text i s = absurd i
-  stops_by lines endings.Usage text i s = absurd i
-  stops_by lines (endings.NoPosition f) text i s = absurd i
-  stops_by lines endings.NoMemory text i s = absurd i
-  stops_by lines endings.ReadingFailed text i s = absurd i
-  stops_by lines endings.WritingFailed text i s = absurd i
-  stops_by lines endings.TooLong text i s = absurd i
+  stops_by lines e text i s = absurd i
 
   the_fault : (n : ℕ) (r : Reported n) → Stops lives r.wrote.lines r.ending r.wrote.text × (code_of r.ending ≡ 2)
   the_fault n r = stops_by r.wrote.lines r.ending r.wrote.text r.of_line (r.wrote.says lives refl)
@@ -168,13 +153,7 @@ module _ (lives : ℕ) (U : Type 0) (start now : Streams) (code : ℕ) (r : Ran 
   of_says lines endings.Done text r s = of_close lines text r s
   of_says lines endings.ReadingFailed text r s = of_close lines text r s
   of_says lines endings.TooLong text r s = of_close lines text r s
-  of_says lines (endings.OutOfStep n) text r s = absurd s
-  of_says lines (endings.Differs n) text r s = absurd s
-  of_says lines (endings.Unlawful n) text r s = absurd s
-  of_says lines endings.Usage text r s = absurd s
-  of_says lines (endings.NoPosition f) text r s = absurd s
-  of_says lines endings.NoMemory text r s = absurd s
-  of_says lines endings.WritingFailed text r s = absurd s
+  of_says lines e text r s = absurd s
 
   of_text : (lines : List Piece) (text : List ℕ) → AreRead start now lines → IsText revives (opening lives) lines text → Front text
   of_text lines text r (inl p) = let h = p.1 lives refl in (lines, r, h.played, h.text_is)

@@ -3,7 +3,7 @@ use Rattle.std.proofs.Common.{◌≡◌, ℕ, List, [], ◌∷◌, ◌++◌, map
 use Rattle.std.proofs.lemmas.List.{map-append}
 use Rattle.std.proofs.lemmas.List.Elements.{filter-append}
 use Rattle.std.proofs.lemmas.List.Folds.{list_any-append}
-use Rattle.line_io.specs.Event.{Event, Open, Iface, IfaceLong, IfaceEnd, IfaceLost, Engine, EngineLong, EngineEnd, EngineLost}
+use Rattle.line_io.specs.Event.{Event, Iface, IfaceLong, IfaceEnd}
 use Rattle.line_io.specs.Source.{Received}
 use Rattle.cecp_lines.specs.Quit.{is_quit}
 use Rattle.uci_lines.specs.Orders.{Order as AnyOrder}
@@ -26,29 +26,17 @@ use Rattle.reviver_runner.proofs.SettledSteps.{settled_over}
 use Rattle.life_runner.proofs.Stays.{event_stays}
 
 pub order_heard : (e : Event) → is_order e ≡ true → is_heard e ≡ true
-order_heard Open h = cc
 order_heard (Iface line) h = refl
-order_heard IfaceLong h = cc
 order_heard IfaceEnd h = refl
-order_heard IfaceLost h = cc
-order_heard (Engine line) h = cc
-order_heard EngineLong h = cc
-order_heard EngineEnd h = cc
-order_heard EngineLost h = cc
+order_heard e h = cc
 
 open_still : (l : LifeState) → l ≡ life.Over → not (is_ended l) ≡ true
 open_still l h = ap (λ (x : LifeState). not (is_ended x)) h
 
 pub may_order : (s : State) (e : Event) → s.life ≡ life.Over → is_order e ≡ true → may_happen s e ≡ true
-may_order s Open a h = cc
 may_order s (Iface line) a h = open_still s.life a
-may_order s IfaceLong a h = cc
 may_order s IfaceEnd a h = open_still s.life a
-may_order s IfaceLost a h = cc
-may_order s (Engine line) a h = cc
-may_order s EngineLong a h = cc
-may_order s EngineEnd a h = cc
-may_order s EngineLost a h = cc
+may_order s e a h = cc
 
 -- NOTHING IS WRITTEN TO NO LIFE
 
@@ -96,61 +84,31 @@ order_over : (s : State) (line : List ℕ) → s.life ≡ life.Over → (after s
 order_over s line h = settled_over (ordering s line) (ordering_over s line h)
 
 event_child_over : (s : State) (e : Event) → is_order e ≡ true → s.life ≡ life.Over → event_child s e ≡ []
-event_child_over s Open o h = cc
 event_child_over s (Iface line) o h = order_child s line h
-event_child_over s IfaceLong o h = cc
 event_child_over s IfaceEnd o h = order_child s (codes "quit") h
-event_child_over s IfaceLost o h = cc
-event_child_over s (Engine line) o h = cc
-event_child_over s EngineLong o h = cc
-event_child_over s EngineEnd o h = cc
-event_child_over s EngineLost o h = cc
+event_child_over s e o h = cc
 
 event_over : (s : State) (e : Event) → is_order e ≡ true → s.life ≡ life.Over → (state_after s e).life ≡ life.Over
-event_over s Open o h = cc
 event_over s (Iface line) o h = order_over s line h
-event_over s IfaceLong o h = cc
 event_over s IfaceEnd o h = order_over s (codes "quit") h
-event_over s IfaceLost o h = cc
-event_over s (Engine line) o h = cc
-event_over s EngineLong o h = cc
-event_over s EngineEnd o h = cc
-event_over s EngineLost o h = cc
+event_over s e o h = cc
 
 -- ONE EVENT OF THE INTERFACE
 
 order_open : (e : Event) → is_order e ≡ true → has_close (e ∷ []) ≡ false
-order_open Open h = cc
 order_open (Iface line) h = refl
-order_open IfaceLong h = cc
 order_open IfaceEnd h = refl
-order_open IfaceLost h = cc
-order_open (Engine line) h = cc
-order_open EngineLong h = cc
-order_open EngineEnd h = cc
-order_open EngineLost h = cc
+order_open e h = cc
 
 order_told : (e : Event) → is_order e ≡ true → map as_long (e ∷ []) ≡ told_of (e ∷ [])
-order_told Open h = cc
 order_told (Iface line) h = refl
-order_told IfaceLong h = cc
 order_told IfaceEnd h = refl
-order_told IfaceLost h = cc
-order_told (Engine line) h = cc
-order_told EngineLong h = cc
-order_told EngineEnd h = cc
-order_told EngineLost h = cc
+order_told e h = cc
 
 order_ends : (e : Event) → is_order e ≡ true → ends_in (e ∷ []) ≡ 0
-order_ends Open h = cc
 order_ends (Iface line) h = refl
-order_ends IfaceLong h = cc
 order_ends IfaceEnd h = refl
-order_ends IfaceLost h = cc
-order_ends (Engine line) h = cc
-order_ends EngineLong h = cc
-order_ends EngineEnd h = cc
-order_ends EngineLost h = cc
+order_ends e h = cc
 
 pub drained_order : (s s' : State) (taken taken' : List Event) (e : Event) (o o' l l' : Received) (f g : LoopEnd) → is_order e ≡ true → s.life ≡ life.Over → taken' ≡ taken ++ e ∷ [] → s' ≡ state_after s e
     → Offered f.output g.output o o' (event_up s e) → Offered f.log g.log l l' (event_text s e) → Drained s s' taken taken' o o' l l' f g

@@ -2,7 +2,7 @@
 use Rattle.std.proofs.Common.{◌≡◌, ◌∙◌, ℕ, suc, ◌+◌, ◌≤◌, List, [], ◌∷◌, ◌++◌, map, codes, length, Bool, true, false, cond, ◌||◌, ◌&&◌, Option, Some, None, refl, sym, ap, subst, arith, append-nil, append_assoc}
 use Rattle.std.proofs.lemmas.List.{length-append}
 use Rattle.std.specs.List.{AllByRecursion}
-use Rattle.line_io.specs.Event.{Event, Open, Iface, IfaceLong, IfaceEnd, IfaceLost, Engine, EngineLong, EngineEnd, EngineLost}
+use Rattle.line_io.specs.Event.{Event, Iface, IfaceLong, IfaceEnd, Engine, EngineLong, EngineEnd}
 use Rattle.line_io.specs.Lines.{Piece, Whole, TooLong, items}
 use Rattle.line_io.specs.Runs.{whole}
 use Rattle.line_io.specs.Source.{Supplied, Received}
@@ -61,15 +61,8 @@ last_of_lives l [] = ap ends_long (append-nil (l.lines ++ EngineLong ∷ [])) �
 last_of_lives l (m ∷ lives) = last_append (l.lines ++ EngineLong ∷ []) (life_events (m ∷ lives)) (last_of_lives m lives)
 
 one_long : (e : Event) → is_long e ≡ true → 1 ≤ ends_in (e ∷ [])
-one_long Open h = cc
-one_long (Iface line) h = cc
-one_long IfaceLong h = cc
-one_long IfaceEnd h = cc
-one_long IfaceLost h = cc
-one_long (Engine line) h = cc
 one_long EngineLong h = omega arith
-one_long EngineEnd h = cc
-one_long EngineLost h = cc
+one_long e h = cc
 
 has_one : (es : List Event) → ends_long es ≡ true → 1 ≤ ends_in es
 has_one [] h = cc
@@ -111,75 +104,42 @@ lives_ends (l ∷ lives) a =
 
 ends_of : (es : List Event) → ends_in (of 2 es) ≡ ends_in es
 ends_of [] = refl
-ends_of (Open ∷ es) = ends_of es
-ends_of (Iface line ∷ es) = ends_of es
-ends_of (IfaceLong ∷ es) = ends_of es
-ends_of (IfaceEnd ∷ es) = ends_of es
-ends_of (IfaceLost ∷ es) = ends_of es
-ends_of (Engine line ∷ es) = ends_of es
 ends_of (EngineLong ∷ es) = ap suc (ends_of es)
-ends_of (EngineEnd ∷ es) = ends_of es
-ends_of (EngineLost ∷ es) = ends_of es
+ends_of (x ∷ es) = ends_of es
 
 engine_marks : (es : List Event) → map as_long (of 2 es) ≡ of 2 (map as_long es)
 engine_marks [] = refl
-engine_marks (Open ∷ es) = engine_marks es
-engine_marks (Iface line ∷ es) = engine_marks es
-engine_marks (IfaceLong ∷ es) = engine_marks es
-engine_marks (IfaceEnd ∷ es) = engine_marks es
-engine_marks (IfaceLost ∷ es) = engine_marks es
 engine_marks (Engine line ∷ es) = ap (λ (l : List Event). Engine line ∷ l) (engine_marks es)
 engine_marks (EngineLong ∷ es) = ap (λ (l : List Event). EngineLong ∷ l) (engine_marks es)
 engine_marks (EngineEnd ∷ es) = ap (λ (l : List Event). EngineLong ∷ l) (engine_marks es)
-engine_marks (EngineLost ∷ es) = engine_marks es
+engine_marks (x ∷ es) = engine_marks es
 
 engine_told : (es : List Event) → of 2 (told_of es) ≡ of 2 es
 engine_told [] = refl
-engine_told (Open ∷ es) = engine_told es
-engine_told (Iface line ∷ es) = engine_told es
-engine_told (IfaceLong ∷ es) = engine_told es
-engine_told (IfaceEnd ∷ es) = engine_told es
-engine_told (IfaceLost ∷ es) = engine_told es
 engine_told (Engine line ∷ es) = ap (λ (l : List Event). Engine line ∷ l) (engine_told es)
 engine_told (EngineLong ∷ es) = ap (λ (l : List Event). EngineLong ∷ l) (engine_told es)
 engine_told (EngineEnd ∷ es) = ap (λ (l : List Event). EngineEnd ∷ l) (engine_told es)
-engine_told (EngineLost ∷ es) = engine_told es
+engine_told (x ∷ es) = engine_told es
 
 iface_marks : (es : List Event) → of 1 (map as_long es) ≡ of 1 es
 iface_marks [] = refl
-iface_marks (Open ∷ es) = iface_marks es
 iface_marks (Iface line ∷ es) = ap (λ (l : List Event). Iface line ∷ l) (iface_marks es)
 iface_marks (IfaceLong ∷ es) = ap (λ (l : List Event). IfaceLong ∷ l) (iface_marks es)
 iface_marks (IfaceEnd ∷ es) = ap (λ (l : List Event). IfaceEnd ∷ l) (iface_marks es)
-iface_marks (IfaceLost ∷ es) = iface_marks es
-iface_marks (Engine line ∷ es) = iface_marks es
-iface_marks (EngineLong ∷ es) = iface_marks es
-iface_marks (EngineEnd ∷ es) = iface_marks es
-iface_marks (EngineLost ∷ es) = iface_marks es
+iface_marks (x ∷ es) = iface_marks es
 
 iface_told : (es : List Event) → of 1 (told_of es) ≡ told_of (of 1 es)
 iface_told [] = refl
-iface_told (Open ∷ es) = iface_told es
 iface_told (Iface line ∷ es) = ap (λ (l : List Event). Iface line ∷ l) (iface_told es)
-iface_told (IfaceLong ∷ es) = iface_told es
 iface_told (IfaceEnd ∷ es) = ap (λ (l : List Event). IfaceEnd ∷ l) (iface_told es)
-iface_told (IfaceLost ∷ es) = iface_told es
-iface_told (Engine line ∷ es) = iface_told es
-iface_told (EngineLong ∷ es) = iface_told es
-iface_told (EngineEnd ∷ es) = iface_told es
-iface_told (EngineLost ∷ es) = iface_told es
+iface_told (x ∷ es) = iface_told es
 
 ended_told : (es : List Event) → ended (told_of es) ≡ ended es
 ended_told [] = refl
-ended_told (Open ∷ es) = ended_told es
 ended_told (Iface line ∷ es) = ap (λ (b : Bool). is_quit line || b) (ended_told es)
-ended_told (IfaceLong ∷ es) = ended_told es
 ended_told (IfaceEnd ∷ es) = refl
-ended_told (IfaceLost ∷ es) = ended_told es
-ended_told (Engine line ∷ es) = ended_told es
-ended_told (EngineLong ∷ es) = ended_told es
 ended_told (EngineEnd ∷ es) = refl
-ended_told (EngineLost ∷ es) = ended_told es
+ended_told (x ∷ es) = ended_told es
 
 -- THE LAST ORDER IS THE QUIT
 
@@ -195,14 +155,7 @@ keeping_quit : (s : State) (order : AnyOrder) → (keeping s order).quit ≡ s.q
 keeping_quit s (orders.SetOption name (Some value)) =
     value_quit (can_join s.kept (orders.SetOption name (Some value)) && can_join s.unsent (orders.SetOption name (Some value))) s (orders.SetOption name (Some value))
 keeping_quit s (orders.SetOption name None) = button_quit (can_join s.unsent (orders.SetOption name None)) s (orders.SetOption name None)
-keeping_quit s orders.NewGame = refl
-keeping_quit s (orders.Position fen moves) = refl
-keeping_quit s (orders.Go ponder control depth) = refl
-keeping_quit s orders.PonderHit = refl
-keeping_quit s orders.Stop = refl
-keeping_quit s orders.Uci = refl
-keeping_quit s orders.IsReady = refl
-keeping_quit s orders.Quit = refl
+keeping_quit s order = refl
 
 accepting_quit : (up : Option DialogueState) (s : State) (order : AnyOrder) → (accepting up s order).quit ≡ s.quit
 accepting_quit None s order = refl
@@ -239,15 +192,11 @@ next_quit true s = settled_quit (beginning (ending s)) ∙ or_none s.quit
 next_quit false s = settled_quit (closing (ending s)) ∙ or_none s.quit
 
 event_quit : (s : State) (e : Event) → (state_after s e).quit ≡ (s.quit || ended (of 1 (e ∷ [])))
-event_quit s Open = over_quit s
 event_quit s (Iface line) = order_quit s line
-event_quit s IfaceLong = over_quit s
 event_quit s IfaceEnd = order_quit s (codes "quit")
-event_quit s IfaceLost = over_quit s
 event_quit s (Engine line) = settled_quit (hearing s (said_in line)) ∙ or_none s.quit
 event_quit s EngineLong = next_quit (may_begin s) s
-event_quit s EngineEnd = over_quit s
-event_quit s EngineLost = over_quit s
+event_quit s e = over_quit s
 
 quit_behind : (s : State) (es : List Event) → (state_behind s es).quit ≡ (s.quit || ended (of 1 es))
 quit_behind s [] = or_none s.quit

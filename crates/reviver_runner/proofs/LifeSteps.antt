@@ -5,7 +5,7 @@ use Rattle.std.proofs.lemmas.List.Elements.{filter-append}
 use Rattle.std.proofs.lemmas.List.Folds.{list_any-append}
 use Rattle.std.proofs.lemmas.Grind.{flat_map-append}
 use Rattle.std.specs.List.{AllByRecursion, list_any}
-use Rattle.line_io.specs.Event.{Event, Open, Iface, IfaceLong, IfaceEnd, IfaceLost, Engine, EngineLong, EngineEnd, EngineLost}
+use Rattle.line_io.specs.Event.{Event, Open, Iface, IfaceEnd, Engine, EngineLong, EngineEnd}
 use Rattle.line_io.specs.Source.{Supplied, Received}
 use Rattle.child_engine.specs.declared.host.HostFault.{HostFault}
 use Rattle.engine_revival.specs.declared.state.State.{State}
@@ -46,63 +46,34 @@ or_second false b h = h
 pub no_mark_heard : (es : List Event) → has_close (heard_of es) ≡ false
 no_mark_heard [] = refl
 no_mark_heard (Open ∷ es) = no_mark_heard es
-no_mark_heard (Iface line ∷ es) = no_mark_heard es
-no_mark_heard (IfaceLong ∷ es) = no_mark_heard es
-no_mark_heard (IfaceEnd ∷ es) = no_mark_heard es
-no_mark_heard (IfaceLost ∷ es) = no_mark_heard es
-no_mark_heard (Engine line ∷ es) = no_mark_heard es
-no_mark_heard (EngineLong ∷ es) = no_mark_heard es
-no_mark_heard (EngineEnd ∷ es) = no_mark_heard es
-no_mark_heard (EngineLost ∷ es) = no_mark_heard es
+no_mark_heard (x ∷ es) = no_mark_heard es
 
 -- where there is no mark, what is heard is what is told
 pub heard_told : (es : List Event) → has_close es ≡ false → map as_long (heard_of es) ≡ told_of es
 heard_told [] h = refl
-heard_told (Open ∷ es) h = heard_told es h
 heard_told (Iface line ∷ es) h = ap (λ (l : List Event). Iface line ∷ l) (heard_told es h)
-heard_told (IfaceLong ∷ es) h = heard_told es h
 heard_told (IfaceEnd ∷ es) h = ap (λ (l : List Event). IfaceEnd ∷ l) (heard_told es h)
-heard_told (IfaceLost ∷ es) h = heard_told es h
 heard_told (Engine line ∷ es) h = ap (λ (l : List Event). Engine line ∷ l) (heard_told es h)
 heard_told (EngineLong ∷ es) h = cc
 heard_told (EngineEnd ∷ es) h = cc
-heard_told (EngineLost ∷ es) h = heard_told es h
+heard_told (x ∷ es) h = heard_told es h
 
 pub no_ends : (es : List Event) → has_close es ≡ false → ends_in es ≡ 0
 no_ends [] h = refl
-no_ends (Open ∷ es) h = no_ends es h
-no_ends (Iface line ∷ es) h = no_ends es h
-no_ends (IfaceLong ∷ es) h = no_ends es h
-no_ends (IfaceEnd ∷ es) h = no_ends es h
-no_ends (IfaceLost ∷ es) h = no_ends es h
-no_ends (Engine line ∷ es) h = no_ends es h
 no_ends (EngineLong ∷ es) h = cc
 no_ends (EngineEnd ∷ es) h = cc
-no_ends (EngineLost ∷ es) h = no_ends es h
+no_ends (x ∷ es) h = no_ends es h
 
 no_refusal : (es : List Event) → has_close es ≡ false → has_refusal es ≡ false
 no_refusal [] h = refl
-no_refusal (Open ∷ es) h = no_refusal es h
-no_refusal (Iface line ∷ es) h = no_refusal es h
-no_refusal (IfaceLong ∷ es) h = no_refusal es h
-no_refusal (IfaceEnd ∷ es) h = no_refusal es h
-no_refusal (IfaceLost ∷ es) h = no_refusal es h
-no_refusal (Engine line ∷ es) h = no_refusal es h
 no_refusal (EngineLong ∷ es) h = cc
 no_refusal (EngineEnd ∷ es) h = cc
-no_refusal (EngineLost ∷ es) h = no_refusal es h
+no_refusal (x ∷ es) h = no_refusal es h
 
 pub ends_append : (es fs : List Event) → ends_in (es ++ fs) ≡ ends_in es + ends_in fs
 ends_append [] fs = omega arith
-ends_append (Open ∷ es) fs = ends_append es fs
-ends_append (Iface line ∷ es) fs = ends_append es fs
-ends_append (IfaceLong ∷ es) fs = ends_append es fs
-ends_append (IfaceEnd ∷ es) fs = ends_append es fs
-ends_append (IfaceLost ∷ es) fs = ends_append es fs
-ends_append (Engine line ∷ es) fs = ends_append es fs
 ends_append (EngineLong ∷ es) fs = let more = ends_append es fs in omega (arith, more)
-ends_append (EngineEnd ∷ es) fs = ends_append es fs
-ends_append (EngineLost ∷ es) fs = ends_append es fs
+ends_append (x ∷ es) fs = ends_append es fs
 
 -- what is written to the present life
 more_text : (ended : List (List ℕ)) (a b c d : List ℕ) → d ≡ b ++ c → ◌≡◌ {A = ToLives} (record { ended = ended; present = (a ++ b) ++ c }) (record { ended = ended; present = a ++ d })

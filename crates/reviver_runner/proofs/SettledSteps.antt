@@ -13,37 +13,13 @@ record Same (s s' : State) : Type 0 where
   quit : s'.quit ≡ s.quit
 
 answered : (l : LifeState) (u : DialogueState) (s : State) → Same s (after_answer (answer_to l u) s)
-answered life.Over upper.Before s = record { life = refl; quit = refl }
-answered life.Over upper.Idle s = record { life = refl; quit = refl }
-answered life.Over upper.Placed s = record { life = refl; quit = refl }
-answered life.Over upper.Boot s = record { life = refl; quit = refl }
-answered life.Over upper.Getting s = record { life = refl; quit = refl }
-answered life.Over (upper.Search kinds.Move stopped) s = record { life = refl; quit = refl }
 answered life.Over (upper.Search kinds.Ponder true) s = record { life = refl; quit = refl }
-answered life.Over (upper.Search kinds.Ponder false) s = record { life = refl; quit = refl }
 answered life.Over (upper.Search kinds.Analyse true) s = record { life = refl; quit = refl }
-answered life.Over (upper.Search kinds.Analyse false) s = record { life = refl; quit = refl }
-answered life.Fresh u s = record { life = refl; quit = refl }
-answered life.Boot u s = record { life = refl; quit = refl }
-answered life.Getting u s = record { life = refl; quit = refl }
-answered life.Idle u s = record { life = refl; quit = refl }
-answered life.Search u s = record { life = refl; quit = refl }
-answered life.Ended u s = record { life = refl; quit = refl }
+answered l u s = record { life = refl; quit = refl }
 
 due_quit : (l : LifeState) (q : Bool) (u : DialogueState) (s : State) → (after_due (due_to l q u) s).quit ≡ s.quit
 due_quit life.Idle false upper.Before s = refl
-due_quit life.Idle false upper.Boot s = refl
-due_quit life.Idle false upper.Idle s = refl
-due_quit life.Idle false upper.Placed s = refl
-due_quit life.Idle false upper.Getting s = refl
-due_quit life.Idle false (upper.Search kind stopped) s = refl
-due_quit life.Idle true u s = refl
-due_quit life.Fresh q u s = refl
-due_quit life.Boot q u s = refl
-due_quit life.Getting q u s = refl
-due_quit life.Search q u s = refl
-due_quit life.Ended q u s = refl
-due_quit life.Over q u s = refl
+due_quit l q u s = refl
 
 pub settled_quit : (s : State) → (settled s).quit ≡ s.quit
 settled_quit s = (answered s.life s.upper (after_due (due_of s) s)).quit ∙ due_quit s.life s.quit s.upper s

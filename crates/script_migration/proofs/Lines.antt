@@ -82,18 +82,12 @@ module _ (s0 s : Migration) (lines : List Piece) (front : List ℕ) (m : Migrate
   pub finished_put : (ending : Ending) → (IsOfLine ending → ⊥) → IsReason lines ending × (front ++ beginning_by s.last s.settings ≡ migrated s0.settings lines)
   finished_put ending i = (reason ending i, text_is) where
     reason : (e : Ending) → (IsOfLine e → ⊥) → IsReason lines e
-    reason endings.Done i = m.marked
-    reason endings.ReadingFailed i = m.marked
-    reason endings.TooLong i = m.marked
-    reason endings.WritingFailed i = m.marked
-    reason endings.NoMemory i = m.marked
-    reason endings.Usage i = m.marked
-    reason (endings.NoPosition f) i = m.marked
     reason (endings.NoMark n) i = absurd (i tt)
     reason (endings.OutOfStep n) i = absurd (i tt)
     reason (endings.MayNotCome n) i = absurd (i tt)
     reason (endings.Differs n) i = absurd (i tt)
     reason (endings.Unlawful n) i = absurd (i tt)
+    reason e i = m.marked
 
 pub sound_begun : (old new : Migration) (text text' : Text) (number : ℕ) → IsSound old → Begins old text number new text' → number < 10 ^ 18 → IsSound new
 sound_begun old new text text' number i b l = record {

@@ -92,13 +92,7 @@ module _ (settings : Settings) (s0 : Migration) (same : s0.settings ≡ settings
   no_mark_is lines (endings.Unlawful n) r i = absurd r
   no_mark_is lines (endings.OutOfStep n) r i = absurd r
   no_mark_is lines (endings.MayNotCome n) r i = absurd r
-  no_mark_is lines endings.Done r i = absurd i
-  no_mark_is lines endings.Usage r i = absurd i
-  no_mark_is lines (endings.NoPosition f) r i = absurd i
-  no_mark_is lines endings.NoMemory r i = absurd i
-  no_mark_is lines endings.ReadingFailed r i = absurd i
-  no_mark_is lines endings.WritingFailed r i = absurd i
-  no_mark_is lines endings.TooLong r i = absurd i
+  no_mark_is lines e r i = absurd i
 
   reported : (n : ℕ) → Reported n → UnmarkedReported settings start now
   reported n r =

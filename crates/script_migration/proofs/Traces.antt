@@ -54,15 +54,9 @@ written_script s =
     ∙ ap (λ t. lines_marked 88 (iface_text s) ++ t) (engine_script (parts (engine_text s)))
 
 event_script : (e : Event) → script_of (event_mark e) ≡ event_marked e
-event_script Open = refl
 event_script (events.Iface line) = append-nil (event_marked (events.Iface line))
-event_script events.IfaceLong = refl
-event_script events.IfaceEnd = refl
-event_script events.IfaceLost = refl
 event_script (events.Engine line) = append-nil (event_marked (events.Engine line))
-event_script events.EngineLong = refl
-event_script events.EngineEnd = refl
-event_script events.EngineLost = refl
+event_script e = refl
 
 step_script : (s : Step) → script_of (marks_of_step s) ≡ step_text s
 step_script s =
@@ -97,25 +91,11 @@ written_spelled s w = spelled_append (map (λ line. ToIface line) (parts (iface_
 -- the mark of an event that has one
 mark_is : (e : Event) → IsSpelled (Happens e) → event_mark e ≡ Happens e ∷ []
 mark_is Open i = absurd i
-mark_is (events.Iface line) i = refl
-mark_is events.IfaceLong i = refl
-mark_is events.IfaceEnd i = refl
-mark_is events.IfaceLost i = refl
-mark_is (events.Engine line) i = refl
-mark_is events.EngineLong i = refl
-mark_is events.EngineEnd i = refl
-mark_is events.EngineLost i = refl
+mark_is e i = refl
 
 marked_is : (e : Event) → IsSpelled (Happens e) → event_marked e ≡ line_text (event_text e)
 marked_is Open i = absurd i
-marked_is (events.Iface line) i = refl
-marked_is events.IfaceLong i = refl
-marked_is events.IfaceEnd i = refl
-marked_is events.IfaceLost i = refl
-marked_is (events.Engine line) i = refl
-marked_is events.EngineLong i = refl
-marked_is events.EngineEnd i = refl
-marked_is events.EngineLost i = refl
+marked_is e i = refl
 
 event_spelled : (e : Event) → IsSpelled (Happens e) → AreSpelled (event_mark e)
 event_spelled e i = subst AreSpelled (sym (mark_is e i)) (i, tt)

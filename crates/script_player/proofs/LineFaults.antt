@@ -51,17 +51,7 @@ no_reading e i h = subst IsLineFault h i
 
 cut_is : (e : Ending) → is_cut e ≡ true → e ≡ endings.WritingFailed
 cut_is endings.WritingFailed h = refl
-cut_is (endings.NoMark n) h = cc
-cut_is (endings.OutOfStep n) h = cc
-cut_is (endings.MayNotCome n) h = cc
-cut_is endings.Done h = cc
-cut_is (endings.Differs n) h = cc
-cut_is (endings.Unlawful n) h = cc
-cut_is endings.Usage h = cc
-cut_is (endings.NoPosition fault) h = cc
-cut_is endings.NoMemory h = cc
-cut_is endings.ReadingFailed h = cc
-cut_is endings.TooLong h = cc
+cut_is e h = cc
 
 pub left_cut : (o : Settings) (lines : List Piece) (ending : Ending) (player : Player) (before after : Received) → is_cut ending ≡ true → Halted o ending lines player before after → Left o lines ending ending before after
 left_cut o lines ending player before after c h = by h.halts where

@@ -22,7 +22,7 @@ use Rattle.command_endings.specs.declared.ending.Ending.{Ending}
 use Rattle.command_endings.specs.declared.ending.Ending.TheVariants as endings
 use Rattle.script_player.specs.declared.stage.Stage.{Stage}
 use Rattle.script_player.specs.declared.stage.Stage.TheVariants as stages
-use Rattle.script_player.specs.Versions.{Kind, Tells, Writes, Numbers, HasNone, kind_of, Version, First, Second, version_by, version_in, behind_header, header_lines, settings_by, script_by, Said, Comes, Passes, Starts, HasNoMark, IsOutOfStep, Cannot, event_says, number_says, kind_says, line_says, stage_started, stage_told, Place, place_said, place_over, fault_said, first_fault, events_said, events_of, opened, beginning, fault_by, events_by, script_fault, script_events}
+use Rattle.script_player.specs.Versions.{Kind, Tells, Numbers, kind_of, Version, First, Second, version_by, version_in, behind_header, header_lines, settings_by, script_by, Said, Comes, Passes, Starts, HasNoMark, IsOutOfStep, Cannot, event_says, number_says, kind_says, line_says, stage_started, stage_told, Place, place_said, place_over, fault_said, first_fault, events_said, events_of, opened, beginning, fault_by, events_by, script_fault, script_events}
 use Rattle.script_player.specs.Playing.{Steps, Takes, text_at, CountIs, Playing, Scripted, Played}
 use Rattle.script_player.proofs.VersionLines.{place_more, fault_more, events_more, behind_more, behind_length}
 
@@ -41,21 +41,13 @@ no_start due n e h = by (n == due) h where
 
 comes_at : (v : Version) (stage : Stage) (count : ℕ) (ends : Ends) (kind : Kind) (e : Event) → CountIs v stage count → kind_says stage ends kind ≡ Comes e → Fits v stage count
 comes_at First stages.Plain count ends kind e c h = AtPlain refl refl
-comes_at First stages.Start count ends kind e c h = absurd c
-comes_at First stages.Headed count ends kind e c h = absurd c
-comes_at First (stages.Told n) count ends kind e c h = absurd c
-comes_at First (stages.Numbered n) count ends kind e c h = absurd c
+comes_at (Second s) stages.Headed count ends (Numbers n) e c h = absurd (no_start 0 n e h)
+comes_at (Second s) (stages.Told last) count ends (Numbers n) e c h = absurd (no_start (step_number (last + 1)) n e h)
+comes_at (Second s) (stages.Numbered n) count ends kind e c h = AtNumber s n refl refl c
 comes_at (Second s) stages.Plain count ends kind e c h = absurd c
 comes_at (Second s) stages.Start count ends kind e c h = absurd c
-comes_at (Second s) stages.Headed count ends (Tells x) e c h = cc
-comes_at (Second s) stages.Headed count ends Writes e c h = cc
-comes_at (Second s) stages.Headed count ends (Numbers n) e c h = absurd (no_start 0 n e h)
-comes_at (Second s) stages.Headed count ends HasNone e c h = cc
-comes_at (Second s) (stages.Told last) count ends (Tells x) e c h = cc
-comes_at (Second s) (stages.Told last) count ends Writes e c h = cc
-comes_at (Second s) (stages.Told last) count ends (Numbers n) e c h = absurd (no_start (step_number (last + 1)) n e h)
-comes_at (Second s) (stages.Told last) count ends HasNone e c h = cc
-comes_at (Second s) (stages.Numbered n) count ends kind e c h = AtNumber s n refl refl c
+comes_at (Second s) stage count ends kind e c h = cc
+comes_at v stage count ends kind e c h = absurd c
 
 no_event : (ends : Ends) (e : Event) (n : ℕ) → event_says ends e ≡ Starts n → ⊥
 no_event ends e n h = by (may ends e) h where
@@ -72,27 +64,15 @@ is_due due n m h = by (n == due) refl h where
 -- the number of a step is counted
 starts_at : (v : Version) (stage : Stage) (count : ℕ) (ends : Ends) (kind : Kind) (m : ℕ) → CountIs v stage count → kind_says stage ends kind ≡ Starts m → CountIs v (stage_started stage m) count
 starts_at First stages.Plain count ends (Tells e) m c h = absurd (no_event ends e m h)
-starts_at First stages.Plain count ends Writes m c h = cc
-starts_at First stages.Plain count ends (Numbers n) m c h = cc
-starts_at First stages.Plain count ends HasNone m c h = cc
-starts_at First stages.Start count ends kind m c h = absurd c
 starts_at First stages.Headed count ends kind m c h = absurd c
 starts_at First (stages.Told n) count ends kind m c h = absurd c
 starts_at First (stages.Numbered n) count ends kind m c h = absurd c
 starts_at (Second s) stages.Plain count ends kind m c h = absurd c
-starts_at (Second s) stages.Start count ends kind m c h = absurd c
-starts_at (Second s) stages.Headed count ends (Tells x) m c h = cc
-starts_at (Second s) stages.Headed count ends Writes m c h = cc
 starts_at (Second s) stages.Headed count ends (Numbers n) m c h = (0, c, is_due 0 n m h)
-starts_at (Second s) stages.Headed count ends HasNone m c h = cc
-starts_at (Second s) (stages.Told last) count ends (Tells x) m c h = cc
-starts_at (Second s) (stages.Told last) count ends Writes m c h = cc
 starts_at (Second s) (stages.Told last) count ends (Numbers n) m c h = is_due (step_number (last + 1)) n m h ∙ number_next last c.0 c.2 ∙ ap step_number (sym c.1)
-starts_at (Second s) (stages.Told last) count ends HasNone m c h = cc
 starts_at (Second s) (stages.Numbered n) count ends (Tells e) m c h = absurd (no_event ends e m h)
-starts_at (Second s) (stages.Numbered n) count ends Writes m c h = cc
-starts_at (Second s) (stages.Numbered n) count ends (Numbers k) m c h = cc
-starts_at (Second s) (stages.Numbered n) count ends HasNone m c h = cc
+starts_at v stages.Start count ends kind m c h = absurd c
+starts_at v stage count ends kind m c h = cc
 
 -- after its event the step is counted
 told_at : (v : Version) (stage : Stage) (count : ℕ) → Fits v stage count → CountIs v (stage_told stage) (suc count)
@@ -311,23 +291,11 @@ event_may ends x e h = by (may ends x) refl h where
 
 -- an event that comes may come
 pub comes_may : (stage : Stage) (ends : Ends) (kind : Kind) (e : Event) → kind_says stage ends kind ≡ Comes e → may ends e ≡ true
-comes_may stages.Start ends kind e h = cc
 comes_may stages.Plain ends (Tells x) e h = event_may ends x e h
-comes_may stages.Plain ends Writes e h = cc
-comes_may stages.Plain ends (Numbers n) e h = cc
-comes_may stages.Plain ends HasNone e h = cc
-comes_may stages.Headed ends (Tells x) e h = cc
-comes_may stages.Headed ends Writes e h = cc
 comes_may stages.Headed ends (Numbers n) e h = absurd (no_start 0 n e h)
-comes_may stages.Headed ends HasNone e h = cc
-comes_may (stages.Told last) ends (Tells x) e h = cc
-comes_may (stages.Told last) ends Writes e h = cc
 comes_may (stages.Told last) ends (Numbers n) e h = absurd (no_start (step_number (last + 1)) n e h)
-comes_may (stages.Told last) ends HasNone e h = cc
 comes_may (stages.Numbered n) ends (Tells x) e h = event_may ends x e h
-comes_may (stages.Numbered n) ends Writes e h = cc
-comes_may (stages.Numbered n) ends (Numbers k) e h = cc
-comes_may (stages.Numbered n) ends HasNone e h = cc
+comes_may stage ends kind e h = cc
 
 pub told_numbered : (stage : Stage) → IsNumbered stage → IsNumbered (stage_told stage)
 told_numbered stages.Start i = i
@@ -347,23 +315,11 @@ due_below : (k n m : ℕ) → number_says (step_number k) n ≡ Starts m → m <
 due_below k n m h = let e = is_due (step_number k) n m h in let b = number_below k in omega (arith, e, b)
 
 starts_below : (stage : Stage) (ends : Ends) (kind : Kind) (m : ℕ) → kind_says stage ends kind ≡ Starts m → m < 10 ^ 18
-starts_below stages.Start ends kind m h = cc
 starts_below stages.Plain ends (Tells x) m h = absurd (no_event ends x m h)
-starts_below stages.Plain ends Writes m h = cc
-starts_below stages.Plain ends (Numbers n) m h = cc
-starts_below stages.Plain ends HasNone m h = cc
-starts_below stages.Headed ends (Tells x) m h = cc
-starts_below stages.Headed ends Writes m h = cc
 starts_below stages.Headed ends (Numbers n) m h = let e = is_due 0 n m h in omega (arith, e)
-starts_below stages.Headed ends HasNone m h = cc
-starts_below (stages.Told last) ends (Tells x) m h = cc
-starts_below (stages.Told last) ends Writes m h = cc
 starts_below (stages.Told last) ends (Numbers n) m h = due_below (last + 1) n m h
-starts_below (stages.Told last) ends HasNone m h = cc
 starts_below (stages.Numbered n) ends (Tells x) m h = absurd (no_event ends x m h)
-starts_below (stages.Numbered n) ends Writes m h = cc
-starts_below (stages.Numbered n) ends (Numbers k) m h = cc
-starts_below (stages.Numbered n) ends HasNone m h = cc
+starts_below stage ends kind m h = cc
 
 pub starts_numbered : (stage : Stage) (ends : Ends) (kind : Kind) (m : ℕ) → kind_says stage ends kind ≡ Starts m → IsNumbered (stage_started stage m)
 starts_numbered stage ends kind m h = started_numbered stage m (starts_below stage ends kind m h)

@@ -68,15 +68,6 @@ ends_by : (o : Settings) (lines : List Piece) (ending : Ending) (game : Game) (b
     → Lawful (settings_by (version_in lines) o) trace → events trace ≡ script_events lines
     → before ≡ text_over (settings_by (version_in lines) o) trace → game ≡ game_of (settings_by (version_in lines) o) trace
     → Says o lines ending (before ++ games_text (last_by ending game))
-ends_by o lines (endings.Differs n) game before trace i f l e b same = absurd i
-ends_by o lines (endings.Unlawful n) game before trace i f l e b same = absurd i
-ends_by o lines endings.Usage game before trace i f l e b same = absurd i
-ends_by o lines (endings.NoMark n) game before trace i f l e b same = absurd i
-ends_by o lines (endings.OutOfStep n) game before trace i f l e b same = absurd i
-ends_by o lines (endings.MayNotCome n) game before trace i f l e b same = absurd i
-ends_by o lines (endings.NoPosition fault) game before trace i f l e b same = absurd i
-ends_by o lines endings.NoMemory game before trace i f l e b same = absurd i
-ends_by o lines endings.WritingFailed game before trace i f l e b same = absurd i
 ends_by o lines endings.ReadingFailed game before trace i f l e b same = (f, record { trace = trace; lawful = l; events_are = e; text_is = append-nil before ∙ b })
 ends_by o lines endings.TooLong game before trace i f l e b same = (f, record { trace = trace; lawful = l; events_are = e; text_is = append-nil before ∙ b })
 ends_by o lines endings.Done game before trace i f l e b same =
@@ -91,6 +82,7 @@ ends_by o lines endings.Done game before trace i f l e b same =
             ∙ sym (games_text-append (games_over q trace) (running (game_of q trace)));
       },
     )
+ends_by o lines ending game before trace i f l e b same = absurd i
 
 pub finished_later : (o : Settings) (lines : List Piece) (old : GameWriter) (before : List ℕ) (ending : Ending) (game : Game)
     → IsInputEnd ending → is_start old.stage ≡ false → Gathered o lines old before → game ≡ old.core.desk.game
@@ -106,15 +98,7 @@ says_fault : (o : Settings) (lines : List Piece) (f : Ending) (text : List ℕ) 
 says_fault o lines (endings.NoMark n) text h = h
 says_fault o lines (endings.OutOfStep n) text h = h
 says_fault o lines (endings.MayNotCome n) text h = h
-says_fault o lines endings.Done text h = absurd (script_has lines endings.Done h.0)
-says_fault o lines (endings.Differs n) text h = absurd (script_has lines (endings.Differs n) h.0)
-says_fault o lines (endings.Unlawful n) text h = absurd (script_has lines (endings.Unlawful n) h.0)
-says_fault o lines endings.Usage text h = absurd (script_has lines endings.Usage h.0)
-says_fault o lines (endings.NoPosition fault) text h = absurd (script_has lines (endings.NoPosition fault) h.0)
-says_fault o lines endings.NoMemory text h = absurd (script_has lines endings.NoMemory h.0)
-says_fault o lines endings.ReadingFailed text h = absurd (script_has lines endings.ReadingFailed h.0)
-says_fault o lines endings.WritingFailed text h = absurd (script_has lines endings.WritingFailed h.0)
-says_fault o lines endings.TooLong text h = absurd (script_has lines endings.TooLong h.0)
+says_fault o lines f text h = absurd (script_has lines f h.0)
 
 -- what a line came to, as a run asks for it
 pub then_by : (w0 : GameWriter) (lines : List Piece) (answer : Option Ending) (w : GameWriter) (text : List ℕ)

@@ -27,56 +27,18 @@ placed d (Err fault) = Stays refl
 
 changes : (boot : Bool) (d : Desk) (m : IfaceMsg) → Follows d.game (change boot d m).game
 unfolding change
-changes boot d says.Blank = Stays refl
-changes boot d (says.Ignored text) = Stays refl
 changes boot d says.New = Begins start_position refl
-changes boot d says.Quit = Stays refl
-changes boot d says.Force = Stays refl
-changes boot d says.Go = Stays refl
-changes boot d says.PlayOther = Stays refl
-changes boot d says.MoveNow = Stays refl
-changes boot d says.Draw = Stays refl
-changes boot d says.Hint = Stays refl
 changes boot d says.Undo = TakesBack 1 refl
 changes boot d says.Remove = TakesBack 2 refl
-changes boot d says.Hard = Stays refl
-changes boot d says.Easy = Stays refl
-changes boot d says.Post = Stays refl
-changes boot d says.NoPost = Stays refl
-changes boot d says.Analyze = Stays refl
-changes boot d says.Exit = Stays refl
-changes boot d says.Dot = Stays refl
-changes boot d says.Result = Stays refl
-changes boot d (says.Protover n) = Stays refl
-changes boot d (says.Ping n) = Stays refl
 changes boot d (says.UserMove m) = Plays (ply_of m) refl
 changes boot d (says.SetBoard text) = placed d (position_of text)
-changes boot d (says.Level mps base_ms inc_ms) = Stays refl
-changes boot d (says.St ms) = Stays refl
-changes boot d (says.Sd n) = Stays refl
-changes boot d (says.Time n) = Stays refl
-changes boot d (says.Otim n) = Stays refl
-changes boot d (says.SetOption name value) = Stays refl
-changes boot d (says.Memory n) = Stays refl
-changes boot d (says.Cores n) = Stays refl
-changes boot d (says.EgtPath kind path) = Stays refl
+changes boot d m = Stays refl
 
 effect_changes : (h : Situation) (d : Effect) → Follows h.desk.game (desk_after_effect h d).game
 unfolding desk_after_effect
-effect_changes h effects.Nothing = Stays refl
-effect_changes h effects.Opens = Stays refl
-effect_changes h effects.LongLine = Stays refl
-effect_changes h (effects.Refuses refusal line) = Stays refl
 effect_changes h (effects.Accepts m) = changes _ h.desk m
-effect_changes h (effects.Names text) = Stays refl
-effect_changes h (effects.Declares name shape) = Stays refl
-effect_changes h effects.Boots = Stays refl
-effect_changes h effects.Readies = Stays refl
-effect_changes h (effects.Thinks kind facts) = Stays refl
 effect_changes h (effects.Shows best hint) = Plays (ply_of best) refl
-effect_changes h effects.Forfeits = Stays refl
-effect_changes h effects.Answers = Stays refl
-effect_changes h effects.Dies = Stays refl
+effect_changes h d = Stays refl
 
 -- the game of a core is that of each trace for which it stands
 pub game_stands : (o : Settings) (core : Parts) (t : List Step) → Stands o core t → core.desk.game ≡ (state o t).desk.game

@@ -132,13 +132,7 @@ module _ (o : Settings) (w0 : GameWriter) (is_new : w0 ≡ fresh o) (unused : Is
   faulted_by lines (endings.MayNotCome n) text i s = (s, refl)
   faulted_by lines (endings.Differs n) text i s = absurd s
   faulted_by lines (endings.Unlawful n) text i s = absurd s
-  faulted_by lines endings.Done text i s = absurd i
-  faulted_by lines endings.Usage text i s = absurd i
-  faulted_by lines (endings.NoPosition f) text i s = absurd i
-  faulted_by lines endings.NoMemory text i s = absurd i
-  faulted_by lines endings.ReadingFailed text i s = absurd i
-  faulted_by lines endings.WritingFailed text i s = absurd i
-  faulted_by lines endings.TooLong text i s = absurd i
+  faulted_by lines e text i s = absurd i
 
   abbrev Reported : ℕ → Type 0
   Reported n = LineReported writes_games w0 start now n
@@ -207,12 +201,7 @@ module _ (o : Settings) (w0 : GameWriter) (is_new : w0 ≡ fresh o) (unused : Is
   said lines (endings.NoMark n) text s = inl s.1
   said lines (endings.OutOfStep n) text s = inl s.1
   said lines (endings.MayNotCome n) text s = inl s.1
-  said lines (endings.Differs n) text s = absurd s
-  said lines (endings.Unlawful n) text s = absurd s
-  said lines endings.Usage text s = absurd s
-  said lines (endings.NoPosition f) text s = absurd s
-  said lines endings.NoMemory text s = absurd s
-  said lines endings.WritingFailed text s = absurd s
+  said lines e text s = absurd s
 
   gathered : (lines : List Piece) (w : GameWriter) (text : List ℕ) → Gathered o lines w text → 0 < length text → OverOrAll lines text
   gathered [] w text g some = let n = ap length g.games in absurd (let z : ⊥ = omega (arith, n, some) in z)
