@@ -1,5 +1,6 @@
 -- What the interface commands does not depend on when the engine speaks.
 use Rattle.std.proofs.Common.{◌≡◌, ℕ, List, [], ◌∷◌, ◌++◌, map, Bool, true, false, not, cond, ◌&&◌, ◌||◌, Option, Some, None, Result, Ok, Err, refl, sym, ap, ◌∙◌}
+use Rattle.std.proofs.lemmas.Bool.{or_parts, both_ways}
 use Rattle.line_io.specs.Event.{Event}
 use Rattle.line_io.specs.Event as events
 use Rattle.cecp_lines.specs.Messages.{IfaceMsg}
@@ -13,7 +14,6 @@ use Rattle.cecp_lines.specs.declared.reply.Reason.TheVariants as reasons
 use Rattle.uci_lines.specs.Orders.{Order}
 use Rattle.option_map.specs.declared.fault.OptFault.{OptFault}
 use Rattle.option_map.specs.declared.fault.OptFault.TheVariants.{UnknownOption, BadValue}
-use Rattle.option_map.specs.Settings.{Setting}
 use Rattle.option_map.specs.Asked.{asked}
 use Rattle.policy_rules.specs.declared.settings.Settings.{Settings}
 use Rattle.policy_rules.specs.Scores.{Score, does_accept}
@@ -25,13 +25,14 @@ use Rattle.desk_rules.specs.Desk.{Situation, table, plays, has_ended, is_gone, i
 use Rattle.desk_rules.specs.Lines.{verdict, judged, asks, or_else, where_true, refused_option, does_not_fit, refusal, change}
 use Rattle.desk_rules.specs.Steps.{Effect, Nothing, LongLine, Refuses, Accepts, Boots, Thinks, Shows, Dies, classify, line_effect, desk_after_effect, answers_pings, is_death}
 use Rattle.desk_rules.specs.Replies.{row, row_accepted, result_of, result_at, offer_where, hint_row, replies_of}
+use Rattle.desk_rules.proofs.Firsts.{no_table}
 use Rattle.adapter_core.specs.Ends.{ends_after}
 use Rattle.adapter_core.specs.Trace.{State, Step, IsLawful, Lawful, state, state_after, situation, effect, owing, closed_after, desk_of, replies}
 use Rattle.adapter_core.specs.Alone.{Commanded, commanded, Alone, lone_situation, lone_effect, lone_owes, lone_after, lone_replies, alone, is_of_iface, iface_events, is_answer, is_overfull, tells_of_engine, IsWithoutSay, DeskIsAlone, IsApartFromEngine, RepliesAreAlone}
 use Rattle.adapter_core.proofs.Fresh.{calls_move, call_is}
 use Rattle.adapter_core.proofs.Traces.{Lasts, lasts, gone_is, owed_is}
 use Rattle.adapter_core.proofs.Commands.{alike_changed, is_setting, setting_changes, plain_option, refused_by, option_refusal, fit_refusal, refusal_is, is_full_refusal, unfilled, lone_fits}
-use Rattle.adapter_core.proofs.Sides.{IsIfaceDeed, iface_effect, no_death, no_answer, no_hint, no_scores, still_unbooted, IsQuietDeed, quiet_desk, engine_effect, closed_same, closed_still, or_no, neither, kept_pings, answered}
+use Rattle.adapter_core.proofs.Sides.{IsIfaceDeed, iface_effect, no_death, no_answer, no_hint, no_scores, still_unbooted, IsQuietDeed, quiet_desk, engine_effect, closed_same, closed_still, or_no, kept_pings, answered}
 
 -- TWO THAT STAND ALIKE
 
@@ -73,16 +74,12 @@ setting_refusal h held (says.Cores n) p = refl
 setting_refusal h held (says.EgtPath kind path) p = refl
 setting_refusal h held m p = cc
 
-differ : (b : Bool) → b ≡ false → b ≡ true → ⊥
-differ true p q = cc
-differ false p q = cc
-
 tells_judged : (m : IfaceMsg) (a : Result (Option Order) OptFault) (b : Bool) (line : List ℕ) → is_setting m ≡ true
     → (let d = line_effect (judged m (or_else (refused_option a) (or_else (where_true b reasons.TooManySettings) None))) line in is_overfull d ≡ false → tells_of_engine d ≡ false → ⊥)
 tells_judged m (Err UnknownOption) b line p n t = cc
 tells_judged m (Err BadValue) b line p n t = cc
 tells_judged m (Ok order) true line p n t = cc
-tells_judged m (Ok order) false line p n t = differ (tells_of_engine (Accepts m)) t (tells_setting m p)
+tells_judged m (Ok order) false line p n t = both_ways (tells_of_engine (Accepts m)) t (tells_setting m p)
 
 full_effect : (m : IfaceMsg) (r : Option Refusal) (line : List ℕ) → is_overfull (line_effect (judged m r) line) ≡ false → is_full_refusal r ≡ false
 full_effect m None line n = refl
@@ -94,10 +91,6 @@ closed_pair true true d x e n f = Equal refl
 closed_pair false false d x e n f = f n
 closed_pair true false d x e n f = absurd (cc)
 closed_pair false true d x e n f = absurd (cc)
-
-no_table : (b : Bool) (os : List Setting) → b ≡ false → cond b os [] ≡ []
-no_table true os e = cc
-no_table false os e = refl
 
 owed_unspent : (b : Bool) (c : _) → (b ≡ true → is_move c ≡ false) → is_move (owed_at b c) ≡ is_move c
 owed_unspent true c f = sym (f refl)
@@ -323,7 +316,7 @@ still_there : (o : Settings) (step : Step) (t : List Step) → Lawful o (step �
     → (is_gone (situation (state o t)).engine ≡ false) × (is_death (effect (state o t) step.event) ≡ false)
 still_there o step t l g =
     let s = state o t in
-    neither (is_gone (situation s).engine) (is_death (effect s step.event)) (sym (gone_is s step (lasts o t l.0) l.1) ∙ g)
+    or_parts (is_gone (situation s).engine) (is_death (effect s step.event)) (sym (gone_is s step (lasts o t l.0) l.1) ∙ g)
 
 before : (o : Settings) (step : Step) (t : List Step) → Lawful o (step ∷ t) → IsWithoutSay o (step ∷ t) → IsWithoutSay o t
 before o step t l w = record { unanswered = w.unanswered.0; there = (still_there o step t l w.there).0 }

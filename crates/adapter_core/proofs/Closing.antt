@@ -1,5 +1,6 @@
 -- How sessions open and close.
 use Rattle.std.proofs.Common.{◌≡◌, ℕ, List, Bool, true, false, not, cond, ◌&&◌, ◌||◌, Option, Some, None, Result, Ok, Err, refl, ◌∙◌}
+use Rattle.std.proofs.lemmas.Bool.{or_left, and_parts}
 use Rattle.line_io.specs.Event.{Event, is_line}
 use Rattle.line_io.specs.Event as events
 use Rattle.cecp_lines.specs.Messages.{IfaceMsg}
@@ -18,14 +19,6 @@ use Rattle.adapter_core.specs.declared.ends.Ends.{Ends}
 use Rattle.adapter_core.specs.Ends.{may, ends_after, is_open}
 use Rattle.cecp_lines.specs.Quit.{is_quit, is_quit_message}
 
-pub first_true : (a b : Bool) → (a && b) ≡ true → a ≡ true
-first_true true b e = refl
-first_true false b e = cc
-
-pub second_true : (a b : Bool) → (a && b) ≡ true → b ≡ true
-second_true true b e = e
-second_true false b e = cc
-
 pub opened_before : (a b : Bool) (c : Bool) → (a && b && c) ≡ true → a ≡ true
 opened_before true b c e = refl
 opened_before false b c e = cc
@@ -35,28 +28,24 @@ opened_later ends events.Open m = refl
 opened_later ends (events.Iface line) m = opened_before ends.opened (not ends.iface) (is_line line) m
 opened_later ends events.IfaceLost m = opened_before ends.opened (not ends.iface) (not ends.iface_lost) m
 opened_later ends (events.Engine line) m = opened_before ends.opened (not ends.engine) (is_line line) m
-opened_later ends events.EngineLong m = first_true ends.opened (not ends.engine) m
-opened_later ends events.EngineEnd m = first_true ends.opened (not ends.engine) m
+opened_later ends events.EngineLong m = (and_parts ends.opened (not ends.engine) m).0
+opened_later ends events.EngineEnd m = (and_parts ends.opened (not ends.engine) m).0
 opened_later ends events.EngineLost m = opened_before ends.opened (not ends.engine) (not ends.engine_lost) m
-opened_later ends e m = first_true ends.opened (not ends.iface) m
+opened_later ends e m = (and_parts ends.opened (not ends.iface) m).0
 
 -- LINES
 
 -- the line of an event that may come is a line
 pub line_event : (ends : Ends) (e : Event) → may ends e ≡ true → IsLineEvent e
-line_event ends (events.Iface line) m = second_true (ends.opened && not ends.iface) (is_line line) m
-line_event ends (events.Engine line) m = second_true (ends.opened && not ends.engine) (is_line line) m
+line_event ends (events.Iface line) m = (and_parts (ends.opened && not ends.iface) (is_line line) m).1
+line_event ends (events.Engine line) m = (and_parts (ends.opened && not ends.engine) (is_line line) m).1
 line_event ends e m = tt
 
 -- CLOSED
 
-or_true : (b c : Bool) → b ≡ true → (b || c) ≡ true
-or_true true c e = refl
-or_true false c e = cc
-
 pub closed_stays : (ends : Ends) (e : Event) → ends.closed ≡ true → (ends_after ends e).closed ≡ true
 closed_stays ends events.Open c = c
-closed_stays ends (events.Iface line) c = or_true ends.closed (is_quit line) c
+closed_stays ends (events.Iface line) c = or_left ends.closed (is_quit line) c
 closed_stays ends events.IfaceEnd c = refl
 closed_stays ends events.IfaceLost c = refl
 closed_stays ends e c = c

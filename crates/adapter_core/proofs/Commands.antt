@@ -1,5 +1,5 @@
 -- What a message commands and why it is refused, by the parts of the desk that the interface commands.
-use Rattle.std.proofs.Common.{◌≡◌, ℕ, List, [], ◌∷◌, length, Bool, true, false, not, ◌&&◌, nat_le, Option, Some, None, Ok, Err, refl, sym, ap, ◌∙◌}
+use Rattle.std.proofs.Common.{◌≡◌, ℕ, List, [], length, Bool, true, false, not, ◌&&◌, nat_le, Option, Some, None, Ok, Err, refl, sym, ap, ◌∙◌}
 use Rattle.cecp_lines.specs.Messages.{IfaceMsg}
 use Rattle.cecp_lines.specs.Messages as says
 use Rattle.cecp_lines.specs.declared.reply.Reason.TheVariants as reasons
@@ -12,7 +12,8 @@ use Rattle.desk_rules.specs.declared.effect.Refusal.{Refusal}
 use Rattle.desk_rules.specs.declared.effect.Refusal.TheVariants as refusals
 use Rattle.desk_rules.specs.declared.desk.Desk.{Desk}
 use Rattle.desk_rules.specs.Desk.{Situation, opening_desk, table, analyses, is_gone, owes_move, ponder_name, analyse_name}
-use Rattle.desk_rules.specs.Lines.{asks, asks_for_mode, tells, or_else, where_true, needs_engine, needs_analysis, lacks_moves, illegal_move, move_too_many, illegal_position, refused_option, does_not_fit, pings_too_often, refusal, at_position, change}
+use Rattle.desk_rules.specs.Lines.{asks, asks_for_mode, or_else, where_true, needs_engine, needs_analysis, lacks_moves, illegal_move, move_too_many, illegal_position, refused_option, does_not_fit, pings_too_often, refusal, at_position, change}
+use Rattle.desk_rules.proofs.Firsts.{tells_none}
 use Rattle.adapter_core.specs.Alone.{Commanded, commanded}
 
 -- WHAT A MESSAGE COMMANDS
@@ -134,13 +135,9 @@ unfilled gone g mode pings owes option b m n =
 
 -- WITH NO OPTIONS
 
-none_told : (os : List Setting) (name : List ℕ) (on : Bool) → os ≡ [] → tells os name on ≡ None
-none_told [] name on e = refl
-none_told (o ∷ os) name on e = cc
-
 none_for_mode : (os : List Setting) (before after : Bool) → os ≡ [] → asks_for_mode os before after ≡ None
-none_for_mode os false true e = none_told os analyse_name true e
-none_for_mode os true false e = none_told os analyse_name false e
+none_for_mode os false true e = tells_none os analyse_name true e
+none_for_mode os true false e = tells_none os analyse_name false e
 none_for_mode os true true e = refl
 none_for_mode os false false e = refl
 
@@ -153,6 +150,6 @@ lone_fits d says.PlayOther e p = ap (does_not_fit []) (none_for_mode (table d) (
 lone_fits d says.Analyze e p = ap (does_not_fit []) (none_for_mode (table d) (analyses d.mode) true e)
 lone_fits d says.Exit e p = ap (does_not_fit []) (none_for_mode (table d) (analyses d.mode) false e)
 lone_fits d says.Result e p = ap (does_not_fit []) (none_for_mode (table d) (analyses d.mode) false e)
-lone_fits d says.Hard e p = ap (does_not_fit []) (none_told (table d) ponder_name true e)
-lone_fits d says.Easy e p = ap (does_not_fit []) (none_told (table d) ponder_name false e)
+lone_fits d says.Hard e p = ap (does_not_fit []) (tells_none (table d) ponder_name true e)
+lone_fits d says.Easy e p = ap (does_not_fit []) (tells_none (table d) ponder_name false e)
 lone_fits d m e p = cc

@@ -1,5 +1,6 @@
 -- Nothing is written to a side that has ended.
 use Rattle.std.proofs.Common.{◌≡◌, ℕ, List, [], ◌∷◌, map, Bool, true, false, cond, not, ◌||◌, Option, Some, None, refl, sym, ap, subst, ◌∙◌}
+use Rattle.std.proofs.lemmas.Bool.{or_left}
 use Rattle.line_io.specs.Event.{Event, is_line}
 use Rattle.line_io.specs.Event as events
 use Rattle.uci_lines.specs.Orders.{Order}
@@ -27,13 +28,9 @@ use Rattle.adapter_core.proofs.Closing.{opened_later}
 abbrev iface_gone : Ends → Bool
 iface_gone ends = ends.iface || ends.iface_lost
 
-or_true : (b c : Bool) → b ≡ true → (b || c) ≡ true
-or_true true c e = refl
-or_true false c e = cc
-
 by_line : (i l c q : Bool) → ((i || l) ≡ true → c ≡ true) → ((i || q) || l) ≡ true → (c || q) ≡ true
-by_line true l c q h e = or_true c q (h refl)
-by_line false true c q h e = or_true c q (h refl)
+by_line true l c q h e = or_left c q (h refl)
+by_line false true c q h e = or_left c q (h refl)
 by_line false false true q h e = refl
 by_line false false false true h e = refl
 by_line false false false false h e = cc
@@ -100,7 +97,7 @@ not_gone : (e : Engine) (w : Option Said) → w ≡ None → heard e w ≡ Gone 
 not_gone e None n g = g
 not_gone e (Some said) n g = cc
 
-quiet_line : (m : IfaceMsg) → said_of (what_accepted m) ≡ None
+pub quiet_line : (m : IfaceMsg) → said_of (what_accepted m) ≡ None
 quiet_line (says.UserMove m) = refl
 quiet_line says.MoveNow = refl
 quiet_line m = refl

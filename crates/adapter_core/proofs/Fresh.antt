@@ -1,6 +1,7 @@
 -- Whether a Move is called for rests on the game and the mode alone.
 use Rattle.std.proofs.Common.{◌≡◌, Bool, true, false, not, cond, ◌&&◌, ◌||◌, Option, Some, None, refl, sym, ap, ◌∙◌}
 use Rattle.std.specs.Option.{is_some}
+use mathlib.Core.Bool.{and-false}
 use Rattle.chess_board.specs.declared.board.Move.{Move}
 use Rattle.chess_board.specs.Board.{same_side}
 use Rattle.cecp_lines.specs.Messages.{IfaceMsg}
@@ -66,13 +67,9 @@ pub closed_calls : (closed gone : Bool) (d : Desk) → closed ≡ true → is_mo
 closed_calls true gone d e = call_is true gone d
 closed_calls false gone d e = cc
 
-and_no : (b : Bool) → (b && false) ≡ false
-and_no true = refl
-and_no false = refl
-
 -- nor where the game is over
 pub over_calls : (closed gone : Bool) (d : Desk) → d.mode ≡ modes.Over → is_move (call_of closed gone d) ≡ false
-over_calls closed gone d e = call_is closed gone d ∙ ap (λ (x : Mode). calls_move closed gone d.game x) e ∙ and_no (not (closed || gone || is_full d.game))
+over_calls closed gone d e = call_is closed gone d ∙ ap (λ (x : Mode). calls_move closed gone d.game x) e ∙ and-false (not (closed || gone || is_full d.game))
 
 -- the game and the mode are as before, or the mode is Over
 pub data Stays (d e : Desk) : Type 0 where

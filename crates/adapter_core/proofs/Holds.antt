@@ -1,5 +1,6 @@
 -- What holds after each lawful trace, and that each step of a core extends each trace that it stands for.
 use Rattle.std.proofs.Common.{◌≡◌, ℕ, List, [], ◌∷◌, map, Bool, true, false, cond, ◌||◌, refl, sym, ap, subst, ◌∙◌}
+use Rattle.std.proofs.lemmas.Bool.{both_ways}
 use Rattle.line_io.specs.Event.{Event}
 use Rattle.line_io.specs.Out.{Text}
 use Rattle.uci_lines.specs.Orders.{Order}
@@ -36,10 +37,6 @@ still : (b : Bool) (os : List Order) → AreHeld os → AreHeld (cond b [] os)
 still true os a = tt
 still false os a = a
 
-differ : (b : Bool) → b ≡ false → b ≡ true → ⊥
-differ true u v = cc
-differ false u v = cc
-
 -- what holds of a new trace
 pub begins : (o : Settings) → IsProper o → Holds (state o [])
 begins o p = record { proper = p; begins = λ c. refl; ticket = tt; last = tt; held = tt }
@@ -55,7 +52,7 @@ holds_on s step holds a m =
     let u = turn s step.event in
     record {
       proper = holds.proper;
-      begins = λ no. absurd (differ _ no (opened_later s.ends step.event m));
+      begins = λ no. absurd (both_ways _ no (opened_later s.ends step.event m));
       ticket = back _ _ (all_within (mid s step.event).epoch (mid s step.event).engine (map word_of step.orders) (turned_within s.dialogue u t));
       last = turned_last s.dialogue u t holds.last;
       held = still (has_ready (map word_of step.orders)) (waiting (situation s) s.held (effect s step.event)) a;
@@ -91,7 +88,7 @@ ordered_text_is core e = refl
 
 -- THE STEP
 
-event_is : (core : Parts) (e : Event) → (step_by core e).event ≡ e
+pub event_is : (core : Parts) (e : Event) → (step_by core e).event ≡ e
 unfolding step_by
 event_is core e = refl
 

@@ -26,6 +26,7 @@ use Rattle.search_epochs.specs.declared.words.EngineState.{EngineState}
 use Rattle.search_epochs.specs.declared.words.EngineState.TheVariants as states
 use Rattle.search_epochs.specs.Tickets.{Turn, Engine, Boot, Getting, Idle, Search, Gone, Word, Ticketed, Quiet, IsLiveOnlyAt, owed, turned, after, is_move, is_nothing, is_idle, is_empty, is_hint, is_hurry, is_due, is_hit, stops, ponders, leaves_boot, only}
 use Rattle.search_epochs.proofs.Same.{only_orders}
+use Rattle.search_epochs.proofs.Whole.{no_hint_quiet}
 use Rattle.desk_rules.specs.declared.effect.Refusal.{Refusal}
 use Rattle.desk_rules.specs.declared.desk.Desk.{Desk}
 use Rattle.desk_rules.specs.Desk.{Situation, current, call_of, call_before, is_gone, is_boot, is_getting}
@@ -132,10 +133,6 @@ quiet_boot Idle = refl
 quiet_boot (Search k t s) = refl
 quiet_boot Gone = refl
 
-no_hint : (hint : Option Move) → is_hint hint Quiet ≡ false
-no_hint None = refl
-no_hint (Some m) = refl
-
 no_hit : (a b c : Bool) → b ≡ false → (a && b && c) ≡ false
 no_hit true b c e = ap (λ (x : Bool). x && c) e
 no_hit false b c e = refl
@@ -230,7 +227,7 @@ module _ (s : State) (step : Step) (holds : Lasts s) (l : IsLawful s step) (r : 
   none_is_only =
       none_only s.dialogue.engine s.dialogue.epoch (owed s.dialogue (call_before h)) (map word_of s.held) (is_due s.dialogue quiet) (is_hit s.dialogue quiet)
       (not_due (is_idle s.dialogue.engine) (leaves_boot s.dialogue.engine Quiet) s.held (quiet_boot s.dialogue.engine) (λ i. (holds.rests spelled.is_open i).0))
-      (no_hit (ponders s.dialogue) (is_hint s.desk.hint Quiet) _ (no_hint s.desk.hint))
+      (no_hit (ponders s.dialogue) (is_hint s.desk.hint Quiet) _ (no_hint_quiet s.desk.hint))
       (not_stopped s.dialogue.epoch s.dialogue.engine (holds.live spelled.is_open))
       (not_begun (is_idle s.dialogue.engine) (is_nothing (owed s.dialogue (call_before h))) (λ i. (holds.rests spelled.is_open i).1))
 

@@ -8,15 +8,17 @@ use Rattle.search_epochs.specs.declared.words.Call.TheVariants as calls
 use Rattle.search_epochs.specs.declared.words.Said.TheVariants as said
 use Rattle.search_epochs.specs.declared.words.EngineState.{EngineState}
 use Rattle.search_epochs.specs.declared.words.EngineState.TheVariants as states
-use Rattle.search_epochs.specs.Tickets.{What, Says, Serves, is_move, kind_of}
+use Rattle.search_epochs.specs.Tickets.{What, Says, Serves, kind_of}
 use Rattle.search_epochs.specs.Dialogue as dialogues
 use Rattle.search_epochs.specs.Dialogue.{after_what, mid_dialogue, stale_state, heard_state, settled_state, choose}
 use Rattle.search_epochs.proofs.Current.{IfCurrent, settled_current}
+use Rattle.search_epochs.proofs.Serving.{move_serves}
 use Rattle.desk_rules.specs.declared.desk.Desk.{Desk}
 use Rattle.desk_rules.specs.Desk.{Situation, current, call_of, call_before}
 use Rattle.desk_rules.specs.Steps.{Effect, Shows, Forfeits, Answers, Dies, what_of, begins_epoch, call_after, desk_after, desk_after_effect}
 use Rattle.desk_rules.specs.Fits.{Fits}
 use Rattle.desk_rules.proofs.Serves.{IsNoAnswer, still_serves}
+use Rattle.desk_rules.proofs.Passes.{served_short}
 
 -- OF AN OPEN CURRENT SEARCH
 
@@ -105,12 +107,6 @@ owed_serves : (spent : Bool) (c : Call) (k : GoKind) → Serves k (cond spent ca
 owed_serves true c k s = cc (s.0)
 owed_serves false c k s = s
 
-move_serves : (c : Call) → is_move c ≡ true → Serves kinds.Move c
-move_serves calls.Nothing e = cc
-move_serves calls.Move e = (refl, refl)
-move_serves (calls.Ponder h) e = cc
-move_serves calls.Analyse e = cc
-
 -- a search that is current after the orders was begun or renewed for what is owed, or was current before them
 pub chosen_serves : (e : EngineState) (spent : Bool) (c : Call) (unsent matches hurry : Bool) → ((k : GoKind) → current e ≡ Some k → Serves k c)
     → (k : GoKind) → current (settled_state e (choose e (cond spent calls.Nothing c) unsent matches hurry)) ≡ Some k → Serves k c
@@ -124,10 +120,6 @@ chosen_serves e spent c unsent matches hurry s k x =
 
 -- THE CALL ITSELF
 
-out_serves : (b : Bool) (c : Call) (k : GoKind) → Serves k (cond b calls.Nothing c) → b ≡ false
-out_serves true c k s = cc (s.0)
-out_serves false c k s = refl
-
 middle : (a b c : Bool) → (a || b || c) ≡ false → b ≡ false
 middle true b c e = cc
 middle false true c e = cc
@@ -136,7 +128,7 @@ middle false false c e = refl
 -- who is served calls, and so the engine is not Gone
 pub not_gone_served : (closed gone : Bool) (d : Desk) (k : GoKind) → Serves k (call_of closed gone d) → gone ≡ false
 unfolding call_of
-not_gone_served closed gone d k s = middle closed gone _ (out_serves _ _ k s)
+not_gone_served closed gone d k s = middle closed gone _ (served_short _ _ k s)
 
 -- answered pings and cleared values change no call
 pub call_settled : (closed gone owes hits c : Bool) (h : Situation) (d : Effect) → call_of closed gone (desk_after_effect h d) ≡ call_of closed gone (desk_after c owes hits h d)

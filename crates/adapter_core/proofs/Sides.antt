@@ -25,6 +25,7 @@ use Rattle.desk_rules.specs.declared.desk.Desk.{Desk}
 use Rattle.desk_rules.specs.Desk.{Situation, is_gone, is_boot, is_getting, current}
 use Rattle.desk_rules.specs.Lines.{verdict, judged, refusal, at_position, change}
 use Rattle.desk_rules.specs.Steps.{Effect, Nothing, LongLine, Refuses, Accepts, Names, Declares, Boots, Readies, Shows, Forfeits, Dies, classify, line_effect, engine_says, answers, shows, thinks, desk_after_effect, answers_pings, scores_after, is_death}
+use Rattle.desk_rules.proofs.Firsts.{line_booted}
 use Rattle.adapter_core.specs.declared.ends.Ends.{Ends}
 use Rattle.adapter_core.specs.Ends.{ends_after}
 use Rattle.cecp_lines.specs.Quit.{is_quit}
@@ -100,18 +101,9 @@ no_scores h (Accepts m) xs n e = no_score _ xs e
 no_scores h (Shows best hint) xs n e = cc
 no_scores h d xs n e = e
 
-position_booted : (d : Desk) (r : _) → (at_position d r).booted ≡ d.booted
-position_booted d (Ok p) = refl
-position_booted d (Err fault) = refl
-
-change_booted : (boot : Bool) (d : Desk) (m : IfaceMsg) → (change boot d m).booted ≡ d.booted
-unfolding change
-change_booted boot d (says.SetBoard text) = position_booted d _
-change_booted boot d m = refl
-
 pub still_unbooted : (h : Situation) (d : Effect) → IsIfaceDeed d → h.desk.booted ≡ false → (desk_after_effect h d).booted ≡ false
 unfolding desk_after_effect
-still_unbooted h (Accepts m) i e = change_booted (is_boot h.engine) h.desk m ∙ e
+still_unbooted h (Accepts m) i e = line_booted (is_boot h.engine) h.desk m ∙ e
 still_unbooted h Nothing i e = e
 still_unbooted h LongLine i e = e
 still_unbooted h (Refuses r line) i e = e
@@ -198,10 +190,6 @@ closed_still ends e i = refl
 pub or_no : (a b : Bool) → b ≡ false → (a || b) ≡ a
 or_no true b e = refl
 or_no false b e = e
-
-pub neither : (a b : Bool) → (a || b) ≡ false → (a ≡ false) × (b ≡ false)
-neither true b e = absurd (cc)
-neither false b e = (refl, e)
 
 -- pings that are held stay, where they are held only while a Move is owed
 pub kept_pings : (closed owes : Bool) (ps : List ℕ) → (closed ≡ false → owes ≡ false → ps ≡ []) → cond (answers_pings closed owes) [] ps ≡ ps

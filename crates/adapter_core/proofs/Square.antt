@@ -1,5 +1,6 @@
 -- A step of the core is a step of the trace that it stands for.
 use Rattle.std.proofs.Common.{◌≡◌, ℕ, List, [], ◌∷◌, map, Bool, true, false, not, cond, ◌&&◌, ◌||◌, Option, Some, None, refl, sym, ap, subst, ◌∙◌}
+use Rattle.std.proofs.lemmas.Bool.{not-true, both_ways, false_from_ne_true}
 use Rattle.line_io.specs.Event.{Event}
 use Rattle.line_io.specs.Event as events
 use Rattle.line_io.specs.Out.{Text, empty, with}
@@ -18,6 +19,7 @@ use Rattle.search_epochs.specs.Dialogue.{forget, kept, words, settle, after_sett
 use Rattle.search_epochs.proofs.Whole.{mid_kept, kept_mid, is_unsent, settled_by, whole_mid, ponders_before, triple, hit_kept}
 use Rattle.search_epochs.proofs.Turns.{TicketWithin}
 use Rattle.search_epochs.proofs.Rests.{rested, hit_chosen, batch_chosen, begun}
+use Rattle.search_epochs.proofs.Histories.{quit_sent}
 use Rattle.feature_talk.specs.Features.{reply_lines}
 use Rattle.think_text.specs.Kept.{nothing_seen}
 use Rattle.desk_rules.specs.declared.desk.Desk.{Desk}
@@ -46,35 +48,16 @@ within epoch Idle w = tt
 within epoch (Search k t s) w = w
 within epoch Gone w = tt
 
-not_true : (b : Bool) → not b ≡ true → b ≡ false
-not_true true e = cc
-not_true false e = refl
-
-quit_keeps : (epoch : ℕ) (e : Engine) → sent epoch e Quit ≡ e
-quit_keeps epoch Boot = refl
-quit_keeps epoch Getting = refl
-quit_keeps epoch Idle = refl
-quit_keeps epoch (Search k t s) = refl
-quit_keeps epoch Gone = refl
-
 clears : (r a b : Bool) → (r ≡ true → a ≡ b) → (r && not a) ≡ (r && not b)
 clears true a b f = ap not (f refl)
 clears false a b f = refl
-
-false_if : (b : Bool) → (b ≡ true → ⊥) → b ≡ false
-false_if true f = absurd (f refl)
-false_if false f = refl
-
-differ : (r : Bool) → r ≡ false → r ≡ true → ⊥
-differ true a b = cc
-differ false a b = cc
 
 not_skipped : (o c : Bool) (x : Orders) → o ≡ false → c ≡ false → cond (o || c) chosen.None x ≡ x
 not_skipped true c x a b = cc
 not_skipped false true x a b = cc
 not_skipped false false x a b = refl
 
-for_owed : (b : Bool) (c : Call) (g : Move) → cond b calls.Nothing c ≡ calls.Ponder g → c ≡ calls.Ponder g
+pub for_owed : (b : Bool) (c : Call) (g : Move) → cond b calls.Nothing c ≡ calls.Ponder g → c ≡ calls.Ponder g
 for_owed true c g x = cc
 for_owed false c g x = x
 
@@ -89,7 +72,7 @@ rest t u h' ws w same e =
 
 open_engine : (s : State) (e : Event) → is_open e ≡ true → may s.ends e ≡ true → (s.ends.opened ≡ false → s.dialogue.engine ≡ Boot) → (mid s e).engine ≡ Boot
 unfolding classify
-open_engine s events.Open o m b = b (not_true s.ends.opened m)
+open_engine s events.Open o m b = b (not-true s.ends.opened m)
 open_engine s e o m b = cc
 
 module _ (s : State) (to_iface to_engine : Text) (e : Event) (holds : Holds s) (sound : IsSound s.desk) (line : IsLineEvent e) where
@@ -133,8 +116,8 @@ module _ (s : State) (to_iface to_engine : Text) (e : Event) (holds : Holds s) (
 
   hit_situation : begins_epoch (situation s) (effect s e) ≡ true → is_hit_order choice_situation ≡ is_hit s.dialogue (turn s e)
   hit_situation r =
-      let o : is_open e ≡ false = false_if (is_open e) (λ x. differ (begins_epoch (situation s) (effect s e)) (open_rises (situation s) s.held e x) r) in
-      let c : closed_after s e ≡ false = false_if (closed_after s e) (λ x. differ (begins_epoch (situation s) (effect s e)) (closed_rises s.ends (situation s) s.held e refl x) r) in
+      let o : is_open e ≡ false = false_from_ne_true (is_open e) (λ x. both_ways (begins_epoch (situation s) (effect s e)) (open_rises (situation s) s.held e x) r) in
+      let c : closed_after s e ≡ false = false_from_ne_true (closed_after s e) (λ x. both_ways (begins_epoch (situation s) (effect s e)) (closed_rises s.ends (situation s) s.held e refl x) r) in
       let m = mid s e in
       ap is_hit_order (chosen_by o c)
       ∙ hit_chosen m.epoch m.engine (owing s e) (is_unsent s.dialogue (turn s e)) (is_pondered (cond (ponders s.dialogue) s.desk.hint None) (played_of (turn s e).what)) (is_hurry (turn s e).what)
@@ -273,7 +256,7 @@ module _ (s : State) (to_iface to_engine : Text) (e : Event) (holds : Holds s) (
   ends_on before gone =
       elim (before || gone) as (λ b. GoesOn (map word_of (cond b [] (orders.Quit ∷ []))) chosen.None) [
         | true ↦ rest s.dialogue (turn s e) (desk_of s e).hint [] ticket same_hint refl
-        | false ↦ rest s.dialogue (turn s e) (desk_of s e).hint (Quit ∷ []) ticket same_hint (quit_keeps (mid s e).epoch (mid s e).engine)
+        | false ↦ rest s.dialogue (turn s e) (desk_of s e).hint (Quit ∷ []) ticket same_hint (quit_sent (mid s e).epoch (mid s e).engine)
       ]
 
   goes_on : (opens closed : Bool) → is_open e ≡ opens → closed_after s e ≡ closed → may s.ends e ≡ true → GoesOn (map word_of orders_situation) choice_situation

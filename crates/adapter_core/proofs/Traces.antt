@@ -1,5 +1,6 @@
 -- What holds after each lawful trace, whatever the settings.
 use Rattle.std.proofs.Common.{◌≡◌, ℕ, ◌+◌, List, [], ◌∷◌, ◌⊎◌, inl, inr, map, Bool, true, false, not, cond, ◌||◌, ◌==◌, Option, Some, None, refl, sym, ap, subst, ◌∙◌}
+use Rattle.std.proofs.lemmas.Bool.{both_ways}
 use Rattle.line_io.specs.Event.{Event}
 use Rattle.chess_board.specs.declared.board.Move.{Move}
 use Rattle.peer_words.specs.declared.kinds.GoKind.{GoKind}
@@ -20,6 +21,7 @@ use Rattle.search_epochs.proofs.Turns.{risen_spent, ordered}
 use Rattle.search_epochs.proofs.Whole.{last_within, mid_kept, settled_mid}
 use Rattle.search_epochs.proofs.Within.{all_within, turned_within, turned_last}
 use Rattle.search_epochs.proofs.Same.{same}
+use Rattle.search_epochs.proofs.Serving.{served_no_move}
 use Rattle.desk_rules.specs.declared.mode.Mode.TheVariants as modes
 use Rattle.desk_rules.specs.Desk.{Situation, current, call_of, call_before, is_gone}
 use Rattle.desk_rules.specs.Steps.{Effect, Accepts, Shows, Forfeits, Answers, what_of, what_accepted, begins_epoch, call_after, is_death, desk_after_effect, answers_pings}
@@ -112,12 +114,6 @@ line_no_best (says.UserMove m) = refl
 line_no_best says.MoveNow = refl
 line_no_best m = refl
 
-not_move : (k : GoKind) (c : Call) → (k ≡ kinds.Move → ⊥) → Serves k c → is_move c ≡ false
-not_move k calls.Nothing n s = refl
-not_move k calls.Move n s = absurd (n (sym s.1))
-not_move k (calls.Ponder h) n s = refl
-not_move k calls.Analyse n s = refl
-
 never_move : (k : GoKind) (b s : Bool) → b ≡ true → IsOther (states.Search k (not b) s) → k ≡ kinds.Move → ⊥
 never_move k false s n i e = cc
 never_move kinds.Move true s n i e = i
@@ -131,7 +127,7 @@ other_quiet epoch Boot last c i f n = absurd i
 other_quiet epoch Getting last c i f n = absurd i
 other_quiet epoch Idle last c i f n = absurd i
 other_quiet epoch Gone last c i f n = absurd i
-other_quiet epoch (Search k t s) last c i f n = not_move k c (never_move k (t == epoch) s n i) (f k (ap (λ (b : Bool). current (states.Search k (not b) s)) n))
+other_quiet epoch (Search k t s) last c i f n = served_no_move k c (never_move k (t == epoch) s n i) (f k (ap (λ (b : Bool). current (states.Search k (not b) s)) n))
 
 -- THROUGH A STEP
 
@@ -158,7 +154,7 @@ owed_quiet : (b : Bool) (c : Call) → is_move c ≡ false → is_move (cond b c
 owed_quiet true c e = refl
 owed_quiet false c e = e
 
-no_pings : (closed owes : Bool) (ps : List ℕ) → closed ≡ false → owes ≡ false → cond (answers_pings closed owes) [] ps ≡ []
+pub no_pings : (closed owes : Bool) (ps : List ℕ) → closed ≡ false → owes ≡ false → cond (answers_pings closed owes) [] ps ≡ []
 no_pings true owes ps c o = cc
 no_pings false true ps c o = cc
 no_pings false false ps c o = refl
@@ -166,10 +162,6 @@ no_pings false false ps c o = refl
 forfeited : (h : Situation) → (desk_after_effect h Forfeits).mode ≡ modes.Over
 unfolding desk_after_effect
 forfeited h = refl
-
-differ : (b : Bool) → b ≡ false → b ≡ true → ⊥
-differ true p q = cc
-differ false p q = cc
 
 module _ (s : State) (step : Step) (lasts : Lasts s) (l : IsLawful s step) where
   abbrev e : Event
@@ -228,7 +220,7 @@ module _ (s : State) (step : Step) (lasts : Lasts s) (l : IsLawful s step) where
   by_effect x f c r n = quiet_situation x c r (spent_before x refl n)
 
   by_rise : (r : Bool) → begins_epoch h d ≡ r → closed_after s e ≡ false → is_some_equal (closed_ticket s.dialogue.engine (said_of u.what) s.dialogue.last) (cond r (s.dialogue.epoch + 1) s.dialogue.epoch) ≡ true → is_move u.call ≡ false
-  by_rise true x c n = absurd (differ _ (risen_spent s.dialogue.epoch (closed_ticket s.dialogue.engine (said_of u.what) s.dialogue.last) (last_within s.dialogue.epoch s.dialogue.engine (said_of u.what) s.dialogue.last lasts.ticket lasts.last)) n)
+  by_rise true x c n = absurd (both_ways _ (risen_spent s.dialogue.epoch (closed_ticket s.dialogue.engine (said_of u.what) s.dialogue.last) (last_within s.dialogue.epoch s.dialogue.engine (said_of u.what) s.dialogue.last lasts.ticket lasts.last)) n)
   by_rise false x c n = by_effect d fits c x n
 
   pub spent_quiet : spent m ≡ true → is_move u.call ≡ false
@@ -302,7 +294,7 @@ module _ (s : State) (step : Step) (lasts : Lasts s) (l : IsLawful s step) where
   lasts_on = record {
     sound = step_sound (closed_after s e) (is_move (owing s e)) (is_hit s.dialogue u) h s.held d lasts.sound fits;
     held = left_held (has_ready ws) (waiting h s.held d) waits_held;
-    begins = λ no. absurd (differ _ no (opened_later s.ends e l.may_come));
+    begins = λ no. absurd (both_ways _ no (opened_later s.ends e l.may_come));
     ticket = all_within m.epoch m.engine ws (turned_within s.dialogue u lasts.ticket);
     last = turned_last s.dialogue u lasts.ticket lasts.last;
     served = served_after;

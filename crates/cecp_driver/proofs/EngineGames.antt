@@ -9,11 +9,11 @@ use Rattle.chess_board.specs.declared.board.Move.{Move}
 use Rattle.chess_board.specs.declared.board.Rights.{Rights}
 use Rattle.chess_board.specs.Position.{Position}
 use Rattle.chess_board.specs.Play.{start_position}
-use Rattle.chess_board.proofs.Equal.{kinds-Decides}
 use Rattle.game_record.specs.Game.{Ply, Game, begun, now_of, ply_of, with_ply}
 use Rattle.game_record.specs.Ending.{is_same}
 use Rattle.game_record.proofs.Sames.{same-law}
 use Rattle.san_text.specs.Writing.{same_kind}
+use Rattle.san_text.proofs.Alone.{promos-Decides}
 use Rattle.driver_talk.specs.declared.words.Clocks.{Clocks}
 use Rattle.driver_talk.specs.declared.words.Down.{Down}
 use Rattle.driver_talk.specs.declared.words.Down.TheVariants as downs
@@ -47,12 +47,6 @@ same_positions p q e =
     ∙ ap (λ (x : ℕ). position q.men q.side q.rights q.passant q.half x) full in
     whole
 
-same_promos : (a b : Option Kind) → option_eq same_kind a b ≡ true → a ≡ b
-same_promos None None e = refl
-same_promos None (Some b) e = cc
-same_promos (Some a) None e = cc
-same_promos (Some a) (Some b) e = ap (λ (k : Kind). Some k) ((kinds-Decides a b).0 e)
-
 abbrev ply : ℕ → ℕ → Option Kind → Ply
 ply from to promo = record { from = from; to = to; promo = promo }
 
@@ -61,7 +55,7 @@ same_plies a b e =
     let squares : ((eqb a.from b.from) && (eqb a.to b.to)) ≡ true = left_true ((eqb a.from b.from) && (eqb a.to b.to)) (option_eq same_kind a.promo b.promo) e in
     let from : a.from ≡ b.from = (Decides-eqb a.from b.from).0 (left_true (eqb a.from b.from) (eqb a.to b.to) squares) in
     let to : a.to ≡ b.to = (Decides-eqb a.to b.to).0 (right_true (eqb a.from b.from) (eqb a.to b.to) squares) in
-    let promo : a.promo ≡ b.promo = same_promos a.promo b.promo (right_true ((eqb a.from b.from) && (eqb a.to b.to)) (option_eq same_kind a.promo b.promo) e) in
+    let promo : a.promo ≡ b.promo = promos-Decides a.promo b.promo (right_true ((eqb a.from b.from) && (eqb a.to b.to)) (option_eq same_kind a.promo b.promo) e) in
     let whole : ply a.from a.to a.promo ≡ ply b.from b.to b.promo =
     ap (λ (x : ℕ). ply x a.to a.promo) from ∙ ap (λ (x : ℕ). ply b.from x a.promo) to ∙ ap (λ (x : Option Kind). ply b.from b.to x) promo in
     whole

@@ -4,11 +4,11 @@ use Rattle.std.proofs.lemmas.Bool.Decides.{nat_tests}
 use Rattle.chess_board.specs.declared.board.Move.{Move}
 use Rattle.chess_board.specs.Position.{Position}
 use Rattle.chess_board.specs.Place.{legal}
-use Rattle.chess_board.specs.Laws.{IsLegal}
 use Rattle.chess_board.specs.Spelling.{move_of}
 use Rattle.chess_board.specs.Text.{IsOfficer}
 use Rattle.chess_board.proofs.Legal.{legal-law}
 use Rattle.chess_board.proofs.Texts.{legal-written}
+use Rattle.chess_board.proofs.LegalMoves.{legal_is}
 use Rattle.game_record.specs.Game.{Game, now_of}
 use Rattle.driver_talk.specs.declared.words.Up.{Up}
 use Rattle.driver_talk.specs.declared.words.Up.TheVariants as ups
@@ -26,9 +26,6 @@ use Rattle.cecp_driver.specs.declared.told.TheConstants.{MOST_PLIES}
 use Rattle.cecp_driver.specs.Deeds.{CanSay}
 use Rattle.cecp_driver.specs.Driver.{is_usable, reach_of, IsAsked, IsHeard, thought_call}
 use Rattle.cecp_driver.proofs.Good.{SaysLegal, CallFits}
-
-is_legal : (p : Position) (m : Move) → IsLegal p m.from.index m.to.index m.promo → legal p m ≡ true
-is_legal p m h = (legal-law p m.from.index m.to.index m.promo).1 h
 
 officer : (p : Position) (m : Move) → legal p m ≡ true → IsOfficer m.promo
 officer p m e = legal-written p m ((legal-law p m.from.index m.to.index m.promo).0 e)
@@ -55,7 +52,7 @@ if_legal_is p (Some m) = if_step p m (legal p m) refl
 
 alone_legal : (p : Position) (text : List ℕ) (shown : Option Move) → IsAlone p text shown → AllLegal p shown
 alone_legal p text None h = tt
-alone_legal p text (Some m) h = is_legal p m h.0.0
+alone_legal p text (Some m) h = legal_is p m h.0.0
 
 shown_by : (castling : Bool) (p : Position) (text : List ℕ) (shown : Option Move) → ShownBy castling p text shown → AllLegal p shown
 shown_by true p text shown h = alone_legal p text shown h
@@ -65,8 +62,8 @@ shown_legal : (p : Position) (text : List ℕ) (shown : Option Move) → IsShown
 shown_legal p text shown h = shown_by (is_castling text) p text shown h
 
 written_legal : (p : Position) (text : List ℕ) (m : Move) → Writes p text m → legal p m ≡ true
-written_legal p text m (inl alone) = is_legal p m alone.0.0
-written_legal p text m (inr long) = is_legal p m long.1.0.0
+written_legal p text m (inl alone) = legal_is p m alone.0.0
+written_legal p text m (inr long) = legal_is p m long.1.0.0
 
 named_legal : (p : Position) (text : List ℕ) (m : Move) → Names p text m → legal p m ≡ true
 named_legal p text m (inl e) = subst (AllLegal p) e (if_legal_is p (move_of text))
@@ -79,7 +76,7 @@ thought_legal p (t ∷ ts) best (inr later) = thought_legal p ts best later.1
 
 first_legal : (p : Position) (first : Option Move) → IsFirstMove p first → AllLegal p first
 first_legal p None h = tt
-first_legal p (Some m) h = is_legal p m h.0
+first_legal p (Some m) h = legal_is p m h.0
 
 -- THE REACH
 

@@ -2,18 +2,13 @@
 use Rattle.std.proofs.Common.{◌≡◌, ℕ, List, [], ◌∷◌, ◌++◌, Bool, false, None, refl, sym, ap, ◌∙◌, append_assoc, append-nil}
 use Rattle.std.specs.Prelude.{codes}
 use Rattle.line_io.specs.Out.{Text, with}
+use Rattle.line_io.proofs.Puts.{put_two}
 use Rattle.chess_board.specs.Position.{Position}
 use Rattle.chess_board.specs.Play.{start_position}
 use Rattle.game_record.specs.Game.{Ply, Game}
 use Rattle.driver_lines.specs.Lines.{Line, New, Force, Post, SetBoard, line_text, lines_text}
 use Rattle.cecp_driver.specs.Same.{same_position}
 use Rattle.cecp_driver.specs.SetUp.{Told, continued, played, start_lines, setup_lines}
-
-joined : (o : Text) (x y : List ℕ) → with (with o x) y ≡ with o (x ++ y)
-joined o x y = ap (λ (t : List ℕ). record { text = t; room = o.room }) (append_assoc o.text x y)
-
-pub put_two : (o a b : Text) (x y : List ℕ) → a ≡ with o x → b ≡ with a y → b ≡ with o (x ++ y)
-put_two o a b x y e f = f ∙ ap (λ (t : Text). with t y) e ∙ joined o x y
 
 pub two_lines : (o a b : Text) (x y : List ℕ) → a ≡ with o x → b ≡ with a y → b ≡ with o (x ++ (y ++ []))
 two_lines o a b x y e f = put_two o a b x y e f ∙ ap (λ (t : List ℕ). with o (x ++ t)) (sym (append-nil y))

@@ -1,10 +1,10 @@
 -- The canonical spelling of each message that some line spells, spells it.
-use Rattle.std.proofs.Common.{◌≡◌, ℕ, suc, ◌+◌, ◌-◌, ◌*◌, ◌/◌, ◌%◌, ◌^◌, ◌<◌, ◌≤◌, List, [], ◌∷◌, ◌++◌, Bool, true, false, not, ◌&&◌, eqb, ltb, leb, cond, length, take, drop, Option, Some, None, refl, sym, ap, ◌∙◌, subst, inl, arith, add_comm, add-one, append_assoc}
+use Rattle.std.proofs.Common.{◌≡◌, ℕ, ◌+◌, ◌-◌, ◌*◌, ◌/◌, ◌%◌, ◌^◌, ◌<◌, ◌≤◌, List, [], ◌∷◌, ◌++◌, Bool, true, false, not, ◌&&◌, eqb, ltb, leb, cond, length, take, drop, Option, Some, None, refl, sym, ap, ◌∙◌, subst, inl, arith, add_comm, add-one, append_assoc}
 use Rattle.std.specs.Prelude.{codes, position}
 use Rattle.std.specs.Option.{option_map}
 use Rattle.std.specs.List.{list_all, position_or_len}
 use Rattle.std.specs.Fmt.{decimal}
-use Rattle.std.specs.Char.{is_ascii_digit, digit_value}
+use Rattle.std.specs.Char.{is_ascii_digit}
 use Rattle.std.proofs.lemmas.Bool.Decides.{nat_tests}
 use Rattle.std.proofs.lemmas.Option.{cond_some}
 use Rattle.std.proofs.Math.Seq.{take-append_seam}
@@ -16,12 +16,16 @@ use Rattle.chess_board.specs.Text.{text_of, promotion_text}
 use Rattle.chess_board.proofs.Texts.{reads-back}
 use Rattle.peer_words.specs.Tokens.{is_white, is_token, is_blank, first_token, rest, trimmed, trim_left, trim_right, token_end, tokens}
 use Rattle.peer_words.specs.Numbers.{digits, seconds_text}
-use Rattle.peer_words.proofs.Trims.{and_true, trimmed_again, trim_left_trimmed, trim_right_again}
+use Rattle.peer_words.proofs.Trims.{trimmed_again, trim_left_trimmed, trim_right_again}
 use Rattle.std.proofs.lemmas.List.{append-nil, append_cancel_left}
 use Rattle.std.proofs.lemmas.List.Folds.{list_all-append}
-use Rattle.peer_words.proofs.Runs.{token_first, token_rest, all_of, black, not_false}
+use Rattle.std.proofs.lemmas.Bool.{and_parts}
+use mathlib.Core.Bool.{and-false}
+use Rattle.peer_words.proofs.Runs.{token_first, token_rest, all_of, starts_black}
 use Rattle.peer_words.proofs.TokenLists.{tokens_more, tokens_alone, tokens_trimmed, tokens_some, first_is_token, no_first}
-use Rattle.peer_words.proofs.Written.{decimal_token, decimal_digits, digits_decimal, seconds_read}
+use Rattle.peer_words.proofs.Written.{decimal_token, decimal_digits, digits_decimal, seconds_read, one_digit}
+use Rattle.peer_words.proofs.Lengths.{trim_left_length}
+use Rattle.peer_words.proofs.Sizes.{digits_small}
 use Rattle.cecp_lines.specs.Words.{is_ignored}
 use Rattle.cecp_lines.specs.Messages as says
 use Rattle.cecp_lines.specs.Messages.{IfaceMsg}
@@ -31,7 +35,7 @@ use Rattle.cecp_lines.proofs.Officers.{move_writable}
 use Rattle.cecp_lines.proofs.LineTokens.{heads}
 use Rattle.cecp_iface_side.proofs.Hears.{map_some, at_byte}
 use Rattle.cecp_iface_side.proofs.Rereads.{cut_position, no_position, after_cut}
-use Rattle.cecp_iface_side.proofs.Spoken.{number_again, centis_again, seconds_again, digits_below, seconds_below, seconds_token, longer_token, black_over}
+use Rattle.cecp_iface_side.proofs.Spoken.{number_again, centis_again, seconds_again, seconds_below, seconds_token, longer_token, black_over}
 
 -- MOVES
 
@@ -81,12 +85,6 @@ ignored_again line text h e =
 
 -- LEVEL
 
-one_digit : (d : ℕ) → d < 10 → (is_ascii_digit (48 + d) ≡ true) × (digit_value (48 + d) ≡ d)
-one_digit d h =
-    let a : ltb (48 + d) 48 ≡ false = grind (arith, nat_tests) in
-    let b : ltb (48 + d) 58 ≡ true = grind (arith, nat_tests) in
-    (grind (arith, nat_tests), (rw (a, b) (omega arith)))
-
 two_read : (a b : ℕ) → a < 10 → b < 10 → digits 2 ((48 + a) ∷ (48 + b) ∷ []) ≡ Some (a * 10 + b)
 two_read a b ha hb =
     let x = one_digit a ha in
@@ -113,10 +111,10 @@ base_parts None b ms k h = absurd (cc)
 base_by : (t : List ℕ) (o : Option ℕ) (ms : ℕ) → base_at o t ≡ Some ms → IsBase ms
 base_by t None ms h =
     let m = map_some (λ n. n * 60000) (digits 4 t) ms h in
-    let low = digits_below 4 t m.0 m.1 in
+    let low = digits_small 4 t m.0 m.1 in
     let same = m.2 in
     record { minutes = omega arith; whole = omega arith }
-base_by t (Some at) ms h = base_parts (digits 4 (take at t)) (digits 2 (drop (at + 1) t)) ms (digits_below 4 (take at t)) h
+base_by t (Some at) ms h = base_parts (digits 4 (take at t)) (digits 2 (drop (at + 1) t)) ms (digits_small 4 (take at t)) h
 
 base_below : (t : List ℕ) (ms : ℕ) → base_time t ≡ Some ms → IsBase ms
 base_below t ms h = base_by t (position is_colon t) ms h
@@ -178,7 +176,7 @@ level_text a b c = simp append_assoc
 
 level_again : (line : List ℕ) (mps base inc : ℕ) → HasLevel line mps base inc → HasLevel (codes "level " ++ decimal mps ++ codes " " ++ base_text base ++ codes " " ++ seconds_text inc) mps base inc
 level_again line mps base inc h =
-    let few = digits_below 4 h.0 mps h.4 in
+    let few = digits_small 4 h.0 mps h.4 in
     let is = base_below h.1 base h.5 in
     let low = seconds_below h.2 inc h.6 in (
       decimal mps,
@@ -200,28 +198,18 @@ blank_by (x ∷ xs) true e l h = absurd (cc (sym (ap (λ b. cond b [] (x ∷ tri
 blank_false : (xs : List ℕ) → 0 < length xs → trim_right xs ≡ xs → is_blank xs ≡ false
 blank_false xs l h = blank_by xs (is_blank xs) refl l h
 
-and_false : (b : Bool) → (b && false) ≡ false
-and_false true = refl
-and_false false = refl
-
 blank_more : (xs ys : List ℕ) → is_blank ys ≡ false → is_blank (xs ++ ys) ≡ false
-blank_more xs ys h = list_all-append is_white xs ys ∙ ap (λ b. is_blank xs && b) h ∙ and_false (is_blank xs)
+blank_more xs ys h = list_all-append is_white xs ys ∙ ap (λ b. is_blank xs && b) h ∙ and-false (is_blank xs)
 
 -- what is not blank at the end keeps what stands before it
 right_over : (xs ys : List ℕ) → is_blank ys ≡ false → trim_right (xs ++ ys) ≡ xs ++ trim_right ys
 right_over [] ys h = refl
-right_over (x ∷ xs) ys h = rw (ap (λ b. is_white x && b) (blank_more xs ys h) ∙ and_false (is_white x), right_over xs ys h) refl
+right_over (x ∷ xs) ys h = rw (ap (λ b. is_white x && b) (blank_more xs ys h) ∙ and-false (is_white x), right_over xs ys h) refl
 
 -- THE REST OF A LINE IS TRIMMED AT BOTH ENDS
 
 right_kept : (xs ys : List ℕ) → 0 < length ys → trim_right ys ≡ ys → trim_right (xs ++ ys) ≡ xs ++ ys
 right_kept xs ys l h = right_over xs ys (blank_false ys l h) ∙ ap (λ t. xs ++ t) h
-
-left_token : (t more : List ℕ) → is_token t ≡ true → trim_left (t ++ more) ≡ t ++ more
-left_token [] more h = absurd (cc)
-left_token (x ∷ t) more h =
-    let w = not_false (is_white x) (and_true (not (is_white x)) (list_all (λ b. not (is_white b)) t) (black (x ∷ t) h)).0 in
-    rw w refl
 
 -- KIND AND PATH
 
@@ -236,7 +224,7 @@ path_by : (kind path : List ℕ) → is_token kind ≡ true → 0 < length path 
 path_by kind path k l right both =
     let more : rest (codes "egtpath" ++ (32 ∷ (kind ++ (32 ∷ path)))) ≡ kind ++ (32 ∷ path) =
     token_rest (codes "egtpath") (kind ++ (32 ∷ path)) 32 refl refl
-    ∙ ap trim_right (left_token kind (32 ∷ path) k)
+    ∙ ap trim_right (starts_black kind (32 ∷ path) k)
     ∙ right_over kind (32 ∷ path) (blank_false path l right)
     ∙ ap (λ b. kind ++ cond b [] (32 ∷ trim_right path)) (blank_false path l right)
     ∙ ap (λ t. kind ++ (32 ∷ t)) right in (
@@ -259,16 +247,8 @@ path_again line kind path e f l =
 
 -- NAME AND VALUE
 
-left_short_by : (white : Bool) (x : ℕ) (xs : List ℕ) → length (trim_left xs) ≤ length xs → length (cond white (trim_left xs) (x ∷ xs)) ≤ suc (length xs)
-left_short_by true x xs h = omega arith
-left_short_by false x xs h = omega arith
-
-left_short : (xs : List ℕ) → length (trim_left xs) ≤ length xs
-left_short [] = omega arith
-left_short (x ∷ xs) = left_short_by (is_white x) x xs (left_short xs)
-
 left_shrinks : (xs : List ℕ) (x : ℕ) → trim_left xs ≡ x ∷ xs → ⊥
-left_shrinks xs x h = omega (arith, left_short xs, ap length h)
+left_shrinks xs x h = omega (arith, trim_left_length xs, ap length h)
 
 left_no_by : (p : ℕ → Bool) (white : Bool) (x : ℕ) (xs : List ℕ) → list_all p (x ∷ xs) ≡ true → list_all p (trim_left xs) ≡ true → list_all p (cond white (trim_left xs) (x ∷ xs)) ≡ true
 left_no_by p true x xs h k = k
@@ -288,11 +268,11 @@ left_name_by false x xs more e h = refl
 
 left_no : (p : ℕ → Bool) (xs : List ℕ) → list_all p xs ≡ true → list_all p (trim_left xs) ≡ true
 left_no p [] h = refl
-left_no p (x ∷ xs) h = left_no_by p (is_white x) x xs h (left_no p xs (and_true (p x) (list_all p xs) h).1)
+left_no p (x ∷ xs) h = left_no_by p (is_white x) x xs h (left_no p xs (and_parts (p x) (list_all p xs) h).1)
 
 right_no : (p : ℕ → Bool) (xs : List ℕ) → list_all p xs ≡ true → list_all p (trim_right xs) ≡ true
 right_no p [] h = refl
-right_no p (x ∷ xs) h = let both = and_true (p x) (list_all p xs) h in right_no_by p (is_blank (x ∷ xs)) x (trim_right xs) both.0 (right_no p xs both.1)
+right_no p (x ∷ xs) h = let both = and_parts (p x) (list_all p xs) h in right_no_by p (is_blank (x ∷ xs)) x (trim_right xs) both.0 (right_no p xs both.1)
 
 before_no : (k : ℕ) (xs : List ℕ) → list_all (λ b. not (eqb b k)) (take (position_or_len (λ b. eqb b k) xs) xs) ≡ true
 before_no k [] = refl

@@ -9,11 +9,11 @@ use Rattle.std.proofs.lemmas.Bool.Decides.{nat_tests}
 use Rattle.std.proofs.lemmas.Slice.Eq.{bytes_eq-Decides}
 use Rattle.std.proofs.lemmas.Fmt.{decimal_is_IsNumeral}
 use Rattle.std.proofs.Math.Seq.{take-append_seam, drop-append_seam}
+use Rattle.std.proofs.lemmas.Bool.{and_parts}
 use mir.Val.{SFits}
 use mir.Syntax.{w64}
 use Rattle.chess_board.specs.declared.board.Move.{Move as AnyMove}
 use Rattle.peer_words.specs.Tokens.{trimmed}
-use Rattle.peer_words.proofs.Trims.{and_true}
 use Rattle.peer_words.proofs.Runs.{all_of, prefix_stops}
 use Rattle.peer_words.proofs.Written.{decimal_digits}
 use Rattle.cecp_lines.specs.declared.reply.Reason.{Reason}
@@ -41,7 +41,7 @@ feature_text name value = simp append_assoc
 
 feature_read : (name value : List ℕ) → is_feature_name name ≡ true → feature_in (name ++ (61 ∷ value)) ≡ Some (told.Feature name value)
 feature_read name value h =
-    let both = and_true (ltb 0 (length name)) (list_all is_name_byte name) h in
+    let both = and_parts (ltb 0 (length name)) (list_all is_name_byte name) h in
     ap (λ o. feature_at o (name ++ (61 ∷ value))) (cut_position 61 name value (all_of is_name_byte (λ b. not (eqb b 61)) no_equals name both.1))
     ∙ ap (λ t. named_feature t (drop (length name + 1) (name ++ (61 ∷ value)))) (take-append_seam name (61 ∷ value))
     ∙ ap (named_feature name) (after_cut 61 name value)
@@ -127,7 +127,7 @@ front_digit c more h =
 
 front_digits : (ds more : List ℕ) → 0 < length ds → list_all is_ascii_digit ds ≡ true → with_front (ds ++ more) ≡ thinking_in (ds ++ more)
 front_digits [] more some h = absurd (omega arith)
-front_digits (c ∷ cs) more some h = front_digit c (cs ++ more) (and_true (is_ascii_digit c) (list_all is_ascii_digit cs) h).0
+front_digits (c ∷ cs) more some h = front_digit c (cs ++ more) (and_parts (is_ascii_digit c) (list_all is_ascii_digit cs) h).0
 
 told_digits : (n : ℕ) (more : List ℕ) → n < 2 ^ 64 → reply_in (decimal n ++ (32 ∷ more)) ≡ thinking_in (decimal n ++ (32 ∷ more))
 told_digits n more h =

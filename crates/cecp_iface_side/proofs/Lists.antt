@@ -7,11 +7,10 @@ use Rattle.std.specs.Fmt.{decimal}
 use Rattle.std.proofs.lemmas.Bool.Decides.{nat_tests}
 use Rattle.std.proofs.lemmas.List.{append-nil}
 use Rattle.std.proofs.Math.Seq.{take-append_seam, drop-append_seam}
+use Rattle.std.proofs.lemmas.Bool.{and_parts, not-true}
 use Rattle.chess_board.specs.declared.board.Move.{Move as AnyMove}
 use Rattle.chess_board.specs.Board.{file_of}
 use Rattle.chess_board.specs.Text.{text_of}
-use Rattle.peer_words.proofs.Trims.{and_true}
-use Rattle.peer_words.proofs.Runs.{not_false}
 use Rattle.cecp_lines.specs.Replies.{hint_text, current_text, IsWritable, AreMoves}
 use Rattle.cecp_iface_side.specs.ReplyReading.{stripped, written, written_move, is_space, is_paren, are_moves, last_at, last_in, hint_at, hint_of, hint_in}
 use Rattle.cecp_iface_side.proofs.Plain.{decimal_written, move_written}
@@ -19,11 +18,11 @@ use Rattle.cecp_iface_side.proofs.Rereads.{cut_position, no_position, after_cut,
 
 split_solid : (xs : List ℕ) → list_all (λ b. not (eqb b 32)) xs ≡ true → slice_split is_space xs ≡ xs ∷ []
 split_solid [] h = refl
-split_solid (x ∷ xs) h = let both = and_true (not (eqb x 32)) (list_all (λ b. not (eqb b 32)) xs) h in rw (not_false (eqb x 32) both.0, split_solid xs both.1) refl
+split_solid (x ∷ xs) h = let both = and_parts (not (eqb x 32)) (list_all (λ b. not (eqb b 32)) xs) h in rw (not-true (eqb x 32) both.0, split_solid xs both.1) refl
 
 split_more : (xs ys : List ℕ) → list_all (λ b. not (eqb b 32)) xs ≡ true → slice_split is_space (xs ++ (32 ∷ ys)) ≡ xs ∷ slice_split is_space ys
 split_more [] ys h = refl
-split_more (x ∷ xs) ys h = let both = and_true (not (eqb x 32)) (list_all (λ b. not (eqb b 32)) xs) h in rw (not_false (eqb x 32) both.0, split_more xs ys both.1) refl
+split_more (x ∷ xs) ys h = let both = and_parts (not (eqb x 32)) (list_all (λ b. not (eqb b 32)) xs) h in rw (not-true (eqb x 32) both.0, split_more xs ys both.1) refl
 
 split_joined : (m : AnyMove) (ms : List AnyMove) → slice_split is_space (join_with_byte 32 (map text_of (m ∷ ms))) ≡ map text_of (m ∷ ms)
 split_joined m [] = split_solid (text_of m) (move_solid 32 m (omega arith))

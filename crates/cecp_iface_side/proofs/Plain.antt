@@ -1,5 +1,5 @@
 -- Numbers and moves as they are written: what is read so is written so, and the other way round.
-use Rattle.std.proofs.Common.{◌≡◌, ℕ, zero, suc, ◌^◌, ◌<◌, ◌≤◌, List, [], ◌∷◌, true, ltb, cond, length, get_or, Some, None, refl, sym, ap, ◌∙◌, subst, arith}
+use Rattle.std.proofs.Common.{◌≡◌, ℕ, zero, suc, ◌^◌, ◌<◌, ◌≤◌, List, [], true, ltb, cond, length, get_or, Some, None, refl, sym, ap, ◌∙◌, subst, arith}
 use Rattle.std.proofs.lemmas.Bool.Decides.{nat_tests}
 use Rattle.std.proofs.lemmas.Option.{cond_some}
 use Rattle.std.proofs.lemmas.Slice.Eq.{bytes_eq-Decides}
@@ -14,24 +14,13 @@ use Rattle.std.specs.Str.Parse.{digits_value, AllDigits}
 use Rattle.chess_board.specs.declared.board.Move.{Move}
 use Rattle.chess_board.specs.Text.{text_of}
 use Rattle.chess_board.proofs.Texts.{reads-back}
-use Rattle.peer_words.proofs.Digits.{digit}
-use Rattle.peer_words.proofs.Trims.{and_true}
 use Rattle.peer_words.proofs.Written.{decimal_digits}
+use Rattle.peer_words.proofs.Sizes.{all_digits}
 use Rattle.chess_board.specs.Spelling.{move_of}
 use Rattle.cecp_lines.specs.Replies.{IsWritable}
 use Rattle.cecp_iface_side.specs.ReplyReading.{is_plain, plain, of_64_bits, written, same_text, written_move}
 use Rattle.chess_board.proofs.Spelled.{spells_move, read_officer}
 use Rattle.cecp_lines.proofs.Spellings.{bind_some}
-
-pub as_digits : (cs : List ℕ) → list_all is_ascii_digit cs ≡ true → AllDigits 10 cs
-as_digits [] h = tt
-as_digits (c ∷ cs) h =
-    let both = and_true (is_ascii_digit c) (list_all is_ascii_digit cs) h in
-    let d = digit c both.0 in
-    let lo = d.0 in
-    let hi = d.1 in
-    let value = d.2 in
-    (omega arith, as_digits cs both.1)
 
 model : IsNumeralModel (AllDigits 10) (digits_value 10)
 model = record { to = λ ds h. h; from = λ ds h. h; same = λ ds h. refl }
@@ -47,7 +36,7 @@ written_is text n h =
     let value = cond_some (is_plain text) (digits_value 10 text) b.0 b.1 in
     let tests = plain_tests text value.0 in
     let fits : digits_value 10 text < 2 ^ 64 = grind (arith, nat_tests, small.0, value.1) in
-    let back = decimal-digits_value model text (as_digits text tests.2) tests.0 tests.1 fits in
+    let back = decimal-digits_value model text (all_digits text tests.2) tests.0 tests.1 fits in
     (sym back ∙ ap decimal (value.1 ∙ small.1), (let same = value.1 ∙ small.1 in omega arith))
 
 zero_first : (n : ℕ) → n < 2 ^ 64 → get_or (decimal n) 0 0 ≡ 48 → length (decimal n) ≡ 1

@@ -4,7 +4,6 @@ use Rattle.std.specs.Prelude.{position}
 use Rattle.std.specs.List.{list_all, position_or_len}
 use Rattle.std.specs.Fmt.{decimal, signed_decimal}
 use Rattle.std.specs.Char.{is_ascii_digit}
-use Rattle.std.specs.Str.Parse.{starts_with_minus}
 use Rattle.std.proofs.lemmas.Bool.Decides.{nat_tests, Decides-eqb}
 use Rattle.std.proofs.lemmas.List.{length-append}
 use Rattle.std.proofs.Math.Seq.{take-append_seam, drop-append-add}
@@ -17,9 +16,8 @@ use Rattle.chess_board.specs.declared.board.Kind.{Kind}
 use Rattle.chess_board.specs.declared.board.Kind.TheVariants.{Pawn, Knight, Bishop, Rook, Queen, King}
 use Rattle.chess_board.specs.Board.{file_of, rank_of}
 use Rattle.chess_board.specs.Text.{text_of, promotion_text}
-use Rattle.peer_words.proofs.Trims.{and_true}
 use Rattle.peer_words.proofs.Runs.{all_of, prefix_whole, prefix_stops}
-use Rattle.peer_words.proofs.Written.{decimal_digits}
+use Rattle.peer_words.proofs.Written.{decimal_digits, no_sign}
 use Rattle.cecp_iface_side.specs.ReplyReading.{written, positive_score, negative_score, written_signed, cut, cut_at, with_rest, field_of, number_field, score_field}
 use Rattle.cecp_iface_side.proofs.Plain.{decimal_written}
 
@@ -57,13 +55,6 @@ pub number_reads : (n : ℕ) (more : List ℕ) → n < 2 ^ 64 → number_field (
 number_reads n more h = field_reads written (decimal n) more n (decimal_solid n h) (decimal_written n h)
 
 -- SCORES
-
-digit_no_minus : (c : ℕ) → is_ascii_digit c ≡ true → eqb c 45 ≡ false
-digit_no_minus c h = grind (arith, nat_tests)
-
-no_sign : (ds : List ℕ) → 0 < length ds → list_all is_ascii_digit ds ≡ true → starts_with_minus ds ≡ false
-no_sign [] h d = absurd (omega arith)
-no_sign (c ∷ cs) h d = let both = and_true (is_ascii_digit c) (list_all is_ascii_digit cs) d in digit_no_minus c both.0
 
 signed_reads : (z : ℤ) → SFits w64 z → written_signed (signed_decimal z) ≡ Some z
 signed_reads (pos n) h =

@@ -1,24 +1,23 @@
 -- The canonical spelling of a message spells it: the words and the arguments.
-use Rattle.std.proofs.Common.{◌≡◌, ℕ, ℤ, zero, suc, ◌+◌, ◌-◌, ◌*◌, ◌/◌, ◌%◌, ◌^◌, ◌<◌, ◌≤◌, List, [], ◌∷◌, ◌++◌, Bool, true, false, not, eqb, ltb, cond, length, take, drop, Option, Some, None, refl, ap, ◌∙◌, subst, arith, lit<}
+use Rattle.std.proofs.Common.{◌≡◌, ℕ, ℤ, zero, suc, ◌+◌, ◌-◌, ◌*◌, ◌/◌, ◌%◌, ◌^◌, ◌<◌, ◌≤◌, List, [], ◌∷◌, ◌++◌, Bool, true, false, not, eqb, ltb, cond, length, take, drop, Option, Some, None, refl, ap, ◌∙◌, subst, arith}
 use Rattle.std.specs.Prelude.{position}
 use Rattle.std.specs.List.{list_all}
 use Rattle.std.specs.Int.RustNames.{unsigned_abs}
 use Rattle.std.specs.Fmt.{decimal, signed_decimal}
 use Rattle.std.specs.Char.{is_ascii_digit}
 use Rattle.std.specs.Str.Parse.{digits_value, starts_with_minus}
-use Rattle.std.proofs.Math.Nat.{pow-le-pow_right}
 use Rattle.std.proofs.lemmas.Bool.Decides.{nat_tests}
 use Rattle.std.proofs.lemmas.Option.{cond_some}
 use Rattle.std.proofs.lemmas.Int.Digits.{digits_value-lt}
 use Rattle.std.proofs.lemmas.List.Folds.{list_all-append}
+use Rattle.std.proofs.lemmas.Bool.{and_parts}
 use lib.IntN.{pos, negsuc, neg_ℤ}
 use Rattle.peer_words.specs.Tokens.{is_white, is_token}
 use Rattle.peer_words.specs.Numbers.{digits, number, centis, positive, negative, milliseconds, thousandths, seconds_at, seconds, is_point, seconds_text, three_digits, is_digits}
-use Rattle.peer_words.proofs.Trims.{and_true}
 use Rattle.peer_words.proofs.TokenLists.{tokens_more, tokens_alone}
 use Rattle.peer_words.proofs.Written.{decimal_token, signed_token, number_decimal, centis_decimal_read, seconds_read}
+use Rattle.peer_words.proofs.Sizes.{all_digits, digits_small}
 use Rattle.cecp_lines.specs.Reading.{HasArgument}
-use Rattle.cecp_iface_side.proofs.Plain.{as_digits}
 use Rattle.cecp_iface_side.proofs.Hears.{map_some}
 
 -- a word, a blank and a token that reads as a value
@@ -30,17 +29,8 @@ one_word read word t x a b e = (t, tokens_more word t 32 a refl ∙ ap (λ ts. w
 digits_tests : (most : ℕ) (t : List ℕ) → is_digits most t ≡ true → (0 < length t) × (length t ≤ most) × (list_all is_ascii_digit t ≡ true)
 digits_tests most t h = (grind (arith, nat_tests), grind (arith, nat_tests), grind (arith, nat_tests))
 
-pub digits_below : (most : ℕ) (t : List ℕ) (n : ℕ) → digits most t ≡ Some n → n < 10 ^ most
-digits_below most t n h =
-    let c = cond_some (is_digits most t) (digits_value 10 t) n h in
-    let tests = digits_tests most t c.0 in
-    let lt : digits_value 10 t < 10 ^ length t = digits_value-lt 10 t (as_digits t tests.2) in
-    let le : 10 ^ length t ≤ 10 ^ most = pow-le-pow_right (lit< tt) tests.1 in
-    let same = c.1 in
-    omega arith
-
 pub number_below : (t : List ℕ) (n : ℕ) → number t ≡ Some n → n < 10 ^ 9
-number_below t n h = digits_below 9 t n h
+number_below t n h = digits_small 9 t n h
 
 negated_below : (n : ℕ) → n < 10 ^ 9 → unsigned_abs (neg_ℤ (pos n)) < 10 ^ 9
 negated_below zero h = omega arith
@@ -78,7 +68,7 @@ thousandths_below text p h =
     let m = map_some (λ n. n * 10 ^ (3 - length text)) (digits 3 text) p h in
     let c = cond_some (is_digits 3 text) (digits_value 10 text) m.0 m.1 in
     let tests = digits_tests 3 text c.0 in
-    let lt : digits_value 10 text < 10 ^ length text = digits_value-lt 10 text (as_digits text tests.2) in
+    let lt : digits_value 10 text < 10 ^ length text = digits_value-lt 10 text (all_digits text tests.2) in
     let low : m.0 < 10 ^ length text = subst (λ (n : ℕ). n < 10 ^ length text) c.1 lt in
     subst (λ (n : ℕ). n < 1000) m.2 (scaled_by (length text) m.0 text refl tests.0 tests.1 low)
 
@@ -86,16 +76,13 @@ nothing_below : (p : ℕ) → ◌≡◌ {A = Option ℕ} (Some 0) (Some p) → p
 nothing_below p h = let e : 0 ≡ p = cc in omega arith
 
 seconds_by : (t : List ℕ) (o : Option ℕ) (ms : ℕ) → seconds_at o t ≡ Some ms → ms < 10 ^ 9
-seconds_by t None ms h = milliseconds_below (digits 6 t) (Some 0) ms (digits_below 6 t) nothing_below h
-seconds_by t (Some at) ms h = milliseconds_below (digits 6 (take at t)) (thousandths (drop (at + 1) t)) ms (digits_below 6 (take at t)) (thousandths_below (drop (at + 1) t)) h
+seconds_by t None ms h = milliseconds_below (digits 6 t) (Some 0) ms (digits_small 6 t) nothing_below h
+seconds_by t (Some at) ms h = milliseconds_below (digits 6 (take at t)) (thousandths (drop (at + 1) t)) ms (digits_small 6 (take at t)) (thousandths_below (drop (at + 1) t)) h
 
 pub seconds_below : (t : List ℕ) (ms : ℕ) → seconds t ≡ Some ms → ms < 10 ^ 9
 seconds_below t ms h = seconds_by t (position is_point t) ms h
 
 -- TOKENS
-
-black_digit : (c : ℕ) → is_ascii_digit c ≡ true → not (is_white c) ≡ true
-black_digit c h = grind (arith, nat_tests)
 
 pub black_over : (c : ℕ) → 33 ≤ c → not (is_white c) ≡ true
 black_over c h = grind (arith, nat_tests)
@@ -104,7 +91,7 @@ black_over c h = grind (arith, nat_tests)
 pub longer_token : (t more : List ℕ) → is_token t ≡ true → list_all (λ b. not (is_white b)) more ≡ true → is_token (t ++ more) ≡ true
 longer_token [] more h k = absurd (cc)
 longer_token (x ∷ t) more h k =
-    let both = and_true (ltb 0 (length (x ∷ t))) (list_all (λ b. not (is_white b)) (x ∷ t)) h in
+    let both = and_parts (ltb 0 (length (x ∷ t))) (list_all (λ b. not (is_white b)) (x ∷ t)) h in
     let some : ltb 0 (suc (length (t ++ more))) ≡ true = grind (arith, nat_tests) in
     let black : list_all (λ b. not (is_white b)) ((x ∷ t) ++ more) ≡ true = list_all-append (λ b. not (is_white b)) (x ∷ t) more ∙ rw (both.1, k) refl in
     rw (some, black) refl

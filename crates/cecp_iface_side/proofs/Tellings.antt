@@ -11,10 +11,10 @@ use Rattle.std.proofs.lemmas.Option.{cond_some}
 use Rattle.std.proofs.lemmas.List.{take-append-drop, length-map, append-nil}
 use Rattle.std.proofs.lemmas.List.Splits.{join_with_byte-slice_split, length-slice_split}
 use Rattle.std.proofs.lemmas.Slice.Eq.{bytes_eq-Decides}
+use Rattle.std.proofs.lemmas.Bool.{and_parts}
 use Rattle.chess_board.specs.declared.board.Move.{Move as AnyMove}
 use Rattle.chess_board.specs.Text.{text_of}
 use Rattle.peer_words.specs.Tokens.{trimmed}
-use Rattle.peer_words.proofs.Trims.{and_true}
 use Rattle.cecp_lines.specs.declared.reply.Reason.{Reason}
 use Rattle.cecp_lines.specs.declared.reply.Reason.TheVariants as reasons
 use Rattle.cecp_lines.specs.declared.reply.Reply.{Reply as CodeReply}
@@ -138,7 +138,7 @@ some_is (Some m) h = (m, refl)
 parts_moves : (parts : List (List ℕ)) → list_all (λ part. is_some (written_move part)) parts ≡ true → (ms : List AnyMove) × AllByRecursion IsWritable ms × (map text_of ms ≡ parts)
 parts_moves [] h = ([], tt, refl)
 parts_moves (p ∷ ps) h =
-    let both = and_true (is_some (written_move p)) (list_all (λ part. is_some (written_move part)) ps) h in
+    let both = and_parts (is_some (written_move p)) (list_all (λ part. is_some (written_move part)) ps) h in
     let m = some_is (written_move p) both.0 in
     let w = written_move_is p m.0 m.1 in
     let more = parts_moves ps both.1 in

@@ -8,9 +8,8 @@ use lib.IntN.{pos, negsuc}
 use mir.Val.{SFits}
 use mir.Syntax.{w64}
 use Rattle.chess_board.specs.declared.board.Move.{Move as AnyMove}
-use Rattle.chess_board.specs.declared.board.Kind.{Kind}
-use Rattle.chess_board.specs.declared.board.Kind.TheVariants.{Pawn, Knight, Bishop, Rook, Queen, King}
-use Rattle.chess_board.specs.Text.{text_of, promotion_text}
+use Rattle.chess_board.specs.Text.{text_of}
+use Rattle.chess_board.proofs.TextLengths.{move_length}
 use Rattle.cecp_lines.specs.declared.reply.Reason.{Reason}
 use Rattle.cecp_lines.specs.declared.reply.Reason.TheVariants as reasons
 use Rattle.cecp_lines.specs.declared.reply.UserError.{UserError}
@@ -19,18 +18,6 @@ use Rattle.cecp_lines.specs.declared.reply.Outcome.{Outcome}
 use Rattle.cecp_lines.specs.declared.reply.Outcome.TheVariants as outcomes
 use Rattle.cecp_lines.specs.Replies as told
 use Rattle.cecp_lines.specs.Replies.{Reply, reply_text, reason_text, user_error_text, outcome_text, field, hint_text, current_text, Fits, borrowed}
-
-promotion_short : (p : Option Kind) → length (promotion_text p) ≤ 1
-promotion_short None = omega arith
-promotion_short (Some Pawn) = omega arith
-promotion_short (Some King) = omega arith
-promotion_short (Some Queen) = omega arith
-promotion_short (Some Rook) = omega arith
-promotion_short (Some Bishop) = omega arith
-promotion_short (Some Knight) = omega arith
-
-pub move_short : (m : AnyMove) → length (text_of m) ≤ 5
-move_short m = omega (arith, promotion_short m.promo)
 
 decimal_short : (n : ℕ) → n < 2 ^ 64 → length (decimal n) ≤ 20
 decimal_short n h = length-decimal-le 20 n (omega arith) (omega arith) h
@@ -58,11 +45,11 @@ outcome_short outcomes.Fifty = omega arith
 
 hint_short : (h : Option AnyMove) → length (hint_text h) ≤ 8
 hint_short None = omega arith
-hint_short (Some m) = omega (arith, length-append (text_of m) (41 ∷ 32 ∷ []), move_short m)
+hint_short (Some m) = omega (arith, length-append (text_of m) (41 ∷ 32 ∷ []), move_length m)
 
 current_short : (c : Option AnyMove) → length (current_text c) ≤ 6
 current_short None = omega arith
-current_short (Some m) = omega (arith, move_short m)
+current_short (Some m) = omega (arith, move_length m)
 
 two_parts : (a b : List ℕ) → length (a ++ b) ≡ length a + length b
 two_parts a b = length-append a b
@@ -78,13 +65,13 @@ stat_parts front a b c d e f = simp length-append (omega arith)
 
 pub told_short : (t : Reply) → Fits t → length (reply_text t) ≤ 128 + borrowed t
 told_short (told.Feature name value) f = omega (arith, four_parts (codes "feature ") name (codes "=") value)
-told_short (told.Move m) f = omega (arith, two_parts (codes "move ") (text_of m), move_short m)
-told_short (told.Illegal m) f = omega (arith, two_parts (codes "Illegal move: ") (text_of m), move_short m)
-told_short (told.IllegalLong m) f = omega (arith, two_parts (codes "Illegal move (game too long): ") (text_of m), move_short m)
+told_short (told.Move m) f = omega (arith, two_parts (codes "move ") (text_of m), move_length m)
+told_short (told.Illegal m) f = omega (arith, two_parts (codes "Illegal move: ") (text_of m), move_length m)
+told_short (told.IllegalLong m) f = omega (arith, two_parts (codes "Illegal move (game too long): ") (text_of m), move_length m)
 told_short (told.Error r line) f = omega (arith, four_parts (codes "Error (") (reason_text r) (codes "): ") line, reason_short r)
 told_short (told.TellError tell) f = omega (arith, tell_short tell)
 told_short (told.Pong n) f = omega (arith, two_parts (codes "pong ") (decimal n), decimal_short n (omega arith))
-told_short (told.Hint m) f = omega (arith, two_parts (codes "Hint: ") (text_of m), move_short m)
+told_short (told.Hint m) f = omega (arith, two_parts (codes "Hint: ") (text_of m), move_length m)
 told_short (told.Result outcome) f = omega (arith, outcome_short outcome)
 told_short (told.Thinking depth score time nodes hint pv) f =
     let a = decimal_short depth f.0 in

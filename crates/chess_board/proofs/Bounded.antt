@@ -1,7 +1,7 @@
 -- Where a man goes, by where it could go on an empty board.
 use Rattle.std.proofs.Common.{◌≡◌, ◌<◌, ◌==◌, ◌||◌, ℕ, Bool, true, false, ◌&&◌, not, nat_lt, refl, sym, ap, ◌∙◌, Option, Some, None}
 use Rattle.std.proofs.lemmas.Nat.Bits.{bit_at-zero}
-use Rattle.std.proofs.lemmas.Bool.{false_from_ne_true, false≢true}
+use Rattle.std.proofs.lemmas.Bool.{false_from_ne_true, false≢true, and_parts, or_left, or_right}
 use Rattle.chess_board.specs.declared.board.Kind.{Kind}
 use Rattle.chess_board.specs.declared.board.Kind.TheVariants.{Pawn, Knight, Bishop, Rook, Queen, King}
 use Rattle.chess_board.specs.declared.board.Side.{Side}
@@ -10,7 +10,7 @@ use Rattle.chess_board.specs.Attack.{is_checked, is_clear, is_diagonal, is_strai
 use Rattle.chess_board.specs.Position.{Position}
 use Rattle.chess_board.specs.Reach.{form, has, could_go, goes_as, is_slider, IsSetOf, AreWays, Bounds}
 use Rattle.chess_board.specs.Rules.{reaches_to, reaches_to_as, may_land, goes, promotes, men_after, is_legal, is_legal_of}
-use Rattle.chess_board.proofs.Bools.{both, same_side-is}
+use Rattle.chess_board.proofs.Bools.{same_side-is}
 use Rattle.chess_board.proofs.Total.{goes_form}
 
 -- a move of a man that may go so is legal where it promotes rightly and leaves its king unattacked
@@ -19,21 +19,13 @@ pub legal_reach : (p : Position) (owner : Side) (piece : Kind) (from to : ℕ) (
 unfolding reaches_to is_legal is_legal_of
 legal_reach p owner piece from to promo man reach =
     let here : (same_side owner p.side && (may_land p.side (man_at p.men to) && goes p piece from to)) ≡ true = sym (ap (λ (m : Man). reaches_to_as p m from to) man) ∙ reach in
-    let parts = both (same_side owner p.side) (may_land p.side (man_at p.men to) && goes p piece from to) here in
-    let ways = both (may_land p.side (man_at p.men to)) (goes p piece from to) parts.1 in
+    let parts = and_parts (same_side owner p.side) (may_land p.side (man_at p.men to) && goes p piece from to) here in
+    let ways = and_parts (may_land p.side (man_at p.men to)) (goes p piece from to) parts.1 in
     rw (man, parts.0, parts.1) refl
 
 pub never_none : (p : Position) (from to : ℕ) → man_at p.men from ≡ None → reaches_to p from to ≡ false
 unfolding reaches_to
 never_none p from to none = ap (λ (man : Man). reaches_to_as p man from to) none
-
-either_left : (a b : Bool) → a ≡ true → (a || b) ≡ true
-either_left true b e = refl
-either_left false b e = absurd (cc)
-
-either_right : (a b : Bool) → b ≡ true → (a || b) ≡ true
-either_right true b e = refl
-either_right false b e = e
 
 -- the squares to which a man could go, by the sets of his ways, of the men of his side and of the other king
 pub ways_none : (p : Position) (from : ℕ) → man_at p.men from ≡ None → AreWays p from 0
@@ -64,7 +56,7 @@ ways_bound p from ways is to low out =
     no : (stands : Man) → could_go p stands from to ≡ false → reaches_to_as p stands from to ≡ true → ⊥
     no None e h = false≢true h
     no (Some man) e h =
-        let parts = both (may_land p.side (man_at p.men to)) (goes p man.1 from to) (both (same_side man.0 p.side) (may_land p.side (man_at p.men to) && goes p man.1 from to) h).1 in
+        let parts = and_parts (may_land p.side (man_at p.men to)) (goes p man.1 from to) (and_parts (same_side man.0 p.side) (may_land p.side (man_at p.men to) && goes p man.1 from to) h).1 in
         false≢true (sym e ∙ rw (parts.0, goes_form p man.1 from to parts.1) refl)
 
 -- what a man could do on an empty board, he does where a slider's way is clear
@@ -77,9 +69,9 @@ slider_goes p Knight from to is e = absurd (cc)
 slider_goes p King from to is e = absurd (cc)
 
 pub slider_line : (side : Side) (piece : Kind) (from to : ℕ) → is_slider piece ≡ true → form side piece from to ≡ true → IsLine from to
-slider_line side Bishop from to is e = either_left (is_diagonal from to) (is_straight from to) (both (nat_lt 0 (distance from to)) (is_diagonal from to) e).1
-slider_line side Rook from to is e = either_right (is_diagonal from to) (is_straight from to) (both (nat_lt 0 (distance from to)) (is_straight from to) e).1
-slider_line side Queen from to is e = (both (nat_lt 0 (distance from to)) (is_diagonal from to || is_straight from to) e).1
+slider_line side Bishop from to is e = or_left (is_diagonal from to) (is_straight from to) (and_parts (nat_lt 0 (distance from to)) (is_diagonal from to) e).1
+slider_line side Rook from to is e = or_right (is_diagonal from to) (is_straight from to) (and_parts (nat_lt 0 (distance from to)) (is_straight from to) e).1
+slider_line side Queen from to is e = (and_parts (nat_lt 0 (distance from to)) (is_diagonal from to || is_straight from to) e).1
 slider_line side Pawn from to is e = absurd (cc)
 slider_line side Knight from to is e = absurd (cc)
 slider_line side King from to is e = absurd (cc)
@@ -116,4 +108,4 @@ pub reach_owner : (p : Position) (owner : Side) (piece : Kind) (from to : ℕ) �
 unfolding reaches_to
 reach_owner p owner piece from to man reach =
     let here : (same_side owner p.side && (may_land p.side (man_at p.men to) && goes p piece from to)) ≡ true = sym (ap (λ (m : Man). reaches_to_as p m from to) man) ∙ reach in
-    same_side-is owner p.side (both (same_side owner p.side) (may_land p.side (man_at p.men to) && goes p piece from to) here).0
+    same_side-is owner p.side (and_parts (same_side owner p.side) (may_land p.side (man_at p.men to) && goes p piece from to) here).0

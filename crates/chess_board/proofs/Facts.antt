@@ -1,7 +1,7 @@
 -- What follows from being a position: its parts, put together again, are it, and where its passant square lies.
 use Rattle.std.proofs.Common.{◌≡◌, ◌+◌, ℕ, Bool, true, false, ◌&&◌, ◌||◌, not, refl, ap, subst, sym, Option, Some, None, Ok, arith, leb, eqb, min, max}
 use Rattle.std.specs.Prelude.{IfSome, count_by}
-use Rattle.std.proofs.lemmas.Bool.{eq-eqb, le-leb, eqb-true}
+use Rattle.std.proofs.lemmas.Bool.{eq-eqb, le-leb, eqb-true, and_parts}
 use Rattle.chess_board.specs.declared.board.Side.{Side}
 use Rattle.chess_board.specs.declared.board.Side.TheVariants.{White, Black}
 use Rattle.chess_board.specs.declared.board.Rights.{Rights}
@@ -11,7 +11,6 @@ use Rattle.chess_board.specs.Position.{Position}
 use Rattle.chess_board.specs.Rules.{is_en_passant, is_legal, is_at, fifth_rank, sixth_rank, beside}
 use Rattle.chess_board.specs.Play.{AreMen, AreRights, IsPosition, Takeable, can_take, fits_board, fits_kings, at_home, rights_at_home, built, settled, settled_at, is_supported, top_count}
 use Rattle.chess_board.proofs.Below.{some_below-found}
-use Rattle.chess_board.proofs.Bools.{both}
 
 pub board_fits : (men : Men) → AreMen men → fits_board men ≡ true
 unfolding fits_board
@@ -78,18 +77,18 @@ passant_rank_of : (p : Position) (from at : ℕ) → is_en_passant p from at ≡
 unfolding is_en_passant
 passant_rank_of p from at e =
     let strike = is_pawn_strike p.side from at && is_empty (man_at p.men at) in
-    let parts = both (is_at p.passant at && eqb (rank_of from) (fifth_rank p.side)) (strike && is_pawn (other p.side) (man_at p.men (beside from at))) e in
-    let five = eqb-true _ _ (both (is_at p.passant at) (eqb (rank_of from) (fifth_rank p.side)) parts.0).1 in
-    let strikes = (both (is_pawn_strike p.side from at) (is_empty (man_at p.men at)) (both strike (is_pawn (other p.side) (man_at p.men (beside from at))) parts.1).0).0 in
-    ahead_rank p.side (rank_of from) (rank_of at) five (both _ _ strikes).1
+    let parts = and_parts (is_at p.passant at && eqb (rank_of from) (fifth_rank p.side)) (strike && is_pawn (other p.side) (man_at p.men (beside from at))) e in
+    let five = eqb-true _ _ (and_parts (is_at p.passant at) (eqb (rank_of from) (fifth_rank p.side)) parts.0).1 in
+    let strikes = (and_parts (is_pawn_strike p.side from at) (is_empty (man_at p.men at)) (and_parts strike (is_pawn (other p.side) (man_at p.men (beside from at))) parts.1).0).0 in
+    ahead_rank p.side (rank_of from) (rank_of at) five (and_parts _ _ strikes).1
 
 take_rank : (p : Position) (at : ℕ) → can_take p at ≡ true → rank_of at ≡ sixth_rank p.side
 unfolding can_take
 take_rank p at e =
     let found = some_below-found squares (λ from. is_pawn p.side (man_at p.men from) && (is_en_passant p from at && is_legal p from at None)) e in
     let from = found.0 in
-    let rest = both (is_pawn p.side (man_at p.men from)) (is_en_passant p from at && is_legal p from at None) found.2 in
-    passant_rank_of p from at (both (is_en_passant p from at) (is_legal p from at None) rest.1).0
+    let rest = and_parts (is_pawn p.side (man_at p.men from)) (is_en_passant p from at && is_legal p from at None) found.2 in
+    passant_rank_of p from at (and_parts (is_en_passant p from at) (is_legal p from at None) rest.1).0
 
 -- the passant square lies on the sixth rank of the side on move
 pub passant_rank : (p : Position) → IsPosition p → IfSome p.passant (λ at. rank_of at ≡ sixth_rank p.side)

@@ -1,7 +1,7 @@
 -- The squares from which a side's men could attack a square on an empty board, by the sets of its men.
 use Rattle.std.proofs.Common.{◌≡◌, ◌+◌, ◌≤◌, ◌<◌, ◌&&◌, ◌||◌, ◌==◌, max, ltb, leb, ℕ, Bool, true, false, refl, sym, ap, subst, ◌∙◌, arith, Some, None}
 use Rattle.std.specs.Int.Bits.{bit_or, bit_and}
-use Rattle.std.proofs.lemmas.Bool.{eqb-true, le-leb, false_from_ne_true, false≢true}
+use Rattle.std.proofs.lemmas.Bool.{eqb-true, le-leb, false_from_ne_true, false≢true, and_parts, or_left, or_right}
 use Rattle.chess_board.specs.declared.board.Kind.{Kind}
 use Rattle.chess_board.specs.declared.board.Kind.TheVariants.{Pawn, Knight, Bishop, Rook, Queen, King}
 use Rattle.chess_board.specs.declared.board.Side.{Side}
@@ -10,15 +10,7 @@ use Rattle.chess_board.specs.Board.{Man, Men, man_at, is_of, gap, file_of, rank_
 use Rattle.chess_board.specs.Attack.{is_ahead, is_diagonal, is_straight, is_clear, reaches, attacks, attacks_as}
 use Rattle.chess_board.specs.Reach.{form, has, IsSetOf}
 use Rattle.chess_board.specs.Sets.{is_a}
-use Rattle.chess_board.proofs.Bools.{both}
 use Rattle.chess_board.proofs.Sets.{has-either, has-both}
-
-or_left : (a b : Bool) → a ≡ true → (a || b) ≡ true
-or_left a b e = rw e refl
-
-or_right : (a b : Bool) → b ≡ true → (a || b) ≡ true
-or_right true b e = refl
-or_right false b e = e
 
 -- the shapes by files and ranks
 abbrev jump : ℕ → ℕ → Bool
@@ -102,7 +94,7 @@ shaped men side piece from at e =
     reach : (men : Men) (side : Side) (piece : Kind) (from at : ℕ) → reaches men side piece from at ≡ true →
         Shape piece (jump (files_apart from at) (ranks_apart from at)) (slant (files_apart from at) (ranks_apart from at)) (line (files_apart from at) (ranks_apart from at)) (close (files_apart from at) (ranks_apart from at))
     reach men side Pawn from at e =
-        let parts = both (files_apart from at == 1) (is_ahead side (rank_of from) (rank_of at) 1) e in
+        let parts = and_parts (files_apart from at == 1) (is_ahead side (rank_of from) (rank_of at) 1) e in
         let one : files_apart from at ≡ 1 = eqb-true (files_apart from at) 1 parts.0 in
         let next : ranks_apart from at ≡ 1 = ahead_apart side (rank_of from) (rank_of at) parts.1 in
         close_is (files_apart from at) (ranks_apart from at) (omega arith) (omega arith)
@@ -110,10 +102,10 @@ shaped men side piece from at e =
         let one : distance from at ≡ 1 = eqb-true (distance from at) 1 e in
         close_is (files_apart from at) (ranks_apart from at) (omega arith) (omega arith)
     reach men side Knight from at e = e
-    reach men side Bishop from at e = (both (ltb 0 (distance from at) && is_diagonal from at) (is_clear men from at) e).0
-    reach men side Rook from at e = (both (ltb 0 (distance from at) && is_straight from at) (is_clear men from at) e).0
+    reach men side Bishop from at e = (and_parts (ltb 0 (distance from at) && is_diagonal from at) (is_clear men from at) e).0
+    reach men side Rook from at e = (and_parts (ltb 0 (distance from at) && is_straight from at) (is_clear men from at) e).0
     reach men side Queen from at e =
-        spread (ltb 0 (distance from at)) (is_diagonal from at) (is_straight from at) (both (ltb 0 (distance from at) && (is_diagonal from at || is_straight from at)) (is_clear men from at) e).0
+        spread (ltb 0 (distance from at)) (is_diagonal from at) (is_straight from at) (and_parts (ltb 0 (distance from at) && (is_diagonal from at || is_straight from at)) (is_clear men from at) e).0
 
 turned : (a b : ℕ) → gap a b ≡ gap b a
 turned a b = omega arith
@@ -130,7 +122,7 @@ near_hit men side from at stands e =
     || (form White King at from && (is_a King m || is_a Pawn m))) && is_of side m) ≡ true) [
       | None ↦ λ no. absurd (cc)
       | Some man ↦ λ h.
-          let parts = both (is_of side (Some man)) (reaches men side man.1 from at) h in
+          let parts = and_parts (is_of side (Some man)) (reaches men side man.1 from at) h in
           let there = shaped men side man.1 from at parts.1 in
           let by_file = subst (λ (f : ℕ). fits (jump f (ranks_apart from at)) (slant f (ranks_apart from at)) (line f (ranks_apart from at)) (close f (ranks_apart from at)) man.1 ≡ true) (turned (file_of from) (file_of at)) there in
           let here = subst (λ (r : ℕ). fits (jump (files_apart at from) r) (slant (files_apart at from) r) (line (files_apart at from) r) (close (files_apart at from) r) man.1 ≡ true) (turned (rank_of from) (rank_of at)) by_file in

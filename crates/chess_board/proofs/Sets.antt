@@ -191,10 +191,6 @@ both_bit (suc (suc x)) y a b = absurd (omega arith)
 pub has-both : (a b s : ℕ) → has (bit_and a b) s ≡ (has a s && has b s)
 has-both a b s = ap (λ (n : ℕ). n == 1) (bit_at_and a b s) ∙ both_bit (bit_at a s) (bit_at b s) (bit_at-lt a s) (bit_at-lt b s)
 
-pub not_not : (b : Bool) → not (not b) ≡ b
-not_not true = refl
-not_not false = refl
-
 not_bit : (x : ℕ) → x < 2 → (1 - x == 1) ≡ not (x == 1)
 not_bit zero a = refl
 not_bit (suc zero) a = refl

@@ -4,7 +4,7 @@ use Rattle.std.specs.Int.{bit_at}
 use Rattle.std.specs.Int.Bits.{bit_or}
 use Rattle.std.proofs.lemmas.List.{get_or-set_same, length-set}
 use Rattle.std.proofs.lemmas.Nat.Bits.{bit_at_ones}
-use Rattle.std.proofs.lemmas.Bool.{cases_eq, false_from_ne_true, false≢true}
+use Rattle.std.proofs.lemmas.Bool.{cases_eq, false_from_ne_true, false≢true, and_parts, or_left, or_right, or_parts}
 use Rattle.chess_board.specs.declared.board.Kind.{Kind}
 use Rattle.chess_board.specs.declared.board.Kind.TheVariants.{Pawn, Knight, Bishop, Rook, Queen, King}
 use Rattle.chess_board.specs.declared.board.Side.{Side}
@@ -15,18 +15,10 @@ use Rattle.chess_board.specs.Position.{Position}
 use Rattle.chess_board.specs.Reach.{has, Nears, Shields, Frees}
 use Rattle.chess_board.specs.Rules.{moved, men_after, is_en_passant, promotes, becomes}
 use Rattle.chess_board.proofs.Below.{each_below-at, each_below-all, some_below-none, some_below-found, some_square-hit, squares-is}
-use Rattle.chess_board.proofs.Bools.{both}
 use Rattle.chess_board.proofs.Sets.{has-either}
 use Rattle.chess_board.proofs.Moved.{man_at-moved}
 use Rattle.chess_board.proofs.Prepared.{promoted-king}
 use Rattle.chess_board.proofs.Plays.{not_other}
-
-or_left : (a b : Bool) → a ≡ true → (a || b) ≡ true
-or_left a b e = rw e refl
-
-or_right : (a b : Bool) → b ≡ true → (a || b) ≡ true
-or_right true b e = refl
-or_right false b e = e
 
 arrived : (men : Men) (side : Side) (piece : Kind) (from to : ℕ) (promo : Option Kind) → length men ≡ 64 → to < 64 → man_at (moved men side piece from to promo) to ≡ Some (side, becomes piece promo)
 arrived men side piece from to promo size low =
@@ -39,8 +31,8 @@ left men side piece from to promo size low apart =
 
 slides : (men after : Men) (a l c d : Bool) → (c ≡ true → l ≡ true → d ≡ true) → ((a && l) && c) ≡ true → ((a && l) && d) ≡ true
 slides men after a l c d same e =
-    let parts = both (a && l) c e in
-    let lines = both a l parts.0 in
+    let parts = and_parts (a && l) c e in
+    let lines = and_parts a l parts.0 in
     rw (lines.0, lines.1, same parts.1 lines.1) refl
 
 still_reaches : (men after : Men) (side : Side) (kind : Kind) (x k : ℕ) → ((is_diagonal x k || is_straight x k) ≡ true → is_clear after x k ≡ true → is_clear men x k ≡ true) →
@@ -52,10 +44,6 @@ still_reaches men after side Bishop x k open' e = slides men after (ltb 0 (dista
 still_reaches men after side Rook x k open' e = slides men after (ltb 0 (distance x k)) (is_straight x k) (is_clear after x k) (is_clear men x k) (λ c l. open' (or_right (is_diagonal x k) (is_straight x k) l) c) e
 still_reaches men after side Queen x k open' e = slides men after (ltb 0 (distance x k)) (is_diagonal x k || is_straight x k) (is_clear after x k) (is_clear men x k) (λ c l. open' l c) e
 
-pub neither : (a b : Bool) → (a || b) ≡ false → (a ≡ false) × (b ≡ false)
-neither true b e = absurd (cc)
-neither false b e = (refl, e)
-
 -- the same man attacks on another board too, if the ways that are clear here are clear there
 attacks_by : (men others : Men) (side : Side) (x k : ℕ) → man_at others x ≡ man_at men x → ((is_diagonal x k || is_straight x k) ≡ true → is_clear others x k ≡ true → is_clear men x k ≡ true) →
     attacks others side x k ≡ true → attacks men side x k ≡ true
@@ -64,7 +52,7 @@ attacks_by men others side x k same open' e =
     elim (man_at men x) as (λ m. attacks_as others side x k m ≡ true → attacks_as men side x k m ≡ true) [
       | None ↦ λ h. h
       | Some man ↦ λ h.
-          let parts = both (is_of side (Some man)) (reaches others side man.1 x k) h in
+          let parts = and_parts (is_of side (Some man)) (reaches others side man.1 x k) h in
           rw (parts.0, still_reaches men others side man.1 x k open' parts.1) refl
     ] seen
 
@@ -102,10 +90,10 @@ shields_far men side x k near set' nears low far s low' apart out e =
 
 -- a larger set has the shields too
 pub shields_left : (men : Men) (side : Side) (x k a b : ℕ) → Shields men side x k a → Shields men side x k (bit_or a b)
-shields_left men side x k a b shields s low apart out e = shields s low apart (neither (has a s) (has b s) (sym (has-either a b s) ∙ out)).0 e
+shields_left men side x k a b shields s low apart out e = shields s low apart (or_parts (has a s) (has b s) (sym (has-either a b s) ∙ out)).0 e
 
 pub shields_right : (men : Men) (side : Side) (x k a b : ℕ) → Shields men side x k b → Shields men side x k (bit_or a b)
-shields_right men side x k a b shields s low apart out e = shields s low apart (neither (has a s) (has b s) (sym (has-either a b s) ∙ out)).1 e
+shields_right men side x k a b shields s low apart out e = shields s low apart (or_parts (has a s) (has b s) (sym (has-either a b s) ∙ out)).1 e
 
 -- what attacks the king's square after the move attacked it before
 still_attacks : (men : Men) (side : Side) (piece : Kind) (from to x k set' : ℕ) (promo : Option Kind) → length men ≡ 64 → from < 64 → to < 64 → x < 64 → Shields men (other side) x k set' → has set' from ≡ false →
@@ -158,7 +146,7 @@ unpinned p k from to shields piece promo size quiet none kl alone fl tl man prom
     let after = moved men p.side piece from to promo in
     let still : is_checked after p.side ≡ false = some_below-none squares (λ at. is_king p.side (man_at after at) && is_attacked after (other p.side) at) (λ at less. false_from_ne_true _ (λ hit.
     let low : at < 64 = subst (λ (n : ℕ). at < n) squares-is less in
-    let parts = both (is_king p.side (man_at after at)) (is_attacked after (other p.side) at) hit in
+    let parts = and_parts (is_king p.side (man_at after at)) (is_attacked after (other p.side) at) hit in
     ⊎_elim (λ (here : at ≡ to).
     let there = ap (man_at after) here ∙ arrived men p.side piece from to promo size tl in
     let no : is_king p.side (man_at after at) ≡ false = ap (is_king p.side) there ∙ own_kind p.side (becomes piece promo) ∙ promoted-king p.side piece to promo promoted ∙ plain' in

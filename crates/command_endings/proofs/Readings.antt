@@ -1,5 +1,5 @@
 -- What was read of an input.
-use Rattle.std.proofs.Common.{◌≡◌, ℕ, zero, suc, ◌+◌, ◌≤◌, zero-add, List, [], ◌∷◌, ◌++◌, map, take, length, Bool, true, false, cond, Option, Some, None, IfSome, refl, sym, ap, subst, ◌∙◌, arith, append_assoc, append-nil, length-append}
+use Rattle.std.proofs.Common.{◌≡◌, ℕ, zero, suc, ◌+◌, ◌≤◌, zero-add, List, [], ◌∷◌, ◌++◌, map, take, length, Bool, true, false, cond, Option, Some, None, IfSome, refl, sym, ap, subst, ◌∙◌, arith, append_assoc, append-nil, length-append, one-add}
 use Rattle.std.specs.List.{onto_first, count_by}
 use Rattle.std.proofs.lemmas.List.Sums.{sum_by-cons}
 use Rattle.std.proofs.lemmas.List.{map-append}
@@ -25,9 +25,6 @@ onto x zero [] qs c = record { rest = onto_first x qs; same = refl; fits = omega
 onto x zero (p ∷ ps) qs c = record { rest = onto_first x qs; same = refl; fits = omega arith }
 onto x (suc n) [] qs c = absurd (let l = c.fits in omega arith)
 onto x (suc n) (p ∷ ps) qs c = record { rest = c.rest; same = ap (onto_first x) c.same; fits = c.fits }
-
-one-add : (n : ℕ) → 1 + n ≡ suc n
-one-add n = omega arith
 
 next_begins : (x n : ℕ) (ps qs : List (List ℕ)) (feed : Bool) → Begins n ps qs → Begins (cond feed 1 0 + n) (cond feed ([] ∷ ps) (onto_first x ps)) (cond feed ([] ∷ qs) (onto_first x qs))
 next_begins x n ps qs true c = rw one-add (record { rest = c.rest; same = ap (λ l. [] ∷ l) c.same; fits = let l = c.fits in omega arith })
@@ -156,3 +153,11 @@ whole_lines_read start now got g =
       of_got = (w.0, no_bytes got (whole 131072 got) w.0 w.1);
       of_left = first_lines start.input.left now.input.left got (whole 131072 got) g.left (λ left e. whole_first got left);
     }
+
+pub first_of : (l0 : Option (List ℕ)) (lines : List Piece) (x : List ℕ) → AreFirst l0 lines → l0 ≡ Some x → (ls : List Piece) × (items 131072 x ≡ lines ++ ls)
+first_of None lines x a e = cc
+first_of (Some y) lines x a e = let same : y ≡ x = cc in subst (λ (z : List ℕ). (ls : List Piece) × (items 131072 z ≡ lines ++ ls)) same a
+
+pub all_of : (l0 : Option (List ℕ)) (got x : List ℕ) → IsAll l0 got → l0 ≡ Some x → x ≡ got
+all_of None got x a e = cc
+all_of (Some y) got x a e = let same : y ≡ x = cc in sym same ∙ a

@@ -34,7 +34,7 @@ IsNewGame (Some order) = ⊥
 no_order : (o : Option Order) → o ≡ None → IsNewGame o
 no_order o e = subst IsNewGame (sym e) tt
 
-tells_none : (os : List Setting) (name : List ℕ) (on : Bool) → os ≡ [] → tells os name on ≡ None
+pub tells_none : (os : List Setting) (name : List ℕ) (on : Bool) → os ≡ [] → tells os name on ≡ None
 tells_none os name on e = ap (λ (l : List Setting). tells l name on) e
 
 mode_none : (os : List Setting) (before after : Bool) → os ≡ [] → asks_for_mode os before after ≡ None
@@ -86,7 +86,7 @@ order_first held None f n = f
 order_first held (Some orders.NewGame) f n = joined_first held f
 order_first held (Some order) f n = absurd n
 
-no_table : (b : Bool) (os : List Setting) → b ≡ false → cond b os [] ≡ []
+pub no_table : (b : Bool) (os : List Setting) → b ≡ false → cond b os [] ≡ []
 no_table true os e = cc
 no_table false os e = refl
 
@@ -101,7 +101,7 @@ position_booted : (d : Desk) (r : Result Position FenFault) → (at_position d r
 position_booted d (Ok p) = refl
 position_booted d (Err fault) = refl
 
-line_booted : (boot : Bool) (d : Desk) (m : IfaceMsg) → (change boot d m).booted ≡ d.booted
+pub line_booted : (boot : Bool) (d : Desk) (m : IfaceMsg) → (change boot d m).booted ≡ d.booted
 unfolding change
 line_booted boot d (says.SetBoard text) = position_booted d (position_of text)
 line_booted boot d m = refl

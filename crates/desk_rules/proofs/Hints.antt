@@ -49,7 +49,7 @@ call_plays d true mine g e = cc
 call_plays d false true g e = cc
 call_plays d false false g e = call_waits d (d.pondering && is_some (check_named ponder_name (table d))) g e
 
-call_analyses : (b : Bool) (g : Move) → cond b calls.Analyse calls.Nothing ≡ calls.Ponder g → ⊥
+pub call_analyses : (b : Bool) (g : Move) → cond b calls.Analyse calls.Nothing ≡ calls.Ponder g → ⊥
 call_analyses true g e = cc
 call_analyses false g e = cc
 

@@ -2,6 +2,7 @@
 use Rattle.std.proofs.Common.{◌≡◌, ℕ, ◌<◌, ◌≤◌, List, length, Bool, true, false, not, cond, ◌&&◌, ◌||◌, nat_le, nat_lt, Option, Some, None, refl, arith}
 use Rattle.std.proofs.lemmas.Bool.Decides.{nat_tests}
 use Rattle.chess_board.specs.Place.{legal}
+use Rattle.chess_board.proofs.LegalMoves.{is_legal}
 use Rattle.peer_words.specs.declared.kinds.GoKind.{GoKind}
 use Rattle.cecp_lines.specs.Messages.{IfaceMsg}
 use Rattle.cecp_lines.specs.Messages as says
@@ -11,7 +12,6 @@ use Rattle.cecp_lines.specs.declared.reply.Reason.TheVariants as reasons
 use Rattle.cecp_lines.proofs.Spellings.{reading_spells}
 use Rattle.uci_lines.specs.Orders.{Order}
 use Rattle.game_record.specs.Game.{now_of}
-use Rattle.think_text.proofs.Legal.{is_legal}
 use Rattle.option_map.specs.Asked.{asked}
 use Rattle.search_epochs.specs.declared.words.Call.{Call}
 use Rattle.search_epochs.specs.declared.words.Call.TheVariants as calls
@@ -127,7 +127,7 @@ last_false true b c e = cc
 last_false false true c e = cc
 last_false false false c e = e
 
-served_short : (b : Bool) (c : Call) (k : GoKind) → Serves k (cond b calls.Nothing c) → b ≡ false
+pub served_short : (b : Bool) (c : Call) (k : GoKind) → Serves k (cond b calls.Nothing c) → b ≡ false
 served_short true c k s = cc (s.0)
 served_short false c k s = refl
 

@@ -1,6 +1,7 @@
 -- What an effect adds to the held pings.
 use Rattle.std.proofs.Common.{◌≡◌, ℕ, ◌+◌, ◌<◌, ◌≤◌, List, [], ◌∷◌, ◌++◌, length, Bool, true, false, cond, ◌&&◌, ◌||◌, nat_le, Result, Ok, Err, refl, ap, arith, length-append}
 use Rattle.std.proofs.lemmas.Bool.Decides.{nat_tests}
+use mathlib.Core.Bool.{or-false}
 use Rattle.chess_board.specs.Position.{Position}
 use Rattle.fen_text.specs.declared.fault.FenFault.{FenFault}
 use Rattle.fen_text.specs.Fen.{position_of}
@@ -61,11 +62,7 @@ owed_ping h held n f o =
     let b = few (owes_move h) true (length h.desk.pings) (passes h held (says.Ping n) f.passes).pings o in
     omega (arith, ap length (added_ping h n), length-append h.desk.pings (n ∷ []))
 
-or_none : (b : Bool) → (b || false) ≡ b
-or_none true = refl
-or_none false = refl
-
 -- and changes no call
 pub ping_call : (h : Situation) (n : ℕ) → call_of h.closed (is_gone h.engine || false) (desk_after_effect h (Accepts (says.Ping n))) ≡ call_before h
 unfolding desk_after_effect change call_of
-ping_call h n = ap (λ (b : Bool). cond (h.closed || b || is_full h.desk.game) calls.Nothing (call_in h.desk h.desk.mode)) (or_none (is_gone h.engine))
+ping_call h n = ap (λ (b : Bool). cond (h.closed || b || is_full h.desk.game) calls.Nothing (call_in h.desk h.desk.mode)) (or-false (is_gone h.engine))

@@ -1,5 +1,5 @@
 -- How long the texts of lines are.
-use Rattle.std.proofs.Common.{◌≡◌, ℕ, suc, ◌+◌, ◌^◌, ◌<◌, ◌≤◌, List, [], ◌∷◌, ◌++◌, length, map, take, get_or, Bool, true, false, not, cond, ◌&&◌, nat_le, Option, Some, None, decimal, arith, length-append, append_assoc, append-nil, lit<, refl, ap, sym, ◌∙◌}
+use Rattle.std.proofs.Common.{◌≡◌, ℕ, ◌+◌, ◌^◌, ◌<◌, ◌≤◌, List, [], ◌∷◌, ◌++◌, length, map, take, get_or, Bool, true, false, not, ◌&&◌, nat_le, Option, Some, None, decimal, arith, length-append, append_assoc, append-nil, lit<, refl, ap, sym, ◌∙◌}
 use Rattle.std.specs.Option.{option_to_list, is_some}
 use Rattle.std.proofs.lemmas.List.{take_more}
 use Rattle.std.proofs.lemmas.Fmt.{length-decimal-le}
@@ -8,7 +8,6 @@ use Rattle.line_io.specs.Event.{is_line, has_feed}
 use Rattle.line_io.specs.Out.{Text, with}
 use Rattle.chess_board.specs.declared.board.Move.{Move}
 use Rattle.chess_board.specs.Position.{Position}
-use Rattle.peer_words.specs.Tokens.{is_white, is_blank, trim_left, trim_right, trimmed}
 use Rattle.cecp_lines.specs.Replies.{Reply, Pong, Fits, borrowed, reply_text}
 use Rattle.cecp_lines.proofs.Lengths.{told_short}
 use Rattle.uci_lines.specs.Info.{Info as AnyInfo}
@@ -19,17 +18,6 @@ use Rattle.feature_talk.specs.Features.{feature_list, reply_line, reply_lines}
 use Rattle.feature_talk.proofs.Lists.{short_list}
 use Rattle.desk_rules.specs.Fits.{IsSaid}
 use Rattle.think_text.proofs.Short.{lines_short}
-
-left_le : (xs : List ℕ) → length (trim_left xs) ≤ length xs
-left_le [] = omega arith
-left_le (x ∷ xs) = elim (is_white x) as (λ b. length (cond b (trim_left xs) (x ∷ xs)) ≤ suc (length xs)) [ true ↦ omega (arith, left_le xs) | false ↦ omega arith ]
-
-right_le : (xs : List ℕ) → length (trim_right xs) ≤ length xs
-right_le [] = omega arith
-right_le (x ∷ xs) = elim (is_blank (x ∷ xs)) as (λ b. length (cond b [] (x ∷ trim_right xs)) ≤ suc (length xs)) [ true ↦ omega arith | false ↦ omega (arith, right_le xs) ]
-
-pub trimmed_le : (xs : List ℕ) → length (trimmed xs) ≤ length xs
-trimmed_le xs = omega (arith, left_le xs, right_le (trim_left xs))
 
 pub pong_le : (n : ℕ) → n < 2 ^ 32 → length (reply_line (Pong n)) ≤ 16
 pong_le n h =

@@ -1,6 +1,8 @@
 -- An event that begins no epoch leaves the call of a current search as it is.
 use Rattle.std.proofs.Common.{◌≡◌, ℕ, Bool, true, false, not, cond, ◌&&◌, ◌||◌, Option, Some, None, refl, sym, subst, ◌∙◌, List}
 use Rattle.std.specs.Option.{is_some}
+use Rattle.std.proofs.lemmas.Bool.{not-false}
+use mathlib.Core.Bool.{or-false}
 use Rattle.chess_board.specs.declared.board.Move.{Move}
 use Rattle.chess_board.specs.Board.{same_side}
 use Rattle.uci_lines.specs.Orders.{Order}
@@ -96,11 +98,7 @@ move_stays : (closed gone : Bool) (d : Desk) (b : Bool) → call_of closed gone 
 unfolding call_of
 move_stays closed gone d b e = out_stays (closed || gone || is_full d.game) (call_in d d.mode) (call_in (record d { pondering = b }) d.mode) e (in_stays d.mode d b)
 
-not_false : (b : Bool) → not b ≡ false → b ≡ true
-not_false true e = refl
-not_false false e = cc
-
-is_move_call : (c : Call) → is_move c ≡ true → c ≡ calls.Move
+pub is_move_call : (c : Call) → is_move c ≡ true → c ≡ calls.Move
 is_move_call calls.Nothing e = cc
 is_move_call calls.Move e = refl
 is_move_call (calls.Ponder h) e = cc
@@ -113,7 +111,7 @@ owed_move false c e = is_move_call c e
 -- `hard` and `easy` while a Move is owed
 told_pondering : (h : Situation) (k : GoKind) (b : Bool) → not (owes_move h) ≡ false → Serves k (call_before h) → Serves k (call_of h.closed (is_gone h.engine) (record h.desk { pondering = b }))
 told_pondering h k b r s =
-    let p : call_before h ≡ calls.Move = owed_move h.spent (call_before h) (not_false (owes_move h) r) in
+    let p : call_before h ≡ calls.Move = owed_move h.spent (call_before h) (not-false (owes_move h) r) in
     subst (Serves k) (p ∙ sym (move_stays h.closed (is_gone h.engine) h.desk b p)) s
 
 line_serves : (h : Situation) (m : IfaceMsg) (k : GoKind) → is_epoch_line (owes_move h) (asks (is_gone h.engine) h.desk m) m ≡ false → Serves k (call_before h) → Serves k (call_of h.closed (is_gone h.engine) (change (is_boot h.engine) h.desk m))
@@ -133,12 +131,8 @@ line_serves h says.Hard k r s = told_pondering h k true r s
 line_serves h says.Easy k r s = told_pondering h k false r s
 line_serves h m k r s = s
 
-or_false : (b : Bool) → b ≡ (b || false)
-or_false true = refl
-or_false false = refl
-
 as_gone : (k : GoKind) (c : Bool) (g : Bool) (d : Desk) → Serves k (call_of c g d) → Serves k (call_of c (g || false) d)
-as_gone k c g d s = subst (λ (b : Bool). Serves k (call_of c b d)) (or_false g) s
+as_gone k c g d s = subst (λ (b : Bool). Serves k (call_of c b d)) (sym (or-false g)) s
 
 -- the call goes on to be served
 pub still_serves : (h : Situation) (held : List Order) (d : Effect) (k : GoKind) → Fits h held d → IsNoAnswer d → begins_epoch h d ≡ false → current h.engine ≡ Some k → Serves k (call_before h) → Serves k (call_after h.closed h d)

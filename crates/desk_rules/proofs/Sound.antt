@@ -4,6 +4,7 @@ use Rattle.std.specs.Prelude.{IfSome}
 use Rattle.chess_board.specs.declared.board.Move.{Move}
 use Rattle.chess_board.specs.Place.{legal}
 use Rattle.chess_board.specs.Position.{Position}
+use Rattle.chess_board.proofs.LegalMoves.{is_legal}
 use Rattle.fen_text.specs.declared.fault.FenFault.{FenFault}
 use Rattle.fen_text.specs.Fen.{position_of}
 use Rattle.cecp_lines.specs.Messages.{IfaceMsg}
@@ -18,7 +19,7 @@ use Rattle.clock_map.specs.Clocks.{AreShort, after_new}
 use Rattle.clock_map.proofs.Messages.{stay_short}
 use Rattle.think_text.specs.declared.seen.Seen.{Seen}
 use Rattle.think_text.specs.Kept.{nothing_seen}
-use Rattle.think_text.proofs.Legal.{is_legal, stays_writable}
+use Rattle.think_text.proofs.Legal.{stays_writable}
 use Rattle.option_map.proofs.Usable.{stay_declared}
 use Rattle.desk_rules.specs.declared.desk.Desk.{Desk}
 use Rattle.desk_rules.specs.Desk.{Situation, is_boot, played}

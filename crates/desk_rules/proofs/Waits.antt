@@ -135,7 +135,7 @@ desk_held d line says.Hard o l r = told_held (table d) ponder_name true o
 desk_held d line says.Easy o l r = told_held (table d) ponder_name false o
 desk_held d line m o l r = set_held (table d) line m o l r
 
-table_declared : (b : Bool) (os : List Setting) → AreDeclared os → AreDeclared (cond b os [])
+pub table_declared : (b : Bool) (os : List Setting) → AreDeclared os → AreDeclared (cond b os [])
 table_declared true os d = d
 table_declared false os d = tt
 

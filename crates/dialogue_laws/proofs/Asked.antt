@@ -1,10 +1,10 @@
 -- The last value that was asked for is the last that was written, or is held.
-use Rattle.std.proofs.Common.{◌≡◌, ℕ, List, [], ◌∷◌, ◌++◌, map, Bool, true, false, not, cond, ◌&&◌, ◌||◌, Option, Some, None, append-nil, refl, sym, ap, subst, ◌∙◌}
+use Rattle.std.proofs.Common.{◌≡◌, List, [], ◌∷◌, ◌++◌, map, Bool, true, false, not, cond, ◌&&◌, ◌||◌, Option, Some, None, append-nil, refl, sym, ap, subst, ◌∙◌}
 use Rattle.line_io.specs.Event.{Event}
 use Rattle.uci_lines.specs.Orders.{Order}
 use Rattle.uci_lines.specs.Orders as orders
-use Rattle.uci_lines.proofs.Counts.{same_text}
 use Rattle.option_map.specs.Held.{Slot, Game, Setting, same_slot, slot_of, are_for_same, staying_beside, with_order, with_orders}
+use Rattle.option_map.proofs.Orders.{apart}
 use Rattle.policy_rules.specs.declared.settings.Settings.{Settings}
 use Rattle.search_epochs.specs.Tickets.{MaySendAll, is_due, is_empty, is_idle, leaves_boot, has_batch, has_go}
 use Rattle.desk_rules.specs.Orders.{waiting, word_of, asked_by_effect}
@@ -64,16 +64,6 @@ ready_last (orders.IsReady ∷ xs) = refl
 ready_last (x ∷ xs) = ready_last xs
 
 -- ORDERS THAT JOIN
-
--- what is for the same as one order is not for the same as another
-apart : (x y l : Option Slot) → same_slot x l ≡ true → same_slot y x ≡ false → same_slot y l ≡ false
-apart None y l h k = cc
-apart (Some Game) y None h k = cc
-apart (Some Game) y (Some Game) h k = k
-apart (Some Game) y (Some (Setting b)) h k = cc
-apart (Some (Setting a)) y None h k = cc
-apart (Some (Setting a)) y (Some Game) h k = cc
-apart (Some (Setting a)) y (Some (Setting b)) h k = subst (λ (t : List ℕ). same_slot y (Some (Setting t)) ≡ false) (same_text a b h) k
 
 stays_by : (c order x : Order) (held : List Order) (b : Bool) → are_for_same order x ≡ b → are_for_same c order ≡ false → last_for c (staying_beside order held) ≡ last_for c held
     → last_for c (cond (not b) (x ∷ staying_beside order held) (staying_beside order held)) ≡ last_for c (x ∷ held)

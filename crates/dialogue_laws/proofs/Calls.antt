@@ -1,6 +1,7 @@
 -- The call goes on unless an epoch begins or the step ends it.
-use Rattle.std.proofs.Common.{◌≡◌, ℕ, List, Bool, true, false, not, cond, ◌&&◌, ◌||◌, ◌==◌, Option, Some, None, refl, sym, ap, ◌∙◌}
+use Rattle.std.proofs.Common.{◌≡◌, ℕ, List, Bool, true, false, not, cond, ◌&&◌, ◌||◌, ◌==◌, Option, None, refl, sym, ap, ◌∙◌}
 use Rattle.std.specs.Option.{is_some}
+use mathlib.Core.Bool.{or-false}
 use Rattle.chess_board.specs.declared.board.Move.{Move}
 use Rattle.chess_board.specs.declared.board.Side.TheVariants.{Black}
 use Rattle.chess_board.specs.Board.{same_side}
@@ -8,8 +9,6 @@ use Rattle.peer_words.specs.declared.kinds.GoKind.{GoKind}
 use Rattle.peer_words.specs.declared.kinds.GoKind.TheVariants as kinds
 use Rattle.cecp_lines.specs.Messages.{IfaceMsg}
 use Rattle.cecp_lines.specs.Messages as says
-use Rattle.game_record.specs.Game.{Game, now_of}
-use Rattle.game_record.specs.Ending.{has_legal}
 use Rattle.option_map.specs.Settings.{Setting}
 use Rattle.option_map.specs.Shown.{check_named}
 use Rattle.search_epochs.specs.declared.words.Call.{Call}
@@ -23,10 +22,11 @@ use Rattle.search_epochs.specs.History.{answers_at, is_end}
 use Rattle.desk_rules.specs.declared.mode.Mode.{Mode}
 use Rattle.desk_rules.specs.declared.mode.Mode.TheVariants as modes
 use Rattle.desk_rules.specs.declared.desk.Desk.{Desk}
-use Rattle.desk_rules.specs.Desk.{Situation, call_of, call_in, call_for_hint, call_while_waiting, call_before, is_gone, is_boot, is_full, table, ponder_name, has_ended, on_move, played, owes_move, owed_at}
+use Rattle.desk_rules.specs.Desk.{Situation, call_of, call_in, call_for_hint, call_while_waiting, call_before, is_gone, is_boot, is_full, table, ponder_name, has_ended, on_move, owes_move, owed_at}
 use Rattle.desk_rules.specs.Lines.{asks, change, is_epoch_line}
 use Rattle.desk_rules.specs.Steps.{Effect, Accepts, Names, Declares, Boots, Thinks, Shows, Forfeits, Answers, Dies, what_of, desk_after_effect, begins_epoch, is_death}
 use Rattle.desk_rules.specs.Fits.{Fits, IsCurrentMove, IsOther}
+use Rattle.desk_rules.proofs.Serves.{is_move_call}
 use Rattle.adapter_core.specs.Trace.{State, situation}
 use Rattle.adapter_core.proofs.Fresh.{call_is}
 
@@ -70,42 +70,6 @@ pub first_call : (closed gone : Bool) (d : Desk) → d.mode ≡ modes.Plays Blac
 unfolding call_of
 first_call closed gone d e p w = ap (λ (c : Call). cond (closed || gone || is_full d.game) calls.Nothing c) (waits_for d d.mode e p w) ∙ none_both (closed || gone || is_full d.game)
 
--- THE HINT OF THE CALL
-
-out_ponder : (b : Bool) (c : Call) (m : Move) → cond b calls.Nothing c ≡ calls.Ponder m → c ≡ calls.Ponder m
-out_ponder true c m e = cc
-out_ponder false c m e = e
-
-mine_ponder : (b : Bool) (c : Call) (m : Move) → cond b calls.Move c ≡ calls.Ponder m → c ≡ calls.Ponder m
-mine_ponder true c m e = cc
-mine_ponder false c m e = e
-
-wait_ponder : (b : Bool) (c : Call) (m : Move) → cond b c calls.Nothing ≡ calls.Ponder m → c ≡ calls.Ponder m
-wait_ponder true c m e = e
-wait_ponder false c m e = cc
-
-hint_ponder : (g : Game) (o : Option Move) (m : Move) → call_for_hint g o ≡ calls.Ponder m → o ≡ Some m
-hint_ponder g None m e = cc
-hint_ponder g (Some h) m e = let x = out_ponder (has_ended (played g h)) (calls.Ponder h) m e in cc
-
-analyse_ponder : (b : Bool) (m : Move) → cond b calls.Analyse calls.Nothing ≡ calls.Ponder m → ⊥
-analyse_ponder true m e = cc
-analyse_ponder false m e = cc
-
-in_ponder : (d : Desk) (mode : Mode) (m : Move) → call_in d mode ≡ calls.Ponder m → d.hint ≡ Some m
-in_ponder d modes.Force m e = cc
-in_ponder d modes.Over m e = cc
-in_ponder d modes.Analyse m e = absurd (analyse_ponder (has_legal (now_of d.game)) m e)
-in_ponder d (modes.Plays s) m e =
-    hint_ponder d.game d.hint m
-    (wait_ponder (d.pondering && is_some (check_named ponder_name (table d))) (call_for_hint d.game d.hint) m
-    (mine_ponder (same_side s (on_move d.game)) (call_while_waiting d) m
-    (out_ponder (has_ended d.game) _ m e)))
-
-pub called_hint : (closed gone : Bool) (d : Desk) (m : Move) → call_of closed gone d ≡ calls.Ponder m → d.hint ≡ Some m
-unfolding call_of
-called_hint closed gone d m e = in_ponder d d.mode m (out_ponder (closed || gone || is_full d.game) (call_in d d.mode) m e)
-
 -- WHERE THE CALL STAYS
 
 wait_none : (d : Desk) → d.hint ≡ None → call_while_waiting d ≡ calls.Nothing
@@ -131,12 +95,6 @@ unbooted_call closed gone d os e =
     ap (λ (b : Bool). call_of closed gone (record d { booted = b; options = os })) e
     ∙ ap (λ (b : Bool). call_of closed gone (record d { booted = b })) (sym e)
 
-move_call : (c : Call) → is_move c ≡ true → c ≡ calls.Move
-move_call calls.Nothing e = cc
-move_call calls.Move e = refl
-move_call (calls.Ponder h) e = cc
-move_call calls.Analyse e = cc
-
 owed_move : (spent : Bool) (c : Call) → not (is_move (owed_at spent c)) ≡ false → is_move c ≡ true
 owed_move true c e = cc
 owed_move false c e = not_false (is_move c) e where
@@ -148,8 +106,8 @@ owed_move false c e = not_false (is_move c) e where
 told_call : (h : Situation) (b : Bool) → not (owes_move h) ≡ false → call_of h.closed (is_gone h.engine) (record h.desk { pondering = b }) ≡ call_before h
 told_call h b r =
     let x = owed_move h.spent (call_before h) r in
-    move_call _ (call_is h.closed (is_gone h.engine) (record h.desk { pondering = b }) ∙ sym (call_is h.closed (is_gone h.engine) h.desk) ∙ x)
-    ∙ sym (move_call (call_before h) x)
+    is_move_call _ (call_is h.closed (is_gone h.engine) (record h.desk { pondering = b }) ∙ sym (call_is h.closed (is_gone h.engine) h.desk) ∙ x)
+    ∙ sym (is_move_call (call_before h) x)
 
 line_call : (h : Situation) (m : IfaceMsg) → is_epoch_line (owes_move h) (asks (is_gone h.engine) h.desk m) m ≡ false → call_of h.closed (is_gone h.engine) (change (is_boot h.engine) h.desk m) ≡ call_before h
 unfolding change is_epoch_line call_of
@@ -170,10 +128,6 @@ line_ends : (epoch : ℕ) (e : Engine) (m : IfaceMsg) → ends_situation epoch e
 line_ends epoch e (says.UserMove m) = refl
 line_ends epoch e says.MoveNow = refl
 line_ends epoch e m = refl
-
-or_none : (b : Bool) → (b || false) ≡ b
-or_none true = refl
-or_none false = refl
 
 is_current : (k : GoKind) (b s : Bool) → IsCurrentMove (states.Search k (not b) s) → (k ≡ kinds.Move) × (b ≡ true)
 is_current k true s i = (cc, refl)
@@ -242,9 +196,9 @@ module _ (s : State) (fresh : IsFreshInBoot s) where
   effect_call (Shows best hint) f r = cc
   effect_call Forfeits f r =
       ended (ends_situation s.dialogue.epoch s.dialogue.engine Forfeits) (call_of s.ends.closed (gone || false) (desk_after_effect (situation s) Forfeits)) (call_before (situation s))
-      (or_none (answers_at (Says said.Best) s.dialogue.epoch s.dialogue.engine) ∙ current_ends s.dialogue.epoch s.dialogue.engine f.1) (over_call s.ends.closed (gone || false) s.desk)
+      (or-false (answers_at (Says said.Best) s.dialogue.epoch s.dialogue.engine) ∙ current_ends s.dialogue.epoch s.dialogue.engine f.1) (over_call s.ends.closed (gone || false) s.desk)
   effect_call Answers f r =
       going (ends_situation s.dialogue.epoch s.dialogue.engine Answers) (call_of s.ends.closed (gone || false) (desk_after_effect (situation s) Answers)) (call_before (situation s))
-      (or_none (answers_at (Says said.Best) s.dialogue.epoch s.dialogue.engine) ∙ other_ends s.dialogue.epoch s.dialogue.engine f.1) (same_call Answers refl)
+      (or-false (answers_at (Says said.Best) s.dialogue.epoch s.dialogue.engine) ∙ other_ends s.dialogue.epoch s.dialogue.engine f.1) (same_call Answers refl)
   effect_call Dies f r = gone_call s.ends.closed gone (desk_after_effect (situation s) Dies)
   effect_call d f r = same_call d refl

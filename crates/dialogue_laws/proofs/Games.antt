@@ -5,6 +5,7 @@ use Rattle.chess_board.specs.declared.board.Move.{Move}
 use Rattle.chess_board.specs.Position.{Position}
 use Rattle.chess_board.specs.Play.{IsPosition, start_position}
 use Rattle.chess_board.proofs.Start.{start-is}
+use Rattle.chess_board.proofs.LegalMoves.{is_legal}
 use Rattle.fen_text.specs.Fen.{position_of}
 use Rattle.fen_text.specs.declared.fault.FenFault.{FenFault}
 use Rattle.cecp_lines.specs.Messages.{IfaceMsg}
@@ -12,7 +13,6 @@ use Rattle.cecp_lines.specs.Messages as says
 use Rattle.uci_lines.specs.Orders.{Order}
 use Rattle.game_record.specs.Game.{Ply, Game, ply_of, plies_of, IsPlayable, AreLegal, now_of, begun, without_last}
 use Rattle.game_record.proofs.Replays.{legal-append, legal-take}
-use Rattle.think_text.proofs.Legal.{is_legal}
 use Rattle.policy_rules.specs.declared.settings.Settings.{Settings}
 use Rattle.desk_rules.specs.declared.desk.Desk.{Desk}
 use Rattle.desk_rules.specs.Desk.{Situation, is_boot}

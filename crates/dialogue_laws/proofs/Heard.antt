@@ -6,7 +6,6 @@ use Rattle.chess_board.specs.declared.board.Move.{Move}
 use Rattle.chess_board.specs.Place.{legal}
 use Rattle.peer_words.specs.declared.kinds.GoKind.{GoKind}
 use Rattle.peer_words.specs.declared.kinds.GoKind.TheVariants as kinds
-use Rattle.cecp_lines.specs.Messages.{IfaceMsg}
 use Rattle.cecp_lines.specs.Messages as messages
 use Rattle.cecp_lines.specs.Reading.{reading}
 use Rattle.uci_lines.specs.Messages.{EngineMsg}
@@ -23,10 +22,11 @@ use Rattle.search_epochs.specs.Tickets.{Engine, Boot, Getting, Idle, Search, Gon
 use Rattle.search_epochs.specs.Dialogue.{forget}
 use Rattle.desk_rules.specs.Desk.{Situation, is_boot, is_getting, is_gone, current}
 use Rattle.desk_rules.specs.Lines.{Verdict, Refused, Accepted, verdict}
-use Rattle.desk_rules.specs.Steps.{Effect, Nothing, LongLine, Names, Declares, Boots, Readies, Shows, Forfeits, Dies, classify, line_effect, engine_says, thinks, answers, what_of, what_accepted}
+use Rattle.desk_rules.specs.Steps.{Effect, Nothing, LongLine, Names, Declares, Boots, Readies, Shows, Forfeits, Dies, classify, line_effect, engine_says, thinks, answers, what_of}
 use Rattle.desk_rules.specs.Orders.{word_of}
 use Rattle.adapter_core.specs.Ends.{ends_after}
 use Rattle.adapter_core.specs.Trace.{State, Step, state, situation, effect, mid}
+use Rattle.adapter_core.proofs.Ended.{quiet_line}
 use Rattle.dialogue_laws.specs.Wire.{Wire, said_in, said_by, hearing, writing, writing_all, ends, wire, on_wire, EngineIsOnWire, EndsAreOnWire}
 
 -- WHAT IS HEARD AND WRITTEN
@@ -58,14 +58,9 @@ silent_unless : (b : Bool) (d : Effect) → tells d ≡ None → tells (cond b d
 silent_unless true d e = e
 silent_unless false d e = refl
 
-accepted_silent : (m : IfaceMsg) → said_of (what_accepted m) ≡ None
-accepted_silent (messages.UserMove m) = refl
-accepted_silent messages.MoveNow = refl
-accepted_silent m = refl
-
 line_silent : (v : Verdict) (line : List ℕ) → tells (line_effect v line) ≡ None
 line_silent (Refused r) line = refl
-line_silent (Accepted m) line = accepted_silent m
+line_silent (Accepted m) line = quiet_line m
 
 shown_best : (b : Bool) (m : Move) (hint : Option Move) → tells (cond b (Shows m hint) Forfeits) ≡ Some said.Best
 shown_best true m hint = refl

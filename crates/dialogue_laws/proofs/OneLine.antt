@@ -1,8 +1,9 @@
 -- Each reply and each order of a lawful trace is one line.
-use Rattle.std.proofs.Common.{◌≡◌, ℕ, ◌+◌, ◌-◌, ◌<◌, ◌≤◌, List, [], ◌∷◌, ◌++◌, length, map, take, Bool, true, false, not, cond, ◌&&◌, ◌||◌, nat_le, nat_lt, codes, Option, Some, None, Result, Ok, Err, refl, sym, ap, subst, ◌∙◌, arith, length-append}
+use Rattle.std.proofs.Common.{◌≡◌, ℕ, ◌+◌, ◌-◌, ◌<◌, ◌≤◌, List, [], ◌∷◌, ◌++◌, length, map, take, Bool, true, false, not, cond, ◌&&◌, nat_le, nat_lt, codes, Option, Some, None, Result, Ok, Err, refl, sym, ap, subst, ◌∙◌, arith, length-append}
 use Rattle.std.specs.List.{AllByRecursion}
 use Rattle.std.proofs.lemmas.Bool.Decides.{nat_tests}
 use Rattle.std.proofs.lemmas.List.{length-take}
+use Rattle.std.proofs.lemmas.Bool.{or_parts}
 use Rattle.line_io.specs.Event.{Event, is_line}
 use Rattle.line_io.specs.Event as events
 use Rattle.chess_board.specs.declared.board.Move.{Move}
@@ -176,13 +177,9 @@ record AreFewOptions (os : List Setting) : Type 0 where
   size : text_size os ≤ 65536
   count : length os ≤ 256
 
-not_either : (a b : Bool) → (a || b) ≡ false → (a ≡ false) × (b ≡ false)
-not_either true b h = cc
-not_either false b h = (refl, h)
-
 one_more : (os : List Setting) (o : Setting) → is_full os o ≡ false → AreFewOptions (os ++ o ∷ [])
 one_more os o e =
-    let n = not_either (nat_le 256 (length os)) (nat_lt 65536 (text_size os + shown_length o)) e in
+    let n = or_parts (nat_le 256 (length os)) (nat_lt 65536 (text_size os + shown_length o)) e in
     let few : length os < 256 = grind (arith, nat_tests, n.0) in
     let small : text_size os + shown_length o ≤ 65536 = grind (arith, nat_tests, n.1) in
     record { size = omega (arith, small, more_text os o); count = omega (arith, few, length-append os (o ∷ [])) }

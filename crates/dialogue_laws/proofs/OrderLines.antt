@@ -43,6 +43,7 @@ use Rattle.desk_rules.specs.Steps.{Effect, Accepts, Boots}
 use Rattle.desk_rules.specs.Orders.{ponder_at_boot, analysis_at_boot, asked_by_effect, waiting, position_order, pondered, searched, search_orders}
 use Rattle.desk_rules.specs.Fits.{Fits, IsSound}
 use Rattle.desk_rules.proofs.Searches.{searched_text}
+use Rattle.desk_rules.proofs.Waits.{table_declared}
 use Rattle.dialogue_laws.proofs.Pieces.{both_bare, joined, wide, none_part, number_part, numbered, squares_bare}
 use Rattle.dialogue_laws.proofs.Games.{IsGame}
 
@@ -101,10 +102,6 @@ desk_setting d line says.Result o l r = mode_setting (table d) (analyses d.mode)
 desk_setting d line says.Hard o l r = tells_setting (table d) ponder_name true o
 desk_setting d line says.Easy o l r = tells_setting (table d) ponder_name false o
 desk_setting d line m o l r = line_setting (table d) line m o l r
-
-table_declared : (b : Bool) (os : List Setting) → AreDeclared os → AreDeclared (cond b os [])
-table_declared true os d = d
-table_declared false os d = tt
 
 unless : (b : Bool) (o : Option Order) → IsSetting o → IsSetting (cond b None o)
 unless true o h = tt

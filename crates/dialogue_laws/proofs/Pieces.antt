@@ -6,6 +6,7 @@ use Rattle.std.specs.Char.{is_ascii_digit}
 use Rattle.std.specs.Fmt.{signed_decimal}
 use Rattle.std.proofs.lemmas.Bool.Decides.{nat_tests}
 use Rattle.std.proofs.lemmas.List.Folds.{list_all-append}
+use Rattle.std.proofs.lemmas.Bool.{and_from}
 use Rattle.line_io.specs.Event.{has_feed}
 use Rattle.line_io.specs.Lines.{is_feed}
 use Rattle.chess_board.specs.declared.board.Kind.{Kind}
@@ -13,19 +14,14 @@ use Rattle.chess_board.specs.declared.board.Kind.TheVariants.{Pawn, Knight, Bish
 use Rattle.chess_board.specs.declared.board.Move.{Move}
 use Rattle.chess_board.specs.Board.{file_of, rank_of}
 use Rattle.chess_board.specs.Text.{text_of, promotion_text}
+use Rattle.chess_board.proofs.TextLengths.{move_length}
 use Rattle.peer_words.proofs.Runs.{all_of}
-use Rattle.cecp_lines.proofs.Lengths.{move_short}
 use Rattle.option_map.proofs.Values.{no_feed, IsPart}
 use Rattle.dialogue_laws.specs.OneLine.{IsOneLine}
 use Rattle.dialogue_laws.proofs.Numerals.{numeral}
 
-and_both : (a b : Bool) → a ≡ true → b ≡ true → (a && b) ≡ true
-and_both true true e f = refl
-and_both true false e f = cc
-and_both false b e f = cc
-
 pub both_bare : (a b : List ℕ) → no_feed a ≡ true → no_feed b ≡ true → no_feed (a ++ b) ≡ true
-both_bare a b e f = list_all-append (λ x. not (is_feed x)) a b ∙ and_both (no_feed a) (no_feed b) e f
+both_bare a b e f = list_all-append (λ x. not (is_feed x)) a b ∙ and_from (no_feed a) (no_feed b) e f
 
 pub joined : {m n : ℕ} (a b : List ℕ) → IsPart m a → IsPart n b → IsPart (m + n) (a ++ b)
 joined {m} {n} a b p q = record { line = both_bare a b p.line q.line; short = omega (arith, length-append a b, p.short, q.short) }
@@ -78,7 +74,7 @@ squares_bare from to promo =
     rw (high_bare 97 (file_of from) (omega arith), high_bare 49 (rank_of from) (omega arith), high_bare 97 (file_of to) (omega arith), high_bare 49 (rank_of to) (omega arith), promotion_bare promo) refl
 
 pub move_part : (m : Move) → IsPart 5 (text_of m)
-move_part m = record { line = squares_bare m.from.index m.to.index m.promo; short = move_short m }
+move_part m = record { line = squares_bare m.from.index m.to.index m.promo; short = move_length m }
 
 -- ONE LINE
 

@@ -14,7 +14,7 @@ use Rattle.search_epochs.specs.Tickets.{Paired}
 use Rattle.search_epochs.specs.History as history
 use Rattle.search_epochs.specs.History.{Exchange}
 use Rattle.search_epochs.proofs.Stops.{may_all}
-use Rattle.search_epochs.proofs.Places.{at_place, go_follows}
+use Rattle.search_epochs.proofs.Places.{at_place, go_follows, gone_refuses}
 use Rattle.desk_rules.specs.Orders.{word_of}
 use Rattle.adapter_core.specs.Ends.{is_open, may}
 use Rattle.adapter_core.specs.Trace.{State, Step, Lawful, state, mid}
@@ -47,13 +47,6 @@ hit_needs talks.Idle m = absurd m
 hit_needs talks.Gone m = absurd m
 hit_needs (talks.Search k t s) m = ap (λ g. Search g s) m.0 ∙ ap (Search kinds.Ponder) m.1
 
-gone_refuses : (w : Word) → MaySend talks.Gone w → ⊥
-gone_refuses talks.Uci m = m
-gone_refuses talks.Stop m = m
-gone_refuses talks.PonderHit m = m
-gone_refuses talks.Quit m = m refl
-gone_refuses w m = cc
-
 not_gone : (e : Engine) (w : Word) → MaySend e w → on_wire e ≡ Gone → ⊥
 not_gone talks.Boot w m g = cc
 not_gone talks.Getting w m g = cc
@@ -68,7 +61,7 @@ opening_is [] behind order other e = (refl, cc)
 opening_is (x ∷ []) behind order other e = absurd (cc)
 opening_is (x ∷ y ∷ before) behind order other e = absurd (cc)
 
-opening_says : (closed : Bool) (e : Event) → is_open e ≡ true → said_by closed e ≡ None
+pub opening_says : (closed : Bool) (e : Event) → is_open e ≡ true → said_by closed e ≡ None
 opening_says closed events.Open o = refl
 opening_says closed e o = cc
 

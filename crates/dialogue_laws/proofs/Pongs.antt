@@ -30,6 +30,7 @@ use Rattle.desk_rules.specs.Steps.{Effect, Refuses, Accepts, Boots, Thinks, Show
 use Rattle.desk_rules.specs.Replies.{refused, result_by, result_of, protover_row, offer_where, hint_row, row_accepted, list_where, resign_where, row, is_told, named_hint, replies_of}
 use Rattle.desk_rules.proofs.Quiet.{added_ping, quiet_pings}
 use Rattle.adapter_core.specs.Trace.{State, Step, IsLawful, state, situation, effect, owing, closed_after}
+use Rattle.adapter_core.proofs.Traces.{no_pings}
 use Rattle.dialogue_laws.specs.Pings.{ping_in, pongs_told, ponged, PingsHavePongs, PongsWait, NoneIsHeld}
 
 -- LINES THAT TELL A PONG
@@ -184,12 +185,7 @@ pongs_wait o step t l e =
     let s = state o t in
     ap pongs_told l.1.replies ∙ waits_by (closed_after s step.event) (is_move (owing s step.event)) (situation s) (effect s step.event) e
 
-none_held : (closed owes : Bool) (ns : List ℕ) → closed ≡ false → owes ≡ false → cond (answers_pings closed owes) [] ns ≡ []
-none_held true owes ns c e = cc
-none_held false true ns c e = cc
-none_held false false ns c e = refl
-
 pub none_is_held : (o : Settings) → NoneIsHeld o
 none_is_held o step t l c e =
     let s = state o t in
-    none_held (closed_after s step.event) (is_move (owing s step.event)) (desk_after_effect (situation s) (effect s step.event)).pings c e
+    no_pings (closed_after s step.event) (is_move (owing s step.event)) (desk_after_effect (situation s) (effect s step.event)).pings c e

@@ -16,7 +16,7 @@ use Rattle.adapter_core.specs.Parts as parts
 use Rattle.adapter_core.specs.Parts.{Parts, advance}
 use Rattle.adapter_core.specs.Stands.{Keeps, Stands, step_by}
 use Rattle.adapter_core.proofs.Keeps.{keeps, is_ready, opening_keeps}
-use Rattle.adapter_core.proofs.Holds.{stands_first, extended}
+use Rattle.adapter_core.proofs.Holds.{stands_first, extended, event_is}
 use Rattle.adapter_core.proofs.Unique.{unique}
 use Rattle.dialogue_laws.specs.Existence.{ends_of, HasTrace, TracesExist, EventsMayCome}
 use Rattle.dialogue_laws.specs.Limits.{IsWithinLimits, CoresAreWithinLimits}
@@ -66,10 +66,6 @@ first_reached o p = record { core = parts.opening o; keeps_it = opening_keeps o 
 
 same_ends : (o : Settings) (core : Parts) (t : List Step) (e : Event) → Stands o core t → may (state o t).ends e ≡ true → may core.ends e ≡ true
 same_ends o core t e st m = ap (λ (v : Parts). may v.ends e) st.0 ∙ m
-
-event_is : (core : Parts) (e : Event) → (step_by core e).event ≡ e
-unfolding step_by
-event_is core e = refl
 
 reached_on : (o : Settings) (t : List Step) (step : Step) → Lawful o (step ∷ t) → Reached o t → Reached o (step ∷ t)
 reached_on o t step l r =

@@ -4,7 +4,6 @@ use Rattle.line_io.specs.Event.{Event}
 use Rattle.line_io.specs.Event as events
 use Rattle.chess_board.specs.declared.board.Move.{Move}
 use Rattle.peer_words.specs.declared.kinds.GoKind.TheVariants as kinds
-use Rattle.cecp_lines.specs.Messages.{IfaceMsg}
 use Rattle.cecp_lines.specs.Messages as says
 use Rattle.policy_rules.specs.declared.settings.Settings.{Settings}
 use Rattle.policy_rules.specs.Policy.{IsProper}
@@ -19,11 +18,11 @@ use Rattle.search_epochs.specs.History as history
 use Rattle.search_epochs.specs.History.{Exchange, IsSteady, ends_call}
 use Rattle.search_epochs.proofs.Serving.{current_serves}
 use Rattle.search_epochs.proofs.Stops.{may_all}
-use Rattle.desk_rules.specs.Desk.{Situation, current, call_of, call_before, is_gone, is_boot, owes_move}
-use Rattle.desk_rules.specs.Lines.{asks, change, is_epoch_line}
-use Rattle.desk_rules.specs.Steps.{Effect, Opens, Accepts, Shows, Forfeits, what_of, begins_epoch, call_after, desk_after_effect, is_death, classify}
+use Rattle.desk_rules.specs.Desk.{current, call_of, call_before, is_gone}
+use Rattle.desk_rules.specs.Steps.{Effect, Opens, Shows, Forfeits, what_of, begins_epoch, call_after, desk_after_effect, is_death, classify}
 use Rattle.desk_rules.specs.Orders.{word_of}
 use Rattle.desk_rules.specs.Fits.{Fits}
+use Rattle.desk_rules.proofs.Hints.{hint_kept, call_hint}
 use Rattle.adapter_core.specs.Ends.{is_open}
 use Rattle.adapter_core.specs.Alone.{is_answer}
 use Rattle.adapter_core.specs.Trace.{State, Step, IsLawful, Lawful, state, state_after, situation, effect, mid, closed_after}
@@ -32,26 +31,11 @@ use Rattle.adapter_core.proofs.Sides.{no_hint}
 use Rattle.adapter_core.proofs.Traces.{Lasts, lasts, fits, call_is_after}
 use Rattle.dialogue_laws.specs.Dialogue.{exchange, exchanges, IsSteadyOf, TracesAreSteady, SearchesServe}
 use Rattle.dialogue_laws.proofs.Reached.{reached}
-use Rattle.dialogue_laws.proofs.Calls.{IsFreshInBoot, effect_call, closed_call, first_call, called_hint}
+use Rattle.dialogue_laws.proofs.Calls.{IsFreshInBoot, effect_call, closed_call, first_call}
 use Rattle.dialogue_laws.proofs.Dialogues.{dialogues, lawful_in}
 use Rattle.dialogue_laws.proofs.Places.{opening_may}
 
 -- THE HINT
-
-line_hint : (h : Situation) (m : IfaceMsg) → is_epoch_line (owes_move h) (asks (is_gone h.engine) h.desk m) m ≡ false → (change (is_boot h.engine) h.desk m).hint ≡ h.desk.hint
-unfolding change is_epoch_line
-line_hint h says.New r = cc
-line_hint h (says.UserMove m) r = cc
-line_hint h says.Undo r = cc
-line_hint h says.Remove r = cc
-line_hint h (says.SetBoard text) r = cc
-line_hint h m r = refl
-
-effect_hint : (h : Situation) (d : Effect) → begins_epoch h d ≡ false → (desk_after_effect h d).hint ≡ h.desk.hint
-unfolding desk_after_effect
-effect_hint h (Accepts m) r = line_hint h m r
-effect_hint h (Shows best hint) r = cc
-effect_hint h d r = refl
 
 -- IN BOOT
 
@@ -126,8 +110,8 @@ module _ (s : State) (step : Step) (last : Lasts s) (l : IsLawful s step) (new :
   steady_in = record {
     call_stays = λ r. call_by (closed_after s e) refl r;
     hint_before = refl;
-    hint_stays = λ r. effect_hint (situation s) d r;
-    hint_called = λ m c. called_hint (closed_after s e) (is_gone (situation s).engine || is_death d) (desk_after_effect (situation s) d) m c;
+    hint_stays = λ r. hint_kept (situation s) d r;
+    hint_called = λ m c. call_hint (closed_after s e) (is_gone (situation s).engine || is_death d) (desk_after_effect (situation s) d) m c;
   }
 
   open_effect : (x : Event) → is_open x ≡ true → (closed_after s x ≡ s.ends.closed) × (effect s x ≡ Opens)

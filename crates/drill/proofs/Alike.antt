@@ -1,8 +1,9 @@
 -- A drill of a number and a count has one line.
-use Rattle.std.proofs.Common.{◌≡◌, ℕ, zero, suc, ◌<◌, List, [], ◌∷◌, ◌++◌, length, Bool, true, false, Option, Some, None, refl, sym, ap, subst, ◌∙◌, inl, inr, arith}
+use Rattle.std.proofs.Common.{◌≡◌, ℕ, zero, suc, ◌<◌, List, [], ◌∷◌, ◌++◌, length, Option, Some, None, refl, sym, ap, subst, ◌∙◌, inl, inr, arith}
 use Rattle.std.specs.Prelude.{Contains, slice_get}
 use Rattle.std.specs.Ordering.{ordering_reverse}
 use Rattle.std.proofs.lemmas.Cmp.{nat_list_cmp_total}
+use Rattle.std.proofs.lemmas.Bool.{both_ways}
 use Rattle.line_io.specs.Event.{Event, Open}
 use Rattle.chess_board.specs.declared.board.Move.{Move}
 use Rattle.chess_board.specs.Play.{HasLegal}
@@ -48,9 +49,6 @@ one_missed (Some hint) m es fs (inr a) (inr b) = a.1 ∙ sym b.1
 abbrev Both : List Event → List Event → Drill → Drill → Type 0
 Both es fs s t = (es ≡ fs) × (s ≡ t)
 
-open_or_not : (b : Bool) → b ≡ true → b ≡ false → ⊥
-open_or_not b e f = let z = sym e ∙ f in cc
-
 has_drawn : (s : Drill) (m : Move) → Draws s m → HasLegal (now_of s.game)
 has_drawn s m d = of d.moves refl where
   some : (x : Move) (xs : List Move) → d.moves ≡ x ∷ xs → Contains d.moves x
@@ -62,10 +60,10 @@ has_drawn s m d = of d.moves refl where
 
 one_answer : (s : Drill) (es fs : List Event) (t u : Drill) → Answers s es t → Answers s fs u → Both es fs t u
 one_answer s es fs t u (Nothing h e f) (Nothing k g i) = (e ∙ sym g, f ∙ sym i)
-one_answer s es fs t u (Nothing h e f) (Alone n k d l g i) = absurd (open_or_not (has_ended s.game) h k)
-one_answer s es fs t u (Nothing h e f) (WithHint n hint k d l g i) = absurd (open_or_not (has_ended s.game) h k)
-one_answer s es fs t u (Alone m h d l e f) (Nothing k g i) = absurd (open_or_not (has_ended s.game) k h)
-one_answer s es fs t u (WithHint m hint h d l e f) (Nothing k g i) = absurd (open_or_not (has_ended s.game) k h)
+one_answer s es fs t u (Nothing h e f) (Alone n k d l g i) = absurd (both_ways (has_ended s.game) k h)
+one_answer s es fs t u (Nothing h e f) (WithHint n hint k d l g i) = absurd (both_ways (has_ended s.game) k h)
+one_answer s es fs t u (Alone m h d l e f) (Nothing k g i) = absurd (both_ways (has_ended s.game) h k)
+one_answer s es fs t u (WithHint m hint h d l e f) (Nothing k g i) = absurd (both_ways (has_ended s.game) h k)
 one_answer s es fs t u (Alone m h d l e f) (Alone n k x y g i) = let same = one_drawn s m n d x in (e ∙ ap answer same ∙ sym g, f ∙ ap (λ (z : Move). moved s z) same ∙ sym i)
 one_answer s es fs t u (Alone m h d l e f) (WithHint n hint k x y g i) = let same = one_drawn s n m x d in absurd (l (subst (λ (z : Move). HasLegal (now_of (moved s z).game)) same (has_drawn (moved s n) hint y)))
 one_answer s es fs t u (WithHint m hint h d l e f) (Alone n k x y g i) = let same = one_drawn s m n d x in absurd (y (subst (λ (z : Move). HasLegal (now_of (moved s z).game)) same (has_drawn (moved s m) hint l)))

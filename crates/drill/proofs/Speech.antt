@@ -1,20 +1,21 @@
 -- Lines with moves are lines that the core may hear.
-use Rattle.std.proofs.Common.{◌≡◌, ℕ, ◌+◌, ◌≤◌, List, ◌∷◌, ◌++◌, length, Bool, true, false, not, ◌&&◌, ◌||◌, nat_le, nat_eq, Option, Some, None, codes, refl, ap, ◌∙◌, inl, arith, length-append}
+use Rattle.std.proofs.Common.{◌≡◌, ℕ, ◌+◌, ◌≤◌, List, ◌∷◌, ◌++◌, length, true, false, not, ◌&&◌, nat_le, nat_eq, Option, Some, None, codes, refl, ap, ◌∙◌, inl, arith, length-append}
 use Rattle.std.proofs.lemmas.Bool.Decides.{nat_tests}
 use Rattle.std.proofs.lemmas.List.Folds.{list_any-append}
+use Rattle.std.proofs.lemmas.Bool.{or_from}
 use Rattle.chess_board.specs.declared.board.Kind.{Kind}
 use Rattle.chess_board.specs.declared.board.Kind.TheVariants.{Pawn, Knight, Bishop, Rook, Queen, King}
 use Rattle.chess_board.specs.declared.board.Move.{Move}
 use Rattle.chess_board.specs.Board.{file_of, rank_of}
 use Rattle.chess_board.specs.Text.{text_of, promotion_text, IsOfficer}
 use Rattle.chess_board.proofs.Texts.{reads-back}
+use Rattle.chess_board.proofs.TextLengths.{move_length}
 use Rattle.peer_words.proofs.TokenLists.{tokens_alone, tokens_more}
 use Rattle.line_io.specs.Event.{has_feed, is_line}
 use Rattle.cecp_lines.specs.Messages as says
 use Rattle.cecp_lines.specs.Messages.{IfaceMsg}
 use Rattle.cecp_lines.specs.Reading.{HasMove}
 use Rattle.cecp_lines.proofs.Complete.{spells_reading}
-use Rattle.cecp_lines.proofs.Lengths.{move_short}
 use Rattle.uci_lines.proofs.MoveTokens.{move_token}
 use Rattle.cecp_lines.specs.Quit.{is_quit, is_quit_message}
 use Rattle.drill.specs.Sent.{IsSpeech}
@@ -39,12 +40,8 @@ move_bare m =
     let d = no_feed_over (49 + rank_of m.to.index) (omega arith) in
     rw (a, b, c, d, promotion_bare m.promo) refl
 
-both_bare : (a b : Bool) → a ≡ false → b ≡ false → (a || b) ≡ false
-both_bare true b e f = cc
-both_bare false b e f = f
-
 bare_behind : (words text : List ℕ) → has_feed words ≡ false → has_feed text ≡ false → has_feed (words ++ text) ≡ false
-bare_behind words text e f = list_any-append (λ b. nat_eq b 10) words text ∙ both_bare (has_feed words) (has_feed text) e f
+bare_behind words text e f = list_any-append (λ b. nat_eq b 10) words text ∙ or_from (has_feed words) (has_feed text) e f
 
 -- a short text without a line feed is a line
 is_short_line : (text : List ℕ) → length text ≤ 72 → has_feed text ≡ false → is_line text ≡ true
@@ -52,7 +49,7 @@ is_short_line text s b = let n : nat_le (length text) 65536 ≡ true = grind (ar
 
 -- words and a move
 pub is_move_line : (words : List ℕ) (m : Move) → length words ≤ 48 → has_feed words ≡ false → is_line (words ++ text_of m) ≡ true
-is_move_line words m s b = is_short_line (words ++ text_of m) (omega (arith, s, move_short m, length-append words (text_of m))) (bare_behind words (text_of m) b (move_bare m))
+is_move_line words m s b = is_short_line (words ++ text_of m) (omega (arith, s, move_length m, length-append words (text_of m))) (bare_behind words (text_of m) b (move_bare m))
 
 -- an answer with a hint
 pub is_hint_line : (m hint : Move) → is_line (codes "bestmove " ++ (text_of m ++ (codes " ponder " ++ text_of hint))) ≡ true
@@ -60,7 +57,7 @@ is_hint_line m hint =
     let behind = text_of m ++ (codes " ponder " ++ text_of hint) in
     let bare = bare_behind (text_of m) (codes " ponder " ++ text_of hint) (move_bare m) (bare_behind (codes " ponder ") (text_of hint) refl (move_bare hint)) in
     is_short_line (codes "bestmove " ++ behind)
-    (omega (arith, move_short m, move_short hint, length-append (text_of m) (codes " ponder " ++ text_of hint), length-append (codes " ponder ") (text_of hint), length-append (codes "bestmove ") behind))
+    (omega (arith, move_length m, move_length hint, length-append (text_of m) (codes " ponder " ++ text_of hint), length-append (codes " ponder ") (text_of hint), length-append (codes "bestmove ") behind))
     (bare_behind (codes "bestmove ") behind refl bare)
 
 -- an entered move does not end the session

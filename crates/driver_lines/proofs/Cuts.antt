@@ -5,7 +5,7 @@ use Rattle.std.proofs.lemmas.List.{length-drop, length-take}
 use Rattle.std.proofs.lemmas.Bool.Decides.{nat_tests}
 use Rattle.peer_words.specs.Tokens.{is_white, trim_left, token_end}
 use Rattle.driver_lines.specs.Parts.{Feature, Cut, ends_name, is_quote, found, value_cut, skipped, cut_by, cut_of, onto, parts_from, parts_within, parts, FitsIn, IsNamed}
-use Rattle.driver_lines.proofs.Lengths.{trim_left_length}
+use Rattle.peer_words.proofs.Lengths.{trim_left_length}
 
 drop_short : (n : ℕ) (xs : List ℕ) → length (drop n xs) ≤ length xs
 drop_short n xs = omega (arith, length-drop n xs)

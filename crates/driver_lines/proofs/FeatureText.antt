@@ -1,8 +1,7 @@
 -- The text of a feature line is no longer than the line.
-use Rattle.std.proofs.Common.{◌≡◌, ℕ, ℤ, ◌≤◌, List, [], ◌∷◌, length, drop, Option, Some, None, refl, sym, subst, arith}
-use Rattle.std.proofs.lemmas.List.{length-drop}
-use Rattle.peer_words.specs.Tokens.{tokens, trim_left, token_end, first_token, rest}
-use Rattle.driver_lines.proofs.Lengths.{trim_left_length, trimmed_length}
+use Rattle.std.proofs.Common.{◌≡◌, ℕ, ℤ, ◌≤◌, List, [], ◌∷◌, length, Option, Some, None, refl, sym, subst}
+use Rattle.peer_words.specs.Tokens.{tokens, first_token, rest}
+use Rattle.peer_words.proofs.Lengths.{rest_length}
 use Rattle.driver_lines.specs.declared.said.Word.{Word}
 use Rattle.driver_lines.specs.declared.said.Word.TheVariants as words
 use Rattle.driver_lines.specs.Numbers.{next_number}
@@ -48,9 +47,6 @@ by_word words.Over line text e = absurd (cc)
 by_word words.Pong line text e = absurd (pong_feature (pong_in (tokens (rest line))) text e)
 by_word words.Feature line text e = cc
 by_word words.Other line text e = absurd (other_feature (report_in (tokens line)) text (first (next_number (tokens line))) e)
-
-rest_length : (line : List ℕ) → length (rest line) ≤ length line
-rest_length line = omega (arith, trimmed_length (drop (token_end (trim_left line)) (trim_left line)), length-drop (token_end (trim_left line)) (trim_left line), trim_left_length line)
 
 pub feature_short : (line text : List ℕ) → says_in line ≡ Feature text → length text ≤ length line
 unfolding says_in

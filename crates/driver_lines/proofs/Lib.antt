@@ -1,4 +1,3 @@
-mod Lengths
 mod Cuts
 mod Named
 mod First

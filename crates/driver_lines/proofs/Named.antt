@@ -1,26 +1,14 @@
 -- The move that a text names.
-use Rattle.std.proofs.Common.{◌≡◌, ℕ, List, Bool, true, false, Option, Some, None, Result, Ok, Err, refl, sym, ◌∙◌, inr}
-use Rattle.std.specs.Prelude.{◌↔◌, IsTrue, MatchOption}
+use Rattle.std.proofs.Common.{◌≡◌, ℕ, List, Option, Some, None, Result, Ok, Err, sym, ◌∙◌, inr}
+use Rattle.std.specs.Prelude.{MatchOption}
 use Rattle.chess_board.specs.declared.board.Move.{Move}
 use Rattle.chess_board.specs.Position.{Position}
-use Rattle.chess_board.specs.Laws.{IsLegal}
-use Rattle.chess_board.specs.Place.{legal}
-use Rattle.chess_board.proofs.Legal.{legal-law}
 use Rattle.san_text.specs.declared.fault.SanFault.{SanFault}
 use Rattle.san_text.specs.declared.fault.SanFault.TheVariants.{BadSan, NoFit, Ambiguous}
 use Rattle.san_text.specs.Spelling.{Spelling, spelled}
 use Rattle.san_text.specs.Fit.{AgreesText, IsRead}
 use Rattle.san_text.specs.LongForm.{IsLongRead}
 use Rattle.driver_lines.specs.Moves.{coordinates, FitsNone, Writes, WritesNone, Names, NamesNone, IsAlone}
-
-same_truth : (a b : Bool) (P : Type 0) → (IsTrue a ↔ P) → (IsTrue b ↔ P) → a ≡ b
-same_truth true true P f g = refl
-same_truth true false P f g = let e : false ≡ true = g.1 (f.0 refl) in absurd (cc)
-same_truth false true P f g = let e : false ≡ true = f.1 (g.0 refl) in absurd (cc)
-same_truth false false P f g = refl
-
-pub legal_test : (p : Position) (m : Move) (b : Bool) → (IsTrue b ↔ IsLegal p m.from.index m.to.index m.promo) → b ≡ legal p m
-legal_test p m b f = same_truth b (legal p m) (IsLegal p m.from.index m.to.index m.promo) f (legal-law p m.from.index m.to.index m.promo)
 
 unspelled : (p : Position) (s : Option Spelling) (m : Move) → s ≡ None → AgreesText p s m → ⊥
 unspelled p None m e h = h

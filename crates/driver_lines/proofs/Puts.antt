@@ -2,19 +2,11 @@
 use Rattle.std.proofs.Common.{◌≡◌, ℕ, List, [], ◌∷◌, ◌++◌, Option, Some, refl, sym, ap, ◌∙◌, append_assoc, append-nil}
 use Rattle.std.specs.Prelude.{codes}
 use Rattle.line_io.specs.Out.{Text, with}
+use Rattle.line_io.proofs.Puts.{put_three, put_two}
 use Rattle.chess_board.specs.declared.board.Move.{Move}
 use Rattle.chess_board.specs.Text.{text_of}
 use Rattle.driver_talk.specs.declared.words.Thought.{Thought}
 use Rattle.driver_lines.specs.Lines.{best_text, figures_text, info_text}
-
-joined : (o : Text) (x y : List ℕ) → with (with o x) y ≡ with o (x ++ y)
-joined o x y = ap (λ (t : List ℕ). record { text = t; room = o.room }) (append_assoc o.text x y)
-
-pub put_two : (o a b : Text) (x y : List ℕ) → a ≡ with o x → b ≡ with a y → b ≡ with o (x ++ y)
-put_two o a b x y e f = f ∙ ap (λ (t : Text). with t y) e ∙ joined o x y
-
-pub put_three : (o a b c : Text) (x y z : List ℕ) → a ≡ with o x → b ≡ with a y → c ≡ with b z → c ≡ with o (x ++ (y ++ z))
-put_three o a b c x y z e f g = put_two o a c x (y ++ z) e (put_two a b c y z f g)
 
 pub put_four : (o a b c d : Text) (x y z w : List ℕ) → a ≡ with o x → b ≡ with a y → c ≡ with b z → d ≡ with c w → d ≡ with o (x ++ (y ++ (z ++ w)))
 put_four o a b c d x y z w e f g h = put_two o a d x (y ++ (z ++ w)) e (put_three a b c d y z w f g h)

@@ -3,4 +3,3 @@ mod Loops
 mod Runs
 mod Starts
 mod Told
-mod Took

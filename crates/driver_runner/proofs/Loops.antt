@@ -1,13 +1,14 @@
 -- A turn of the loop.
 use Rattle.std.proofs.Common.{◌≡◌, ℕ, List, [], ◌∷◌, ◌++◌, Bool, true, false, cond, ◌&&◌, ◌||◌, refl, sym, ap, subst, ◌∙◌, append-nil}
 use Rattle.std.proofs.lemmas.List.Elements.{filter-append}
+use Rattle.std.proofs.lemmas.Bool.{and_parts}
+use mathlib.Core.Bool.{or-false, or-true}
 use Rattle.line_io.specs.Event.{Event, Iface, IfaceEnd, EngineEnd}
 use Rattle.line_io.specs.Source.{Received}
 use Rattle.cecp_lines.specs.Quit.{is_quit}
-use Rattle.event_pipe.specs.Message.{is_end, is_good}
+use Rattle.event_pipe.specs.Message.{is_good}
 use Rattle.event_pipe.specs.Rule.{of, ended, Follows}
-use Rattle.event_pipe.proofs.Keeps.{of-append}
-use Rattle.event_pipe.proofs.Reading.{any_append}
+use Rattle.event_pipe.proofs.Roles.{more_ended}
 use Rattle.cecp_driver.specs.declared.driver.Parts.{Parts}
 use Rattle.cecp_driver.specs.Driver.{opening}
 use Rattle.cecp_driver.specs.Script.{Takes, IsShort, may_come, last_of}
@@ -18,34 +19,18 @@ use Rattle.sink_offers.specs.Took.{LogTook}
 use Rattle.driver_runner.specs.declared.looping.Sides.{Sides}
 use Rattle.driver_runner.specs.Looped.{Looped, is_told, without_long}
 use Rattle.driver_runner.specs.Reached.{Stepped, ended_by, Reached}
-use Rattle.driver_runner.proofs.Took.{took_next, took_nothing}
+use Rattle.sink_offers.proofs.Took.{took_next, took_nothing}
 use Rattle.driver_runner.proofs.Told.{gone_next, may_is, is_short}
 
 -- which sides have ended
-or_true : (a : Bool) → true ≡ (a || (true || false))
-or_true true = refl
-or_true false = refl
-
-or_one : (a q : Bool) → (a || q) ≡ (a || (q || false))
-or_one true q = refl
-or_one false true = refl
-or_one false false = refl
-
-or_none : (a : Bool) → a ≡ (a || false)
-or_none true = refl
-or_none false = refl
-
-more_ended : (role : ℕ) (r xs : List Event) → ended (of role (r ++ xs)) ≡ (ended (of role r) || ended (of role xs))
-more_ended role r xs = ap ended (of-append role r xs) ∙ any_append is_end (of role r) (of role xs)
-
 iface_by : (e : Sides) (x : Event) (b : Bool) → e.iface_ended ≡ b → (ended_by e x).iface_ended ≡ (b || ended (of 1 (x ∷ [])))
-iface_by e (Iface line) b h = ap (λ x. x || is_quit line) h ∙ or_one b (is_quit line)
-iface_by e IfaceEnd b h = or_true b
-iface_by e x b h = h ∙ or_none b
+iface_by e (Iface line) b h = ap (λ x. x || is_quit line) h ∙ ap (λ x. b || x) (sym (or-false (is_quit line)))
+iface_by e IfaceEnd b h = sym (or-true b)
+iface_by e x b h = h ∙ sym (or-false b)
 
 engine_by : (e : Sides) (x : Event) (b : Bool) → e.engine_ended ≡ b → (ended_by e x).engine_ended ≡ (b || ended (of 2 (x ∷ [])))
-engine_by e EngineEnd b h = or_true b
-engine_by e x b h = h ∙ or_none b
+engine_by e EngineEnd b h = sym (or-true b)
+engine_by e x b h = h ∙ sym (or-false b)
 
 -- long lines are passed over
 without_next : (received : List Event) (x : Event) (b : Bool) → is_told x ≡ b → without_long (received ++ x ∷ []) ≡ without_long received ++ cond b (x ∷ []) []
@@ -141,15 +126,10 @@ reached_by new received' sides sides' b a to x y e s t =
 pub step_of : (e e' : Event) (old new : Parts) (m a : Sinks) (at to : LoopEnd) → e ≡ e' → Stepped e old new m a at to → Stepped e' old new m a at to
 step_of e e' old new m a at to h s = subst (λ (z : Event). Stepped z old new m a at to) h s
 
-both_ends : (a b : Bool) → (a && b) ≡ true → (a ≡ true) × (b ≡ true)
-both_ends true true h = (refl, refl)
-both_ends true false h = cc
-both_ends false b h = cc
-
 pub looped : (driver : Parts) (received : List Event) (sides : Sides) (b a : Sinks) (at : LoopEnd) (over : Bool) → Reached driver received sides b a at
     → over ≡ (sides.iface_ended && sides.engine_ended) → over ≡ true → Looped received b a at
 looped driver received sides b a at over r e t =
-    let w = both_ends sides.iface_ended sides.engine_ended (sym e ∙ t) in
+    let w = and_parts sides.iface_ended sides.engine_ended (sym e ∙ t) in
     record {
       events = r.events;
       states = r.states;

@@ -1,5 +1,5 @@
 -- What a run leaves.
-use Rattle.std.proofs.Common.{◌≡◌, List, [], ◌∷◌, ◌++◌, Bool, true, false, cond, filter, refl, sym, ap, ◌∙◌, append-nil}
+use Rattle.std.proofs.Common.{◌≡◌, List, [], ◌∷◌, Bool, true, false, cond, filter, refl, sym, ap, ◌∙◌}
 use Rattle.line_io.specs.Event.{Event}
 use Rattle.line_io.specs.Source.{Supplied}
 use Rattle.event_pipe.specs.declared.message.Peer.{Peer}
@@ -9,13 +9,11 @@ use Rattle.event_pipe.specs.Message.{role_of}
 use Rattle.event_pipe.specs.Rule.{is_of, sent_by, ended}
 use Rattle.event_pipe.specs.Ends.{Came}
 use Rattle.event_pipe.specs.Arrivals.{Arrived}
+use Rattle.event_pipe.proofs.Roles.{all_came}
 use Rattle.sink_offers.specs.declared.offering.LoopEnd.{LoopEnd}
 use Rattle.sink_offers.specs.Streams.{Sinks, streams}
 use Rattle.driver_runner.specs.Looped.{Looped, is_told, without_long}
 use Rattle.driver_runner.specs.Ran.{ComeFrom, Ran}
-
-all_came : (p : Peer) (events sent : List Event) → Came p events sent → ended (sent_by p events) ≡ true → sent ≡ sent_by p events
-all_came p events sent c e = c.front ∙ ap (λ (l : List Event). sent_by p events ++ l) (c.whole e) ∙ append-nil (sent_by p events)
 
 -- the events of a peer among those that are told are those that are told among the peer's
 filter_one : (f : Event → Bool) (b : Bool) (x : Event) (r : List Event) → filter f (cond b (x ∷ r) r) ≡ cond b (cond (f x) (x ∷ filter f r) (filter f r)) (filter f r)

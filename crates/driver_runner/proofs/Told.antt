@@ -1,6 +1,7 @@
 -- Which events a driver takes.
-use Rattle.std.proofs.Common.{◌≡◌, ◌≢◌, ◌≤◌, ℕ, ℤ, Bool, true, false, not, cond, ◌&&◌, nat_le, List, [], ◌∷◌, length, Option, Some, None, refl, sym, ap, ◌∙◌, arith}
+use Rattle.std.proofs.Common.{◌≡◌, ◌≢◌, ◌≤◌, ℕ, ℤ, Bool, true, false, not, cond, nat_le, List, [], ◌∷◌, length, Option, Some, None, refl, sym, ap, ◌∙◌, arith}
 use Rattle.std.proofs.lemmas.Bool.Decides.{nat_tests}
+use Rattle.std.proofs.lemmas.Bool.{and_parts}
 use Rattle.chess_board.specs.declared.board.Move.{Move}
 use Rattle.line_io.specs.Event.{Event, Open, Iface, IfaceEnd, IfaceLost, Engine, EngineEnd, EngineLost, is_line, has_feed}
 use Rattle.event_pipe.specs.Message.{is_good}
@@ -82,12 +83,8 @@ may_is EngineEnd v received g f = ap not (g ∙ f.0)
 may_is EngineLost v received g f = absurd (f.2 refl)
 may_is e v received g f = refl
 
-first_true : (a b : Bool) → (a && b) ≡ true → a ≡ true
-first_true true b e = refl
-first_true false b e = cc
-
 short_line : (line : List ℕ) → is_line line ≡ true → length line ≤ 65536
-short_line line e = let h : nat_le (length line) 65536 ≡ true = first_true (nat_le (length line) 65536) (not (has_feed line)) e in grind (arith, nat_tests)
+short_line line e = let h : nat_le (length line) 65536 ≡ true = (and_parts (nat_le (length line) 65536) (not (has_feed line)) e).0 in grind (arith, nat_tests)
 
 pub is_short : (e : Event) → is_good e ≡ true → IsShort e
 is_short (Iface line) g = short_line line g

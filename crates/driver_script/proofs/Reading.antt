@@ -7,7 +7,8 @@ use Rattle.std.proofs.lemmas.Bool.Decides.{nat_tests}
 use Rattle.line_io.specs.Event.{Event, Iface, Engine, event_of, has_feed}
 use Rattle.line_io.specs.declared.events.Event as borrowed
 use Rattle.line_io.specs.Lines.{Piece}
-use Rattle.line_io.specs.Out.{Text, with}
+use Rattle.line_io.specs.Out.{Text}
+use Rattle.line_io.proofs.Puts.{put_none}
 use Rattle.script_lines.specs.Marks.{Mark, Happens, IsSpelled, SpellsMark, plain}
 use Rattle.script_lines.specs.declared.marks.BadMark.{BadMark}
 use Rattle.script_lines.specs.declared.marks.Mark as code
@@ -94,9 +95,6 @@ barred lines v text p event n s is bars e =
 
 -- AS A SCRIBE
 
-with_nil : (t : Text) → t ≡ with t []
-with_nil t = ap (λ (x : List ℕ). let u : Text = record { text = x; room = t.room } in u) (sym (append-nil t.text))
-
 fault_put : (lines : List Piece) (ending : Ending) (text : List ℕ) → Says lines ending text → Says lines ending (text ++ [])
 fault_put lines ending text s = subst (λ (x : List ℕ). Says lines ending x) (sym (append-nil text)) s
 
@@ -108,7 +106,7 @@ puts_event n p event None v v' held held' is t = record {
 }
 puts_event n p event (Some ending) v v' held held' is t = record {
   more = [];
-  put = t.1.1 ∙ with_nil held;
+  put = t.1.1 ∙ put_none held;
   goes = λ v0 lines text s e first.
       subst (λ (x : Ending). Says (lines ++ p ∷ []) x (text ++ [])) (sym t.0)
       (fault_put (lines ++ p ∷ []) (endings.MayNotCome n) text (barred lines v text p event n (s first) is t.1.0 e));
@@ -117,7 +115,7 @@ puts_event n p event (Some ending) v v' held held' is t = record {
 pub puts_passed : (n : ℕ) (p : Piece) (v : Parts) (held : Text) → is_some (mark_in p) ≡ true → event_in (mark_in p) ≡ [] → Puts drives n p None v held v held
 puts_passed n p v held is none = record {
   more = [];
-  put = with_nil held;
+  put = put_none held;
   goes = λ v0 lines text s e first.
       subst (λ (x : List ℕ). Stands (lines ++ p ∷ []) v x) (sym (append-nil text)) (passed_stands lines v text p (s first) is none);
 }
@@ -125,7 +123,7 @@ puts_passed n p v held is none = record {
 pub puts_unmarked : (n : ℕ) (p : Piece) (v : Parts) (held : Text) → mark_in p ≡ None → Puts drives n p (Some (endings.NoMark n)) v held v held
 puts_unmarked n p v held none = record {
   more = [];
-  put = with_nil held;
+  put = put_none held;
   goes = λ v0 lines text s e first. fault_put (lines ++ p ∷ []) (endings.NoMark n) text (unmarked lines v text p n (s first) none e);
 }
 
@@ -140,7 +138,7 @@ said lines ending text i d = d
 pub closes : (ending : Ending) (v : Parts) (held : Text) → (IsOfLine ending → ⊥) → Closes drives ending v held held
 closes ending v held i = record {
   more = [];
-  put = with_nil held;
+  put = put_none held;
   says = λ v0 lines text s first. fault_put lines ending text (said lines ending text i (s first).driven);
 }
 

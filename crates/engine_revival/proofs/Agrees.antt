@@ -1,5 +1,6 @@
 -- What holds between the upper dialogue, the life and its wire.
 use Rattle.std.proofs.Common.{◌≡◌, ◌&&◌, ◌||◌, ℕ, List, [], ◌∷◌, ◌++◌, Bool, true, false, not, cond, Option, Some, None, refl, sym, ap, ◌∙◌, subst, true≢false, if◌then◌else◌, nat_lt}
+use Rattle.std.proofs.lemmas.Bool.{and_parts, not-true}
 use Rattle.peer_words.specs.declared.kinds.GoKind.{GoKind}
 use Rattle.peer_words.specs.declared.kinds.GoKind.TheVariants as kinds
 use Rattle.cecp_lines.specs.Quit.{is_quit}
@@ -22,7 +23,7 @@ use Rattle.engine_revival.specs.Lists.{can_join, is_nil}
 use Rattle.engine_revival.specs.Steps.{opening, keeping, with_value, with_button, takes_at_once, after_at_once, is_served, life_after_said, due_to, due_orders, after_due, answer_to, after_answer, is_given, gives, accepting, accepted, reading, with_quit, ordering, accepted_at_once, read_at_once, quit_to, at_once, hearing, ending, may_begin, beginning, first_order, closing, due_of, answer_of, settled, settled_orders, is_ended}
 use Rattle.engine_revival.specs.Calls.{Call, Order, Heard, Ended, Begin, Over, may, turned, first_orders, orders_of, after}
 use Rattle.engine_revival.specs.Laws.{Wire, Open, Closed, Gone, Broken, written, all_written, open_or_broken, heard, met, wire_of, is_whole, state_of, MayCome, LivesAreInOrder, is_search, FitsUp, GivenFits, AnswersFit, IsAnswerIn, NoLifeIdles, is_idle_life, waits}
-use Rattle.engine_revival.proofs.Rooms.{both, where_is, unquit}
+use Rattle.engine_revival.proofs.Rooms.{where_is, unquit}
 use Rattle.engine_revival.proofs.Wires.{telling, told, behind_setups, AreSetups, is_setup, with_setup, is_open, SearchIs, search_more, hit_open, stop_open, search_open, placed_open}
 
 -- what the life says of the upper state
@@ -311,19 +312,15 @@ hearing_agrees s word w h = record {
   search = said_search (gives s word) s.upper word s.search h.search;
 }
 
-not_true : (b : Bool) → not b ≡ true → b ≡ false
-not_true true h = absurd (true≢false (sym h))
-not_true false h = refl
-
 begins_unquit : (s : State) → may_begin s ≡ true → s.quit ≡ false
-begins_unquit s h = not_true s.quit (both (nat_lt s.begun s.lives) (not s.quit) (both (nat_lt s.begun s.lives && not s.quit) (not s.full) h).0).1
+begins_unquit s h = not-true s.quit (and_parts (nat_lt s.begun s.lives) (not s.quit) (and_parts (nat_lt s.begun s.lives && not s.quit) (not s.full) h).0).1
 
 pub turned_agrees : (s : State) (call : Call) (w : Wire) → may s call ≡ true → Agrees s w → Agrees (turned s call) (all_written (first_orders s call) (met call w))
 turned_agrees s (Order line) w m h = ordering_agrees s line (is_quit line) w h
 turned_agrees s (Heard line) w m h = hearing_agrees s (said_in line) w h
 turned_agrees s Ended w m h = record { stands = record { upper_is = tt; wire_is = refl }; kept = h.kept; unsent = h.unsent; search = h.search }
 turned_agrees s Begin w m h = record {
-  stands = subst (λ (q : Bool). Stands (if is_before s.upper then life.Fresh else life.Boot) q s.upper (all_written (first_order s.upper) (Open upper.Before))) (sym (begins_unquit s (both (is_ended s.life) (may_begin s) m).1)) (begin_stands s.upper);
+  stands = subst (λ (q : Bool). Stands (if is_before s.upper then life.Fresh else life.Boot) q s.upper (all_written (first_order s.upper) (Open upper.Before))) (sym (begins_unquit s (and_parts (is_ended s.life) (may_begin s) m).1)) (begin_stands s.upper);
   kept = h.kept;
   unsent = h.kept;
   search = h.search;

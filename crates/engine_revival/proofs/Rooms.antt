@@ -1,6 +1,6 @@
 -- The lists have room after each call.
 use Rattle.std.proofs.Common.{◌≡◌, ◌&&◌, ℕ, ◌+◌, ◌*◌, ◌≤◌, List, [], ◌∷◌, ◌++◌, Bool, true, false, not, cond, filter, length, nat_le, Option, Some, None, refl, sym, ap, ◌∙◌, subst, arith, length-append, true≢false, if◌then◌else◌}
-use Rattle.std.proofs.lemmas.Bool.{leb-true}
+use Rattle.std.proofs.lemmas.Bool.{leb-true, and_parts}
 use Rattle.std.proofs.lemmas.List.Elements.{filter-append}
 use Rattle.peer_words.specs.declared.kinds.GoKind.{GoKind}
 use Rattle.peer_words.specs.declared.kinds.GoKind.TheVariants as kinds
@@ -32,10 +32,6 @@ use Rattle.engine_revival.proofs.Lines.{batch_first, batch_last}
 pub is_new_game : (o : CodeOrder) (c : Order) → order_of o ≡ c → o ≡ says.NewGame → c ≡ NewGame
 is_new_game o c e f = sym e ∙ ap order_of f
 
-pub both : (a b : Bool) → (a && b) ≡ true → (a ≡ true) × (b ≡ true)
-both true b h = (refl, h)
-both false b h = absurd (true≢false (sym h))
-
 -- WHAT STAYS IS NO LONGER
 
 few_step : (w : Bool) (c : Order) (kept cs : List Order) → length kept ≤ length cs → length (cond w (c ∷ kept) kept) ≤ length (c ∷ cs)
@@ -63,7 +59,7 @@ beside order cs n m h = record {
 joined : (list : List Order) (c : Order) → can_join list c ≡ true → AreWithin (with_order list c) MOST_ORDERS MOST_BYTES
 joined list c h =
     let all = with_order list c in
-    let p = both (nat_le (length all) MOST_ORDERS) (nat_le (length (batch_text all)) MOST_BYTES) h in
+    let p = and_parts (nat_le (length all) MOST_ORDERS) (nat_le (length (batch_text all)) MOST_BYTES) h in
     record { few = leb-true (length all) MOST_ORDERS p.0; short = leb-true (length (batch_text all)) MOST_BYTES p.1 }
 
 one_more : (search : List Order) (c : Order) (n m k : ℕ) → AreWithin search n m → length (order_text c) ≤ k → AreWithin (search ++ c ∷ []) (n + 1) (m + (k + 1))
@@ -160,7 +156,7 @@ calm s up life h k = record { kept = h.kept; settings = h.settings; unsent = h.u
 
 value_step : (w : Bool) (s : State) (c : Order) → (can_join s.kept c && can_join s.unsent c) ≡ w → IsRoomy s → IsRoomy (with_value w s c)
 value_step true s c e h =
-    let p = both (can_join s.kept c) (can_join s.unsent c) e in
+    let p = and_parts (can_join s.kept c) (can_join s.unsent c) e in
     let unsent = joined s.unsent c p.1 in
     record {
       kept = joined s.kept c p.0;

@@ -4,6 +4,7 @@ use Rattle.std.specs.Prelude.{nat_le}
 use Rattle.std.specs.List.{AllByRecursion, flat_map}
 use Rattle.std.proofs.lemmas.Bool.Decides.{nat_tests}
 use Rattle.std.proofs.lemmas.List.Concat.{flat_map-append}
+use Rattle.std.proofs.lemmas.Bool.{and_parts}
 use Rattle.line_io.specs.Event.{Event, Iface, IfaceEnd, Engine, EngineLong, has_feed, is_line}
 use Rattle.line_io.specs.Lines.{parts}
 use Rattle.script_lines.specs.Marks.{Mark, Happens, ToIface, ToEngine, IsSpelled, event_marked, is_written, line_marked, mark_of, mark_line, mark_text}
@@ -64,16 +65,12 @@ unfolding order_text
 ready_mark = refl
 
 -- a line that came can be written
-both : (a b : Bool) → (a && b) ≡ true → (a ≡ true) × (b ≡ true)
-both true b h = (refl, h)
-both false b h = cc
-
 longer : (n : ℕ) → nat_le n 65536 ≡ true → nat_le n 131070 ≡ true
 longer n h = let l : n ≤ 65536 = grind (arith, nat_tests) in grind (arith, nat_tests)
 
 pub line_written : (line : List ℕ) → is_line line ≡ true → is_written line ≡ true
 line_written line h =
-    let p = both (nat_le (length line) 65536) (not (has_feed line)) h in
+    let p = and_parts (nat_le (length line) 65536) (not (has_feed line)) h in
     ap (λ b. b && not (has_feed line)) (longer (length line) p.0) ∙ p.1
 
 came : (line : List ℕ) (c : AnyOrder) → is_line line ≡ true → order_in line ≡ Some c → CanMark c
@@ -193,7 +190,7 @@ abbrev pub AllWritten : List (List ℕ) → Type 0
 AllWritten lines = AllByRecursion (λ (line : List ℕ). is_written line ≡ true) lines
 
 feedless : (line : List ℕ) → is_written line ≡ true → has_feed line ≡ false
-feedless line h = let p = both (nat_le (length line) 131070) (not (has_feed line)) h in not_true (has_feed line) p.1
+feedless line h = let p = and_parts (nat_le (length line) 131070) (not (has_feed line)) h in not_true (has_feed line) p.1
   where
     not_true : (b : Bool) → not b ≡ true → b ≡ false
     not_true true e = cc

@@ -2,6 +2,7 @@
 use Rattle.std.proofs.Common.{◌≡◌, ◌&&◌, ℕ, List, [], ◌∷◌, ◌++◌, Bool, true, false, not, cond, filter, Option, Some, None, refl, sym, ap, ◌∙◌, subst, true≢false, if◌then◌else◌}
 use Rattle.std.proofs.lemmas.Slice.Eq.{bytes_eq-Decides}
 use Rattle.std.specs.Str.{bytes_eq}
+use Rattle.std.proofs.lemmas.Bool.{not-false}
 use Rattle.cecp_lines.specs.Quit.{is_quit}
 use Rattle.uci_lines.specs.Orders.{Order as AnyOrder}
 use Rattle.uci_lines.specs.Orders as orders
@@ -37,16 +38,13 @@ behind : (name : List ℕ) (xs ys : List AnyOrder) → value_in name (xs ++ ys) 
 behind name [] ys = sym (later_none (value_in name ys))
 behind name (x ∷ xs) ys = ap (λ (o : Option (List ℕ)). later_or o (value_of name x)) (behind name xs ys) ∙ later_assoc (value_in name ys) (value_in name xs) (value_of name x)
 
-same_bytes : (a b : List ℕ) → bytes_eq a b ≡ true → a ≡ b
-same_bytes a b h = (bytes_eq-Decides a b).0 h
-
 other_value : (w : Bool) (v : List ℕ) → w ≡ false → (if w then Some v else None) ≡ None
 other_value true v e = absurd (true≢false e)
 other_value false v e = refl
 
 -- What is for the same as an order that does not set the option does not set it either.
 apart : (name : List ℕ) (c o : AnyOrder) → value_of name c ≡ None → are_for_same c o ≡ true → value_of name o ≡ None
-apart name (orders.SetOption n (Some v)) (orders.SetOption k (Some w)) e h = subst (λ (t : List ℕ). (if bytes_eq t name then Some w else None) ≡ None) (same_bytes n k h) (unset (bytes_eq n name) v w e)
+apart name (orders.SetOption n (Some v)) (orders.SetOption k (Some w)) e h = subst (λ (t : List ℕ). (if bytes_eq t name then Some w else None) ≡ None) ((bytes_eq-Decides n k).0 h) (unset (bytes_eq n name) v w e)
   where
     unset : (b : Bool) (x y : List ℕ) → (if b then Some x else None) ≡ None → (if b then Some y else None) ≡ None
     unset true x y e = absurd (cc)
@@ -58,14 +56,10 @@ stay_step : (w : Bool) (name : List ℕ) (o : AnyOrder) (kept os : List AnyOrder
 stay_step true name o kept os h e = ap (λ (x : Option (List ℕ)). later_or x (value_of name o)) e
 stay_step false name o kept os h e = e ∙ sym (ap (later_or (value_in name os)) (h refl) ∙ later_none (value_in name os))
 
-not_false : (b : Bool) → not b ≡ false → b ≡ true
-not_false true e = refl
-not_false false e = absurd (true≢false e)
-
 stays : (name : List ℕ) (c : AnyOrder) (os : List AnyOrder) → value_of name c ≡ None → value_in name (staying_beside c os) ≡ value_in name os
 stays name c [] e = refl
 stays name c (o ∷ os) e =
-    stay_step (not (are_for_same c o)) name o (staying_beside c os) os (λ f. apart name c o e (not_false (are_for_same c o) f)) (stays name c os e)
+    stay_step (not (are_for_same c o)) name o (staying_beside c os) os (λ f. apart name c o e (not-false (are_for_same c o) f)) (stays name c os e)
 
 joins_by : (name : List ℕ) (c : AnyOrder) (os : List AnyOrder) (v : Option (List ℕ)) → value_of name c ≡ v → later_or v (value_in name (staying_beside c os)) ≡ later_or v (value_in name os)
 joins_by name c os None e = stays name c os e

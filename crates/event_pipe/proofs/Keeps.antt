@@ -2,6 +2,7 @@
 use Rattle.std.proofs.Common.{◌⊎◌, ◌≡◌, ◌≢◌, ℕ, ◌+◌, ◌<◌, ◌≤◌, zero, suc, List, [], ◌∷◌, ◌++◌, length, Bool, true, false, cond, slice_set, ◌==◌, ◌||◌, refl, sym, ap, subst, ◌∙◌, arith, append_assoc, append-nil, inl, inr}
 use Rattle.std.proofs.lemmas.Bool.Decides.{nat_tests}
 use Rattle.std.proofs.lemmas.List.{length-append}
+use Rattle.std.proofs.lemmas.Bool.{or_parts}
 use mathlib.Core.Option.{Option, some, none, some-injective, some-ne-none}
 use lib.ListN.{get_elem?}
 use Rattle.atomic_table.proofs.Lists.{at_set}
@@ -39,13 +40,9 @@ other x role n = grind (arith, nat_tests)
 is_own : (x : Event) (role : ℕ) → is_of role x ≡ true → role_of_event x ≡ role
 is_own x role h = grind (arith, nat_tests)
 
-or_right : (a b : Bool) → (a || b) ≡ false → b ≡ false
-or_right true b h = cc
-or_right false b h = h
-
 orderly_snoc : (xs : List Event) (x : Event) → Orderly xs → ended xs ≡ false → Orderly (xs ++ x ∷ [])
 orderly_snoc [] x o e = ((λ _. refl), tt)
-orderly_snoc (y ∷ ys) x o e = ((λ t. cc), orderly_snoc ys x o.1 (or_right (is_end y) (ended ys) e))
+orderly_snoc (y ∷ ys) x o e = ((λ t. cc), orderly_snoc ys x o.1 (or_parts (is_end y) (ended ys) e).1)
 
 filled : (zs ys : List Event) (x : Event) → zs ++ x ∷ ys ≡ [] → ⊥
 filled [] ys x h = cc

@@ -5,6 +5,7 @@ use Rattle.std.specs.Prelude.{nat_le}
 use Rattle.std.specs.List.{list_any}
 use Rattle.std.specs.Io.KnownBytes.{Consumes, IsAtEnd}
 use Rattle.std.proofs.KnownBytes.{Appends-nil, Appends-trans, Consumes-nil, Consumes-trans}
+use Rattle.std.proofs.lemmas.Bool.{or_parts}
 use Rattle.line_io.specs.Event.{Event, has_feed, is_line}
 use Rattle.line_io.specs.Event as events
 use Rattle.line_io.specs.Source.{Supplied}
@@ -15,6 +16,7 @@ use Rattle.line_io.specs.Runs.{Runs, Call, goes_on, pieces_of, whole, LinesSoFar
 use Rattle.line_io.specs.Runs as runs
 use Rattle.line_io.specs.declared.lines.Item.{Item}
 use Rattle.line_io.specs.declared.faults.ReadFault.{ReadFault}
+use Rattle.line_io.proofs.Calls.{over_now}
 use Rattle.event_pipe.specs.declared.message.Peer.{Peer}
 use Rattle.event_pipe.specs.declared.message.Peer.TheVariants as peers
 use Rattle.event_pipe.specs.declared.message.What.TheVariants as says
@@ -25,10 +27,6 @@ use Rattle.event_pipe.specs.Counts.{Tells}
 use Rattle.event_pipe.specs.Message.{sent_event, is_end, is_good}
 use Rattle.event_pipe.specs.Rule.{ended}
 use Rattle.event_pipe.specs.Arrivals.{piece_event, piece_events, last_event, arrivals, is_close, closed, Goes, Heard, Arrived}
-
-or_false : (a b : Bool) → (a || b) ≡ false → (a ≡ false) × (b ≡ false)
-or_false true b h = cc
-or_false false b h = (refl, h)
 
 or_assoc : (a b c : Bool) → (a || (b || c)) ≡ ((a || b) || c)
 or_assoc true b c = refl
@@ -48,7 +46,7 @@ last_ends peers.Engine = refl
 arrivals_behind : (p : Peer) (xs ys : List Piece) → ended (piece_events p xs) ≡ false → arrivals p (xs ++ ys) ≡ piece_events p xs ++ arrivals p ys
 arrivals_behind p [] ys h = refl
 arrivals_behind p (x ∷ xs) ys h =
-    let s = or_false (is_end (piece_event p x)) (ended (piece_events p xs)) h in
+    let s = or_parts (is_end (piece_event p x)) (ended (piece_events p xs)) h in
     ap (λ b. piece_event p x ∷ cond b [] (arrivals p (xs ++ ys))) s.0 ∙ ap (λ es. piece_event p x ∷ es) (arrivals_behind p xs ys s.1)
 
 arrivals_all : (p : Peer) (xs : List Piece) → ended (piece_events p xs) ≡ false → arrivals p xs ≡ piece_events p xs ++ last_event p ∷ []
@@ -79,7 +77,7 @@ close_ends events.EngineLost h = refl
 closed_none : (es : List Event) → ended es ≡ false → closed es ≡ false
 closed_none [] h = refl
 closed_none (e ∷ es) h =
-    let s = or_false (is_end e) (ended es) h in
+    let s = or_parts (is_end e) (ended es) h in
     ap (λ b. b || closed es) (close_ends e s.0) ∙ closed_none es s.1
 
 -- A LINE THAT MAY BE SENT
@@ -103,14 +101,10 @@ end_kept (Some x) None c bs r h k = absurd r
 end_kept (Some x) (Some y) None bs r h k = absurd k
 end_kept (Some x) (Some y) (Some z) bs r h k = cc
 
-end_told : (a b : Option (List ℕ)) → IsAtEnd b → IfSome a (λ _. IsAtEnd b)
-end_told None b h = tt
-end_told (Some x) b h = h
-
-at_end_after : (b : Bool) (old new : Held) (l0 lo ln : Option (List ℕ)) (xs got : List ℕ) → old.ended ≡ b → Consumes l0 lo xs → Consumes lo ln got → (old.ended ≡ true → IfSome l0 (λ _. IsAtEnd lo))
+pub at_end_after : (b : Bool) (old new : Held) (l0 lo ln : Option (List ℕ)) (xs got : List ℕ) → old.ended ≡ b → Consumes l0 lo xs → Consumes lo ln got → (old.ended ≡ true → IfSome l0 (λ _. IsAtEnd lo))
     → (old.ended ≡ true → got ≡ []) → EndsAt old new ln → new.ended ≡ true → IfSome l0 (λ _. IsAtEnd ln)
 at_end_after true old new l0 lo ln xs got b r s f g h e = end_kept l0 lo ln xs r (f b) (subst (Consumes lo ln) (g b) s)
-at_end_after false old new l0 lo ln xs got b r s f g h e = end_told l0 ln (h (b, e))
+at_end_after false old new l0 lo ln xs got b r s f g h e = over_now l0 ln (h (b, e))
 
 -- TURNS
 
@@ -128,7 +122,7 @@ heard_open p held s sent h e = record {
   same = refl;
 }
 
-counted : (a b c : ℕ) (f g : Bool) → b ≡ a → f ≡ g → Tells b c f → Tells a c g
+pub counted : (a b c : ℕ) (f g : Bool) → b ≡ a → f ≡ g → Tells b c f → Tells a c g
 counted a b c f g e h t = subst (λ (y : Bool). Tells a c y) h (subst (λ n. Tells n c f) e t)
 
 pub told_ok : {A E : Type 0} (a b : ℕ) (r : Result A E) (v : A) → r ≡ Ok v → HasCause a b r → Tells a b false

@@ -1,13 +1,14 @@
 -- The list of features, part by part.
 use Rattle.std.proofs.Common.{◌≡◌, ℕ, ◌+◌, ◌≤◌, List, [], ◌∷◌, ◌++◌, codes, length, map, Bool, true, false, not, cond, if◌then◌else◌, refl, sym, ap, ◌∙◌, arith, length-append, append_assoc, ◌||◌, nat_lt, suc}
-use Rattle.std.proofs.lemmas.Bool.{leb-false}
+use Rattle.std.proofs.lemmas.Bool.{leb-false, or_parts}
 use Rattle.std.proofs.lemmas.Grind.{flat_map-append}
-use Rattle.std.proofs.lemmas.List.Sums.{sum_by-cons}
 use Rattle.line_io.specs.Out.{Text, with}
+use Rattle.line_io.proofs.Puts.{put_again}
 use Rattle.cecp_lines.specs.Replies.{Feature}
 use Rattle.option_map.specs.Names.{is_hidden, holds}
-use Rattle.option_map.specs.Settings.{Setting, features, feature_text, feature_line, shown_length, text_size}
+use Rattle.option_map.specs.Settings.{Setting, features, feature_line}
 use Rattle.option_map.specs.Shown.{takes_memory, takes_cores, takes_tables}
+use Rattle.option_map.proofs.Short.{features_length}
 use Rattle.feature_talk.specs.Features.{shown_name, in_quotes, bit, fixed, by_options, option_feature, shown_options, feature_list, reply_line, reply_lines, IsShort, is_unfit, tables}
 
 shown_step : (w : Bool) (o : Setting) (rest : List Setting) (text : List ℕ) → text ≡ reply_lines (map option_feature rest) → (if w then [] else feature_line o ++ 10 ∷ []) ++ text ≡ reply_lines (map option_feature (cond (not w) (o ∷ rest) rest))
@@ -35,28 +36,25 @@ list_text os said =
     ∙ ap (λ (t : List ℕ). t ++ reply_lines shown) (flat_map-append reply_line (name ∷ fixed) (by_options os)))
     ∙ ap (λ (t : List ℕ). name_line said ++ reply_lines fixed ++ reply_lines (by_options os) ++ t ++ done_line) (sym (features_told os))
 
-put_on : (o : Text) (a b : List ℕ) → with (with o a) b ≡ with o (a ++ b)
-put_on o a b = ap (λ (t : List ℕ). record { text = t; room = o.room }) (append_assoc o.text a b)
-
 -- the name with its line feed, put in three pieces
 pub named : (o : Text) (name : List ℕ) → with (with (with o (codes "feature myname=\"")) name) (codes "\"\n") ≡ with o (reply_line (Feature (codes "myname") (in_quotes name)))
 named o name =
-    put_on (with o (codes "feature myname=\"")) name (codes "\"\n")
-    ∙ put_on o (codes "feature myname=\"") (name ++ codes "\"\n")
+    put_again (with o (codes "feature myname=\"")) name (codes "\"\n")
+    ∙ put_again o (codes "feature myname=\"") (name ++ codes "\"\n")
     ∙ ap (λ (t : List ℕ). with o (codes "feature myname=\"" ++ t)) (sym (append_assoc name (34 ∷ []) (10 ∷ [])))
 
 -- pieces that are put one after the other
 pub three : (o p q r : Text) (a b d : List ℕ) → p ≡ with o a → q ≡ with p b → r ≡ with q d → r ≡ with o (a ++ b ++ d)
 three o p q r a b d h i j =
-    let two : q ≡ with o (a ++ b) = i ∙ ap (λ (x : Text). with x b) h ∙ put_on o a b in
-    j ∙ ap (λ (x : Text). with x d) two ∙ put_on o (a ++ b) d
+    let two : q ≡ with o (a ++ b) = i ∙ ap (λ (x : Text). with x b) h ∙ put_again o a b in
+    j ∙ ap (λ (x : Text). with x d) two ∙ put_again o (a ++ b) d
 
 pub four : (o p q r s : Text) (a b d e : List ℕ) → p ≡ with o a → q ≡ with p b → r ≡ with q d → s ≡ with r e → s ≡ with o (a ++ b ++ d ++ e)
-four o p q r s a b d e h i j k = k ∙ ap (λ (x : Text). with x e) (three o p q r a b d h i j) ∙ put_on o (a ++ b ++ d) e
+four o p q r s a b d e h i j k = k ∙ ap (λ (x : Text). with x e) (three o p q r a b d h i j) ∙ put_again o (a ++ b ++ d) e
 
 pub five : (o p q r s t : Text) (a b d e f whole : List ℕ) → p ≡ with o a → q ≡ with p b → r ≡ with q d → s ≡ with r e → t ≡ with s f → whole ≡ a ++ b ++ d ++ e ++ f → t ≡ with o whole
 five o p q r s t a b d e f whole h i j k l w =
-    l ∙ ap (λ (x : Text). with x f) (four o p q r s a b d e h i j k) ∙ put_on o (a ++ b ++ d ++ e) f ∙ ap (λ (x : List ℕ). with o x) (sym w)
+    l ∙ ap (λ (x : Text). with x f) (four o p q r s a b d e h i j k) ∙ put_again o (a ++ b ++ d ++ e) f ∙ ap (λ (x : List ℕ). with o x) (sym w)
 
 -- the features by the options, put one after the other
 pub by_bits : (o p q r : Text) (os : List Setting) (m s t : Bool) → p ≡ with o (reply_line (Feature (codes "memory") (bit m))) → q ≡ with p (reply_line (Feature (codes "smp") (bit s))) → r ≡ with q (reply_lines (tables t)) → m ≡ takes_memory os → s ≡ takes_cores os → t ≡ takes_tables os → r ≡ with o (reply_lines (by_options os))
@@ -80,16 +78,12 @@ name_by : (w : Bool) (said : List ℕ) → (w ≡ false → length said ≤ 256)
 name_by true said h = omega arith
 name_by false said h = h refl
 
-either : (a b : Bool) → (a || b) ≡ false → (a ≡ false) × (b ≡ false)
-either true b h = absurd (cc)
-either false b h = (refl, h)
-
 pub short_name : (said : List ℕ) → length (shown_name said) ≤ 256
 short_name said =
-    name_by (is_unfit said) said (λ e. leb-false-le (either (nat_lt (length said) 1 || nat_lt 256 (length said)) (holds 34 said) e).0)
+    name_by (is_unfit said) said (λ e. leb-false-le (or_parts (nat_lt (length said) 1 || nat_lt 256 (length said)) (holds 34 said) e).0)
   where
     leb-false-le : (nat_lt (length said) 1 || nat_lt 256 (length said)) ≡ false → length said ≤ 256
-    leb-false-le h = let k = leb-false (suc 256) (length said) (either (nat_lt (length said) 1) (nat_lt 256 (length said)) h).1 in omega (arith, k)
+    leb-false-le h = let k = leb-false (suc 256) (length said) (or_parts (nat_lt (length said) 1) (nat_lt 256 (length said)) h).1 in omega (arith, k)
 
 name_length : (name : List ℕ) → length (reply_line (Feature (codes "myname") (in_quotes name))) ≡ 18 + length name
 name_length name = omega (arith, length-append (codes "feature myname=\"" ++ (name ++ 34 ∷ [])) (10 ∷ []), length-append (codes "feature myname=\"") (name ++ 34 ∷ []), length-append name (34 ∷ []))
@@ -103,15 +97,6 @@ options_length false true true = omega arith
 options_length false true false = omega arith
 options_length false false true = omega arith
 options_length false false false = omega arith
-
-feature_length : (w : Bool) (line : List ℕ) → length (if w then [] else line ++ 10 ∷ []) ≤ (if w then 0 else length line) + 1
-feature_length true line = omega arith
-feature_length false line = omega (arith, length-append line (10 ∷ []))
-
-features_length : (os : List Setting) → length (features os) ≤ text_size os + length os
-features_length [] = omega arith
-features_length (o ∷ os) =
-    omega (arith, length-append (feature_text o) (features os), feature_length (is_hidden o.name) (feature_line o), features_length os, sum_by-cons shown_length o os)
 
 pub short_list : IsShort
 short_list os said =

@@ -5,13 +5,10 @@ use Rattle.std.specs.Option.{option_to_list}
 use Rattle.std.specs.Prelude.{codes}
 use Rattle.std.proofs.lemmas.Bool.Decides.{Decides-and, Decides-eqb, nat_tests}
 use Rattle.chess_board.specs.declared.board.Side.{Side}
-use Rattle.chess_board.specs.declared.board.Kind.{Kind}
-use Rattle.chess_board.specs.declared.board.Kind.TheVariants.{Pawn, Knight, Bishop, Rook, Queen, King}
 use Rattle.chess_board.specs.declared.board.Rights.{Rights}
 use Rattle.chess_board.specs.Board.{Men}
 use Rattle.chess_board.specs.Position.{Position}
 use Rattle.chess_board.specs.Play.{start_position, IsPosition}
-use Rattle.chess_board.specs.Text.{letter_of, promotion_text}
 use Rattle.fen_text.specs.Written.{written}
 use Rattle.fen_text.proofs.Lengths.{length-written}
 use Rattle.line_io.specs.Out.{Text, with}
@@ -19,6 +16,7 @@ use Rattle.std.specs.List.{AllByRecursion}
 use Rattle.chess_board.specs.declared.board.Move.{Move}
 use Rattle.chess_board.specs.Text.{text_of, IsOfficer}
 use Rattle.chess_board.proofs.Texts.{legal-written}
+use Rattle.chess_board.proofs.TextLengths.{promotion_length}
 use Rattle.game_record.specs.Game.{Ply, Game, ply_of, plies_of, played, AreLegal}
 use Rattle.game_record.specs.Ending.{is_same}
 use Rattle.game_record.specs.Line.{ply_text, spaced, told, moves_text, is_standard, start_text, position_text, StandardLaw, IsShort}
@@ -49,22 +47,10 @@ pub standard-law : StandardLaw
 unfolding is_standard
 standard-law p = equal_by p start_position
 
-length-letter : (kind : Kind) → length (letter_of kind) ≤ 1
-length-letter Pawn = omega arith
-length-letter Knight = omega arith
-length-letter Bishop = omega arith
-length-letter Rook = omega arith
-length-letter Queen = omega arith
-length-letter King = omega arith
-
-length-promotion : (promo : Option Kind) → length (promotion_text promo) ≤ 1
-length-promotion None = omega arith
-length-promotion (Some kind) = length-letter kind
-
 length-spaced : (moves : List Ply) → length (spaced moves) ≤ 6 * length moves
 length-spaced [] = omega arith
 length-spaced (m ∷ moves) =
-    let text : length (ply_text m) ≤ 5 = let promo = length-promotion m.promo in omega arith in
+    let text : length (ply_text m) ≤ 5 = let promo = promotion_length m.promo in omega arith in
     let rest = length-spaced moves in
     let both = length-append (ply_text m) (spaced moves) in
     omega arith
@@ -93,12 +79,6 @@ short-law g hint q =
 -- a buffer after one piece, and after another
 pub after_put : (old new : Text) (piece : List ℕ) → new ≡ with old piece → (length new.text ≡ length old.text + length piece) × (new.room ≡ old.room)
 after_put old new piece e = (ap (λ (t : Text). length t.text) e ∙ length-append old.text piece, ap (λ (t : Text). t.room) e)
-
-abbrev text_with : List ℕ → ℕ → Text
-text_with text room = record { text = text; room = room }
-
-pub put_again : (old : Text) (a b : List ℕ) → with (with old a) b ≡ with old (a ++ b)
-put_again old a b = let same : text_with ((old.text ++ a) ++ b) old.room ≡ text_with (old.text ++ (a ++ b)) old.room = ap (λ (t : List ℕ). text_with t old.room) (append_assoc old.text a b) in same
 
 pub spaced-append : (a b : List Ply) → spaced (a ++ b) ≡ spaced a ++ spaced b
 spaced-append [] b = refl
@@ -154,11 +134,6 @@ line_fits g hint before room fits =
     let tail = length-append (start_text g.start) (moves_text (told g.moves hint)) in
     let all = length-append (codes "position ") (start_text g.start ++ moves_text (told g.moves hint)) in
     omega arith
-
--- a buffer after three pieces
-pub put_three : (o p q r : Text) (a b c : List ℕ) → p ≡ with o a → q ≡ with p b → r ≡ with q c → r ≡ with o (a ++ (b ++ c))
-put_three o p q r a b c e f h =
-    h ∙ ap (λ (t : Text). with t c) (f ∙ ap (λ (t : Text). with t b) e ∙ put_again o a b) ∙ put_again o (a ++ b) c ∙ ap (with o) (append_assoc a b c)
 
 at_most_one : (hint : Option Ply) → length (option_to_list hint) ≤ 1
 at_most_one None = omega arith

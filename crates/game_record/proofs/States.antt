@@ -1,8 +1,9 @@
 -- How a position stands, and how a game has ended, by tests and by the Laws.
-use Rattle.std.proofs.Common.{◌≡◌, ℕ, ◌+◌, ◌<◌, ◌≤◌, List, [], ◌∷◌, ◌++◌, Bool, true, false, ◌&&◌, cond, leb, eqb, Some, None, refl, sym, ap, ◌∙◌, arith}
+use Rattle.std.proofs.Common.{◌≡◌, ℕ, ◌+◌, List, [], ◌∷◌, ◌++◌, Bool, true, false, ◌&&◌, cond, leb, eqb, Some, None, refl, sym, ap, ◌∙◌}
 use Rattle.std.specs.Prelude.{count_by}
 use Rattle.std.specs.Bool.{Decides}
-use Rattle.std.proofs.lemmas.Bool.Decides.{Decides-and, Decides-or, Decides-eqb, nat_tests}
+use Rattle.std.proofs.lemmas.Bool.Decides.{Decides-and, Decides-or, Decides-eqb}
+use Rattle.std.proofs.lemmas.Bool.{leb-true, leb-false}
 use Rattle.chess_board.specs.declared.board.State.{State}
 use Rattle.chess_board.specs.declared.board.State.TheVariants as states
 use Rattle.chess_board.specs.Attack.{is_checked}
@@ -18,7 +19,7 @@ use Rattle.game_record.specs.Ending.{has_legal, is_dead, state_by, state_of, end
 use Rattle.game_record.proofs.Replays.{later-append, now_after-append}
 use Rattle.game_record.proofs.Times.{stood_once}
 
-has_legal-law : (p : Position) → Decides (has_legal p) (HasLegal p)
+pub has_legal-law : (p : Position) → Decides (has_legal p) (HasLegal p)
 unfolding has_legal
 has_legal-law p = way-law p
 
@@ -43,19 +44,13 @@ one_state p states.Mate states.Mate h k = refl
 one_state p a states.Mate h k = search (h.0, h.1, k.0, k.1)
 one_state p a b h k = search (h.0, h.1, k.0, k.1)
 
-at_least : (a b : ℕ) → leb a b ≡ true → a ≤ b
-at_least a b e = grind (arith, nat_tests)
-
-below : (a b : ℕ) → leb a b ≡ false → b < a
-below a b e = grind (arith, nat_tests)
-
 open_ends : (g : Game) → StateFits (now_of g) states.Open → Ends g (ended_by states.Open (repeats_of g) (now_of g).half)
 open_ends g f =
     elim (leb 3 (repeats_of g)) as (λ v. leb 3 (repeats_of g) ≡ v → Ends g (cond v (Some ends.Repetition) (cond (leb 100 (now_of g).half) (Some ends.Fifty) None))) [
-      | true ↦ λ e. (f, at_least 3 (repeats_of g) e)
+      | true ↦ λ e. (f, leb-true 3 (repeats_of g) e)
       | false ↦ λ e. elim (leb 100 (now_of g).half) as (λ v. leb 100 (now_of g).half ≡ v → Ends g (cond v (Some ends.Fifty) None)) [
-        | true ↦ λ k. (f, below 3 (repeats_of g) e, at_least 100 (now_of g).half k)
-        | false ↦ λ k. (f, below 3 (repeats_of g) e, below 100 (now_of g).half k)
+        | true ↦ λ k. (f, leb-false 3 (repeats_of g) e, leb-true 100 (now_of g).half k)
+        | false ↦ λ k. (f, leb-false 3 (repeats_of g) e, leb-false 100 (now_of g).half k)
       ] refl
     ] refl
 

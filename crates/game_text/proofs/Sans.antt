@@ -8,9 +8,9 @@ use Rattle.chess_board.specs.Position.{Position}
 use Rattle.chess_board.specs.Play.{HasLegal}
 use Rattle.chess_board.proofs.Legal.{checked-law}
 use Rattle.chess_board.proofs.Places.{move_same}
-use Rattle.chess_board.proofs.Ways.{way-law}
 use Rattle.game_record.specs.Game.{ply_of}
 use Rattle.game_record.specs.Ending.{has_legal}
+use Rattle.game_record.proofs.States.{has_legal-law}
 use Rattle.san_text.specs.Writing.{body, after, IsMark}
 use Rattle.game_text.specs.San.{move_of, sign, san, SanLaw}
 
@@ -20,10 +20,6 @@ small s h = omega arith
 pub move_again : (m : Move) → move_of (ply_of m) ≡ m
 move_again m =
     move_same (move_of (ply_of m)) m (small m.from.index m.from.on_board) (small m.to.index m.to.on_board) refl
-
-legal-law : (p : Position) → Decides (has_legal p) (HasLegal p)
-unfolding has_legal
-legal-law p = way-law p
 
 sign_by : (p : Position) (mark : List ℕ) (checked moves : Bool)
     → Decides checked (IsChecked p.men p.side) → Decides moves (HasLegal p) → IsMark p mark
@@ -46,10 +42,10 @@ mark_by p false moves c m = inr (inr (refl, λ h. let e = c.1 h in cc))
 
 sign_is : (p : Position) (mark : List ℕ) → IsMark p mark → mark ≡ sign p
 sign_is p mark h =
-    sign_by p mark (is_checked p.men p.side) (has_legal p) (checked-law p.men p.side) (legal-law p) h
+    sign_by p mark (is_checked p.men p.side) (has_legal p) (checked-law p.men p.side) (has_legal-law p) h
 
 is_sign : (p : Position) → IsMark p (sign p)
-is_sign p = mark_by p (is_checked p.men p.side) (has_legal p) (checked-law p.men p.side) (legal-law p)
+is_sign p = mark_by p (is_checked p.men p.side) (has_legal p) (checked-law p.men p.side) (has_legal-law p)
 
 pub san-law : SanLaw
 unfolding san

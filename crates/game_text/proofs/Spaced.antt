@@ -3,7 +3,7 @@ use Rattle.std.proofs.Common.{◌≡◌, ℕ, ◌≤◌, List, [], ◌∷◌, �
 use Rattle.std.specs.Bool.{Decides}
 use Rattle.std.proofs.lemmas.Fmt.{length-decimal-le}
 use Rattle.line_io.specs.Out.{Text, with}
-use Rattle.game_record.proofs.Lines.{put_three}
+use Rattle.line_io.proofs.Puts.{put_three}
 use Rattle.std.specs.List.{join_with_byte}
 use Rattle.chess_board.specs.Position.{Position}
 use Rattle.game_record.specs.Game.{Ply, played}

@@ -1,6 +1,7 @@
 -- What a host's books tell of the parts that it closed.
 use Rattle.std.proofs.Common.{◌≡◌, ◌∙◌, ◌⊎◌, ℕ, ◌+◌, ◌≤◌, Bool, true, false, refl, sym, ap, arith, inl, inr, ◌||◌, List, [], ◌∷◌, ◌++◌, length, Option, Some, None}
 use Rattle.std.specs.Prelude.{is_some}
+use Rattle.std.proofs.lemmas.Bool.{or_cases, or_parts}
 use Rattle.line_io.specs.Source.{Supplied, Received}
 use Rattle.child_engine.specs.Hosts.{Told, Books, with_run, with_closed_run, told_by}
 use Rattle.child_engine.specs.declared.host.HostFault.{HostFault}
@@ -44,23 +45,11 @@ fault_none None e f = refl
 fault_none (Some faults.Failed) e f = cc
 fault_none (Some faults.NoMemory) e f = cc
 
-left_false : (a b : Bool) → (a || b) ≡ false → a ≡ false
-left_false true b e = e
-left_false false b e = refl
-
-right_false : (a b : Bool) → (a || b) ≡ false → b ≡ false
-right_false true b e = cc
-right_false false b e = e
-
 pub left_of : (x a a' b : Bool) → x ≡ (a || b) → a ≡ a' → x ≡ false → a' ≡ false
-left_of x a a' b e f z = sym f ∙ left_false a b (sym e ∙ z)
+left_of x a a' b e f z = sym f ∙ (or_parts a b (sym e ∙ z)).0
 
 pub right_of : (x a b : Bool) → x ≡ (a || b) → x ≡ false → b ≡ false
-right_of x a b e z = right_false a b (sym e ∙ z)
-
-either_true : (a b : Bool) → (a || b) ≡ true → (a ≡ true) ⊎ (b ≡ true)
-either_true true b e = inl refl
-either_true false b e = inr e
+right_of x a b e z = (or_parts a b (sym e ∙ z)).1
 
 which_reader : {P : Type 0} (a a' b b' : Bool) → a ≡ a' → b ≡ b' → (a ≡ true) ⊎ (b ≡ true) → (a' ≡ true) ⊎ ((b' ≡ true) ⊎ P)
 which_reader a a' b b' e f (inl z) = inl (sym e ∙ z)
@@ -68,12 +57,12 @@ which_reader a a' b b' e f (inr z) = inr (inl (sym f ∙ z))
 
 which : {P : Type 0} (o o' r a a' b b' : Bool) → o ≡ o' → a ≡ a' → b ≡ b' → r ≡ (a || b) → (o' ≡ true → P) → (o ≡ true) ⊎ (r ≡ true) → (a' ≡ true) ⊎ ((b' ≡ true) ⊎ P)
 which o o' r a a' b b' u e f z p (inl x) = inr (inr (p (sym u ∙ x)))
-which o o' r a a' b b' u e f z p (inr x) = which_reader a a' b b' e f (either_true a b (sym z ∙ x))
+which o o' r a a' b b' u e f z p (inr x) = which_reader a a' b b' e f (or_cases a b (sym z ∙ x))
 
 -- a log that was not opened for want of memory, or a reader that had none
 pub lacked : {P : Type 0} (m o o' r a a' b b' : Bool) → m ≡ (o || r) → o ≡ o' → r ≡ (a || b) → a ≡ a' → b ≡ b' → (o' ≡ true → P) → m ≡ true
     → (a' ≡ true) ⊎ ((b' ≡ true) ⊎ P)
-lacked m o o' r a a' b b' y u z e f p x = which o o' r a a' b b' u e f z p (either_true o r (sym y ∙ x))
+lacked m o o' r a a' b b' y u z e f p x = which o o' r a a' b b' u e f z p (or_cases o r (sym y ∙ x))
 
 pub log_opened : {L : Type 0} (l : Option L) (o : Option HostFault) → (o ≡ None → log_count l ≡ 1) → is_failed o ≡ false → is_no_memory o ≡ false → log_count l ≡ 1
 log_opened l o some e f = some (fault_none o e f)

@@ -30,7 +30,7 @@ cause_told : {T E : Type 0} (a b : ℕ) (failed : Bool) (r : Result T E) → fai
 cause_told a b failed (Ok x) e h = record { later = h.later; rose = λ f. let z : false ≡ true = sym e ∙ f in cc; same = λ _. h.same }
 cause_told a b failed (Err x) e h = record { later = h.later; rose = λ _. h.failed; same = λ f. let z : false ≡ true = sym f ∙ e in cc }
 
-same_told : (a b : ℕ) → b ≡ a → Tells a b false
+pub same_told : (a b : ℕ) → b ≡ a → Tells a b false
 same_told a b e = record { later = omega (arith, e); rose = λ f. cc; same = λ _. e }
 
 -- the log was opened before the run was closed, and closed after it

@@ -1,16 +1,14 @@
 -- The `position` line of a game leads to where it stands.
-use Rattle.std.proofs.Common.{◌≡◌, ◌⊎◌, inl, inr, ℕ, ◌+◌, ◌^◌, ◌<◌, not, ltb, length, List, [], ◌∷◌, ◌++◌, map, drop, Bool, true, false, cond, Some, None, Ok, codes, decimal, refl, sym, ap, subst, ◌∙◌, arith, lit<, append_assoc, append-nil}
+use Rattle.std.proofs.Common.{◌≡◌, ◌⊎◌, inl, inr, ℕ, ◌+◌, ◌^◌, ◌<◌, not, ltb, length, List, [], ◌∷◌, ◌++◌, map, drop, Bool, true, false, cond, Some, None, Ok, codes, decimal, refl, sym, ap, subst, ◌∙◌, arith, append_assoc, append-nil}
 use Rattle.std.specs.List.{join_with_byte, list_all, AllByRecursion}
 use Rattle.std.proofs.lemmas.Bool.Decides.{nat_tests}
+use Rattle.std.proofs.lemmas.Bool.{and_parts}
 use Rattle.peer_words.specs.Tokens.{is_white, is_token, tokens}
-use Rattle.peer_words.proofs.Trims.{and_true}
 use Rattle.peer_words.proofs.TokenLists.{tokens_more, tokens_joined}
-use Rattle.chess_board.specs.declared.board.Kind.TheVariants.{Pawn, Knight, Bishop, Rook, Queen, King}
 use Rattle.chess_board.specs.declared.board.Move.{Move}
-use Rattle.chess_board.specs.Board.{file_of, rank_of}
 use Rattle.chess_board.specs.Position.{Position}
 use Rattle.chess_board.specs.Play.{IsPosition, start_position}
-use Rattle.chess_board.specs.Text.{text_of, promotion_text}
+use Rattle.chess_board.specs.Text.{text_of}
 use Rattle.chess_board.proofs.Texts.{legal-written, reads-back}
 use Rattle.fen_text.specs.Fen.{position_of, position_of_fields}
 use Rattle.fen_text.specs.Written.{written, fields_text, board_text, side_text, rights_text, passant_text}
@@ -19,6 +17,7 @@ use Rattle.fen_text.proofs.Boards.{word-board}
 use Rattle.fen_text.proofs.Others.{word-side, word-rights, word-passant, word-count}
 use Rattle.fen_text.proofs.Back.{reads_back}
 use Rattle.uci_lines.specs.Orders.{position_text}
+use Rattle.uci_lines.proofs.MoveTokens.{move_token}
 use Rattle.game_record.specs.Game.{Game, ply_of, plies_of, AreLegal, played, now_after, now_of}
 use Rattle.game_record.specs.Line.{ply_text, is_standard}
 use Rattle.game_record.proofs.Lines.{standard-law}
@@ -43,9 +42,9 @@ words_tokens (w ∷ ws) a = rw (word_token w a.0, words_tokens ws a.1) refl
 
 -- tokens with one blank between, and more behind a blank
 joined_more : (t : List ℕ) (ts : List (List ℕ)) (more : List ℕ) → list_all is_token (t ∷ ts) ≡ true → tokens (join_with_byte 32 (t ∷ ts) ++ (32 ∷ more)) ≡ (t ∷ ts) ++ tokens more
-joined_more t [] more h = tokens_more t more 32 (and_true (is_token t) true h).0 refl
+joined_more t [] more h = tokens_more t more 32 (and_parts (is_token t) true h).0 refl
 joined_more t (u ∷ ts) more h =
-    let both = and_true (is_token t) (list_all is_token (u ∷ ts)) h in
+    let both = and_parts (is_token t) (list_all is_token (u ∷ ts)) h in
     ap tokens (append_assoc t (32 ∷ join_with_byte 32 (u ∷ ts)) (32 ∷ more))
     ∙ tokens_more t (join_with_byte 32 (u ∷ ts) ++ (32 ∷ more)) 32 both.0 refl
     ∙ ap (λ us. t ∷ us) (joined_more u ts more both.1)
@@ -72,28 +71,9 @@ leads : (p : Position) (ms : List Move) → AreLegal p (plies_of ms) → Leads p
 leads p [] l = Leads.Stays
 leads p (m ∷ ms) l = Leads.Goes m (reads-back m (legal-written p m l.0)) l.0 (leads (played p (ply_of m)) ms l.1)
 
-letter_token : (o : _) → list_all (λ b. not (is_white b)) (promotion_text o) ≡ true
-letter_token None = refl
-letter_token (Some Pawn) = refl
-letter_token (Some King) = refl
-letter_token (Some Queen) = refl
-letter_token (Some Rook) = refl
-letter_token (Some Bishop) = refl
-letter_token (Some Knight) = refl
-
-above_black : (n k : ℕ) → 32 < n → not (is_white (n + k)) ≡ true
-above_black n k h = grind (arith, nat_tests)
-
-token_of : (text : List ℕ) → 0 < length text → list_all (λ b. not (is_white b)) text ≡ true → is_token text ≡ true
-token_of text s h = let t : ltb 0 (length text) ≡ true = grind (arith, nat_tests) in rw (t, h) refl
-
-text_token : (m : Move) → is_token (text_of m) ≡ true
-text_token m = token_of (text_of m) (omega arith)
-    (rw (above_black 97 (file_of m.from.index) (lit< tt), above_black 49 (rank_of m.from.index) (lit< tt), above_black 97 (file_of m.to.index) (lit< tt), above_black 49 (rank_of m.to.index) (lit< tt), letter_token m.promo) refl)
-
 texts_tokens : (ms : List Move) → list_all is_token (texts_of ms) ≡ true
 texts_tokens [] = refl
-texts_tokens (m ∷ ms) = rw (text_token m, texts_tokens ms) refl
+texts_tokens (m ∷ ms) = rw (move_token m, texts_tokens ms) refl
 
 -- what stands behind `position`
 abbrev behind : List (List ℕ) → List (List ℕ) → List (List ℕ)

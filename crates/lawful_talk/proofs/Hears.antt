@@ -22,7 +22,7 @@ use Rattle.uci_lines.specs.Messages.{EngineMsg}
 use Rattle.uci_lines.specs.Messages as says
 use Rattle.uci_lines.specs.Written.{written_by}
 use Rattle.uci_lines.proofs.Counts.{text_same}
-use Rattle.uci_talk.proofs.Legal.{is_legal}
+use Rattle.chess_board.proofs.LegalMoves.{is_legal}
 use Rattle.search_epochs.specs.Tickets as talks
 use Rattle.search_epochs.specs.Tickets.{Engine, heard, same_kind, same_move}
 use Rattle.adapter_core.specs.Ends.{is_open}

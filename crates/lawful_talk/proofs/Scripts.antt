@@ -1,5 +1,6 @@
 -- In the log of each lawful trace no mark breaks a rule.
-use Rattle.std.proofs.Common.{◌≡◌, List, [], ◌∷◌, map, Bool, true, false, None, refl, sym, ap, subst, ◌∙◌}
+use Rattle.std.proofs.Common.{◌≡◌, List, [], ◌∷◌, map, Bool, true, false, refl, sym, ap, subst, ◌∙◌}
+use Rattle.std.proofs.lemmas.Bool.{both_ways}
 use Rattle.line_io.specs.Event.{Event}
 use Rattle.line_io.specs.Event as events
 use Rattle.script_lines.specs.Marks.{Mark}
@@ -14,9 +15,8 @@ use Rattle.adapter_core.specs.Ends.{is_open, ends_after}
 use Rattle.adapter_core.specs.Trace.{State, Step, Lawful, state, state_after, mid, closed_after}
 use Rattle.adapter_core.proofs.Closing.{opened_later, closed_stays}
 use Rattle.adapter_core.proofs.Traces.{lasts}
-use Rattle.dialogue_laws.specs.Wire.{said_by}
 use Rattle.dialogue_laws.proofs.Heard as hearing
-use Rattle.dialogue_laws.proofs.Places.{opening_may}
+use Rattle.dialogue_laws.proofs.Places.{opening_may, opening_says}
 use Rattle.session_judge.specs.declared.talk.Engine.TheVariants as wires
 use Rattle.session_judge.specs.declared.talk.Stage.TheVariants as stages
 use Rattle.session_judge.specs.declared.talk.Talk.{Talk}
@@ -33,15 +33,7 @@ record Matches (s : State) (t : Talk) : Type 0 where
   begins : s.ends.opened ≡ false → (t.engine ≡ wires.Boot) × (t.stage ≡ stages.Start)
   goes_on : s.ends.opened ≡ true → s.ends.closed ≡ false → (p : Place) × Agrees t s.dialogue.engine p × SearchesAt s p
 
-differ : (b : Bool) → b ≡ true → b ≡ false → ⊥
-differ true p q = cc
-differ false p q = cc
-
 -- THE OPENING
-
-opening_says : (closed : Bool) (e : Event) → is_open e ≡ true → said_by closed e ≡ None
-opening_says closed events.Open x = refl
-opening_says closed e x = cc
 
 still_opened : (ends : Ends) (e : Event) → is_open e ≡ false → (ends_after ends e).opened ≡ ends.opened
 still_opened ends events.Open x = cc
@@ -67,7 +59,7 @@ module _ (o : Settings) (step : Step) (trace : List Step) (l : Lawful o (step �
 
   -- once the session is closed nothing more need be known
   once_closed : (u : Talk) → closed_after s ev ≡ true → Matches next u
-  once_closed u c = record { begins = λ n. absurd (differ next.ends.opened opened n); goes_on = λ y n. absurd (differ (closed_after s ev) c n) }
+  once_closed u c = record { begins = λ n. absurd (both_ways next.ends.opened n opened); goes_on = λ y n. absurd (both_ways (closed_after s ev) n c) }
 
   boots : is_open ev ≡ true → next.dialogue.engine ≡ talks.Boot
   boots n =
@@ -79,7 +71,7 @@ module _ (o : Settings) (step : Step) (trace : List Step) (l : Lawful o (step �
   at_opening t n a =
       let b = a.begins (opening_may s ev n l.1.may_come) in
       more_runs t (step_marks step) _ (Matches next) (opening_parts o step trace l t n b.0 b.1) (λ u w. record {
-        begins = λ x. absurd (differ next.ends.opened opened x);
+        begins = λ x. absurd (both_ways next.ends.opened x opened);
         goes_on = λ x c. (
           u.placed,
           record { engine = w.0 ∙ ap shown (sym (boots n)); stage = w.1; placed = refl },
@@ -92,7 +84,7 @@ module _ (o : Settings) (step : Step) (trace : List Step) (l : Lawful o (step �
   by_close t p n b a f false c =
       more_runs t (step_marks step) _ (Matches next)
       (open_parts o step trace l t p _ n c f a (λ u w. settles o step trace l (game_is o trace l.0) u p n c f w))
-      (λ u w. record { begins = λ x. absurd (differ next.ends.opened opened x); goes_on = λ x y. w })
+      (λ u w. record { begins = λ x. absurd (both_ways next.ends.opened x opened); goes_on = λ x y. w })
 
   by_stage : (t : Talk) → is_open ev ≡ false → Matches s t → (b : Bool) → s.ends.closed ≡ b → Runs t (step_marks step) (Matches next)
   by_stage t n a true b = more_runs t (step_marks step) _ (Matches next) (closed_parts o step trace l t n b) (λ u w. once_closed u (closed_stays s.ends ev b))

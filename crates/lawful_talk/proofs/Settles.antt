@@ -4,6 +4,7 @@ use Rattle.std.specs.Prelude.{IfSome}
 use Rattle.std.specs.List.{join_with_byte}
 use Rattle.std.specs.Option.{option_eq}
 use Rattle.std.proofs.lemmas.Bool.Decides.{nat_tests}
+use Rattle.std.proofs.lemmas.Bool.{and_parts}
 use Rattle.line_io.specs.Event.{Event}
 use Rattle.chess_board.specs.declared.board.Kind.{Kind}
 use Rattle.chess_board.specs.declared.board.Kind.TheVariants.{Pawn, Knight, Bishop, Rook, Queen, King}
@@ -13,7 +14,6 @@ use Rattle.chess_board.specs.declared.board.Move.{Move}
 use Rattle.chess_board.specs.Position.{Position as Place}
 use Rattle.peer_words.specs.declared.kinds.GoKind.{GoKind}
 use Rattle.peer_words.specs.declared.kinds.GoKind.TheVariants as kinds
-use Rattle.peer_words.proofs.Trims.{and_true}
 use Rattle.cecp_lines.specs.Messages.{IfaceMsg}
 use Rattle.cecp_lines.specs.Messages as says
 use Rattle.uci_lines.specs.declared.orders.GoControl.TheVariants.{Infinite}
@@ -43,6 +43,7 @@ use Rattle.desk_rules.proofs.Sound.{step_sound}
 use Rattle.adapter_core.specs.Ends.{is_open}
 use Rattle.adapter_core.specs.Trace.{State, Step, Lawful, AreSettled, state, state_after, situation, effect, turn, mid, owing, closed_after, desk_of}
 use Rattle.adapter_core.proofs.Traces.{lasts, fits}
+use Rattle.adapter_core.proofs.Square.{for_owed}
 use Rattle.session_judge.specs.declared.deed.Order.TheVariants as hears
 use Rattle.session_judge.specs.declared.talk.Talk.{Talk}
 use Rattle.session_judge.specs.Deeds.{end_of}
@@ -126,7 +127,7 @@ ponders_so epoch talks.Gone x = cc
 ponders_so epoch (talks.Search kinds.Move t s) x = cc
 ponders_so epoch (talks.Search kinds.Analyse t s) x = cc
 ponders_so epoch (talks.Search kinds.Ponder t s) x =
-    let both = and_true (t == epoch) (not s) x in
+    let both = and_parts (t == epoch) (not s) x in
     let same : t ≡ epoch = let e = both.0 in grind (arith, nat_tests) in
     ap (λ (y : ℕ). talks.Search kinds.Ponder y s) same ∙ ap (talks.Search kinds.Ponder epoch) (not_true s both.1)
   where
@@ -136,8 +137,8 @@ ponders_so epoch (talks.Search kinds.Ponder t s) x =
 
 hits_so : (t : Ticketed) (u : Turn) → is_hit t u ≡ true → Hits t u
 hits_so t u x =
-    let first = and_true (ponders_at t.epoch t.engine && is_hint u.hint u.what) _ x in
-    let both = and_true (ponders_at t.epoch t.engine) (is_hint u.hint u.what) first.0 in
+    let first = and_parts (ponders_at t.epoch t.engine && is_hint u.hint u.what) _ x in
+    let both = and_parts (ponders_at t.epoch t.engine) (is_hint u.hint u.what) first.0 in
     record { engine = ponders_so t.epoch t.engine both.0; hint = both.1 }
 
 same_kind_is : (a b : Kind) → same_kind a b ≡ true → a ≡ b
@@ -160,8 +161,8 @@ ply_with from to promo = record { from = from; to = to; promo = promo }
 
 same_ply : (a b : Move) → same_move a b ≡ true → ply_of a ≡ ply_of b
 same_ply a b x =
-    let first = and_true (a.from.index == b.from.index) ((a.to.index == b.to.index) && option_eq same_kind a.promo b.promo) x in
-    let second = and_true (a.to.index == b.to.index) (option_eq same_kind a.promo b.promo) first.1 in
+    let first = and_parts (a.from.index == b.from.index) ((a.to.index == b.to.index) && option_eq same_kind a.promo b.promo) x in
+    let second = and_parts (a.to.index == b.to.index) (option_eq same_kind a.promo b.promo) first.1 in
     let from : a.from.index ≡ b.from.index = let e = first.0 in grind (arith, nat_tests) in
     let to : a.to.index ≡ b.to.index = let e = second.0 in grind (arith, nat_tests) in
     let promo = same_promo_is a.promo b.promo second.1 in
@@ -241,10 +242,6 @@ is_searched d (calls.Ponder g) i s f =
     let e = f g refl in
     record { game = played_is d.game g i (hint_playable d d.hint g refl e s.hint); same = ap (λ (o : Option Move). now_of (searched_by kinds.Ponder d.game o)) (sym e) }
 
-not_owed : (b : Bool) (c : Call) (g : Move) → cond b calls.Nothing c ≡ calls.Ponder g → c ≡ calls.Ponder g
-not_owed true c g e = cc
-not_owed false c g e = e
-
 module _ (o : Settings) (step : Step) (trace : List Step) (l : Lawful o (step ∷ trace)) (i : IsGame (state o trace).desk.game) where
   abbrev s : State
   s = state o trace
@@ -276,7 +273,7 @@ module _ (o : Settings) (step : Step) (trace : List Step) (l : Lawful o (step �
   searched_here : IsSearched (desk_of s ev) (owing s ev)
   searched_here =
       is_searched (desk_of s ev) (owing s ev) game_after sound_after
-      (λ g e. call_hint (closed_after s ev) (is_gone h.engine || is_death d) (desk_after_effect h d) g (not_owed (spent m) (turn s ev).call g e))
+      (λ g e. call_hint (closed_after s ev) (is_gone h.engine || is_death d) (desk_after_effect h d) g (for_owed (spent m) (turn s ev).call g e))
 
   -- the talk after the orders
   abbrev Follows : Talk → Type 0

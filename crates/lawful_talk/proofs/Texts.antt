@@ -4,10 +4,11 @@ use Rattle.std.specs.List.{list_all}
 use Rattle.std.specs.Char.{is_ascii_digit}
 use Rattle.std.specs.Fmt.{signed_decimal}
 use Rattle.std.proofs.lemmas.Bool.Decides.{nat_tests}
+use Rattle.std.proofs.lemmas.Bool.{and_parts}
 use Rattle.peer_words.specs.declared.kinds.GoKind.TheVariants as kinds
 use Rattle.peer_words.specs.Tokens.{is_white, is_token, tokens}
-use Rattle.peer_words.proofs.Trims.{and_true}
 use Rattle.peer_words.proofs.TokenLists.{tokens_more, tokens_alone, tokens_white}
+use Rattle.peer_words.proofs.Written.{not_white}
 use Rattle.cecp_lines.specs.Replies.{Reply, reply_text, hint_text}
 use Rattle.cecp_lines.specs.Replies as told
 use Rattle.cecp_lines.specs.declared.reply.UserError.TheVariants as tells
@@ -63,12 +64,9 @@ order_deed o = refl
 
 -- NUMBERS
 
-digit_black : (c : ℕ) → is_ascii_digit c ≡ true → not (is_white c) ≡ true
-digit_black c h = grind (arith, nat_tests)
-
 digits_black : (ds : List ℕ) → list_all is_ascii_digit ds ≡ true → list_all (λ b. not (is_white b)) ds ≡ true
 digits_black [] h = refl
-digits_black (c ∷ cs) h = let both = and_true (is_ascii_digit c) (list_all is_ascii_digit cs) h in rw (digit_black c both.0, digits_black cs both.1) refl
+digits_black (c ∷ cs) h = let both = and_parts (is_ascii_digit c) (list_all is_ascii_digit cs) h in rw (not_white c both.0, digits_black cs both.1) refl
 
 number_token : (ds : List ℕ) → AreDigits ds → is_token ds ≡ true
 number_token ds a = let t : ltb 0 (length ds) ≡ true = let s = a.some in grind (arith, nat_tests) in rw (t, digits_black ds a.all) refl
@@ -187,7 +185,7 @@ digit_other c h = grind (arith, nat_tests)
 
 digits_other : (ds more : List ℕ) → AreDigits ds → shown_by (after (codes "move ") (ds ++ more)) ≡ deeds.Nothing
 digits_other [] more a = absurd (let s = a.some in omega arith)
-digits_other (c ∷ cs) more a = rw (digit_other c (and_true (is_ascii_digit c) (list_all is_ascii_digit cs) a.all).0) refl
+digits_other (c ∷ cs) more a = rw (digit_other c (and_parts (is_ascii_digit c) (list_all is_ascii_digit cs) a.all).0) refl
 
 thinking_quiet : (depth : ℕ) (text others : List ℕ) → text ≡ decimal depth ++ (32 ∷ others) → told_move text ≡ deeds.Nothing
 thinking_quiet depth text others e = ap told_move e ∙ digits_other (decimal depth) (32 ∷ others) (numeral depth)

@@ -1,7 +1,7 @@
 -- What the reader of a life has sent.
-use Rattle.std.proofs.Common.{◌≡◌, inr, ℕ, suc, List, [], ◌∷◌, ◌++◌, length, Bool, true, false, ◌||◌, Option, Some, None, IfSome, Result, Ok, Err, IsTrue, refl, sym, ap, subst, ◌∙◌, arith, append-nil, append_assoc}
+use Rattle.std.proofs.Common.{◌≡◌, inr, ℕ, suc, List, [], ◌∷◌, ◌++◌, length, true, false, ◌||◌, IfSome, Result, Ok, Err, IsTrue, refl, sym, ap, subst, ◌∙◌, arith, append-nil, append_assoc}
 use Rattle.std.proofs.lemmas.Grind.{flat_map-append}
-use Rattle.std.specs.Io.KnownBytes.{Consumes, IsAtEnd}
+use Rattle.std.specs.Io.KnownBytes.{IsAtEnd}
 use Rattle.std.proofs.KnownBytes.{Appends-nil, Appends-trans, Consumes-nil, Consumes-trans}
 use Rattle.line_io.specs.Event.{Event, Engine, EngineLong}
 use Rattle.line_io.specs.Source.{Supplied}
@@ -20,27 +20,10 @@ use Rattle.event_pipe.specs.declared.reader.ReadEnd.TheVariants as read_ends
 use Rattle.event_pipe.specs.Counts.{Tells}
 use Rattle.event_pipe.specs.Message.{sent_event, is_end}
 use Rattle.event_pipe.specs.Rule.{ended}
-use Rattle.event_pipe.proofs.Reading.{any_append}
+use Rattle.event_pipe.proofs.Reading.{any_append, at_end_after, counted}
 use Rattle.life_runner.specs.declared.reading.Turn.{Turn}
 use Rattle.life_runner.specs.declared.reading.Turn.TheVariants as turns
 use Rattle.life_runner.specs.Reading.{line_event, line_events, ReadLines, ReadLife, LinesOf, Goes, SoFar}
-
--- THE END OF THE SOURCE
-
-end_kept : (a b c : Option (List ℕ)) (bs : List ℕ) → Consumes a b bs → IfSome a (λ _. IsAtEnd b) → Consumes b c [] → IfSome a (λ _. IsAtEnd c)
-end_kept None b c bs r h k = tt
-end_kept (Some x) None c bs r h k = absurd r
-end_kept (Some x) (Some y) None bs r h k = absurd k
-end_kept (Some x) (Some y) (Some z) bs r h k = cc
-
-end_told : (a b : Option (List ℕ)) → IsAtEnd b → IfSome a (λ _. IsAtEnd b)
-end_told None b h = tt
-end_told (Some x) b h = h
-
-at_end_after : (b : Bool) (old new : Held) (l0 lo ln : Option (List ℕ)) (xs got : List ℕ) → old.ended ≡ b → Consumes l0 lo xs → Consumes lo ln got → (old.ended ≡ true → IfSome l0 (λ _. IsAtEnd lo))
-    → (old.ended ≡ true → got ≡ []) → EndsAt old new ln → new.ended ≡ true → IfSome l0 (λ _. IsAtEnd ln)
-at_end_after true old new l0 lo ln xs got b r s f g h e = end_kept l0 lo ln xs r (f b) (subst (Consumes lo ln) (g b) s)
-at_end_after false old new l0 lo ln xs got b r s f g h e = end_told l0 ln (h (b, e))
 
 -- TURNS
 
@@ -60,9 +43,6 @@ opens held s sent h e = record {
 
 pub turn_as : (old new : Held) (so sn : Supplied) (before now : List Event) (t t' : Turn) → t ≡ t' → Goes old new so sn before now t → Goes old new so sn before now t'
 turn_as old new so sn before now t t' f g = subst (λ (x : Turn). Goes old new so sn before now x) f g
-
-counted : (a b c : ℕ) (f g : Bool) → b ≡ a → f ≡ g → Tells b c f → Tells a c g
-counted a b c f g e h t = subst (λ (y : Bool). Tells a c y) h (subst (λ n. Tells n c f) e t)
 
 module _ (first : List Event) (old new : Held) (s0 so sn : Supplied) (before now : List Event) (h : SoFar old s0 so first before) where
   all_got : (t : Turn) (g : Goes old new so sn before now t) → Reads s0 sn (h.got ++ g.got)

@@ -41,7 +41,7 @@ over_kept (Some x) None c bs cs o g e h = absurd g
 over_kept (Some x) (Some y) None bs cs o g e h = absurd h
 over_kept (Some x) (Some y) (Some z) bs cs o g e h = ap (λ l. l ++ z) (sym e) ∙ sym h ∙ o
 
-over_now : (a b : Option (List ℕ)) → IsAtEnd b → IfSome a (λ _. IsAtEnd b)
+pub over_now : (a b : Option (List ℕ)) → IsAtEnd b → IfSome a (λ _. IsAtEnd b)
 over_now None b h = tt
 over_now (Some x) b h = h
 

@@ -1,7 +1,7 @@
 -- Kept orders, and the room for them.
 use Rattle.std.proofs.Common.{◌≡◌, ℕ, ◌+◌, ◌≤◌, List, [], ◌∷◌, ◌++◌, length, true, false, not, cond, nat_le, Option, Some, None, refl, ap, ◌∙◌, arith, length-append}
 use Rattle.std.proofs.lemmas.List.{map-append}
-use Rattle.std.proofs.lemmas.Bool.{leb-true}
+use Rattle.std.proofs.lemmas.Bool.{leb-true, and_parts}
 use Rattle.std.specs.Fmt.{signed_decimal}
 use Rattle.std.specs.Option.{option_map}
 use Rattle.option_map.specs.declared.order.Value.{Value}
@@ -18,7 +18,6 @@ use Rattle.option_map.specs.Stored.{text_at}
 use Rattle.option_map.specs.declared.held.TheConstants.{MOST_ORDERS, MOST_BYTES}
 use Rattle.option_map.specs.Held.{are_for_same, staying_beside, with_order, order_line, batch_text, can_join}
 use Rattle.option_map.specs.KeptOrders.{value_in, order_in, orders_in, IsValueIn, IsOrderIn, AreIn, value_bytes, setup_bytes}
-use Rattle.option_map.proofs.Lines.{both}
 use Rattle.option_map.proofs.Kept.{text_stays}
 use Rattle.option_map.proofs.Short.{order_length, button_length}
 
@@ -94,12 +93,12 @@ batch_last (x ∷ xs) c = omega (arith, batch_first x (xs ++ c ∷ []), batch_fi
 pub join_few : (held : List Order) (asked : Order) → can_join held asked ≡ true → length (staying_beside asked held) + 1 ≤ 256
 join_few held asked h =
     let all = with_order held asked in
-    omega (arith, leb-true (length all) 256 (both (nat_le (length all) 256) (nat_le (length (batch_text all)) 65536) h).0, length-append (staying_beside asked held) (asked ∷ []))
+    omega (arith, leb-true (length all) 256 (and_parts (nat_le (length all) 256) (nat_le (length (batch_text all)) 65536) h).0, length-append (staying_beside asked held) (asked ∷ []))
 
 pub join_short : (held : List Order) (asked : Order) → can_join held asked ≡ true → length (batch_text (with_order held asked)) ≤ 65536
 join_short held asked h =
     let all = with_order held asked in
-    leb-true (length (batch_text all)) 65536 (both (nat_le (length all) 256) (nat_le (length (batch_text all)) 65536) h).1
+    leb-true (length (batch_text all)) 65536 (and_parts (nat_le (length all) 256) (nat_le (length (batch_text all)) 65536) h).1
 
 pub join_room : (held : List Order) (asked : Order) → can_join held asked ≡ true → length (batch_text (staying_beside asked held)) + (length (order_text asked) + 1) ≤ 65536
 join_room held asked h = omega (arith, join_short held asked h, batch_last (staying_beside asked held) asked)

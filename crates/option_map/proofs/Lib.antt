@@ -2,7 +2,6 @@ pub mod Pieces
 pub mod Kept
 pub mod Measured
 pub mod Rooms
-pub mod Lines
 pub mod Orders
 pub mod Values
 pub mod ValueTokens

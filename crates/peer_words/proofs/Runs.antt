@@ -3,32 +3,28 @@ use Rattle.std.proofs.Common.{◌≡◌, ℕ, List, [], ◌∷◌, ◌++◌, Boo
 use Rattle.std.proofs.Math.Seq.{take-append_seam, drop-append_seam, take-length, drop-length}
 use Rattle.std.proofs.lemmas.List.{append-nil}
 use Rattle.std.specs.List.{list_all, prefix_len, before_first}
-use Rattle.peer_words.specs.Tokens.{is_white, is_token, trim_left, trimmed, token_end, first_token, rest}
-use Rattle.peer_words.proofs.Trims.{and_true}
+use Rattle.std.proofs.lemmas.Bool.{and_parts, not-true}
+use Rattle.peer_words.specs.Tokens.{is_white, is_token, trim_left, trimmed, token_end, first_token, rest, trim_right}
 
 pub all_of : (p q : ℕ → Bool) → ((c : ℕ) → p c ≡ true → q c ≡ true) → (xs : List ℕ) → list_all p xs ≡ true → list_all q xs ≡ true
 all_of p q f [] h = refl
-all_of p q f (x ∷ xs) h = let both = and_true (p x) (list_all p xs) h in rw (f x both.0, all_of p q f xs both.1) refl
+all_of p q f (x ∷ xs) h = let both = and_parts (p x) (list_all p xs) h in rw (f x both.0, all_of p q f xs both.1) refl
 
 pub prefix_whole : (q : ℕ → Bool) (xs : List ℕ) → list_all q xs ≡ true → prefix_len q xs ≡ length xs
 prefix_whole q [] h = refl
-prefix_whole q (x ∷ xs) h = let both = and_true (q x) (list_all q xs) h in rw (both.0, prefix_whole q xs both.1) (omega arith)
+prefix_whole q (x ∷ xs) h = let both = and_parts (q x) (list_all q xs) h in rw (both.0, prefix_whole q xs both.1) (omega arith)
 
 pub prefix_stops : (q : ℕ → Bool) (xs : List ℕ) (c : ℕ) (ys : List ℕ) → list_all q xs ≡ true → q c ≡ false → prefix_len q (xs ++ (c ∷ ys)) ≡ length xs
 prefix_stops q [] c ys h e = rw e refl
-prefix_stops q (x ∷ xs) c ys h e = let both = and_true (q x) (list_all q xs) h in rw (both.0, prefix_stops q xs c ys both.1 e) (omega arith)
+prefix_stops q (x ∷ xs) c ys h e = let both = and_parts (q x) (list_all q xs) h in rw (both.0, prefix_stops q xs c ys both.1 e) (omega arith)
 
 -- the bytes of a token
 pub black : (t : List ℕ) → is_token t ≡ true → list_all (λ b. not (is_white b)) t ≡ true
-black t h = (and_true (ltb 0 (length t)) (list_all (λ b. not (is_white b)) t) h).1
+black t h = (and_parts (ltb 0 (length t)) (list_all (λ b. not (is_white b)) t) h).1
 
-pub not_false : (b : Bool) → not b ≡ true → b ≡ false
-not_false true h = absurd (cc)
-not_false false h = refl
-
-starts_black : (t more : List ℕ) → is_token t ≡ true → trim_left (t ++ more) ≡ t ++ more
+pub starts_black : (t more : List ℕ) → is_token t ≡ true → trim_left (t ++ more) ≡ t ++ more
 starts_black [] more h = absurd (cc)
-starts_black (x ∷ t) more h = let w = not_false (is_white x) (and_true (not (is_white x)) (list_all (λ b. not (is_white b)) t) (black (x ∷ t) h)).0 in rw w refl
+starts_black (x ∷ t) more h = let w = not-true (is_white x) (and_parts (not (is_white x)) (list_all (λ b. not (is_white b)) t) (black (x ∷ t) h)).0 in rw w refl
 
 -- a line that is a token, white space and more
 pub token_first : (t more : List ℕ) (w : ℕ) → is_token t ≡ true → is_white w ≡ true → first_token (t ++ (w ∷ more)) ≡ t
@@ -56,3 +52,10 @@ token_alone_rest t h =
     let whole : prefix_len (λ b. not (is_white b)) t ≡ length t = prefix_whole (λ b. not (is_white b)) t (black t h) in
     let left : trim_left t ≡ t = sym (ap trim_left (append-nil t)) ∙ starts_black t [] h ∙ append-nil t in
     ap (λ line. trimmed (drop (token_end line) line)) left ∙ ap (λ n. trimmed (drop n t)) whole ∙ ap trimmed (drop-length t)
+
+-- a text without white space is not trimmed
+pub black_kept : (xs : List ℕ) → list_all (λ b. not (is_white b)) xs ≡ true → trim_right xs ≡ xs
+black_kept [] h = refl
+black_kept (x ∷ xs) h =
+    let both = and_parts (not (is_white x)) (list_all (λ b. not (is_white b)) xs) h in
+    rw (not-true (is_white x) both.0, black_kept xs both.1) refl

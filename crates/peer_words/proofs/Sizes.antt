@@ -9,21 +9,21 @@ use Rattle.std.specs.List.{list_all}
 use Rattle.std.specs.Option.{option_map}
 use Rattle.std.specs.Char.{is_ascii_digit, digit_value}
 use Rattle.std.specs.Str.Parse.{digits_value, AllDigits, starts_with_minus}
+use Rattle.std.proofs.lemmas.Bool.{and_parts}
 use Rattle.peer_words.specs.Numbers.{is_digits, digits, number, centis, positive, negative, is_point, thousandths, milliseconds, seconds, seconds_at}
 use Rattle.peer_words.proofs.Digits.{digit}
-use Rattle.peer_words.proofs.Trims.{and_true}
 
 digit_small : (c : ℕ) → is_ascii_digit c ≡ true → digit_value c < 10
 digit_small c h = let d = digit c h in omega arith
 
-all_digits : (cs : List ℕ) → list_all is_ascii_digit cs ≡ true → AllDigits 10 cs
+pub all_digits : (cs : List ℕ) → list_all is_ascii_digit cs ≡ true → AllDigits 10 cs
 all_digits [] h = tt
-all_digits (c ∷ cs) h = let both = and_true (is_ascii_digit c) (list_all is_ascii_digit cs) h in (digit_small c both.0, all_digits cs both.1)
+all_digits (c ∷ cs) h = let both = and_parts (is_ascii_digit c) (list_all is_ascii_digit cs) h in (digit_small c both.0, all_digits cs both.1)
 
 value_small : (most : ℕ) (t : List ℕ) → is_digits most t ≡ true → digits_value 10 t < 10 ^ most
 value_small most t h =
-    let front = and_true (ltb 0 (length t) && leb (length t) most) (list_all is_ascii_digit t) h in
-    let within : length t ≤ most = grind (arith, nat_tests, and_true (ltb 0 (length t)) (leb (length t) most) front.0) in
+    let front = and_parts (ltb 0 (length t) && leb (length t) most) (list_all is_ascii_digit t) h in
+    let within : length t ≤ most = grind (arith, nat_tests, and_parts (ltb 0 (length t)) (leb (length t) most) front.0) in
     let small : digits_value 10 t < 10 ^ length t = digits_value-lt 10 t (all_digits t front.1) in
     let wide : 10 ^ length t ≤ 10 ^ most = pow-le-pow_right (lit< tt) within in
     omega arith

@@ -3,9 +3,9 @@ use Rattle.std.proofs.Common.{◌≡◌, ℕ, suc, List, [], ◌∷◌, ◌++◌
 use Rattle.std.proofs.Math.Seq.{take-append_seam, drop-append_seam, take-length, drop-length}
 use Rattle.std.proofs.lemmas.Bool.Decides.{nat_tests}
 use Rattle.std.specs.List.{list_all, slice_split, onto_first, join_with_byte, before_first}
+use Rattle.std.proofs.lemmas.Bool.{and_parts, not-true}
 use Rattle.peer_words.specs.Tokens.{is_white, is_blank, is_token, trim_left, trim_right, trimmed, token_end, first_token, rest, tokens}
-use Rattle.peer_words.proofs.Trims.{and_true}
-use Rattle.peer_words.proofs.Runs.{black, not_false, prefix_stops, prefix_whole}
+use Rattle.peer_words.proofs.Runs.{black, prefix_stops, prefix_whole}
 
 -- the tokens among the parts between white space
 abbrev kept : List (List ℕ) → List (List ℕ)
@@ -29,7 +29,7 @@ agree_onto x (p ∷ ps) (q ∷ qs) h = (ap (λ t. x ∷ t) h.0, h.1)
 
 blank_kept : (xs : List ℕ) → is_blank xs ≡ true → kept (slice_split is_white xs) ≡ []
 blank_kept [] h = refl
-blank_kept (x ∷ xs) h = let both = and_true (is_white x) (is_blank xs) h in rw both.0 (blank_kept xs both.1)
+blank_kept (x ∷ xs) h = let both = and_parts (is_white x) (is_blank xs) h in rw both.0 (blank_kept xs both.1)
 
 split_step : (white blank : Bool) (x : ℕ) (xs ys : List ℕ) → is_white x ≡ white → is_blank xs ≡ blank → Agree (slice_split is_white ys) (slice_split is_white xs) → Agree (slice_split is_white (cond (white && blank) [] (x ∷ ys))) (slice_split is_white (x ∷ xs))
 split_step true true x xs ys e f h = rw e (refl, sym (blank_kept xs f))
@@ -60,18 +60,18 @@ tokens_trimmed xs = tokens_trim_right (trim_left xs) ∙ tokens_trim_left xs
 
 split_black : (xs : List ℕ) → list_all (λ b. not (is_white b)) xs ≡ true → slice_split is_white xs ≡ xs ∷ []
 split_black [] h = refl
-split_black (x ∷ xs) h = let both = and_true (not (is_white x)) (list_all (λ b. not (is_white b)) xs) h in rw (not_false (is_white x) both.0, split_black xs both.1) refl
+split_black (x ∷ xs) h = let both = and_parts (not (is_white x)) (list_all (λ b. not (is_white b)) xs) h in rw (not-true (is_white x) both.0, split_black xs both.1) refl
 
 split_at_white : (xs more : List ℕ) (w : ℕ) → list_all (λ b. not (is_white b)) xs ≡ true → is_white w ≡ true → slice_split is_white (xs ++ (w ∷ more)) ≡ xs ∷ slice_split is_white more
 split_at_white [] more w h e = rw e refl
-split_at_white (x ∷ xs) more w h e = let both = and_true (not (is_white x)) (list_all (λ b. not (is_white b)) xs) h in rw (not_false (is_white x) both.0, split_at_white xs more w both.1 e) refl
+split_at_white (x ∷ xs) more w h e = let both = and_parts (not (is_white x)) (list_all (λ b. not (is_white b)) xs) h in rw (not-true (is_white x) both.0, split_at_white xs more w both.1 e) refl
 
 -- a token, white space and more
 pub tokens_more : (t more : List ℕ) (w : ℕ) → is_token t ≡ true → is_white w ≡ true → tokens (t ++ (w ∷ more)) ≡ t ∷ tokens more
-tokens_more t more w h e = ap kept (split_at_white t more w (black t h) e) ∙ rw (and_true (ltb 0 (length t)) (list_all (λ b. not (is_white b)) t) h).0 refl
+tokens_more t more w h e = ap kept (split_at_white t more w (black t h) e) ∙ rw (and_parts (ltb 0 (length t)) (list_all (λ b. not (is_white b)) t) h).0 refl
 
 pub tokens_alone : (t : List ℕ) → is_token t ≡ true → tokens t ≡ t ∷ []
-tokens_alone t h = ap kept (split_black t (black t h)) ∙ rw (and_true (ltb 0 (length t)) (list_all (λ b. not (is_white b)) t) h).0 refl
+tokens_alone t h = ap kept (split_black t (black t h)) ∙ rw (and_parts (ltb 0 (length t)) (list_all (λ b. not (is_white b)) t) h).0 refl
 
 -- Tokens written with one blank between are the tokens read.
 abbrev pub all_tokens : List (List ℕ) → Bool
@@ -79,9 +79,9 @@ all_tokens ts = list_all is_token ts
 
 pub tokens_joined : (ts : List (List ℕ)) → all_tokens ts ≡ true → tokens (join_with_byte 32 ts) ≡ ts
 tokens_joined [] h = refl
-tokens_joined (t ∷ []) h = tokens_alone t (and_true (is_token t) true h).0
+tokens_joined (t ∷ []) h = tokens_alone t (and_parts (is_token t) true h).0
 tokens_joined (t ∷ u ∷ ts) h =
-    let both = and_true (is_token t) (list_all is_token (u ∷ ts)) h in
+    let both = and_parts (is_token t) (list_all is_token (u ∷ ts)) h in
     tokens_more t (join_with_byte 32 (u ∷ ts)) 32 both.0 refl ∙ ap (λ us. t ∷ us) (tokens_joined (u ∷ ts) both.1)
 
 -- a line without white space, or cut at its first white space

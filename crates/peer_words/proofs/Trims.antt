@@ -3,6 +3,7 @@ use Rattle.std.proofs.Common.{◌≡◌, ℕ, ◌+◌, List, [], ◌∷◌, ◌+
 use Rattle.std.proofs.lemmas.List.{take_more, take_all}
 use Rattle.std.proofs.lemmas.List.Folds.{list_all-append}
 use Rattle.std.specs.List.{list_all}
+use Rattle.std.proofs.lemmas.Bool.{and_parts}
 use Rattle.peer_words.specs.Tokens.{is_white, is_blank, trim_left, trim_right, trimmed}
 
 chosen : (a b w : Bool) (x : ℕ) (front all : List ℕ) → w ≡ true → cond (a && (b && (w && true))) [] (x ∷ front) ≡ cond (a && b) [] (x ∷ front)
@@ -75,13 +76,9 @@ pub trim_left_again : (xs : List ℕ) → trim_left (trim_left xs) ≡ trim_left
 trim_left_again [] = refl
 trim_left_again (x ∷ xs) = left_again_step (is_white x) x xs (trim_left xs) refl (trim_left_again xs)
 
-pub and_true : (a b : Bool) → (a && b) ≡ true → (a ≡ true) × (b ≡ true)
-and_true true b h = (refl, h)
-and_true false b h = absurd (cc)
-
 pub trim_left_blank : (xs : List ℕ) → is_blank xs ≡ true → trim_left xs ≡ []
 trim_left_blank [] h = refl
-trim_left_blank (x ∷ xs) h = let both = and_true (is_white x) (is_blank xs) h in rw both.0 (trim_left_blank xs both.1)
+trim_left_blank (x ∷ xs) h = let both = and_parts (is_white x) (is_blank xs) h in rw both.0 (trim_left_blank xs both.1)
 
 pub trimmed_blank : (xs : List ℕ) → is_blank xs ≡ true → trimmed xs ≡ []
 trimmed_blank xs h = ap trim_right (trim_left_blank xs h)

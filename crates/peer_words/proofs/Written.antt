@@ -11,9 +11,9 @@ use lib.IntN.{ℤ, pos, negsuc}
 use Rattle.std.specs.Fmt.{decimal, signed_decimal}
 use Rattle.std.specs.Char.{is_ascii_digit, digit_value}
 use Rattle.std.specs.Str.Parse.{digits_value, AllDigits, starts_with_minus}
+use Rattle.std.proofs.lemmas.Bool.{and_parts}
 use Rattle.peer_words.specs.Numbers.{digits, number, count, signed, centis, is_point, thousandths, seconds, three_digits, seconds_text}
 use Rattle.peer_words.specs.Tokens.{is_white, is_token}
-use Rattle.peer_words.proofs.Trims.{and_true}
 use Rattle.peer_words.proofs.Runs.{all_of, prefix_whole, prefix_stops}
 
 digit_of : (c : ℕ) → digit_value c < 10 → is_ascii_digit c ≡ true
@@ -48,9 +48,9 @@ first_is_digit : (c : ℕ) → is_ascii_digit c ≡ true → eqb c 45 ≡ false
 first_is_digit c h = grind (arith, nat_tests)
 
 -- digits begin with no sign
-no_sign : (ds : List ℕ) → 0 < length ds → list_all is_ascii_digit ds ≡ true → starts_with_minus ds ≡ false
+pub no_sign : (ds : List ℕ) → 0 < length ds → list_all is_ascii_digit ds ≡ true → starts_with_minus ds ≡ false
 no_sign [] h d = absurd (omega arith)
-no_sign (c ∷ cs) h d = let both = and_true (is_ascii_digit c) (list_all is_ascii_digit cs) d in first_is_digit c both.0
+no_sign (c ∷ cs) h d = let both = and_parts (is_ascii_digit c) (list_all is_ascii_digit cs) d in first_is_digit c both.0
 
 pub decimal_digits : (n : ℕ) → n < 2 ^ 64 → list_all is_ascii_digit (decimal n) ≡ true
 decimal_digits n h = all_digits (decimal n) (decimal_is_IsNumeral n h).0.1
@@ -79,7 +79,7 @@ whole_seconds ds n h e =
     rw (k, t, e) (ap Some (omega arith))
 
 -- a digit and its value
-one_digit : (d : ℕ) → d < 10 → (is_ascii_digit (48 + d) ≡ true) × (digit_value (48 + d) ≡ d)
+pub one_digit : (d : ℕ) → d < 10 → (is_ascii_digit (48 + d) ≡ true) × (digit_value (48 + d) ≡ d)
 one_digit d h =
     let a : ltb (48 + d) 48 ≡ false = grind (arith, nat_tests) in
     let b : ltb (48 + d) 58 ≡ true = grind (arith, nat_tests) in
@@ -115,7 +115,7 @@ seconds_step ms false e h =
 pub seconds_read : (ms : ℕ) → ms < 10 ^ 9 → seconds (seconds_text ms) ≡ Some ms
 seconds_read ms h = seconds_step ms (eqb (ms % 1000) 0) refl h
 
-not_white : (c : ℕ) → is_ascii_digit c ≡ true → not (is_white c) ≡ true
+pub not_white : (c : ℕ) → is_ascii_digit c ≡ true → not (is_white c) ≡ true
 not_white c h = grind (arith, nat_tests)
 
 -- digits are a token, also behind a minus

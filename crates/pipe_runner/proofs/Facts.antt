@@ -1,5 +1,7 @@
 -- What holds of each lawful trace.
-use Rattle.std.proofs.Common.{◌≡◌, ◌≢◌, ℕ, List, [], ◌∷◌, ◌++◌, Bool, true, false, not, cond, ◌&&◌, ◌||◌, refl, sym, ap, subst, ◌∙◌, append-nil}
+use Rattle.std.proofs.Common.{◌≡◌, ◌≢◌, List, [], ◌∷◌, Bool, true, false, not, cond, ◌&&◌, ◌||◌, refl, sym, ap, subst, ◌∙◌, append-nil}
+use Rattle.std.proofs.lemmas.Bool.{or_left, false_from_ne_true}
+use mathlib.Core.Bool.{or-false, or-true}
 use Rattle.line_io.specs.Event.{Event, Open, Iface, IfaceLong, IfaceEnd, IfaceLost, Engine, EngineLong, EngineEnd, EngineLost, is_line}
 use Rattle.cecp_lines.specs.Replies.{Reply}
 use Rattle.uci_lines.specs.Orders.{Order}
@@ -11,10 +13,10 @@ use Rattle.cecp_lines.specs.Quit.{is_quit}
 use Rattle.adapter_core.specs.Ends.{may, ends_after}
 use Rattle.adapter_core.specs.Trace.{Step, Lawful, state, iface_text, engine_text}
 use Rattle.adapter_core.proofs.Ended.{silent_to_iface, silent_to_engine}
-use Rattle.event_pipe.specs.Message.{role_of_event, is_end, is_good}
+use Rattle.adapter_core.proofs.Closing.{opened_later}
+use Rattle.event_pipe.specs.Message.{role_of_event, is_good}
 use Rattle.event_pipe.specs.Rule.{is_of, of, ended, Follows}
-use Rattle.event_pipe.proofs.Keeps.{of-append}
-use Rattle.event_pipe.proofs.Reading.{any_append}
+use Rattle.event_pipe.proofs.Roles.{more_ended}
 use Rattle.pipe_runner.specs.Texts.{is_own, received}
 use Rattle.pipe_runner.specs.Looped.{BeginsWithOpen}
 
@@ -26,72 +28,37 @@ three_first : (a b c : Bool) → (a && not b && c) ≡ true → a ≡ true
 three_first true b c h = refl
 three_first false b c h = cc
 
-opened_by : (ends : Ends) (e : Event) → may ends e ≡ true → (ends_after ends e).opened ≡ true
-opened_by ends Open m = refl
-opened_by ends (Iface line) m = three_first ends.opened ends.iface (is_line line) m
-opened_by ends IfaceLong m = two_first ends.opened ends.iface m
-opened_by ends IfaceEnd m = two_first ends.opened ends.iface m
-opened_by ends IfaceLost m = three_first ends.opened ends.iface (not ends.iface_lost) m
-opened_by ends (Engine line) m = three_first ends.opened ends.engine (is_line line) m
-opened_by ends EngineLong m = two_first ends.opened ends.engine m
-opened_by ends EngineEnd m = two_first ends.opened ends.engine m
-opened_by ends EngineLost m = three_first ends.opened ends.engine (not ends.engine_lost) m
-
 pub opened : (o : Settings) (s : Step) (t : List Step) → Lawful o (s ∷ t) → (state o (s ∷ t)).ends.opened ≡ true
-opened o s t l = opened_by (state o t).ends s.event l.1.may_come
-
-case_of : (b : Bool) → (b ≡ true → ⊥) → b ≡ false
-case_of true f = absurd (f refl)
-case_of false f = refl
-
-or_left : (a b : Bool) → a ≡ true → (a || b) ≡ true
-or_left true b h = refl
-or_left false b h = cc
+opened o s t l = opened_later (state o t).ends s.event l.1.may_come
 
 pub open_iface : (o : Settings) (s : Step) (t : List Step) → Lawful o (s ∷ t) → iface_text s ≢ [] → (state o (s ∷ t)).ends.iface ≡ false
-open_iface o s t l some = case_of (state o (s ∷ t)).ends.iface (λ h. some (ap reply_lines (silent_to_iface o t s l (or_left _ (state o (s ∷ t)).ends.iface_lost h))))
+open_iface o s t l some = false_from_ne_true (state o (s ∷ t)).ends.iface (λ h. some (ap reply_lines (silent_to_iface o t s l (or_left _ (state o (s ∷ t)).ends.iface_lost h))))
 
 pub open_engine : (o : Settings) (s : Step) (t : List Step) → Lawful o (s ∷ t) → engine_text s ≢ [] → (state o (s ∷ t)).ends.engine ≡ false
-open_engine o s t l some = case_of (state o (s ∷ t)).ends.engine (λ h. some (ap order_lines (silent_to_engine o t s l (or_left _ (state o (s ∷ t)).ends.engine_lost h))))
+open_engine o s t l some = false_from_ne_true (state o (s ∷ t)).ends.engine (λ h. some (ap order_lines (silent_to_engine o t s l (or_left _ (state o (s ∷ t)).ends.engine_lost h))))
 
 -- which sides have ended
-or_true : (a : Bool) → true ≡ (a || (true || false))
-or_true true = refl
-or_true false = refl
-
-or_one : (a q : Bool) → (a || q) ≡ (a || (q || false))
-or_one true q = refl
-or_one false true = refl
-or_one false false = refl
-
-or_none : (a : Bool) → a ≡ (a || false)
-or_none true = refl
-or_none false = refl
-
-more_ended : (role : ℕ) (r xs : List Event) → ended (of role (r ++ xs)) ≡ (ended (of role r) || ended (of role xs))
-more_ended role r xs = ap ended (of-append role r xs) ∙ any_append is_end (of role r) (of role xs)
-
 iface_by : (ends : Ends) (e : Event) (b : Bool) → ends.iface ≡ b → (ends_after ends e).iface ≡ (b || ended (of 1 (cond (is_own e) [] (e ∷ []))))
-iface_by ends Open b h = h ∙ or_none b
-iface_by ends (Iface line) b h = ap (λ x. x || is_quit line) h ∙ or_one b (is_quit line)
-iface_by ends IfaceLong b h = h ∙ or_none b
-iface_by ends IfaceEnd b h = or_true b
-iface_by ends IfaceLost b h = h ∙ or_none b
-iface_by ends (Engine line) b h = h ∙ or_none b
-iface_by ends EngineLong b h = h ∙ or_none b
-iface_by ends EngineEnd b h = h ∙ or_none b
-iface_by ends EngineLost b h = h ∙ or_none b
+iface_by ends Open b h = h ∙ sym (or-false b)
+iface_by ends (Iface line) b h = ap (λ x. x || is_quit line) h ∙ ap (λ x. b || x) (sym (or-false (is_quit line)))
+iface_by ends IfaceLong b h = h ∙ sym (or-false b)
+iface_by ends IfaceEnd b h = sym (or-true b)
+iface_by ends IfaceLost b h = h ∙ sym (or-false b)
+iface_by ends (Engine line) b h = h ∙ sym (or-false b)
+iface_by ends EngineLong b h = h ∙ sym (or-false b)
+iface_by ends EngineEnd b h = h ∙ sym (or-false b)
+iface_by ends EngineLost b h = h ∙ sym (or-false b)
 
 engine_by : (ends : Ends) (e : Event) (b : Bool) → ends.engine ≡ b → (ends_after ends e).engine ≡ (b || ended (of 2 (cond (is_own e) [] (e ∷ []))))
-engine_by ends Open b h = h ∙ or_none b
-engine_by ends (Iface line) b h = h ∙ or_none b
-engine_by ends IfaceLong b h = h ∙ or_none b
-engine_by ends IfaceEnd b h = h ∙ or_none b
-engine_by ends IfaceLost b h = h ∙ or_none b
-engine_by ends (Engine line) b h = h ∙ or_none b
-engine_by ends EngineLong b h = h ∙ or_none b
-engine_by ends EngineEnd b h = or_true b
-engine_by ends EngineLost b h = h ∙ or_none b
+engine_by ends Open b h = h ∙ sym (or-false b)
+engine_by ends (Iface line) b h = h ∙ sym (or-false b)
+engine_by ends IfaceLong b h = h ∙ sym (or-false b)
+engine_by ends IfaceEnd b h = h ∙ sym (or-false b)
+engine_by ends IfaceLost b h = h ∙ sym (or-false b)
+engine_by ends (Engine line) b h = h ∙ sym (or-false b)
+engine_by ends EngineLong b h = h ∙ sym (or-false b)
+engine_by ends EngineEnd b h = sym (or-true b)
+engine_by ends EngineLost b h = h ∙ sym (or-false b)
 
 pub iface_is : (o : Settings) (t : List Step) → (state o t).ends.iface ≡ ended (of 1 (received t))
 iface_is o [] = refl

@@ -4,6 +4,8 @@ use Rattle.std.specs.Result.{is_err}
 use Rattle.std.specs.Io.KnownBytes.{Appends, Keeps}
 use Rattle.std.proofs.KnownBytes.{Appends-nil, Appends-trans}
 use Rattle.std.proofs.lemmas.List.{take-append-drop}
+use Rattle.std.proofs.lemmas.Bool.{and_parts}
+use mathlib.Core.Bool.{or-false, or-true}
 use Rattle.line_io.specs.Source.{Received, TakesPrefix}
 use Rattle.line_io.specs.Causes.{HasCause}
 use Rattle.line_io.specs.Event.{Event, Open, Iface, IfaceLong, IfaceEnd, IfaceLost, Engine, EngineLong, EngineEnd, EngineLost}
@@ -27,42 +29,35 @@ use Rattle.sink_offers.specs.Streams.{Sinks, TookFront, Offered}
 use Rattle.pipe_runner.specs.Texts.{is_own, is_iface_lost, is_engine_lost, has, received, texts}
 use Rattle.pipe_runner.specs.Looped.{FailsAt, OutputFails, EngineFails, OutputLost, EngineLostBehind, Looped}
 use Rattle.sink_offers.specs.Took.{LogTook}
+use Rattle.sink_offers.proofs.Took.{took_next}
 use Rattle.pipe_runner.specs.Reached.{OutputSoFar, EngineSoFar, Stepped, Reached}
 use Rattle.pipe_runner.proofs.Facts.{begins, opened, open_iface, open_engine, iface_is, engine_is, may_follow}
-
-or_no : (a : Bool) → a ≡ (a || false)
-or_no true = refl
-or_no false = refl
-
-or_yes : (a : Bool) → true ≡ (a || true)
-or_yes true = refl
-or_yes false = refl
 
 only : {P : Type 0} → (false ≡ true) ⊎ P → P
 only (inl h) = cc
 only (inr h) = h
 
 iface_lost_by : (ends : Ends) (e : Event) → (ends_after ends e).iface_lost ≡ (ends.iface_lost || is_iface_lost e)
-iface_lost_by ends Open = or_no ends.iface_lost
-iface_lost_by ends (Iface line) = or_no ends.iface_lost
-iface_lost_by ends IfaceLong = or_no ends.iface_lost
-iface_lost_by ends IfaceEnd = or_no ends.iface_lost
-iface_lost_by ends IfaceLost = or_yes ends.iface_lost
-iface_lost_by ends (Engine line) = or_no ends.iface_lost
-iface_lost_by ends EngineLong = or_no ends.iface_lost
-iface_lost_by ends EngineEnd = or_no ends.iface_lost
-iface_lost_by ends EngineLost = or_no ends.iface_lost
+iface_lost_by ends Open = sym (or-false ends.iface_lost)
+iface_lost_by ends (Iface line) = sym (or-false ends.iface_lost)
+iface_lost_by ends IfaceLong = sym (or-false ends.iface_lost)
+iface_lost_by ends IfaceEnd = sym (or-false ends.iface_lost)
+iface_lost_by ends IfaceLost = sym (or-true ends.iface_lost)
+iface_lost_by ends (Engine line) = sym (or-false ends.iface_lost)
+iface_lost_by ends EngineLong = sym (or-false ends.iface_lost)
+iface_lost_by ends EngineEnd = sym (or-false ends.iface_lost)
+iface_lost_by ends EngineLost = sym (or-false ends.iface_lost)
 
 engine_lost_by : (ends : Ends) (e : Event) → (ends_after ends e).engine_lost ≡ (ends.engine_lost || is_engine_lost e)
-engine_lost_by ends Open = or_no ends.engine_lost
-engine_lost_by ends (Iface line) = or_no ends.engine_lost
-engine_lost_by ends IfaceLong = or_no ends.engine_lost
-engine_lost_by ends IfaceEnd = or_no ends.engine_lost
-engine_lost_by ends IfaceLost = or_no ends.engine_lost
-engine_lost_by ends (Engine line) = or_no ends.engine_lost
-engine_lost_by ends EngineLong = or_no ends.engine_lost
-engine_lost_by ends EngineEnd = or_no ends.engine_lost
-engine_lost_by ends EngineLost = or_yes ends.engine_lost
+engine_lost_by ends Open = sym (or-false ends.engine_lost)
+engine_lost_by ends (Iface line) = sym (or-false ends.engine_lost)
+engine_lost_by ends IfaceLong = sym (or-false ends.engine_lost)
+engine_lost_by ends IfaceEnd = sym (or-false ends.engine_lost)
+engine_lost_by ends IfaceLost = sym (or-false ends.engine_lost)
+engine_lost_by ends (Engine line) = sym (or-false ends.engine_lost)
+engine_lost_by ends EngineLong = sym (or-false ends.engine_lost)
+engine_lost_by ends EngineEnd = sym (or-false ends.engine_lost)
+engine_lost_by ends EngineLost = sym (or-true ends.engine_lost)
 
 iface_lost_is : (e : Event) → is_iface_lost e ≡ true → e ≡ IfaceLost
 iface_lost_is Open h = cc
@@ -206,25 +201,6 @@ engine_next cfg true true false false s t o0 o o' e c d x y =
       count = tells_next _ _ _ o o' _ x.count y;
     }
 
-log_next : (failed failed' : Bool) (text piece : List ℕ) (o0 o o' : Received) → LogTook text failed o0 o → Offered failed failed' o o' piece → LogTook (text ++ piece) failed' o0 o'
-log_next false false text piece o0 o o' x y = record { whole = λ _. Appends-trans o0.taken o.taken o'.taken _ _ (x.whole refl) (y.whole refl); front = λ a. cc; count = tells_next _ _ _ o o' _ x.count y }
-log_next false true text piece o0 o o' x y =
-    let f = (y.front refl refl).1 in
-    record {
-      whole = λ a. cc;
-      front = λ a. record { front = text ++ f.front; rest = f.rest; is = ap (λ l. text ++ l) f.is ∙ sym (append_assoc text f.front f.rest); took = Appends-trans o0.taken o.taken o'.taken _ _ (x.whole refl) f.took };
-      count = tells_next _ _ _ o o' _ x.count y;
-    }
-log_next true false text piece o0 o o' x y = let z = (y.stays refl).0 in cc
-log_next true true text piece o0 o o' x y =
-    let f = x.front refl in
-    let k = (y.stays refl).1 in
-    record {
-      whole = λ a. cc;
-      front = λ a. record { front = f.front; rest = f.rest ++ piece; is = ap (λ l. l ++ piece) f.is ∙ append_assoc f.front f.rest piece; took = subst (λ (z : Received). Appends o0.taken z.taken f.front) (sym k) f.took };
-      count = tells_next _ _ _ o o' _ x.count y;
-    }
-
 either_by : {e e' : Event} {P : Type 0} → (is_engine_lost e ≡ true) ⊎ ((e ≡ IfaceLost) × P) → e' ≡ e → (is_engine_lost e' ≡ true) ⊎ ((e' ≡ IfaceLost) × P)
 either_by (inl h) x = inl (ap is_engine_lost x ∙ h)
 either_by (inr h) x = inr (x ∙ h.0, h.1)
@@ -240,11 +216,6 @@ comes (Engine line) n = (refl, refl, refl)
 comes EngineLong n = (refl, refl, refl)
 comes EngineEnd n = (refl, refl, refl)
 comes EngineLost n = absurd (n refl)
-
-pub both_ends : (a b : Bool) → (a && b) ≡ true → (a ≡ true) × (b ≡ true)
-both_ends true true h = (refl, refl)
-both_ends true false h = cc
-both_ends false b h = cc
 
 told_iff : (failed told : Bool) → (failed ≡ true → told ≡ false → ⊥) → (failed ≡ false → told ≡ false) → told ≡ failed
 told_iff true true f g = refl
@@ -284,7 +255,7 @@ module _ (cfg : Settings) (core core' : Parts) (e : Event) (front : List ℕ) (p
         next = s.next (length r.trace) r.next;
         output = subst (λ t. OutputSoFar (s.step ∷ r.trace) p'.end.output t b.output a.output) (sym (iface_lost_by ends s.step.event)) out;
         engine = subst (λ t. EngineSoFar (s.step ∷ r.trace) p'.end.engine t b.engine a.engine) (sym (engine_lost_by ends s.step.event)) eng;
-        log = subst (λ l. LogTook l p'.end.log b.log a.log) (behind cfg s.step r.trace p.next r.next) (log_next p.end.log p'.end.log (script2 cfg r.trace) text b.log m.log a.log r.log piece);
+        log = subst (λ l. LogTook l p'.end.log b.log a.log) (behind cfg s.step r.trace p.next r.next) (took_next p.end.log p'.end.log (script2 cfg r.trace) text b.log m.log a.log r.log piece);
       }
 
 none_told : (n : ℕ) → Tells n n false
@@ -307,7 +278,7 @@ reached_first cfg core core' front p p' events b a f e t stands s =
     let first'' = subst (λ f. Offered f p'.end.log b.log a.log (front ++ text)) (ap (λ (x : Progress). x.end.log) e) s.log in
     let out = output_next false p'.end.output false false s.step [] b.output b.output a.output ev (λ q w. cc) (λ q. cc) (record { whole = λ _. (refl, Appends-nil b.output.taken); owes = λ q w. cc; lost = λ q w. cc; count = none_told b.output.faults }) first in
     let eng = engine_next cfg false p'.end.engine false false s.step [] b.engine b.engine a.engine ev' (λ q w. cc) (λ q. cc) (record { whole = λ _. (refl, Appends-nil b.engine.taken); owes = λ q w. cc; lost = λ q w. cc; count = none_told b.engine.faults }) first' in
-    let log = log_next false p'.end.log [] (front ++ text) b.log b.log a.log (record { whole = λ _. Appends-nil b.log.taken; front = λ q. cc; count = none_told b.log.faults }) first'' in
+    let log = took_next false p'.end.log [] (front ++ text) b.log b.log a.log (record { whole = λ _. Appends-nil b.log.taken; front = λ q. cc; count = none_told b.log.faults }) first'' in
     record {
       trace = s.step ∷ [];
       lawful = x.0;
@@ -319,10 +290,6 @@ reached_first cfg core core' front p p' events b a f e t stands s =
       engine = subst (λ t. EngineSoFar (s.step ∷ []) p'.end.engine t b.engine a.engine) (sym (engine_lost_by (state cfg []).ends s.step.event ∙ ev')) eng;
       log = subst (λ l. LogTook l p'.end.log b.log a.log) (ap (λ l. l ++ text) f ∙ behind cfg s.step [] p.next zero) log;
     }
-
-flip : (b : Bool) → not b ≡ true → b ≡ false
-flip true h = cc
-flip false h = refl
 
 not_both : (a b : Bool) → (a && b) ≡ false → a ≡ true → b ≡ true → ⊥
 not_both true true h p q = cc
@@ -368,13 +335,13 @@ module _ (cfg : Settings) (core : Parts) (p : Progress) (events : List Event) (b
   told = (state cfg r.trace).ends
 
   output_owed : (p.end.output && may core.ends IfaceLost) ≡ true → (p.end.output ≡ true) × (told.iface_lost ≡ false)
-  output_owed h = let w = both_ends p.end.output (may core.ends IfaceLost) h in (w.0, last_no told.opened told.iface told.iface_lost (sym (ap (λ (x : Ends). may x IfaceLost) ends_are) ∙ w.1))
+  output_owed h = let w = and_parts p.end.output (may core.ends IfaceLost) h in (w.0, last_no told.opened told.iface told.iface_lost (sym (ap (λ (x : Ends). may x IfaceLost) ends_are) ∙ w.1))
 
   output_none : (p.end.output && may core.ends IfaceLost) ≡ false → p.end.output ≡ true → told.iface_lost ≡ false → ⊥
   output_none h f g = not_both p.end.output (may core.ends IfaceLost) h f (ap (λ (x : Ends). may x IfaceLost) ends_are ∙ may_lost_output cfg r.trace _ _ r.begun r.lawful g (r.output.owes f g))
 
   engine_owed : (p.end.engine && may core.ends EngineLost) ≡ true → (p.end.engine ≡ true) × (told.engine_lost ≡ false)
-  engine_owed h = let w = both_ends p.end.engine (may core.ends EngineLost) h in (w.0, last_no told.opened told.engine told.engine_lost (sym (ap (λ (x : Ends). may x EngineLost) ends_are) ∙ w.1))
+  engine_owed h = let w = and_parts p.end.engine (may core.ends EngineLost) h in (w.0, last_no told.opened told.engine told.engine_lost (sym (ap (λ (x : Ends). may x EngineLost) ends_are) ∙ w.1))
 
   engine_none : (p.end.engine && may core.ends EngineLost) ≡ false → p.end.engine ≡ true → told.engine_lost ≡ false → ⊥
   engine_none h f g = not_both p.end.engine (may core.ends EngineLost) h f (ap (λ (x : Ends). may x EngineLost) ends_are ∙ may_lost_engine cfg r.trace _ _ r.begun r.lawful g (r.engine.owes f g))
@@ -401,7 +368,7 @@ module _ (cfg : Settings) (core : Parts) (p : Progress) (events : List Event) (b
 
   pub looped : (over : Bool) → (p.end.output && may core.ends IfaceLost) ≡ false → (p.end.engine && may core.ends EngineLost) ≡ false → over ≡ (core.ends.iface && core.ends.engine) → over ≡ true → Looped cfg events b m p.end
   looped over h k v t =
-      let w = both_ends core.ends.iface core.ends.engine (sym v ∙ t) in
+      let w = and_parts core.ends.iface core.ends.engine (sym v ∙ t) in
       let i : told.iface_lost ≡ p.end.output = told_iff p.end.output told.iface_lost (output_none h) (λ q. (r.output.whole q).0) in
       let j : told.engine_lost ≡ p.end.engine = told_iff p.end.engine told.engine_lost (engine_none k) (λ q. (r.engine.whole q).0) in
       record {

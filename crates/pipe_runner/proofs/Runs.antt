@@ -1,9 +1,8 @@
 -- What a run leaves.
-use Rattle.std.proofs.Common.{◌≡◌, ℕ, List, [], ◌++◌, Bool, true, refl, sym, ap, subst, ◌∙◌, append-nil}
+use Rattle.std.proofs.Common.{◌≡◌, ℕ, List, [], Bool, true, refl, sym, ap, subst, ◌∙◌}
 use Rattle.line_io.specs.Event.{Event}
 use Rattle.line_io.specs.Source.{Supplied}
 use Rattle.adapter_core.specs.Trace.{state}
-use Rattle.event_pipe.specs.declared.message.Peer.{Peer}
 use Rattle.event_pipe.specs.declared.message.Peer.TheVariants as peers
 use Rattle.event_pipe.specs.declared.reader.ReadEnd.{ReadEnd}
 use Rattle.policy_rules.specs.declared.settings.Settings.{Settings}
@@ -11,13 +10,11 @@ use Rattle.sink_offers.specs.declared.offering.LoopEnd.{LoopEnd}
 use Rattle.event_pipe.specs.Rule.{sent_by, ended}
 use Rattle.event_pipe.specs.Ends.{Came}
 use Rattle.event_pipe.specs.Arrivals.{Arrived}
+use Rattle.event_pipe.proofs.Roles.{all_came}
 use Rattle.sink_offers.specs.Streams.{Sinks, Streams, streams}
 use Rattle.pipe_runner.specs.Looped.{Looped}
 use Rattle.pipe_runner.specs.Ran.{Ran}
 use Rattle.pipe_runner.proofs.Facts.{iface_is, engine_is}
-
-all_came : (p : Peer) (events sent : List Event) → Came p events sent → ended (sent_by p events) ≡ true → sent ≡ sent_by p events
-all_came p events sent c e = c.front ∙ ap (λ (l : List Event). sent_by p events ++ l) (c.whole e) ∙ append-nil (sent_by p events)
 
 pub ran : (settings : Settings) (first second : ReadEnd) (done : LoopEnd) (i i' s s' : Supplied) (b a : Sinks) (events sent1 sent2 : List Event)
     → Looped settings events b a done → Came peers.Iface events sent1 → Came peers.Engine events sent2 → Arrived peers.Iface i i' sent1 first → Arrived peers.Engine s s' sent2 second

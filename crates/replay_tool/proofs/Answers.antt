@@ -25,25 +25,8 @@ use Rattle.command_endings.specs.Streams.{Streams, AreSame, IsSteady}
 use Rattle.replay_tool.specs.Replayed.{IsTheSession, WritesScript, AllReplayed, FaultReported, WholeReplayed, MuchReplayed, FrontWritten, CompletesReplay, TellsFault, IsProperIn, WritesItAgain, Replayed}
 use Rattle.replay_tool.specs.Laws.{HaveLaws}
 use Rattle.session_script.specs.Script.{events}
-use Rattle.script_player.proofs.VersionLines.{behind_more, script_fault_stays}
+use Rattle.script_player.proofs.VersionLines.{behind_more, not_none, one_fault, same_fault, no_fault}
 use Rattle.command_endings.proofs.Readings.{few_got, whole_first}
-
-not_none : (a : Option Ending) (f : Ending) → a ≡ None → a ≡ Some f → ⊥
-not_none None f u v = cc
-not_none (Some g) f u v = cc
-
-one_fault : (a : Option Ending) (f g : Ending) → a ≡ Some f → a ≡ Some g → f ≡ g
-one_fault None f g u v = cc
-one_fault (Some h) f g u v = cc
-
--- the first fault of the input is that of its first lines
-same_fault : (l0 : Option (List ℕ)) (lines : List Piece) (x : List ℕ) (f : Ending) → AreFirst l0 lines → l0 ≡ Some x → script_fault lines ≡ Some f → script_fault (items 131072 x) ≡ Some f
-same_fault l0 lines x f a e i =
-    let first = subst (λ (l : Option (List ℕ)). AreFirst l lines) e a in
-    ap script_fault first.1 ∙ script_fault_stays lines first.0 f i
-
-no_fault : (l0 : Option (List ℕ)) (got x : List ℕ) → IsAll l0 got → l0 ≡ Some x → script_fault (items 131072 got) ≡ None → script_fault (items 131072 x) ≡ None
-no_fault l0 got x a e n = ap (λ (l : List ℕ). script_fault (items 131072 l)) (subst (λ (l : Option (List ℕ)). IsAll l got) e a) ∙ n
 
 module _ (o : Settings) (unread kept : Type 0) (start now : Streams) where
   abbrev untouched : Type 0

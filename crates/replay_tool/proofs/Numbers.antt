@@ -3,6 +3,7 @@ use Rattle.std.proofs.Common.{◌≡◌, ◌≢◌, ℕ, ◌+◌, ◌≤◌, Lis
 use Rattle.std.specs.List.{before_first}
 use Rattle.std.specs.Str.{bytes_eq}
 use Rattle.std.proofs.lemmas.Bool.Decides.{nat_tests}
+use Rattle.std.proofs.lemmas.Slice.Eq.{bytes_eq-Decides}
 use Rattle.line_io.specs.Event.{Event}
 use Rattle.line_io.specs.Lines.{Piece, Whole, is_feed, parts}
 use Rattle.script_lines.specs.Marks.{event_text}
@@ -24,7 +25,7 @@ use Rattle.replay_tool.specs.Check.{lines_by, BeginBy, AwaitBy, kind_in}
 use Rattle.script_player.specs.Versions.{Second, Kind, Tells, Writes, Numbers, HasNone, kind_of, kind_says, Comes, Starts, HasNoMark, IsOutOfStep, Cannot}
 use Rattle.replay_tool.specs.Walked.{Fit, TakesEvent, TakesNumber, TakesDue, Fails, said_undue, undue, other_than, fit, fault_in, Followed, Standing}
 use Rattle.replay_tool.proofs.Checks.{longer_lines, next_number, next_event, no_await, number_kind, header_some}
-use Rattle.replay_tool.proofs.Places.{Taken, Goes, Unmarked, MayNot, Other, same_bytes, other_bytes, no_bytes, nothing, is_quiet, shows_next, by_other, written_is, written_still, tells_text, numbers_text, one_event, whole_one, ends_are}
+use Rattle.replay_tool.proofs.Places.{Taken, Goes, Unmarked, MayNot, Other, other_bytes, no_bytes, nothing, is_quiet, shows_next, by_other, written_is, written_still, tells_text, numbers_text, one_event, whole_one, ends_are}
 use Rattle.replay_tool.proofs.StageLines.{over_may}
 
 more_some : (before : List Piece) (p : Piece) → 1 ≤ length (before ++ p ∷ [])
@@ -116,7 +117,7 @@ module _ (o s : Settings) (core : Parts) (last : ℕ) (due : List ℕ) (before :
     lawful = st.lawful;
     opened = st.opened;
     stands = st.stands;
-    at = (shows_next o (Second s) core (stages.Told last) due before st some p number core' stage' due' st.at.0 d (ap Whole (same_bytes line (before_first is_feed due) e)) f.2, st.at.1);
+    at = (shows_next o (Second s) core (stages.Told last) due before st some p number core' stage' due' st.at.0 d (ap Whole ((bytes_eq-Decides line (before_first is_feed due)).0 e)) f.2, st.at.1);
   })))
   by_same2 d false e = λ answer a f.
       by_other o (Second s) core (stages.Told last) due before st some p number core' stage' due' st.at.0 d (λ h. other_bytes line (before_first is_feed due) e (whole_one h)) await2

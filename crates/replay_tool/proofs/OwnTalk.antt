@@ -1,9 +1,10 @@
 -- The report on the script of a lawful trace finds no fault.
-use Rattle.std.proofs.Common.{◌≡◌, ◌⊎◌, inl, inr, ℕ, ◌+◌, List, [], ◌∷◌, ◌++◌, map, length, Bool, true, false, cond, ◌||◌, Option, Some, None, is_some, refl, sym, ap, subst, ◌∙◌, arith, append_assoc}
+use Rattle.std.proofs.Common.{◌≡◌, ◌⊎◌, inl, inr, ℕ, ◌+◌, List, [], ◌∷◌, ◌++◌, map, length, Bool, true, cond, ◌||◌, Option, Some, None, is_some, refl, sym, ap, subst, ◌∙◌, arith, append_assoc}
 use Rattle.std.specs.Prelude.{IfSome}
 use Rattle.std.specs.List.{AllByRecursion}
 use Rattle.std.specs.Option.{option_to_list}
 use Rattle.std.specs.Io.KnownBytes.{Appends}
+use Rattle.std.proofs.lemmas.Bool.{or_left, or_right}
 use Rattle.line_io.specs.Lines.{Piece, Whole, items, piece_of}
 use Rattle.policy_rules.specs.declared.settings.Settings.{Settings}
 use Rattle.policy_rules.specs.Policy.{IsProper}
@@ -41,10 +42,6 @@ record GoesOn (c : Course) (lines : List (List ℕ)) : Type 0 where
   faultless : c.ending ≡ None
   runs : Runs c.talk (marks_told lines) (λ t. Unit {0})
 
-or_true : (a b : Bool) → a ≡ true → (a || b) ≡ true
-or_true true b e = refl
-or_true false b e = cc
-
 -- and so once a line of this kind was read
 abbrev GoesOnBehind : Course → ℕ → List (List ℕ) → Kind → Type 0
 GoesOnBehind c n lines kind = GoesOn (with_outcome c (of_kind c.talk n kind)) lines
@@ -62,7 +59,7 @@ read_one c n l ls k g =
     by None e =
         let r : Runs c.talk (marks_told ls) (λ t. Unit {0}) = subst (λ (x : Option Mark). Runs c.talk (option_to_list x ++ marks_told ls) (λ t. Unit {0})) e g.runs in
         let step : is_some (step_of l) ≡ true = sym (ap (λ (x : Option Mark). is_some x || is_some (step_of l)) e) ∙ k in
-        let passed : is_passed n l ≡ true = or_true (is_some (step_of l)) _ step in
+        let passed : is_passed n l ≡ true = or_left (is_some (step_of l)) _ step in
         subst (λ (x : Option Mark). GoesOnBehind c n ls (kind_by x (is_passed n l))) (sym e)
         (subst (λ (x : Bool). GoesOnBehind c n ls (cond x Passes HasNone)) (sym passed) (record { faultless = refl; runs = r }))
 
@@ -96,15 +93,11 @@ script1_faultless o t l =
     ∙ ap (λ (ps : List Piece). (report ps).ending) (log_pieces (lines_of t) log.known)
     ∙ over_log unread 1 (lines_of t) log.known (record { faultless = refl; runs = subst (λ (ms : List Mark). Runs opening ms (λ u. Unit {0})) (sym log.told) (trace_runs o t l) })
 
-or_last : (a b : Bool) → b ≡ true → (a || b) ≡ true
-or_last true b e = refl
-or_last false b e = e
-
 -- a header in line 1 is passed over
 header_read : (o : Settings) (ls : List (List ℕ)) → IsProper o → GoesOn unread ls → GoesOn (read_on None unread 1 (Whole (header_text o))) ls
 header_read o ls p g =
     let h = header_text o in
-    let passed : is_passed 1 h ≡ true = or_last (is_some (step_of h)) (is_some (header_of h)) (ap (λ (x : Option Settings). is_some x) (header_again o p)) in
+    let passed : is_passed 1 h ≡ true = or_right (is_some (step_of h)) (is_some (header_of h)) (ap (λ (x : Option Settings). is_some x) (header_again o p)) in
     subst (λ (x : Option Mark). GoesOnBehind unread 1 ls (kind_by x (is_passed 1 h))) (sym (ap mark_of (header_words o)))
     (subst (λ (x : Bool). GoesOnBehind unread 1 ls (cond x Passes HasNone)) (sym passed) (record { faultless = refl; runs = g.runs }))
 

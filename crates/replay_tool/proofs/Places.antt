@@ -28,9 +28,6 @@ use Rattle.script_player.specs.Versions.{Version, First, settings_by, Kind, Tell
 use Rattle.replay_tool.specs.Walked.{Fit, TakesEvent, TakesDue, Fails, said_undue, said_other, undue, other_than, fit, fault_in, Followed, at_end as ending_at, Shows, Standing}
 use Rattle.replay_tool.proofs.Checks.{all_told_of, whole_told, IsSomeIn, longer_lines, none_missing, is_due, next_plain}
 
-pub same_bytes : (a b : List ℕ) → bytes_eq a b ≡ true → a ≡ b
-same_bytes a b e = (bytes_eq-Decides a b).0 e
-
 pub other_bytes : (a b : List ℕ) → bytes_eq a b ≡ false → a ≡ b → ⊥
 other_bytes a b e same = let t = sym e ∙ (bytes_eq-Decides a b).1 same in cc
 
@@ -232,7 +229,7 @@ module _ (o : Settings) (core : Parts) (due : List ℕ) (before : List Piece) (s
     lawful = st.lawful;
     opened = st.opened;
     stands = st.stands;
-    at = shows_next o First core stages.Plain due before st tt p number core' stage' due' st.at d (ap Whole (same_bytes line (before_first is_feed due) e)) f.2;
+    at = shows_next o First core stages.Plain due before st tt p number core' stage' due' st.at d (ap Whole ((bytes_eq-Decides line (before_first is_feed due)).0 e)) f.2;
   })))
   by_same1 d false e = λ answer a f.
       by_other o First core stages.Plain due before st tt p number core' stage' due' st.at d (λ h. other_bytes line (before_first is_feed due) e (whole_one h))

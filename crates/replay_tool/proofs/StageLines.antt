@@ -1,10 +1,7 @@
 -- What a stage lets come.
-use Rattle.std.proofs.Common.{◌≡◌, ℕ, ◌+◌, ◌<◌, ◌^◌, Bool, true, false, not, cond, ◌==◌, ◌&&◌, refl, sym, ap, subst, ◌∙◌, arith, []}
-use Rattle.std.proofs.lemmas.Bool.Decides.{nat_tests}
+use Rattle.std.proofs.Common.{◌≡◌, ℕ, ◌+◌, Bool, true, false, not, ◌&&◌, refl, sym, ap, subst, ◌∙◌, []}
 use Rattle.line_io.specs.Event.{Event, is_line}
 use Rattle.line_io.specs.Event as events
-use Rattle.script_lines.specs.StepLine.{step_number}
-use Rattle.script_lines.proofs.Numerals.{number_below}
 use Rattle.adapter_core.specs.declared.ends.Ends.{Ends}
 use Rattle.adapter_core.specs.Ends.{may, is_over}
 use Rattle.adapter_core.specs.Parts.{Parts}
@@ -12,22 +9,8 @@ use Rattle.adapter_core.specs.Stands.{Stands}
 use Rattle.script_player.specs.declared.stage.Stage.{Stage}
 use Rattle.script_player.specs.declared.stage.Stage.TheVariants as stages
 use Rattle.replay_tool.specs.Walked.{IsOpen, MayTake}
-use Rattle.script_player.specs.Versions.{Kind, Tells, Numbers, Comes, Starts, IsOutOfStep, Cannot, event_says, number_says, kind_says, stage_started}
-
-no_event : (ends : Ends) (e : Event) (n : ℕ) → event_says ends e ≡ Starts n → ⊥
-no_event ends e n h = by (may ends e) h where
-  by : (b : Bool) → cond b (Comes e) Cannot ≡ Starts n → ⊥
-  by true h = cc
-  by false h = cc
-
-is_due : (due n m : ℕ) → number_says due n ≡ Starts m → m ≡ due
-is_due due n m h = by (n == due) refl h where
-  by : (b : Bool) → (n == due) ≡ b → cond b (Starts n) IsOutOfStep ≡ Starts m → m ≡ due
-  by true t h = let x : n ≡ m = cc in let y : n ≡ due = grind (arith, nat_tests) in sym x ∙ y
-  by false t h = cc
-
-due_below : (k n m : ℕ) → number_says (step_number k) n ≡ Starts m → m < 10 ^ 18
-due_below k n m h = let e = is_due (step_number k) n m h in let b = number_below k in omega (arith, e, b)
+use Rattle.script_player.specs.Versions.{Kind, Tells, Writes, Numbers, HasNone, Starts, kind_says, stage_started}
+use Rattle.script_player.proofs.Plays.{no_event, due_below}
 
 -- the number of a step has at most 18 digits
 pub starts_open : (stage : Stage) (ends : Ends) (kind : Kind) (m : ℕ) → IsOpen stage → kind_says stage ends kind ≡ Starts m → IsOpen (stage_started stage m)

@@ -5,7 +5,8 @@ use Rattle.std.specs.Prelude.{IfSome}
 use Rattle.std.proofs.lemmas.List.Concat.{flat_map-append}
 use Rattle.line_io.specs.Event.{Event}
 use Rattle.line_io.specs.Lines.{Piece, Whole, TooLong}
-use Rattle.line_io.specs.Out.{Text, with}
+use Rattle.line_io.specs.Out.{Text}
+use Rattle.line_io.proofs.Puts.{put_none}
 use Rattle.script_lines.specs.Marks.{Mark, Happens, ToIface, ToEngine}
 use Rattle.command_endings.specs.declared.ending.Ending.{Ending}
 use Rattle.command_endings.specs.declared.ending.Ending.TheVariants as endings
@@ -99,9 +100,6 @@ module _ (lives : ℕ) (lines : List Piece) (s : State) (text : List ℕ) (h : H
 
 -- AS A SCRIBE
 
-nothing_more : (held : Text) → held ≡ with held []
-nothing_more held = ap (λ (t : List ℕ). let x : Text = record { text = t; room = held.room } in x) (sym (append-nil held.text))
-
 pub puts_by : (number : ℕ) (p : Piece) (m : Option Mark) (result : Option Ending) (s s' : State) (held held' : Text) → mark_in p ≡ m → Takes number m result s held s' held' → Puts revives number p result s held s' held'
 puts_by number p (Some (Happens e)) None s s' held held' m t = record {
   more = event_text s e;
@@ -110,25 +108,25 @@ puts_by number p (Some (Happens e)) None s s' held held' m t = record {
 }
 puts_by number p (Some (Happens e)) (Some ending) s s' held held' m t = record {
   more = [];
-  put = t.1.same.put ∙ nothing_more held;
+  put = t.1.same.put ∙ put_none held;
   goes = λ s0 lines text h n lives first. event_refused lives lines s text (h lives first) p number e ending n m t.0 t.1.ending_is;
 }
 puts_by number p (Some (ToIface line)) None s s' held held' m t = record {
   more = [];
-  put = t.put ∙ nothing_more held;
+  put = t.put ∙ put_none held;
   goes = λ s0 lines text h n lives first. line_passed lives lines s text (h lives first) p (ToIface line) s' m refl t.state_is;
 }
 puts_by number p (Some (ToIface line)) (Some ending) s s' held held' m t = absurd t
 puts_by number p (Some (ToEngine line)) None s s' held held' m t = record {
   more = [];
-  put = t.put ∙ nothing_more held;
+  put = t.put ∙ put_none held;
   goes = λ s0 lines text h n lives first. line_passed lives lines s text (h lives first) p (ToEngine line) s' m refl t.state_is;
 }
 puts_by number p (Some (ToEngine line)) (Some ending) s s' held held' m t = absurd t
 puts_by number p None None s s' held held' m t = absurd t
 puts_by number p None (Some ending) s s' held held' m t = record {
   more = [];
-  put = t.same.put ∙ nothing_more held;
+  put = t.same.put ∙ put_none held;
   goes = λ s0 lines text h n lives first. line_refused lives lines s text (h lives first) p number ending n m t.ending_is;
 }
 
@@ -153,7 +151,7 @@ closed_by lives lines text ending i c = absurd i
 pub closes_by : (ending : Ending) (s : State) (held held' : Text) → IsInputEnd ending → held' ≡ held → scribe.Closes revives ending s held held'
 closes_by ending s held held' i e = record {
   more = [];
-  put = e ∙ nothing_more held;
+  put = e ∙ put_none held;
   says = λ s0 lines text h lives first.
       let p = h lives first in
       closed_by lives lines (text ++ []) ending i (record { played = p.played; text_is = append-nil text ∙ p.text_is });

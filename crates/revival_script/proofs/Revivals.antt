@@ -1,5 +1,5 @@
 -- What the status of the command `revive` says.
-use Rattle.std.proofs.Common.{◌≡◌, ◌⊎◌, inl, inr, ℕ, ◌+◌, ◌^◌, ◌<◌, List, [], ◌∷◌, ◌++◌, length, take, true, false, is_some, Option, Some, None, refl, sym, ap, subst, ◌∙◌, arith, append_assoc}
+use Rattle.std.proofs.Common.{◌≡◌, ◌⊎◌, inl, inr, ℕ, ◌+◌, ◌^◌, ◌<◌, List, [], ◌∷◌, ◌++◌, length, take, true, false, is_some, Option, refl, sym, ap, subst, ◌∙◌, arith, append_assoc}
 use Rattle.std.proofs.Math.Seq.{take-length}
 use Rattle.std.specs.Io.KnownBytes.{Appends}
 use Rattle.std.specs.List.{AllByRecursion}
@@ -11,9 +11,10 @@ use Rattle.command_endings.specs.declared.ending.Ending.{Ending}
 use Rattle.command_endings.specs.declared.ending.Ending.TheVariants as endings
 use Rattle.command_endings.specs.Diagnostics.{code_of, diagnostic, tail_of}
 use Rattle.command_endings.specs.Ran.{Ran}
-use Rattle.command_endings.specs.Reads.{AreFirst, AreRead, IsAll}
+use Rattle.command_endings.specs.Reads.{AreRead}
 use Rattle.command_endings.specs.Streams.{Streams, AreSame}
 use Rattle.command_endings.specs.Told.{Told}
+use Rattle.command_endings.proofs.Readings.{read_front, first_of, all_of}
 use Rattle.line_io.specs.Source.{Received, Supplied}
 use Rattle.line_scribe.proofs.Outcomes.{outcome}
 use Rattle.line_scribe.specs.Outcomes.{LineReported, Outcome, WroteLast}
@@ -29,27 +30,6 @@ use Rattle.revival_script.specs.Reviving.{Closes, Says, Stops, revives}
 use Rattle.revival_script.proofs.Again.{script_again}
 
 -- FIRST LINES
-
-first_part : (left : Option (List ℕ)) (a b : List Piece) → AreFirst left (a ++ b) → AreFirst left a
-first_part None a b h = h
-first_part (Some x) a b h = (b ++ h.0, h.1 ∙ append_assoc a b h.0)
-
--- what stands before the last of lines that were read was read
-read_part : (start now : Streams) (lines a b : List Piece) → lines ≡ a ++ b → AreRead start now lines → AreRead start now a
-read_part start now lines a b e r = record {
-  got = r.got;
-  reads = r.reads;
-  of_got = (b ++ r.of_got.0, r.of_got.1 ∙ ap (λ (ls : List Piece). ls ++ r.of_got.0) e ∙ append_assoc a b r.of_got.0);
-  of_left = first_part start.input.left a b (subst (λ (ls : List Piece). AreFirst start.input.left ls) e r.of_left);
-}
-
-all_of : (left : Option (List ℕ)) (got x : List ℕ) → IsAll left got → left ≡ Some x → x ≡ got
-all_of None got x a e = cc
-all_of (Some y) got x a e = let same : y ≡ x = cc in sym same ∙ a
-
-first_of : (left : Option (List ℕ)) (lines : List Piece) (x : List ℕ) → AreFirst left lines → left ≡ Some x → (ls : List Piece) × (items 131072 x ≡ lines ++ ls)
-first_of None lines x a e = cc
-first_of (Some y) lines x a e = let same : y ≡ x = cc in subst (λ (z : List ℕ). (ls : List Piece) × (items 131072 z ≡ lines ++ ls)) same a
 
 -- NO FAULT WHERE ALL LINES ARE PLAYED
 
@@ -142,7 +122,7 @@ module _ (lives : ℕ) (U : Type 0) (start now : Streams) (code : ℕ) (r : Ran 
   Front text = (lines : List Piece) × AreRead start now lines × ArePlayed lives lines × (text ≡ revived lives lines)
 
   of_stop : (lines : List Piece) (e : Ending) (text : List ℕ) → AreRead start now lines → Stops lives lines e text → Front text
-  of_stop lines e text r s = (s.is_fault.before, read_part start now lines s.is_fault.before (s.is_fault.line ∷ []) s.is_fault.lines_are r, s.is_fault.played, s.text_is)
+  of_stop lines e text r s = (s.is_fault.before, read_front start now lines s.is_fault.before (s.is_fault.line ∷ []) s.is_fault.lines_are r, s.is_fault.played, s.text_is)
 
   of_close : (lines : List Piece) (text : List ℕ) → AreRead start now lines → Closes lives lines text → Front text
   of_close lines text r c = (lines, r, c.played, c.text_is)

@@ -2,6 +2,7 @@
 use Rattle.std.proofs.Common.{◌≡◌, ◌∙◌, ℕ, suc, ◌+◌, ◌≤◌, List, [], ◌∷◌, ◌++◌, map, codes, length, Bool, true, false, cond, ◌||◌, ◌&&◌, Option, Some, None, refl, sym, ap, subst, arith, append-nil, append_assoc}
 use Rattle.std.proofs.lemmas.List.{length-append}
 use Rattle.std.specs.List.{AllByRecursion}
+use mathlib.Core.Bool.{or-false, or-true}
 use Rattle.line_io.specs.Event.{Event, Iface, IfaceLong, IfaceEnd, Engine, EngineLong, EngineEnd}
 use Rattle.line_io.specs.Lines.{Piece, Whole, TooLong, items}
 use Rattle.line_io.specs.Runs.{whole}
@@ -165,41 +166,33 @@ reading_quit : (s : State) (order : Option AnyOrder) → (reading s order).quit 
 reading_quit s None = refl
 reading_quit s (Some order) = accepting_quit (accepted s order) s order
 
-or_true : (a : Bool) → true ≡ (a || true)
-or_true true = refl
-or_true false = refl
-
-or_none : (a : Bool) → a ≡ (a || false)
-or_none true = refl
-or_none false = refl
-
 or_assoc : (a b c : Bool) → ((a || b) || c) ≡ (a || (b || c))
 or_assoc true b c = refl
 or_assoc false b c = refl
 
 either_quit : (b : Bool) (s t : State) → t.quit ≡ s.quit → (cond b (with_quit s) t).quit ≡ (s.quit || (b || false))
-either_quit true s t h = or_true s.quit
-either_quit false s t h = h ∙ or_none s.quit
+either_quit true s t h = sym (or-true s.quit)
+either_quit false s t h = h ∙ sym (or-false s.quit)
 
 order_quit : (s : State) (line : List ℕ) → (settled (ordering s line)).quit ≡ (s.quit || (is_quit line || false))
 order_quit s line = settled_quit (ordering s line) ∙ either_quit (is_quit line) s (reading s (order_in line)) (reading_quit s (order_in line))
 
 over_quit : (s : State) → (after s Over).quit ≡ (s.quit || false)
-over_quit s = settled_quit (closing s) ∙ or_none s.quit
+over_quit s = settled_quit (closing s) ∙ sym (or-false s.quit)
 
 next_quit : (b : Bool) (s : State) → (after (ending s) (cond b Begin Over)).quit ≡ (s.quit || false)
-next_quit true s = settled_quit (beginning (ending s)) ∙ or_none s.quit
-next_quit false s = settled_quit (closing (ending s)) ∙ or_none s.quit
+next_quit true s = settled_quit (beginning (ending s)) ∙ sym (or-false s.quit)
+next_quit false s = settled_quit (closing (ending s)) ∙ sym (or-false s.quit)
 
 event_quit : (s : State) (e : Event) → (state_after s e).quit ≡ (s.quit || ended (of 1 (e ∷ [])))
 event_quit s (Iface line) = order_quit s line
 event_quit s IfaceEnd = order_quit s (codes "quit")
-event_quit s (Engine line) = settled_quit (hearing s (said_in line)) ∙ or_none s.quit
+event_quit s (Engine line) = settled_quit (hearing s (said_in line)) ∙ sym (or-false s.quit)
 event_quit s EngineLong = next_quit (may_begin s) s
 event_quit s e = over_quit s
 
 quit_behind : (s : State) (es : List Event) → (state_behind s es).quit ≡ (s.quit || ended (of 1 es))
-quit_behind s [] = or_none s.quit
+quit_behind s [] = sym (or-false s.quit)
 quit_behind s (e ∷ es) =
     quit_behind (state_after s e) es ∙ ap (λ (b : Bool). b || ended (of 1 es)) (event_quit s e) ∙ or_assoc s.quit (ended (of 1 (e ∷ []))) (ended (of 1 es))
     ∙ ap (λ (b : Bool). s.quit || b) (sym (any_append is_end (of 1 (e ∷ [])) (of 1 es)) ∙ ap ended (sym (of-append 1 (e ∷ []) es)))

@@ -5,6 +5,8 @@ use Rattle.std.proofs.lemmas.List.Elements.{filter-append}
 use Rattle.std.proofs.lemmas.List.Folds.{list_any-append}
 use Rattle.std.proofs.lemmas.Grind.{flat_map-append}
 use Rattle.std.specs.List.{AllByRecursion, list_any}
+use Rattle.std.proofs.lemmas.Bool.{or_parts}
+use mathlib.Core.Bool.{or-false}
 use Rattle.line_io.specs.Event.{Event, Open, Iface, IfaceEnd, Engine, EngineLong, EngineEnd}
 use Rattle.line_io.specs.Source.{Supplied, Received}
 use Rattle.child_engine.specs.declared.host.HostFault.{HostFault}
@@ -34,14 +36,6 @@ to_append to s [] fs = refl
 to_append to s (e ∷ es) fs = to_append (to_next (is_close e) to (event_child s e)) (state_after s e) es fs
 
 -- WITHOUT A MARK
-
-or_first : (a b : Bool) → (a || b) ≡ false → a ≡ false
-or_first true b h = cc
-or_first false b h = refl
-
-or_second : (a b : Bool) → (a || b) ≡ false → b ≡ false
-or_second true b h = cc
-or_second false b h = h
 
 pub no_mark_heard : (es : List Event) → has_close (heard_of es) ≡ false
 no_mark_heard [] = refl
@@ -92,7 +86,7 @@ none_text to = ap (λ (l : List ℕ). record { ended = to.ended; present = l }) 
 pub present_text : (to : ToLives) (s : State) (es : List Event) → has_close es ≡ false → to_lives to s es ≡ record { ended = to.ended; present = to.present ++ lines_to_child s es }
 present_text to s [] h = none_text to
 present_text to s (e ∷ es) h =
-    one_text (is_close e) to s e es refl (or_first (is_close e) (has_close es) h) (present_text (to_next false to (event_child s e)) (state_after s e) es (or_second (is_close e) (has_close es) h))
+    one_text (is_close e) to s e es refl (or_parts (is_close e) (has_close es) h).0 (present_text (to_next false to (event_child s e)) (state_after s e) es (or_parts (is_close e) (has_close es) h).1)
 
 -- LISTS WITH ONE MORE
 
@@ -104,10 +98,6 @@ or_false : (a b : Bool) → (a || (b || false)) ≡ (a || b)
 or_false true b = refl
 or_false false true = refl
 or_false false false = refl
-
-or_none : (a : Bool) → (a || false) ≡ a
-or_none true = refl
-or_none false = refl
 
 any_last : (p : Life → Bool) (xs : List Life) (x : Life) → list_any p (xs ++ x ∷ []) ≡ (list_any p xs || p x)
 any_last p xs x = list_any-append p xs (x ∷ []) ∙ or_false (list_any p xs) (p x)
@@ -316,7 +306,7 @@ lived_drained source sink s0 s s' sent taken taken' runs tally refused o o' o'' 
             ∙ ap (λ (t : List ℕ). record { ended = map (λ (x : Life). x.text) x.lives; present = t }) d.unwritten;
         refusal =
             list_any-append is_refusal was.events d.events ∙ ap (λ (b : Bool). has_refusal was.events || b) (no_refusal d.events d.open_ended)
-            ∙ ap (λ (b : Bool). b || false) was.refusal ∙ or_none refused;
+            ∙ ap (λ (b : Bool). b || false) was.refusal ∙ or-false refused;
         taken_are =
             map-append as_long was.events d.events ∙ ap (λ (z : List Event). z ++ map as_long d.events) was.taken_are ∙ ap (λ (z : List Event). told_of taken ++ z) d.got_are
             ∙ sym (filter-append is_told taken d.got) ∙ ap told_of (sym d.taken_is);

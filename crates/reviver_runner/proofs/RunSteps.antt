@@ -1,5 +1,6 @@
 -- What a run of all lives leaves.
 use Rattle.std.proofs.Common.{◌≡◌, ◌∙◌, ◌⊎◌, ℕ, suc, ◌+◌, ◌<◌, ◌≤◌, List, [], ◌∷◌, ◌++◌, map, length, Bool, true, false, ◌||◌, Option, Some, None, is_some, refl, sym, ap, subst, arith, inl, inr}
+use mathlib.Core.Bool.{or-true}
 use Rattle.line_io.specs.Source.{Supplied, Received}
 use Rattle.event_pipe.specs.Counts.{Tells}
 use Rattle.child_engine.specs.Hosts.{Books, Told, RisesBy, with_run, told_by}
@@ -9,11 +10,12 @@ use Rattle.host_run.specs.declared.failures.Failures.{Failures}
 use Rattle.host_run.specs.Early.{AreEarly, only_memory, only_start}
 use Rattle.host_run.specs.Logs.{is_failed}
 use Rattle.host_run.specs.Outside.{Outside, outside, unused, AreTold}
-use Rattle.host_run.proofs.Counts.{told_by as counts_told_by, log_told}
+use Rattle.host_run.proofs.Counts.{told_by as counts_told_by, log_told, same_told}
 use Rattle.line_io.specs.Event.{Event}
 use Rattle.child_engine.specs.declared.host.HostFault.TheVariants as faults
 use Rattle.engine_revival.specs.declared.state.State.{State}
 use Rattle.host_run.specs.Logs.{is_no_memory}
+use Rattle.host_run.proofs.Early.{early_told}
 use Rattle.event_pipe.specs.Ends.{IsSender, KeepsSender, KeepsTaker, sent}
 use Rattle.event_pipe.specs.Rule.{ended}
 use Rattle.event_pipe.specs.declared.pipe.PipeSend.{PipeSend}
@@ -30,9 +32,6 @@ use Rattle.life_runner.specs.Played.{told_of, ends_in}
 use Rattle.reviver_runner.specs.Lives.{AreReady, AreTallied, Life, told_of_lives, IsBegun, Tallies, HasLived, GoesOn, Continues, Hands, lives_in, none_failed}
 use Rattle.life_runner.proofs.Appends.{up_none}
 use Rattle.reviver_runner.specs.Ran.{HandsOut, KeepsEnds, Revived, Leaves}
-
-none_told : (a b : ℕ) → b ≡ a → Tells a b false
-none_told a b e = record { later = omega (arith, e); rose = λ f. cc; same = λ _. e }
 
 moved : (a b c d : ℕ) (f : Bool) → b ≡ a → d ≡ c → Tells b c f → Tells a d f
 moved a b c d f p q t = subst (λ n. Tells n d f) p (subst (λ n. Tells b n f) (sym q) t)
@@ -139,31 +138,6 @@ ran_from lives i o f f' b b' after failures e x =
       revived = λ some. revived_from lives i o f f' b b' after failures (x.revived some);
     }
 
-early_told : (i : Supplied) (o : Received) (f f' : Faults) (b b' : Books) (failures : Failures) → f' ≡ record f { starts = f'.starts } → Tells f.starts f'.starts failures.engine_start
-    → (failures ≡ only_memory) ⊎ (failures ≡ only_start) → AreTold (outside i o f b) (outside i o f' b') failures
-early_told i o f f' b b' failures e t (inl w) =
-    subst (λ (x : Failures). AreTold (outside i o f b) (outside i o f' b') x) (sym w)
-    (record {
-      iface_read = none_told i.faults i.faults refl;
-      iface_write = none_told o.faults o.faults refl;
-      engine_read = none_told f.reads f'.reads (ap (λ (x : Faults). x.reads) e);
-      engine_write = none_told f.writes f'.writes (ap (λ (x : Faults). x.writes) e);
-      engine_start = subst (λ (x : Failures). Tells f.starts f'.starts x.engine_start) w t;
-      log = none_told f.logs f'.logs (ap (λ (x : Faults). x.logs) e);
-      engine_wait = none_told f.waits f'.waits (ap (λ (x : Faults). x.waits) e);
-    })
-early_told i o f f' b b' failures e t (inr w) =
-    subst (λ (x : Failures). AreTold (outside i o f b) (outside i o f' b') x) (sym w)
-    (record {
-      iface_read = none_told i.faults i.faults refl;
-      iface_write = none_told o.faults o.faults refl;
-      engine_read = none_told f.reads f'.reads (ap (λ (x : Faults). x.reads) e);
-      engine_write = none_told f.writes f'.writes (ap (λ (x : Faults). x.writes) e);
-      engine_start = subst (λ (x : Failures). Tells f.starts f'.starts x.engine_start) w t;
-      log = none_told f.logs f'.logs (ap (λ (x : Faults). x.logs) e);
-      engine_wait = none_told f.waits f'.waits (ap (λ (x : Faults). x.waits) e);
-    })
-
 neither : (failures : Failures) → (failures ≡ only_memory) ⊎ (failures ≡ only_start) → failures.memory ≡ false → failures.engine_start ≡ false → ⊥
 neither failures (inl w) m g = let z : true ≡ false = ap (λ (x : Failures). x.memory) (sym w) ∙ m in cc
 neither failures (inr w) m g = let z : true ≡ false = ap (λ (x : Failures). x.engine_start) (sym w) ∙ g in cc
@@ -173,7 +147,7 @@ unstarted lives i o f f' b b' failures early e =
     let none = ap (λ (x : Books). x.runs_out) e in
     let no_log = ap (λ (x : Books). x.logs_out) e in
     record {
-      told = early_told i o f f' b b' failures early.others early.starts early.why;
+      told = early_told i o f f' b b' early.others failures early.starts early.why;
       runs = ap (λ (x : Books). length x.runs) e ∙ sym none;
       logs = ap (λ (x : Books). length x.logs) e ∙ sym no_log;
       few_runs = omega (arith, none);
@@ -195,7 +169,7 @@ hands_none lives d d' b0 b b' h0 h h' e f out more books counts few =
       some = omega (arith, more);
       few = omega (arith, more, few);
       others = subst (λ (x : Books). x ≡ record b0 { runs_out = x.runs_out }) (sym e) books;
-      starts = none_told h0.starts h'.starts (ap (λ (x : Faults). x.starts) all);
+      starts = same_told h0.starts h'.starts (ap (λ (x : Faults). x.starts) all);
       other_counts = subst (λ (x : Faults). x ≡ record h0 { starts = x.starts }) (sym all) refl;
     }
 
@@ -291,12 +265,8 @@ pub or_left : (x a b : Bool) → x ≡ (a || b) → a ≡ true → x ≡ true
 or_left x true b e h = e
 or_left x false b e h = cc
 
-or_over : (a : Bool) → (a || true) ≡ true
-or_over true = refl
-or_over false = refl
-
 pub or_right : (x a b : Bool) → x ≡ (a || b) → b ≡ true → x ≡ true
-or_right x a b e h = e ∙ ap (λ (c : Bool). a || c) h ∙ or_over a
+or_right x a b e h = e ∙ ap (λ (c : Bool). a || c) h ∙ or-true a
 
 pub few_as : (d n m : ℕ) → suc d ≤ n → n ≡ m → suc d ≤ m
 few_as d n m few e = subst (λ (k : ℕ). suc d ≤ k) e few
@@ -306,8 +276,8 @@ pub none_tallied : {S K : Type 0} (source : S → Supplied) (sink : K → Receiv
 none_tallied source sink runs tally e r w =
     subst (λ (l : List (Run _ _)). AreTallied source sink l tally) (sym e)
     (record {
-      reads = subst (λ (b : Bool). Tells 0 0 b) (sym r) (none_told 0 0 refl);
-      writes = subst (λ (b : Bool). Tells 0 0 b) (sym w) (none_told 0 0 refl);
+      reads = subst (λ (b : Bool). Tells 0 0 b) (sym r) (same_told 0 0 refl);
+      writes = subst (λ (b : Bool). Tells 0 0 b) (sym w) (same_told 0 0 refl);
     })
 
 -- the ends of the channel behind the last life

@@ -1,6 +1,6 @@
 -- From one life to the next.
-use Rattle.std.proofs.Common.{◌≡◌, ◌∙◌, ℕ, suc, ◌<◌, ◌≤◌, ◌+◌, List, Bool, true, false, ◌&&◌, not, nat_lt, refl, sym, ap, subst, arith}
-use Rattle.std.proofs.lemmas.Bool.{ltb-true}
+use Rattle.std.proofs.Common.{◌≡◌, ◌∙◌, ℕ, suc, ◌<◌, ◌≤◌, ◌+◌, List, true, ◌&&◌, not, nat_lt, sym, ap, subst, arith}
+use Rattle.std.proofs.lemmas.Bool.{ltb-true, and_parts}
 use Rattle.line_io.specs.Event.{Event}
 use Rattle.engine_revival.specs.declared.state.State.{State}
 use Rattle.engine_revival.specs.Steps.{may_begin, is_alive}
@@ -21,12 +21,8 @@ follows_lives s s' (nexts.Life run) h = h.2
 follows_lives s s' nexts.Over h = h.0
 follows_lives s s' (nexts.Refused fault) h = h.0
 
-both_true : (a b : Bool) → (a && b) ≡ true → (a ≡ true) × (b ≡ true)
-both_true true b h = (refl, h)
-both_true false b h = cc
-
 below : (s : State) → may_begin s ≡ true → s.begun < s.lives
-below s may = ltb-true s.begun s.lives (both_true (nat_lt s.begun s.lives) (not s.quit) (both_true (nat_lt s.begun s.lives && not s.quit) (not s.full) may).0).0
+below s may = ltb-true s.begun s.lives (and_parts (nat_lt s.begun s.lives) (not s.quit) (and_parts (nat_lt s.begun s.lives && not s.quit) (not s.full) may).0).0
 
 goes_next : (n : ℕ) (s s' : State) → s.begun ≡ suc n → may_begin s ≡ true → s'.begun ≡ s.begun + 1 → s'.lives ≡ s.lives → is_alive s'.life ≡ true → Goes s' (n + 1)
 goes_next n s s' begun may more same alive =

@@ -3,6 +3,7 @@ use Rattle.std.proofs.Common.{◌≡◌, ◌≢◌, ◌⊎◌, inl, inr, ℕ, �
 use Rattle.std.specs.Option.{option_eq}
 use Rattle.std.specs.Bool.{Decides}
 use Rattle.std.proofs.lemmas.Bool.Decides.{nat_tests, Decides-eqb}
+use Rattle.std.proofs.lemmas.Bool.{and_from, and_parts}
 use Rattle.chess_board.specs.declared.board.Kind.{Kind}
 use Rattle.chess_board.specs.declared.board.Kind.TheVariants.{Pawn, Knight, Bishop, Rook, Queen, King}
 use Rattle.chess_board.specs.declared.board.Move.{Move}
@@ -13,7 +14,6 @@ use Rattle.chess_board.specs.Laws.{IsLegal, Goes as MayGo, Promotes}
 use Rattle.chess_board.specs.Play.{kind_on}
 use Rattle.chess_board.specs.Text.{IsOfficer}
 use Rattle.chess_board.proofs.Below.{some_square-hit}
-use Rattle.chess_board.proofs.Bools.{both}
 use Rattle.chess_board.proofs.Equal.{kinds-Decides}
 use Rattle.chess_board.proofs.Legal.{legal-law, king_kind, pawn_kind}
 use Rattle.chess_board.proofs.Places.{move_same}
@@ -22,7 +22,7 @@ use Rattle.san_text.specs.declared.men.Within.TheVariants.{Board, File, Rank}
 use Rattle.san_text.specs.Writing.{same_kind, kind_at, castles_short, castles_long, is_capture, is_rival, is_within, has_rival}
 use Rattle.san_text.specs.Fit.{allows, castles, agrees}
 use Rattle.san_text.specs.Spelling.{Spelling, Short, Long, Goes}
-use Rattle.san_text.proofs.Bools.{same_test, differs, two_hold}
+use Rattle.san_text.proofs.Bools.{same_test, differs}
 use Rattle.san_text.proofs.Pawns.{same_square, stays, forward_alone, strikes_alone}
 
 equal : (a b : ℕ) → (a == b) ≡ true → a ≡ b
@@ -40,7 +40,7 @@ rival_there p m n d k l =
 -- if there is none, the man is this one
 not_there : (p : Position) (m n : Move) (w : Within) → has_rival p m w ≡ false → is_within w n.from.index m.from.index ≡ true → kind_at p n.from.index ≡ kind_at p m.from.index → IsLegal p n.from.index m.to.index m.promo → n.from.index ≢ m.from.index → ⊥
 not_there p m n w none within k l d =
-    let hit : has_rival p m w ≡ true = some_square-hit (λ s. is_within w s m.from.index && is_rival p m s) n.from.index n.from.on_board (two_hold (is_within w n.from.index m.from.index) (is_rival p m n.from.index) within (rival_there p m n d k l)) in
+    let hit : has_rival p m w ≡ true = some_square-hit (λ s. is_within w s m.from.index && is_rival p m s) n.from.index n.from.on_board (and_from (is_within w n.from.index m.from.index) (is_rival p m n.from.index) within (rival_there p m n d k l)) in
     cc (none, hit)
 
 same_by : (v : Bool) (a b : ℕ) → (a == b) ≡ v → (a ≢ b → ⊥) → a ≡ b
@@ -135,7 +135,7 @@ from_alone p m n true e h i k a c =
 from_alone p m n false e h i k a c =
     same_from n.from.index m.from.index (officer_alone p m n (is_capture p m) (has_rival p m Board) (has_rival p m File) (has_rival p m Rank) refl refl refl a c k i)
 
-promos-Decides : (a b : Option Kind) → option_eq same_kind a b ≡ true → a ≡ b
+pub promos-Decides : (a b : Option Kind) → option_eq same_kind a b ≡ true → a ≡ b
 promos-Decides None None e = refl
 promos-Decides None (Some b) e = cc
 promos-Decides (Some a) None e = cc
@@ -149,7 +149,7 @@ abbrev pub spelling_of : Position → Move → Spelling
 spelling_of p m =
     cond (castles_short p m) Short (cond (castles_long p m) Long (Goes (kind_at p m.from.index) (given_file p m) (given_rank p m) (record { to = m.to.index; promo = m.promo })))
 
--- both castle
+-- and_parts castle
 king_promo : (p : Position) (m : Move) (h : IsLegal p m.from.index m.to.index m.promo) → is_king_kind (kind_at p m.from.index) ≡ true → m.promo ≡ None
 king_promo p m h e =
     let king : h.piece ≡ King = sym (kind_of_move p m.from.index m.to.index m.promo h) ∙ king_kind (kind_at p m.from.index) e in
@@ -157,18 +157,18 @@ king_promo p m h e =
 
 short_alone : (p : Position) (m n : Move) → IsLegal p m.from.index m.to.index m.promo → IsLegal p n.from.index n.to.index n.promo → castles_short p m ≡ true → castles_short p n ≡ true → n ≡ m
 short_alone p m n h i a c =
-    let x = both (is_king_kind (kind_at p m.from.index)) ((m.from.index == king_home p.side) && (m.to.index == king_home p.side + 2)) a in
-    let y = both (is_king_kind (kind_at p n.from.index)) ((n.from.index == king_home p.side) && (n.to.index == king_home p.side + 2)) c in
-    let xs = both (m.from.index == king_home p.side) (m.to.index == king_home p.side + 2) x.1 in
-    let ys = both (n.from.index == king_home p.side) (n.to.index == king_home p.side + 2) y.1 in
+    let x = and_parts (is_king_kind (kind_at p m.from.index)) ((m.from.index == king_home p.side) && (m.to.index == king_home p.side + 2)) a in
+    let y = and_parts (is_king_kind (kind_at p n.from.index)) ((n.from.index == king_home p.side) && (n.to.index == king_home p.side + 2)) c in
+    let xs = and_parts (m.from.index == king_home p.side) (m.to.index == king_home p.side + 2) x.1 in
+    let ys = and_parts (n.from.index == king_home p.side) (n.to.index == king_home p.side + 2) y.1 in
     move_same n m (equal _ _ ys.0 ∙ sym (equal _ _ xs.0)) (equal _ _ ys.1 ∙ sym (equal _ _ xs.1)) (king_promo p n i y.0 ∙ sym (king_promo p m h x.0))
 
 long_alone : (p : Position) (m n : Move) → IsLegal p m.from.index m.to.index m.promo → IsLegal p n.from.index n.to.index n.promo → castles_long p m ≡ true → castles_long p n ≡ true → n ≡ m
 long_alone p m n h i a c =
-    let x = both (is_king_kind (kind_at p m.from.index)) ((m.from.index == king_home p.side) && (m.to.index + 2 == king_home p.side)) a in
-    let y = both (is_king_kind (kind_at p n.from.index)) ((n.from.index == king_home p.side) && (n.to.index + 2 == king_home p.side)) c in
-    let xs = both (m.from.index == king_home p.side) (m.to.index + 2 == king_home p.side) x.1 in
-    let ys = both (n.from.index == king_home p.side) (n.to.index + 2 == king_home p.side) y.1 in
+    let x = and_parts (is_king_kind (kind_at p m.from.index)) ((m.from.index == king_home p.side) && (m.to.index + 2 == king_home p.side)) a in
+    let y = and_parts (is_king_kind (kind_at p n.from.index)) ((n.from.index == king_home p.side) && (n.to.index + 2 == king_home p.side)) c in
+    let xs = and_parts (m.from.index == king_home p.side) (m.to.index + 2 == king_home p.side) x.1 in
+    let ys = and_parts (n.from.index == king_home p.side) (n.to.index + 2 == king_home p.side) y.1 in
     let to = equal _ _ ys.1 ∙ sym (equal _ _ xs.1) in
     move_same n m (equal _ _ ys.0 ∙ sym (equal _ _ xs.0)) (omega (arith, to)) (king_promo p n i y.0 ∙ sym (king_promo p m h x.0))
 
@@ -180,13 +180,13 @@ goes_alone p m n h i a =
     let to = n.to.index == m.to.index in
     let promo = option_eq same_kind n.promo m.promo in
     let kind = same_kind (kind_at p n.from.index) (kind_at p m.from.index) in
-    let x = both (not (castles p n) && kind) ((file && rank) && (to && promo)) a in
-    let y = both (file && rank) (to && promo) x.1 in
-    let arrival = both to promo y.1 in
-    let origin = both file rank y.0 in
+    let x = and_parts (not (castles p n) && kind) ((file && rank) && (to && promo)) a in
+    let y = and_parts (file && rank) (to && promo) x.1 in
+    let arrival = and_parts to promo y.1 in
+    let origin = and_parts file rank y.0 in
     let there = equal n.to.index m.to.index arrival.0 in
     let becomes = promos-Decides n.promo m.promo arrival.1 in
-    let same = (kinds-Decides (kind_at p n.from.index) (kind_at p m.from.index)).0 (both (not (castles p n)) kind x.0).1 in
+    let same = (kinds-Decides (kind_at p n.from.index) (kind_at p m.from.index)).0 (and_parts (not (castles p n)) kind x.0).1 in
     let legal : IsLegal p n.from.index m.to.index m.promo = subst (λ (t : ℕ). IsLegal p n.from.index t m.promo) there (subst (λ (k : Option Kind). IsLegal p n.from.index n.to.index k) becomes i) in
     move_same n m (from_alone p m n (is_pawn_move p m) refl h legal same origin.0 origin.1) there becomes
 
@@ -221,9 +221,9 @@ self_by false true p m s l = l
 self_by false false p m s l =
     let file = allows_given (is_pawn_move p m) (is_capture p m) (has_rival p m Board) (has_rival p m File) (has_rival p m Rank) (file_of m.from.index) in
     let rank = allows_rank (is_pawn_move p m) (has_rival p m Board) (has_rival p m File) (has_rival p m Rank) (rank_of m.from.index) in
-    two_hold _ _
-    (two_hold _ _ (rw (s, l) refl) ((kinds-Decides (kind_at p m.from.index) (kind_at p m.from.index)).1 refl))
-    (two_hold _ _ (two_hold _ _ file rank) (two_hold _ _ ((Decides-eqb m.to.index m.to.index).1 refl) (promo-refl m.promo)))
+    and_from _ _
+    (and_from _ _ (rw (s, l) refl) ((kinds-Decides (kind_at p m.from.index) (kind_at p m.from.index)).1 refl))
+    (and_from _ _ (and_from _ _ file rank) (and_from _ _ ((Decides-eqb m.to.index m.to.index).1 refl) (promo-refl m.promo)))
 
 -- the move agrees with what it is written as
 pub agrees_self : (p : Position) (m : Move) → agrees p (spelling_of p m) m ≡ true

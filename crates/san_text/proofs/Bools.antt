@@ -12,13 +12,6 @@ same_test false true P f g = absurd (cc (f.1 (g.0 refl)))
 pub differs : (a b : ℕ) → a ≢ b → (a == b) ≡ false
 differs a b h = grind (arith, nat_tests)
 
-pub not_false : (b : Bool) → not b ≡ false → b ≡ true
-not_false true e = refl
-not_false false e = cc
-
-pub two_hold : (a b : Bool) → a ≡ true → b ≡ true → (a && b) ≡ true
-two_hold a b e f = rw (e, f) refl
-
 -- another square, the same kind, and legal
 pub rival_is : (here same legal r : Bool) → here ≡ false → same ≡ true → r ≡ legal → r ≡ ((not here && same) && legal)
 rival_is here same legal r e f g = rw (e, f) g

@@ -3,6 +3,7 @@ use Rattle.std.proofs.Common.{◌≡◌, ◌⊎◌, inl, inr, ℕ, ◌+◌, ◌-
 use Rattle.std.specs.Prelude.{nat_le}
 use Rattle.std.specs.Option.{option_map}
 use Rattle.std.proofs.lemmas.Bool.Decides.{nat_tests, Decides-eqb}
+use Rattle.std.proofs.lemmas.Bool.{and_parts}
 use Rattle.chess_board.specs.declared.board.Kind.{Kind}
 use Rattle.chess_board.specs.declared.board.Kind.TheVariants.{Pawn, Knight, Bishop, Rook, Queen, King}
 use Rattle.chess_board.specs.declared.board.Move.{Move}
@@ -11,7 +12,6 @@ use Rattle.chess_board.specs.Position.{Position}
 use Rattle.chess_board.specs.Rules.{is_legal}
 use Rattle.chess_board.specs.Laws.{IsLegal}
 use Rattle.chess_board.specs.Text.{IsOfficer}
-use Rattle.chess_board.proofs.Bools.{both}
 use Rattle.chess_board.proofs.Equal.{kinds-Decides}
 use Rattle.chess_board.proofs.Legal.{legal-law}
 use Rattle.chess_board.proofs.Places.{move_same}
@@ -211,7 +211,7 @@ moved_back p man (Some v) w e =
 form_by : (p : Position) (m : Move) (man : Kind) (front text : List ℕ) → front ≡ letter man → moved_by p man (way_read text) ≡ Some (way_of m) → IsLegal p m.from.index m.to.index m.promo × IsLongForm p m (front ++ text)
 form_by p m man front text e h =
     let moved = moved_back p man (way_read text) (way_of m) h in
-    let tests = both (same_kind (kind_at p m.from.index) man) (is_legal p m.from.index m.to.index m.promo) moved.1 in
+    let tests = and_parts (same_kind (kind_at p m.from.index) man) (is_legal p m.from.index m.to.index m.promo) moved.1 in
     let goes = way_back text (way_of m) moved.0 in
     let same : kind_at p m.from.index ≡ man = (kinds-Decides (kind_at p m.from.index) man).0 tests.0 in (
       (legal-law p m.from.index m.to.index m.promo).0 tests.1,

@@ -3,6 +3,7 @@ use Rattle.std.proofs.Common.{◌≡◌, ◌≢◌, ℕ, ◌+◌, ◌*◌, ◌-�
 use Rattle.std.specs.Prelude.{nat_le}
 use Rattle.std.proofs.lemmas.Bool.Decides.{nat_tests}
 use Rattle.std.specs.Str.{bytes_eq}
+use mathlib.Core.Bool.{and-false}
 use Rattle.chess_board.specs.declared.board.Kind.{Kind}
 use Rattle.chess_board.specs.declared.board.Kind.TheVariants.{Pawn, Knight, Bishop, Rook, Queen, King}
 use Rattle.chess_board.specs.Board.{file_of, rank_of, square_at}
@@ -27,10 +28,6 @@ le_true a b h = grind (arith, nat_tests)
 le_false : (a b : ℕ) → b < a → nat_le a b ≡ false
 le_false a b h = grind (arith, nat_tests)
 
-and_false : (a : Bool) → (a && false) ≡ false
-and_false true = refl
-and_false false = refl
-
 named : (low high b n : ℕ) → low ≤ b → b ≤ high → b - low ≡ n → cond (nat_le low b && nat_le b high) (Some (b - low)) None ≡ Some n
 named low high b n h i e = rw (le_true low b h, le_true b high i) (ap (λ k. Some k) e)
 
@@ -45,7 +42,7 @@ no_file : (r : ℕ) → r < 8 → file_named (49 + r) ≡ None
 no_file r h = rw (le_false 97 (49 + r) (omega arith)) refl
 
 no_rank : (b : ℕ) → 97 ≤ b → rank_named b ≡ None
-no_rank b h = rw (le_false b 56 (omega arith), and_false (nat_le 49 b)) refl
+no_rank b h = rw (le_false b 56 (omega arith), and-false (nat_le 49 b)) refl
 
 abbrev pub target_text : ℕ → ℕ → Option Kind → List ℕ
 target_text f r promo = (97 + f) ∷ (49 + r) ∷ promotion promo

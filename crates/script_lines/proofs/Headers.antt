@@ -1,5 +1,5 @@
 -- Headers: what is read is what is spelled.
-use Rattle.std.proofs.Common.{◌≡◌, ◌↔◌, ℕ, suc, ◌+◌, ◌<◌, ◌≤◌, ◌^◌, List, [], ◌∷◌, ◌++◌, length, take, drop, Bool, true, false, not, cond, ◌&&◌, Option, Some, None, decimal, refl, sym, ap, ◌∙◌, subst, arith, lit<, length-append, append_assoc}
+use Rattle.std.proofs.Common.{◌≡◌, ◌↔◌, ℕ, suc, ◌+◌, ◌<◌, ◌≤◌, ◌^◌, List, [], ◌∷◌, ◌++◌, length, take, drop, Bool, true, false, not, cond, ◌&&◌, Option, Some, None, decimal, refl, sym, ap, ◌∙◌, subst, arith, lit<, length-append, append_assoc, one-add}
 use Rattle.std.specs.Prelude.{◌==◌, codes, nat_le}
 use Rattle.std.specs.List.{list_all, position_or_len}
 use Rattle.std.specs.Str.{bytes_eq}
@@ -21,9 +21,6 @@ use Rattle.script_lines.proofs.Numerals.{numeral_is, numeral_again, same_text}
 
 -- WHAT STANDS BEFORE A BYTE AND BEHIND IT
 
-one : (n : ℕ) → 1 + n ≡ suc n
-one n = omega arith
-
 two : (n : ℕ) → 1 + n + 1 ≡ suc (n + 1)
 two n = omega arith
 
@@ -37,7 +34,7 @@ behind-here : (byte b : ℕ) (bs : List ℕ) → (b == byte) ≡ true → behind
 behind-here byte b bs e = rw e refl
 
 before-later : (byte b : ℕ) (bs : List ℕ) → (b == byte) ≡ false → before byte (b ∷ bs) ≡ b ∷ before byte bs
-before-later byte b bs e = rw (e, one (at byte bs)) refl
+before-later byte b bs e = rw (e, one-add (at byte bs)) refl
 
 behind-later : (byte b : ℕ) (bs : List ℕ) → (b == byte) ≡ false → behind byte (b ∷ bs) ≡ behind byte bs
 behind-later byte b bs e = rw (e, two (at byte bs)) refl
@@ -146,7 +143,7 @@ words_of s =
     truth_word (codes "Resign") s.resign ++ 32 ∷ (number_word (codes "ResignMoves") s.resign_moves
     ++ 32 ∷ (number_word (codes "ResignScore") s.resign_score ++ 32 ∷ truth_word (codes "ShowPonder") s.show_ponder))
 
--- pieces, one behind the other
+-- pieces, one-add behind the other
 in_a_row : (a b c d e f g h : List ℕ) → a ++ b ++ c ++ d ++ e ++ f ++ g ++ h ≡ a ++ (b ++ (c ++ (d ++ (e ++ (f ++ (g ++ h))))))
 in_a_row a b c d e f g h =
     append_assoc (a ++ b ++ c ++ d ++ e ++ f) g h
@@ -280,7 +277,7 @@ short_score s p = length-decimal-le 6 s.resign_score (lit< tt) (let m = p.low_sc
 
 -- WHAT IS WRITTEN
 
--- four pieces, one behind the other
+-- four pieces, one-add behind the other
 four_pieces : (out a b c d : List ℕ) → (((out ++ a) ++ b) ++ c) ++ d ≡ out ++ (a ++ (b ++ (c ++ d)))
 four_pieces out a b c d =
     append_assoc ((out ++ a) ++ b) c d ∙ append_assoc (out ++ a) b (c ++ d) ∙ append_assoc out a (b ++ (c ++ d))

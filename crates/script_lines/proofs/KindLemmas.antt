@@ -4,7 +4,7 @@ use Rattle.std.specs.Prelude.{◌==◌}
 use Rattle.std.specs.List.{list_all}
 use Rattle.std.specs.Char.{is_ascii_digit}
 use Rattle.std.proofs.lemmas.Bool.Decides.{nat_tests}
-use Rattle.peer_words.proofs.Trims.{and_true}
+use Rattle.std.proofs.lemmas.Bool.{or_from, and_parts}
 use Rattle.peer_words.proofs.Written.{decimal_digits}
 use Rattle.line_io.specs.Event.{has_feed}
 use Rattle.policy_rules.specs.declared.settings.Settings.{Settings}
@@ -31,16 +31,12 @@ one_kind line = record {
   header_is_no_step_line = λ s n h k. signs_differ (32 ∷ words_of s) (decimal n) (sym (h.text ∙ header_words s) ∙ k.text);
 }
 
-pub or_false : (a b : Bool) → a ≡ false → b ≡ false → (a || b) ≡ false
-or_false true b e f = absurd (cc)
-or_false false b e f = f
-
 digit_feed : (c : ℕ) → is_ascii_digit c ≡ true → (c == 10) ≡ false
 digit_feed c h = grind (arith, nat_tests)
 
 digits_fed : (ds : List ℕ) → list_all is_ascii_digit ds ≡ true → has_feed ds ≡ false
 digits_fed [] h = refl
-digits_fed (d ∷ ds) h = let both = and_true (is_ascii_digit d) (list_all is_ascii_digit ds) h in or_false (d == 10) (has_feed ds) (digit_feed d both.0) (digits_fed ds both.1)
+digits_fed (d ∷ ds) h = let both = and_parts (is_ascii_digit d) (list_all is_ascii_digit ds) h in or_from (d == 10) (has_feed ds) (digit_feed d both.0) (digits_fed ds both.1)
 
 number_fed : (n : ℕ) → n < 2 ^ 64 → has_feed (decimal n) ≡ false
 number_fed n h = digits_fed (decimal n) (decimal_digits n h)

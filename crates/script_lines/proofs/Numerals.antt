@@ -6,9 +6,9 @@ use Rattle.std.proofs.lemmas.Bool.Decides.{nat_tests}
 use Rattle.std.proofs.lemmas.Option.{cond_some}
 use Rattle.std.proofs.lemmas.Slice.Eq.{bytes_eq-Decides}
 use Rattle.std.proofs.lemmas.Fmt.{length-decimal-le}
+use Rattle.std.proofs.lemmas.Bool.{and_parts}
 use Rattle.peer_words.specs.Numbers.{digits}
 use Rattle.peer_words.proofs.Sizes.{digits_small}
-use Rattle.peer_words.proofs.Trims.{and_true}
 use Rattle.peer_words.proofs.Written.{digits_decimal}
 use Rattle.script_lines.specs.StepLine.{as_written, numeral, step_line, SpellsStep, step_of, step_number}
 
@@ -34,7 +34,7 @@ numeral_again most n some few h =
 step_by : (a b : ℕ) (text : List ℕ) (n : ℕ) → step_of (a ∷ b ∷ text) ≡ Some n → SpellsStep (a ∷ b ∷ text) n
 step_by a b text n h =
     let both = step_tests (a == 35 && b == 32) h in
-    let signs = and_true (a == 35) (b == 32) both.0 in
+    let signs = and_parts (a == 35) (b == 32) both.0 in
     let number = numeral_is 18 n text both.1 in
     record {
       below = number.0;

@@ -2,6 +2,8 @@
 use Rattle.std.proofs.Common.{◌≡◌, ◌⊎◌, ℕ, List, [], ◌∷◌, length, Bool, true, false, cond, ◌&&◌, Option, Some, None, Result, Ok, Err, IfOk, OnErr, ap, sym, ◌∙◌, refl, subst, arith, inl, inr}
 use Rattle.std.specs.Prelude.{◌==◌}
 use Rattle.std.proofs.lemmas.Bool.Decides.{nat_tests}
+use Rattle.std.proofs.lemmas.Bool.{and_parts}
+use Rattle.std.proofs.lemmas.Option.{same_Some}
 use Rattle.line_io.specs.Event.{Event, Open, Iface, IfaceLong, IfaceEnd, IfaceLost, Engine, EngineLong, EngineEnd, EngineLost, is_line}
 use Rattle.script_lines.specs.Marks.{Mark, Happens, ToIface, ToEngine, is_written, is_empty, iface_event, engine_event, happens, mark_of, mark_text, event_text, marked, plain, IsSpelled, SpellsMark, SpellsNone}
 use Rattle.script_lines.specs.declared.marks.Mark as code
@@ -11,10 +13,6 @@ use Rattle.script_lines.specs.declared.marks.BadMark.{BadMark}
 chosen : {A : Type 0} {x y z : A} (b : Bool) → cond b x y ≡ z → ((b ≡ true) × (x ≡ z)) ⊎ ((b ≡ false) × (y ≡ z))
 chosen true e = inl (refl, e)
 chosen false e = inr (refl, e)
-
-both : (a b : Bool) → (a && b) ≡ true → (a ≡ true) × (b ≡ true)
-both true b e = (refl, e)
-both false b e = cc
 
 empty_is : (xs : List ℕ) → is_empty xs ≡ true → xs ≡ []
 empty_is [] e = refl
@@ -29,22 +27,19 @@ none_some e = cc
 -- a sign and nothing behind it
 alone : (letter sign code : ℕ) (rest : List ℕ) → (sign == code && is_empty rest) ≡ true → letter ∷ sign ∷ rest ≡ letter ∷ code ∷ []
 alone letter sign code rest e =
-    let p = both (sign == code) (is_empty rest) e in
+    let p = and_parts (sign == code) (is_empty rest) e in
     ap (λ s. letter ∷ s ∷ rest) (same_code sign code p.0) ∙ ap (λ r. letter ∷ code ∷ r) (empty_is rest p.1)
 
 -- a blank, and a line behind it
 behind : (letter sign : ℕ) (rest : List ℕ) (is : Bool) → (sign == 32 && is) ≡ true → (is ≡ true) × (letter ∷ sign ∷ rest ≡ letter ∷ 32 ∷ rest)
 behind letter sign rest is e =
-    let p = both (sign == 32) is e in
+    let p = and_parts (sign == 32) is e in
     (p.1, ap (λ s. letter ∷ s ∷ rest) (same_code sign 32 p.0))
-
-some_same : {A : Type 0} (x y : A) → Some x ≡ Some y → x ≡ y
-some_same x y e = cc
 
 iface_told : (sign : ℕ) (rest : List ℕ) (e : Event) → iface_event sign rest ≡ Some e → IsSpelled (Happens e) × (120 ∷ sign ∷ rest ≡ event_text e)
 iface_told sign rest e h =
     let told : (x : Event) → Some x ≡ Some e → IsSpelled (Happens x) × (120 ∷ sign ∷ rest ≡ event_text x) → IsSpelled (Happens e) × (120 ∷ sign ∷ rest ≡ event_text e) =
-    λ x s. subst (λ (y : Event). IsSpelled (Happens y) × (120 ∷ sign ∷ rest ≡ event_text y)) (some_same x e s) in
+    λ x s. subst (λ (y : Event). IsSpelled (Happens y) × (120 ∷ sign ∷ rest ≡ event_text y)) (same_Some x e s) in
     elim (chosen (sign == 32 && is_line rest) h) [
       | inl a ↦ told (Iface rest) a.1 (behind 120 sign rest (is_line rest) a.0)
       | inr b ↦ elim (chosen (sign == 33 && is_empty rest) b.1) [
@@ -62,7 +57,7 @@ iface_told sign rest e h =
 engine_told : (sign : ℕ) (rest : List ℕ) (e : Event) → engine_event sign rest ≡ Some e → IsSpelled (Happens e) × (117 ∷ sign ∷ rest ≡ event_text e)
 engine_told sign rest e h =
     let told : (x : Event) → Some x ≡ Some e → IsSpelled (Happens x) × (117 ∷ sign ∷ rest ≡ event_text x) → IsSpelled (Happens e) × (117 ∷ sign ∷ rest ≡ event_text e) =
-    λ x s. subst (λ (y : Event). IsSpelled (Happens y) × (117 ∷ sign ∷ rest ≡ event_text y)) (some_same x e s) in
+    λ x s. subst (λ (y : Event). IsSpelled (Happens y) × (117 ∷ sign ∷ rest ≡ event_text y)) (same_Some x e s) in
     elim (chosen (sign == 32 && is_line rest) h) [
       | inl a ↦ told (Engine rest) a.1 (behind 117 sign rest (is_line rest) a.0)
       | inr b ↦ elim (chosen (sign == 33 && is_empty rest) b.1) [
@@ -78,7 +73,7 @@ engine_told sign rest e h =
     ]
 
 happens_is : (o : Option Event) (mark : Mark) → happens o ≡ Some mark → (e : Event) × (o ≡ Some e) × (Happens e ≡ mark)
-happens_is (Some e) mark h = (e, refl, some_same (Happens e) mark h)
+happens_is (Some e) mark h = (e, refl, same_Some (Happens e) mark h)
 happens_is None mark h = none_some h
 
 -- what is read is spelled so
@@ -99,14 +94,14 @@ read_spelled (letter ∷ sign ∷ rest) mark h =
             subst (SpellsMark line) e.2 (t.0, ap (λ l. l ∷ sign ∷ rest) (same_code letter 117 a.0) ∙ t.1)
         | inr c ↦ elim (chosen (letter == 88 && (sign == 32 && is_written rest)) c.1) [
           | inl a ↦
-              let p = both (letter == 88) (sign == 32 && is_written rest) a.0 in
+              let p = and_parts (letter == 88) (sign == 32 && is_written rest) a.0 in
               let q = behind 88 sign rest (is_written rest) p.1 in
-              subst (SpellsMark line) (some_same (ToIface rest) mark a.1) (q.0, ap (λ l. l ∷ sign ∷ rest) (same_code letter 88 p.0) ∙ q.1)
+              subst (SpellsMark line) (same_Some (ToIface rest) mark a.1) (q.0, ap (λ l. l ∷ sign ∷ rest) (same_code letter 88 p.0) ∙ q.1)
           | inr d ↦ elim (chosen (letter == 85 && (sign == 32 && is_written rest)) d.1) [
             | inl a ↦
-                let p = both (letter == 85) (sign == 32 && is_written rest) a.0 in
+                let p = and_parts (letter == 85) (sign == 32 && is_written rest) a.0 in
                 let q = behind 85 sign rest (is_written rest) p.1 in
-                subst (SpellsMark line) (some_same (ToEngine rest) mark a.1) (q.0, ap (λ l. l ∷ sign ∷ rest) (same_code letter 85 p.0) ∙ q.1)
+                subst (SpellsMark line) (same_Some (ToEngine rest) mark a.1) (q.0, ap (λ l. l ∷ sign ∷ rest) (same_code letter 85 p.0) ∙ q.1)
             | inr n ↦ none_some n.1
           ]
         ]

@@ -2,7 +2,7 @@
 use Rattle.std.proofs.Common.{◌≡◌, ℕ, suc, ◌+◌, ◌<◌, ◌^◌, List, [], ◌∷◌, ◌++◌, length, Bool, true, false, Option, Some, None, is_some, refl, sym, ap, subst, ◌∙◌, arith, append_assoc, append-nil}
 use Rattle.line_io.specs.Event.{Event, event_of}
 use Rattle.line_io.specs.Lines.{Piece, Whole}
-use Rattle.line_io.specs.Out.{Text, with}
+use Rattle.line_io.specs.Out.{Text}
 use Rattle.policy_rules.specs.Policy.{IsProper}
 use Rattle.policy_rules.specs.declared.settings.Settings.{Settings}
 use Rattle.script_lines.specs.Marks.{Mark, Happens, mark_of}
@@ -48,10 +48,6 @@ put_more : (settings : Settings) (lines : List Piece) (p : Piece) (last : Option
     → PutFor settings (lines ++ p ∷ []) last text
 put_more settings [] p last text count s l t = ((count, s, l), t)
 put_more settings (x ∷ xs) p last text count s l t = ((count, s, l), t)
-
--- pieces that are put one after the other
-pub two : (t : Text) (a b : List ℕ) → with (with t a) b ≡ with t (a ++ b)
-two t a b = ap (λ (l : List ℕ). let x : Text = record { text = l; room = t.room } in x) (append_assoc t.text a b)
 
 module _ (s0 s : Migration) (lines : List Piece) (front : List ℕ) (m : Migrates s0 lines s front) where
   pub count_is : (count : ℕ) × (steps_over 1 lines ≡ suc count) × (number_by s.last ≡ step_number count)

@@ -1,5 +1,5 @@
 -- What the status of a migration says.
-use Rattle.std.proofs.Common.{◌≡◌, ◌⊎◌, inl, inr, ℕ, suc, ◌+◌, ◌^◌, ◌<◌, List, [], ◌∷◌, ◌++◌, length, take, true, false, Option, Some, None, is_some, refl, sym, ap, subst, ◌∙◌, arith, append_assoc, append-nil}
+use Rattle.std.proofs.Common.{◌≡◌, ◌⊎◌, inl, inr, ℕ, suc, ◌+◌, ◌^◌, ◌<◌, List, [], ◌∷◌, ◌++◌, length, take, true, false, Option, None, is_some, refl, sym, ap, subst, ◌∙◌, arith, append_assoc, append-nil}
 use Rattle.std.proofs.Math.Seq.{take-length}
 use Rattle.std.specs.Io.KnownBytes.{Appends}
 use Rattle.line_io.specs.Lines.{Piece, items}
@@ -11,8 +11,9 @@ use Rattle.command_endings.specs.declared.ending.Ending.{Ending}
 use Rattle.command_endings.specs.declared.ending.Ending.TheVariants as endings
 use Rattle.command_endings.specs.Diagnostics.{code_of, diagnostic}
 use Rattle.command_endings.specs.Ran.{Ran}
-use Rattle.command_endings.specs.Reads.{AreFirst, AreRead, IsAll}
+use Rattle.command_endings.specs.Reads.{AreRead}
 use Rattle.command_endings.specs.Streams.{Streams, AreSame}
+use Rattle.command_endings.proofs.Readings.{first_of, all_of}
 use Rattle.line_scribe.specs.Outcomes.{LineReported, Outcome, WroteLast}
 use Rattle.line_scribe.specs.Putting.{IsOfLine}
 use Rattle.line_scribe.specs.Scribed.{EndsBy, IsText, WroteFront, WroteAll, WroteWhole}
@@ -51,14 +52,6 @@ same_number n k lines ls more ms all e f u v =
     let left = ap (λ (x : List Piece). x ++ more) u.lines_are ∙ append_assoc u.before (u.line ∷ []) more in
     let right = ap (λ (x : List Piece). x ++ ms) v.lines_are ∙ append_assoc v.before (v.line ∷ []) ms in
     u.number_is ∙ ap (λ j. j + 1) (one_first u.before v.before u.line v.line more ms (sym left ∙ sym e ∙ f ∙ right) u.marked v.marked u.no_mark v.no_mark) ∙ sym v.number_is
-
-first_of : (l0 : Option (List ℕ)) (lines : List Piece) (x : List ℕ) → AreFirst l0 lines → l0 ≡ Some x → (ls : List Piece) × (items 131072 x ≡ lines ++ ls)
-first_of None lines x a e = cc
-first_of (Some y) lines x a e = let same : y ≡ x = cc in subst (λ (z : List ℕ). (ls : List Piece) × (items 131072 z ≡ lines ++ ls)) same a
-
-all_of : (l0 : Option (List ℕ)) (got x : List ℕ) → IsAll l0 got → l0 ≡ Some x → x ≡ got
-all_of None got x a e = cc
-all_of (Some y) got x a e = let same : y ≡ x = cc in sym same ∙ a
 
 -- WHAT WAS PUT
 

@@ -49,13 +49,13 @@ comes_at (Second s) stages.Start count ends kind e c h = absurd c
 comes_at (Second s) stage count ends kind e c h = cc
 comes_at v stage count ends kind e c h = absurd c
 
-no_event : (ends : Ends) (e : Event) (n : ℕ) → event_says ends e ≡ Starts n → ⊥
+pub no_event : (ends : Ends) (e : Event) (n : ℕ) → event_says ends e ≡ Starts n → ⊥
 no_event ends e n h = by (may ends e) h where
   by : (b : Bool) → cond b (Comes e) Cannot ≡ Starts n → ⊥
   by true h = cc
   by false h = cc
 
-is_due : (due n m : ℕ) → number_says due n ≡ Starts m → m ≡ due
+pub is_due : (due n m : ℕ) → number_says due n ≡ Starts m → m ≡ due
 is_due due n m h = by (n == due) refl h where
   by : (b : Bool) → (n == due) ≡ b → cond b (Starts n) IsOutOfStep ≡ Starts m → m ≡ due
   by true t h = let x : n ≡ m = cc in let y : n ≡ due = grind (arith, nat_tests) in sym x ∙ y
@@ -311,7 +311,7 @@ started_numbered stages.Headed n l = l
 started_numbered (stages.Told k) n l = l
 started_numbered (stages.Numbered k) n l = l
 
-due_below : (k n m : ℕ) → number_says (step_number k) n ≡ Starts m → m < 10 ^ 18
+pub due_below : (k n m : ℕ) → number_says (step_number k) n ≡ Starts m → m < 10 ^ 18
 due_below k n m h = let e = is_due (step_number k) n m h in let b = number_below k in omega (arith, e, b)
 
 starts_below : (stage : Stage) (ends : Ends) (kind : Kind) (m : ℕ) → kind_says stage ends kind ≡ Starts m → m < 10 ^ 18

@@ -1,9 +1,10 @@
 -- One line more.
-use Rattle.std.proofs.Common.{◌≡◌, ℕ, suc, ◌+◌, List, [], ◌∷◌, ◌++◌, length, Option, Some, None, refl, ap, ◌∙◌, arith}
+use Rattle.std.proofs.Common.{◌≡◌, ℕ, suc, ◌+◌, List, [], ◌∷◌, ◌++◌, length, Option, Some, None, refl, ap, ◌∙◌, arith, subst}
 use Rattle.line_io.specs.Event.{Event}
-use Rattle.line_io.specs.Lines.{Piece, Whole, TooLong}
+use Rattle.line_io.specs.Lines.{Piece, Whole, TooLong, items}
 use Rattle.command_endings.specs.declared.ending.Ending.{Ending}
-use Rattle.script_player.specs.Versions.{Version, First, Second, version_in, behind_header, header_lines, Place, Said, Comes, Passes, Starts, HasNoMark, IsOutOfStep, Cannot, line_says, place_said, place_over, fault_said, or_later, first_fault, events_said, events_of, beginning, fault_by}
+use Rattle.command_endings.specs.Reads.{AreFirst, IsAll}
+use Rattle.script_player.specs.Versions.{Version, First, Second, version_in, behind_header, header_lines, Place, Said, Comes, Passes, Starts, HasNoMark, IsOutOfStep, Cannot, line_says, place_said, place_over, fault_said, or_later, first_fault, events_said, events_of, beginning, fault_by, script_fault}
 
 pub no_earlier : (a b : Option Ending) → or_later a b ≡ None → (a ≡ None) × (b ≡ None)
 no_earlier None b e = (refl, e)
@@ -75,3 +76,20 @@ script_fault_stays (l ∷ ls) ms f e =
     ap (λ (x : Version). fault_by x ((l ∷ ls) ++ ms)) (version_stays l ls ms)
     ∙ ap (first_fault (1 + header_lines v) (beginning v)) (behind_more v (l ∷ ls) ms refl)
     ∙ fault_stays (1 + header_lines v) (beginning v) (behind_header v (l ∷ ls)) ms f e
+
+pub not_none : (a : Option Ending) (f : Ending) → a ≡ None → a ≡ Some f → ⊥
+not_none None f u v = cc
+not_none (Some g) f u v = cc
+
+pub one_fault : (a : Option Ending) (f g : Ending) → a ≡ Some f → a ≡ Some g → f ≡ g
+one_fault None f g u v = cc
+one_fault (Some h) f g u v = cc
+
+-- the first fault of the input is that of its first lines
+pub same_fault : (l0 : Option (List ℕ)) (lines : List Piece) (x : List ℕ) (f : Ending) → AreFirst l0 lines → l0 ≡ Some x → script_fault lines ≡ Some f → script_fault (items 131072 x) ≡ Some f
+same_fault l0 lines x f a e i =
+    let first = subst (λ (l : Option (List ℕ)). AreFirst l lines) e a in
+    ap script_fault first.1 ∙ script_fault_stays lines first.0 f i
+
+pub no_fault : (l0 : Option (List ℕ)) (got x : List ℕ) → IsAll l0 got → l0 ≡ Some x → script_fault (items 131072 got) ≡ None → script_fault (items 131072 x) ≡ None
+no_fault l0 got x a e n = ap (λ (l : List ℕ). script_fault (items 131072 l)) (subst (λ (l : Option (List ℕ)). IsAll l got) e a) ∙ n

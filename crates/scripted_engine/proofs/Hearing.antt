@@ -3,6 +3,7 @@ use Rattle.std.proofs.Common.{◌≡◌, ℕ, ◌≤◌, List, [], ◌∷◌, �
 use Rattle.std.specs.Result.{is_err}
 use Rattle.std.specs.Io.KnownBytes.{Appends}
 use Rattle.std.proofs.KnownBytes.{Appends-trans, Appends-nil}
+use mathlib.Core.Bool.{or-false}
 use Rattle.line_io.specs.Causes.{Rose}
 use Rattle.line_io.specs.Lines.{Piece, Whole, TooLong, items}
 use Rattle.line_io.specs.Source.{TakesPrefix}
@@ -62,12 +63,8 @@ heard_long blocks pieces turns output0 output h =
 line_more : (ps : List Piece) (line : List ℕ) → has_quit (until_quit ps) ≡ false → until_quit (ps ++ Whole line ∷ []) ≡ until_quit ps ++ line ∷ []
 line_more ps line e = until_append ps (Whole line ∷ []) e ∙ ap (λ l. until_quit ps ++ line ∷ l) (none_behind line)
 
-or_false : (b : Bool) → (b || false) ≡ b
-or_false true = refl
-or_false false = refl
-
 quits : (ps : List Piece) (line : List ℕ) → has_quit (until_quit ps) ≡ false → has_quit (until_quit (ps ++ Whole line ∷ [])) ≡ is_quit line
-quits ps line e = ap has_quit (line_more ps line e) ∙ has_append (until_quit ps) (line ∷ []) ∙ ap (λ v. v || has_quit (line ∷ [])) e ∙ or_false (is_quit line)
+quits ps line e = ap has_quit (line_more ps line e) ∙ has_append (until_quit ps) (line ∷ []) ∙ ap (λ v. v || has_quit (line ∷ [])) e ∙ or-false (is_quit line)
 
 reply_line : (blocks : List Block) (turns turns' : Scripted) (pieces : List Piece) (output0 output : Received) (line text : List ℕ) → Gives turns turns' line text → (h : Heard blocks pieces turns output0 output)
     → h.told ++ text ≡ replies blocks (pieces ++ Whole line ∷ [])

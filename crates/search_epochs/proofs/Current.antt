@@ -1,5 +1,6 @@
 -- What holds of an open current search, by what is kept.
 use Rattle.std.proofs.Common.{◌≡◌, ℕ, Bool, true, false, not, cond, ◌||◌, ◌==◌, refl, sym, ap, subst, ◌∙◌}
+use mathlib.Core.Bool.{not-not}
 use Rattle.peer_words.specs.declared.kinds.GoKind.{GoKind}
 use Rattle.peer_words.specs.declared.kinds.GoKind.TheVariants as kinds
 use Rattle.search_epochs.specs.declared.words.EngineState.{EngineState}
@@ -12,7 +13,6 @@ use Rattle.search_epochs.specs.declared.words.Orders.TheVariants as orders
 use Rattle.search_epochs.specs.Tickets.{Engine, Search, What, Says, Ticketed, Turn, TicketWithin, LastWithin, turned, is_move, is_nothing, kind_of}
 use Rattle.search_epochs.specs.Dialogue.{Dialogue, forget, stale_state, settled_state, choose, choose_search, after_what, mid_dialogue, kept}
 use Rattle.search_epochs.specs.History.{answers, answers_at, is_end}
-use Rattle.search_epochs.proofs.Turns.{twice}
 use Rattle.search_epochs.proofs.Whole.{mid_kept}
 
 -- of an open current search, its kind
@@ -55,7 +55,7 @@ mid_current P v w true call call' stays h = none_if_stale (λ k. P k call') (aft
 mid_current P v w false call call' stays h = heard_current P v w call call' (stays refl) h
 
 answers_forgotten : (epoch : ℕ) (e : Engine) (w : What) → answers_kept w (forget epoch e) ≡ answers_at w epoch e
-answers_forgotten epoch (Search kinds.Move t s) (Says said.Best) = twice (t == epoch)
+answers_forgotten epoch (Search kinds.Move t s) (Says said.Best) = not-not (t == epoch)
 answers_forgotten epoch e (Says said.UciOk) = refl
 answers_forgotten epoch e w = refl
 

@@ -28,7 +28,7 @@ gone_kept epoch (Search k t s) = refl
 gone_kept epoch Gone = refl
 
 -- `quit` leaves the engine as it is
-quit_sent : (epoch : ℕ) (e : Engine) → sent epoch e Quit ≡ e
+pub quit_sent : (epoch : ℕ) (e : Engine) → sent epoch e Quit ≡ e
 quit_sent epoch Boot = refl
 quit_sent epoch Getting = refl
 quit_sent epoch Idle = refl

@@ -39,7 +39,7 @@ hit_needs Idle m = absurd m
 hit_needs Gone m = absurd m
 hit_needs (Search k t s) m = (t, ap (λ g. Search g t s) m.0 ∙ ap (Search kinds.Ponder t) m.1)
 
-gone_refuses : (w : Word) → MaySend Gone w → ⊥
+pub gone_refuses : (w : Word) → MaySend Gone w → ⊥
 gone_refuses Uci m = m
 gone_refuses Stop m = m
 gone_refuses PonderHit m = m

@@ -25,7 +25,7 @@ owed_is_called : (b : Bool) (c : Call) → is_nothing (cond b calls.Nothing c) �
 owed_is_called true c e = cc
 owed_is_called false c e = refl
 
-move_serves : (c : Call) → is_move c ≡ true → Serves kinds.Move c
+pub move_serves : (c : Call) → is_move c ≡ true → Serves kinds.Move c
 move_serves calls.Nothing e = cc
 move_serves calls.Move e = (refl, refl)
 move_serves (calls.Ponder h) e = cc
@@ -72,7 +72,7 @@ other_call k calls.Move e h = sym h.1
 other_call k (calls.Ponder g) e h = cc
 other_call k calls.Analyse e h = cc
 
-served_no_move : (k : GoKind) (call : Call) → (k ≡ kinds.Move → ⊥) → Serves k call → is_move call ≡ false
+pub served_no_move : (k : GoKind) (call : Call) → (k ≡ kinds.Move → ⊥) → Serves k call → is_move call ≡ false
 served_no_move k call other h = by_call (is_move call) refl where
   by_call : (b : Bool) → is_move call ≡ b → is_move call ≡ false
   by_call true e = absurd (other (other_call k call e h))

@@ -1,5 +1,5 @@
 -- What the status of the command `games` says.
-use Rattle.std.proofs.Common.{◌≡◌, ◌⊎◌, inl, inr, ℕ, zero, suc, ◌+◌, ◌^◌, ◌<◌, ◌≤◌, List, [], ◌∷◌, ◌++◌, length, take, Option, Some, None, refl, sym, ap, subst, ◌∙◌, arith}
+use Rattle.std.proofs.Common.{◌≡◌, ◌⊎◌, inl, inr, ℕ, zero, suc, ◌+◌, ◌^◌, ◌<◌, ◌≤◌, List, [], ◌∷◌, ◌++◌, length, take, None, refl, sym, ap, subst, ◌∙◌, arith}
 use Rattle.std.proofs.Math.Seq.{take-length}
 use Rattle.std.proofs.KnownBytes.{Appends-nil}
 use Rattle.std.specs.Io.KnownBytes.{Appends}
@@ -20,12 +20,12 @@ use Rattle.command_endings.specs.declared.ending.Ending.{Ending}
 use Rattle.command_endings.specs.declared.ending.Ending.TheVariants as endings
 use Rattle.command_endings.specs.Diagnostics.{code_of, diagnostic, tail_of}
 use Rattle.command_endings.specs.Ran.{Ran, WritingBroke}
-use Rattle.command_endings.specs.Reads.{AreFirst, AreRead, IsAll}
+use Rattle.command_endings.specs.Reads.{AreRead}
 use Rattle.command_endings.specs.Streams.{Streams, AreSame}
 use Rattle.command_endings.specs.Told.{Told}
 use Rattle.script_player.specs.Stages.{IsNumbered}
 use Rattle.script_player.specs.Versions.{script_events, script_fault, settings_by, version_in}
-use Rattle.script_player.proofs.VersionLines.{script_fault_stays}
+use Rattle.script_player.proofs.VersionLines.{not_none, one_fault, same_fault, no_fault}
 use Rattle.line_scribe.specs.Outcomes.{LineReported, Outcome, WroteLast}
 use Rattle.line_scribe.proofs.Outcomes.{memory_ran, outcome}
 use Rattle.line_scribe.specs.Putting.{IsOfLine}
@@ -60,23 +60,6 @@ nothing_gathered w o u = record {
 }
 
 -- THE FIRST FAULT
-
-not_none : (a : Option Ending) (f : Ending) → a ≡ None → a ≡ Some f → ⊥
-not_none None f u v = cc
-not_none (Some g) f u v = cc
-
-one_fault : (a : Option Ending) (f g : Ending) → a ≡ Some f → a ≡ Some g → f ≡ g
-one_fault None f g u v = cc
-one_fault (Some h) f g u v = cc
-
--- the first fault of the input is that of its first lines
-fault_stays : (l0 : Option (List ℕ)) (lines : List Piece) (x : List ℕ) (f : Ending) → AreFirst l0 lines → l0 ≡ Some x → script_fault lines ≡ Some f → script_fault (items 131072 x) ≡ Some f
-fault_stays l0 lines x f a e i =
-    let first = subst (λ (l : Option (List ℕ)). AreFirst l lines) e a in
-    ap script_fault first.1 ∙ script_fault_stays lines first.0 f i
-
-fault_of_all : (l0 : Option (List ℕ)) (got x : List ℕ) → IsAll l0 got → l0 ≡ Some x → script_fault (items 131072 got) ≡ None → script_fault (items 131072 x) ≡ None
-fault_of_all l0 got x a e n = ap (λ (l : List ℕ). script_fault (items 131072 l)) (subst (λ (l : Option (List ℕ)). IsAll l got) e a) ∙ n
 
 -- A FRONT OF THE TEXT
 
@@ -230,16 +213,16 @@ module _ (o : Settings) (w0 : GameWriter) (is_new : w0 ≡ fresh o) (unused : Is
   complete x e l none s = of (out.complete x e l s) where
     of : Completed → (code ≡ 0) ⊎ (code ≡ 3)
     of (inl p) = inl p.0
-    of (inr (inl r)) = absurd (not_none (script_fault (items 131072 x)) r.ending none (fault_stays start.input.left r.wrote.lines x r.ending r.wrote.read.of_left e (the_fault code r).0.0))
+    of (inr (inl r)) = absurd (not_none (script_fault (items 131072 x)) r.ending none (same_fault start.input.left r.wrote.lines x r.ending r.wrote.read.of_left e (the_fault code r).0.0))
     of (inr (inr z)) = inr z
 
   faults_told : TellsFault start now code
   faults_told x fault e l is s = of (out.complete x e l s) where
     of : Completed → ((code ≡ 2) × Appends start.diag.taken now.diag.taken (diagnostic fault)) ⊎ (code ≡ 3)
-    of (inl p) = absurd (not_none (script_fault (items 131072 x)) fault (fault_of_all start.input.left p.1.got x p.1.all e (p.1.says o unused).0) is)
+    of (inl p) = absurd (not_none (script_fault (items 131072 x)) fault (no_fault start.input.left p.1.got x p.1.all e (p.1.says o unused).0) is)
     of (inr (inl r)) =
         let f = the_fault code r in
-        let same = one_fault (script_fault (items 131072 x)) r.ending fault (fault_stays start.input.left r.wrote.lines x r.ending r.wrote.read.of_left e f.0.0) is in
+        let same = one_fault (script_fault (items 131072 x)) r.ending fault (same_fault start.input.left r.wrote.lines x r.ending r.wrote.read.of_left e f.0.0) is in
         inl (r.code_is ∙ f.1, subst (λ (y : Ending). Appends start.diag.taken now.diag.taken (diagnostic y)) same r.told)
     of (inr (inr z)) = inr z
 

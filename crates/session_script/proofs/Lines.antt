@@ -1,6 +1,7 @@
 -- The lines of a script, one step after the other.
-use Rattle.std.proofs.Common.{◌≡◌, ℕ, List, [], ◌∷◌, ◌++◌, map, Bool, true, false, not, cond, ◌||◌, ◌&&◌, refl, ap, sym, ◌∙◌, append_assoc, append-nil}
+use Rattle.std.proofs.Common.{◌≡◌, ℕ, List, [], ◌∷◌, ◌++◌, map, Bool, true, false, not, cond, ◌&&◌, refl, ap, sym, ◌∙◌, append_assoc, append-nil}
 use Rattle.std.specs.List.{onto_first, flat_map, AllByRecursion}
+use Rattle.std.proofs.lemmas.Bool.{not-true, or_from, and_parts}
 use Rattle.line_io.specs.Event.{Event, Open, has_feed, is_line}
 use Rattle.line_io.specs.Event as events
 use Rattle.line_io.specs.Lines.{parts, is_feed}
@@ -16,13 +17,9 @@ use Rattle.session_script.specs.Script.{step_text, script1}
 abbrev pub AreBare : List (List ℕ) → Type 0
 AreBare ps = AllByRecursion (λ p. has_feed p ≡ false) ps
 
-or_false : (a b : Bool) → a ≡ false → b ≡ false → (a || b) ≡ false
-or_false true b e f = cc
-or_false false b e f = f
-
 onto_bare : (x : ℕ) (ps : List (List ℕ)) → is_feed x ≡ false → AreBare ps → AreBare (onto_first x ps)
-onto_bare x [] e b = (or_false (is_feed x) false e refl, tt)
-onto_bare x (p ∷ ps) e b = (or_false (is_feed x) (has_feed p) e b.0, b.1)
+onto_bare x [] e b = (or_from (is_feed x) false e refl, tt)
+onto_bare x (p ∷ ps) e b = (or_from (is_feed x) (has_feed p) e b.0, b.1)
 
 bare_next : (x : ℕ) (ps : List (List ℕ)) (v : Bool) → is_feed x ≡ v → AreBare ps → AreBare (cond v ([] ∷ ps) (onto_first x ps))
 bare_next x ps true e b = (refl, b)
@@ -41,7 +38,7 @@ marked_parts letter [] ys l b = refl
 marked_parts letter (p ∷ ps) ys l b =
     let later = flat_map (line_marked letter) ps in
     ap parts (append_assoc (line_marked letter p) later ys ∙ append_assoc (behind letter p) (10 ∷ []) (later ++ ys))
-    ∙ parts_line (behind letter p) (later ++ ys) (or_false (is_feed letter) (has_feed p) l b.0)
+    ∙ parts_line (behind letter p) (later ++ ys) (or_from (is_feed letter) (has_feed p) l b.0)
     ∙ ap (λ qs. behind letter p ∷ qs) (marked_parts letter ps ys l b.1)
 
 -- the lines that a step wrote, behind their letters
@@ -66,21 +63,13 @@ IsTold (events.Iface line) = is_line line ≡ true
 IsTold (events.Engine line) = is_line line ≡ true
 IsTold e = Unit {0}
 
-last_true : (a b : Bool) → (a && b) ≡ true → b ≡ true
-last_true true b e = e
-last_true false b e = cc
-
 pub told : (ends : Ends) (e : Event) → may ends e ≡ true → IsTold e
-told ends (events.Iface line) m = last_true (ends.opened && not ends.iface) (is_line line) m
-told ends (events.Engine line) m = last_true (ends.opened && not ends.engine) (is_line line) m
+told ends (events.Iface line) m = (and_parts (ends.opened && not ends.iface) (is_line line) m).1
+told ends (events.Engine line) m = (and_parts (ends.opened && not ends.engine) (is_line line) m).1
 told ends e m = tt
 
-not_false : (b : Bool) → not b ≡ true → b ≡ false
-not_false true e = cc
-not_false false e = refl
-
 no_feed : (a : Bool) (line : List ℕ) → (a && not (has_feed line)) ≡ true → has_feed line ≡ false
-no_feed a line e = not_false (has_feed line) (last_true a (not (has_feed line)) e)
+no_feed a line e = not-true (has_feed line) (and_parts a (not (has_feed line)) e).1
 
 event_parts : (e : Event) (ys : List ℕ) → IsTold e → parts (event_marked e ++ ys) ≡ event_lines e ++ parts ys
 event_parts events.Open ys t = refl

@@ -1,17 +1,18 @@
 -- What the beginning of a script tells of its trace.
-use Rattle.std.proofs.Common.{◌≡◌, ◌⊎◌, inl, inr, ℕ, zero, suc, ◌+◌, ◌-◌, List, [], ◌∷◌, ◌++◌, map, take, drop, length, reverse, Bool, true, false, not, cond, ◌&&◌, Some, None, refl, ap, sym, ◌∙◌, arith, length-append, append_assoc, append-nil}
+use Rattle.std.proofs.Common.{◌≡◌, ◌⊎◌, inl, inr, ℕ, zero, suc, ◌+◌, ◌-◌, List, [], ◌∷◌, ◌++◌, map, take, drop, length, reverse, Bool, true, false, not, cond, Some, None, refl, ap, sym, ◌∙◌, arith, length-append, append_assoc, append-nil}
 use Rattle.std.proofs.lemmas.List.{reverse-append, take_all, take-append-le, take-append-drop}
 use Rattle.std.proofs.Math.Seq.{take-append_seam}
-use Rattle.line_io.specs.Event.{Event, Open, is_line}
+use Rattle.line_io.specs.Event.{Event, Open}
 use Rattle.line_io.specs.Event as events
 use Rattle.line_io.specs.Lines.{parts}
 use Rattle.script_lines.specs.Marks.{Happens, ToIface, ToEngine, is_written, mark_of, event_text}
 use Rattle.script_lines.proofs.Spelled.{spelled_read}
 use Rattle.policy_rules.specs.declared.settings.Settings.{Settings}
 use Rattle.adapter_core.specs.declared.ends.Ends.{Ends}
-use Rattle.adapter_core.specs.Ends.{may, ends_after, at_start}
+use Rattle.adapter_core.specs.Ends.{may, at_start}
 use Rattle.adapter_core.specs.Trace.{Step, Lawful, state, event_in, iface_text, engine_text}
 use Rattle.adapter_core.specs.Stands.{IsOneDialogue}
+use Rattle.adapter_core.proofs.Closing.{opened_later}
 use Rattle.session_script.specs.OneWay.{IsOpened}
 use Rattle.session_script.specs.Script.{events, event_told, events_in}
 use Rattle.session_script.proofs.Lines.{behind, written_lines, event_lines, IsTold, told, step_lines, lines_of, AreTold}
@@ -90,28 +91,8 @@ pub all_told : (o : Settings) (t : List Step) → Lawful o t → AreTold t
 all_told o [] l = tt
 all_told o (s ∷ t) l = (told (state o t).ends s.event l.1.may_come, all_told o t l.0)
 
-first_true : (a b : Bool) → (a && b) ≡ true → a ≡ true
-first_true true b e = refl
-first_true false b e = cc
-
-before_true : (a b c : Bool) → (a && b && c) ≡ true → a ≡ true
-before_true true b c e = refl
-before_true false b c e = cc
-
--- a session stays opened
-opens : (ends : Ends) (e : Event) → may ends e ≡ true → (ends_after ends e).opened ≡ true
-opens ends events.Open m = refl
-opens ends (events.Iface line) m = before_true ends.opened (not ends.iface) (is_line line) m
-opens ends events.IfaceLong m = first_true ends.opened (not ends.iface) m
-opens ends events.IfaceEnd m = first_true ends.opened (not ends.iface) m
-opens ends events.IfaceLost m = before_true ends.opened (not ends.iface) (not ends.iface_lost) m
-opens ends (events.Engine line) m = before_true ends.opened (not ends.engine) (is_line line) m
-opens ends events.EngineLong m = first_true ends.opened (not ends.engine) m
-opens ends events.EngineEnd m = first_true ends.opened (not ends.engine) m
-opens ends events.EngineLost m = before_true ends.opened (not ends.engine) (not ends.engine_lost) m
-
 pub some_opened : (o : Settings) (s : Step) (t : List Step) → Lawful o (s ∷ t) → IsOpened o (s ∷ t)
-some_opened o s t l = opens (state o t).ends s.event l.1.may_come
+some_opened o s t l = opened_later (state o t).ends s.event l.1.may_come
 
 -- where the session is opened, an event that may come is not Open
 pub one_later : (ends : Ends) (e : Event) → ends.opened ≡ true → may ends e ≡ true → later_event e ≡ e ∷ []

@@ -1,1 +1,2 @@
 mod Writes
+pub mod Took

@@ -1,6 +1,5 @@
 mod Splits
 mod Quits
-mod Took
 mod Logs
 mod Passes
 mod Runs

@@ -1,28 +1,20 @@
 -- A turn of the log.
-use Rattle.std.proofs.Common.{◌≡◌, ℕ, ◌≤◌, List, [], ◌∷◌, ◌++◌, length, Bool, true, false, not, ◌&&◌, ◌||◌, refl, sym, ap, subst, ◌∙◌, append-nil, arith}
+use Rattle.std.proofs.Common.{◌≡◌, ℕ, ◌≤◌, List, [], ◌∷◌, ◌++◌, length, Bool, true, false, not, ◌&&◌, refl, sym, ap, subst, ◌∙◌, append-nil, arith}
 use Rattle.std.specs.Prelude.{nat_le}
 use Rattle.std.proofs.lemmas.Bool.Decides.{nat_tests}
 use Rattle.std.proofs.lemmas.List.Concat.{flat_map-append}
+use Rattle.std.proofs.lemmas.Bool.{or_left, or_right, and_parts}
 use Rattle.line_io.specs.Event.{Event, Open, Iface, IfaceLong, IfaceEnd, IfaceLost, Engine, EngineLong, EngineEnd, EngineLost, has_feed}
 use Rattle.line_io.specs.Source.{Received}
-use Rattle.event_pipe.specs.Message.{is_end, is_good}
+use Rattle.event_pipe.specs.Message.{is_good}
 use Rattle.event_pipe.specs.Rule.{of, ended}
-use Rattle.event_pipe.proofs.Keeps.{of-append}
-use Rattle.event_pipe.proofs.Reading.{any_append}
+use Rattle.event_pipe.proofs.Roles.{more_ended}
 use Rattle.sink_offers.specs.Streams.{Offered}
 use Rattle.sink_offers.specs.Took.{LogTook}
 use Rattle.tap_runner.specs.declared.logging.Ends.{Ends}
 use Rattle.tap_runner.specs.Marks.{logged, log_text}
 use Rattle.tap_runner.specs.Logging.{mark_length, ends_after, Logged, Logging}
-use Rattle.tap_runner.proofs.Took.{took_nothing, took_next}
-
-and_left : (a b : Bool) → (a && b) ≡ true → a ≡ true
-and_left true b h = refl
-and_left false b h = cc
-
-and_right : (a b : Bool) → (a && b) ≡ true → b ≡ true
-and_right true b h = h
-and_right false b h = cc
+use Rattle.sink_offers.proofs.Took.{took_nothing, took_next}
 
 within : (n : ℕ) → nat_le n 65536 ≡ true → n ≤ 65536
 within n h = grind (arith, nat_tests)
@@ -30,31 +22,20 @@ within n h = grind (arith, nat_tests)
 -- what came through the channel has room
 pub short : (x : Event) → is_good x ≡ true → mark_length x ≤ 65536
 short Open h = omega arith
-short (Iface line) h = within (length line) (and_left (nat_le (length line) 65536) (not (has_feed line)) h)
+short (Iface line) h = within (length line) (and_parts (nat_le (length line) 65536) (not (has_feed line)) h).0
 short IfaceLong h = omega arith
 short IfaceEnd h = omega arith
 short IfaceLost h = omega arith
-short (Engine line) h = within (length line) (and_left (nat_le (length line) 65536) (not (has_feed line)) h)
+short (Engine line) h = within (length line) (and_parts (nat_le (length line) 65536) (not (has_feed line)) h).0
 short EngineLong h = omega arith
 short EngineEnd h = omega arith
 short EngineLost h = omega arith
 
-left_true : (a b : Bool) → a ≡ true → (a || b) ≡ true
-left_true true b h = refl
-left_true false b h = cc
-
-right_true : (a b : Bool) → b ≡ true → (a || b) ≡ true
-right_true true b h = refl
-right_true false b h = h
-
-more_ended : (role : ℕ) (r xs : List Event) → ended (of role (r ++ xs)) ≡ (ended (of role r) || ended (of role xs))
-more_ended role r xs = ap ended (of-append role r xs) ∙ any_append is_end (of role r) (of role xs)
-
 still : (role : ℕ) (r : List Event) (x : Event) → ended (of role r) ≡ true → ended (of role (r ++ x ∷ [])) ≡ true
-still role r x h = more_ended role r (x ∷ []) ∙ left_true (ended (of role r)) (ended (of role (x ∷ []))) h
+still role r x h = more_ended role r (x ∷ []) ∙ or_left (ended (of role r)) (ended (of role (x ∷ []))) h
 
 now : (role : ℕ) (r : List Event) (x : Event) → ended (of role (x ∷ [])) ≡ true → ended (of role (r ++ x ∷ [])) ≡ true
-now role r x h = more_ended role r (x ∷ []) ∙ right_true (ended (of role r)) (ended (of role (x ∷ []))) h
+now role r x h = more_ended role r (x ∷ []) ∙ or_right (ended (of role r)) (ended (of role (x ∷ []))) h
 
 bridge_next : (ends : Ends) (r : List Event) (x : Event) → (ends.bridge ≡ true → ended (of 1 r) ≡ true) → (ends_after ends x).bridge ≡ true → ended (of 1 (r ++ x ∷ [])) ≡ true
 bridge_next ends r Open h b = still 1 r Open (h b)
@@ -101,4 +82,4 @@ logging_next received received' x y l0 l l' failed failed' ends ends' h got same
 
 pub logged_all : (received : List Event) (l0 l : Received) (failed : Bool) (ends : Ends) → Logging received l0 l failed ends → (ends.bridge && ends.engine) ≡ true → Logged received l0 l failed
 logged_all received l0 l failed ends h both =
-    record { text = h.text; bridge_ended = h.bridge (and_left ends.bridge ends.engine both); engine_ended = h.engine (and_right ends.bridge ends.engine both) }
+    record { text = h.text; bridge_ended = h.bridge (and_parts ends.bridge ends.engine both).0; engine_ended = h.engine (and_parts ends.bridge ends.engine both).1 }

@@ -18,7 +18,7 @@ use Rattle.tap_runner.specs.Marks.{piece_event, piece_events, end_event, marks_o
 use Rattle.tap_runner.specs.Hearing.{Open, fresh, Hears, EndsHearing}
 use Rattle.tap_runner.specs.Passing.{Passed, Passing, Turned, is_last, has_failed_to_read, has_failed_to_write}
 use Rattle.tap_runner.proofs.Splits.{line_append, pieces_append, items_all}
-use Rattle.tap_runner.proofs.Took.{took_nothing, took_then}
+use Rattle.sink_offers.proofs.Took.{took_nothing, took_then}
 
 unlacked : (a b : Bool) → (a ≡ true → b ≡ true) → b ≡ false → a ≡ false
 unlacked true b f h = sym (f refl) ∙ h

@@ -1,19 +1,17 @@
 -- What a run leaves.
-use Rattle.std.proofs.Common.{◌≡◌, List, ◌++◌, true, sym, ap, subst, ◌∙◌, append-nil, Bool}
+use Rattle.std.proofs.Common.{◌≡◌, List, true, sym, subst, Bool}
 use Rattle.line_io.specs.Event.{Event}
 use Rattle.line_io.specs.Source.{Supplied, Received}
 use Rattle.event_pipe.specs.declared.message.Peer.{Peer}
 use Rattle.event_pipe.specs.declared.message.Peer.TheVariants as peers
 use Rattle.event_pipe.specs.Rule.{sent_by, ended}
 use Rattle.event_pipe.specs.Ends.{Came}
+use Rattle.event_pipe.proofs.Roles.{all_came}
 use Rattle.sink_offers.specs.Streams.{sinks, streams}
 use Rattle.tap_runner.specs.declared.passing.PassEnd.{PassEnd}
 use Rattle.tap_runner.specs.Logging.{Logged}
 use Rattle.tap_runner.specs.Passing.{Passed}
 use Rattle.tap_runner.specs.Ran.{Ran}
-
-all_came : (p : Peer) (events sent : List Event) → Came p events sent → ended (sent_by p events) ≡ true → sent ≡ sent_by p events
-all_came p events sent c e = c.front ∙ ap (λ (l : List Event). sent_by p events ++ l) (c.whole e) ∙ append-nil (sent_by p events)
 
 passed_by : (p : Peer) (events sent : List Event) (s s' : Supplied) (k k' : Received) (end : PassEnd) → Came p events sent → ended (sent_by p events) ≡ true → Passed p s s' k k' sent end
     → Passed p s s' k k' (sent_by p events) end

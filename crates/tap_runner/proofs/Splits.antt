@@ -1,9 +1,10 @@
 -- The lines of bytes, taken one byte after the other.
-use Rattle.std.proofs.Common.{◌≡◌, ℕ, suc, ◌+◌, ◌<◌, ◌≤◌, List, [], ◌∷◌, ◌++◌, length, map, Bool, true, false, cond, ◌||◌, Option, Some, None, refl, sym, ap, subst, ◌∙◌, arith, append_assoc, append-nil, length-append}
+use Rattle.std.proofs.Common.{◌≡◌, ℕ, suc, ◌+◌, ◌<◌, ◌≤◌, List, [], ◌∷◌, ◌++◌, length, map, true, false, cond, ◌||◌, Option, Some, None, refl, sym, ap, subst, ◌∙◌, arith, append_assoc, append-nil, length-append}
 use Rattle.std.specs.Prelude.{nat_le, nat_lt}
 use Rattle.std.specs.List.{onto_first}
 use Rattle.std.proofs.lemmas.Bool.Decides.{nat_tests}
 use Rattle.std.proofs.lemmas.List.{map-append}
+use Rattle.std.proofs.lemmas.Bool.{or_parts}
 use Rattle.line_io.specs.Event.{has_feed}
 use Rattle.line_io.specs.Lines.{Piece, Whole, TooLong, is_feed, parts, piece_of, items}
 use Rattle.tap_runner.specs.Lines.{line_limit, with_byte, piece_in, pieces_of, line_after, last_pieces}
@@ -40,19 +41,11 @@ kept_last : (line : List ℕ) → last_pieces (kept line) ≡ map (piece_of 6553
 kept_last [] = refl
 kept_last (x ∷ xs) = elim (nat_le (length (x ∷ xs)) 65534) as (λ c. last_pieces (cond c (Some (x ∷ xs)) None) ≡ cond c (Whole (x ∷ xs)) TooLong ∷ []) [ true ↦ refl | false ↦ refl ]
 
-or_left : (a b : Bool) → (a || b) ≡ false → a ≡ false
-or_left true b h = cc
-or_left false b h = refl
-
-or_right : (a b : Bool) → (a || b) ≡ false → b ≡ false
-or_right true b h = cc
-or_right false b h = h
-
 parts_feed : (line : List ℕ) (bs : List ℕ) → has_feed line ≡ false → parts (line ++ 10 ∷ bs) ≡ line ∷ parts bs
 parts_feed [] bs h = refl
 parts_feed (x ∷ xs) bs h =
-    ap (λ c. cond c ([] ∷ parts (xs ++ 10 ∷ bs)) (onto_first x (parts (xs ++ 10 ∷ bs)))) (or_left (is_feed x) (has_feed xs) h)
-    ∙ ap (onto_first x) (parts_feed xs bs (or_right (is_feed x) (has_feed xs) h))
+    ap (λ c. cond c ([] ∷ parts (xs ++ 10 ∷ bs)) (onto_first x (parts (xs ++ 10 ∷ bs)))) (or_parts (is_feed x) (has_feed xs) h).0
+    ∙ ap (onto_first x) (parts_feed xs bs (or_parts (is_feed x) (has_feed xs) h).1)
 
 onto_last : (x : ℕ) (xs : List ℕ) → onto_first x (last_part xs) ≡ (x ∷ xs) ∷ []
 onto_last x [] = refl
@@ -61,12 +54,12 @@ onto_last x (y ∷ ys) = refl
 parts_last : (line : List ℕ) → has_feed line ≡ false → parts line ≡ last_part line
 parts_last [] h = refl
 parts_last (x ∷ xs) h =
-    ap (λ c. cond c ([] ∷ parts xs) (onto_first x (parts xs))) (or_left (is_feed x) (has_feed xs) h)
-    ∙ ap (onto_first x) (parts_last xs (or_right (is_feed x) (has_feed xs) h)) ∙ onto_last x xs
+    ap (λ c. cond c ([] ∷ parts xs) (onto_first x (parts xs))) (or_parts (is_feed x) (has_feed xs) h).0
+    ∙ ap (onto_first x) (parts_last xs (or_parts (is_feed x) (has_feed xs) h).1) ∙ onto_last x xs
 
 feed_append : (xs : List ℕ) (x : ℕ) → has_feed xs ≡ false → is_feed x ≡ false → has_feed (xs ++ x ∷ []) ≡ false
 feed_append [] x h e = ap (λ c. c || false) e
-feed_append (y ∷ ys) x h e = ap (λ c. c || has_feed (ys ++ x ∷ [])) (or_left (is_feed y) (has_feed ys) h) ∙ feed_append ys x (or_right (is_feed y) (has_feed ys) h) e
+feed_append (y ∷ ys) x h e = ap (λ c. c || has_feed (ys ++ x ∷ [])) (or_parts (is_feed y) (has_feed ys) h).0 ∙ feed_append ys x (or_parts (is_feed y) (has_feed ys) h).1 e
 
 feed_is : (x : ℕ) → is_feed x ≡ true → x ≡ 10
 feed_is x e = grind (arith, nat_tests)

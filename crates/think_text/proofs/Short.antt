@@ -7,15 +7,15 @@ use Rattle.std.specs.List.{slice_split, onto_first}
 use Rattle.std.specs.Option.{unwrap_or}
 use mir.Syntax.{w64}
 use Rattle.chess_board.specs.declared.board.Move.{Move}
-use Rattle.chess_board.specs.declared.board.Kind.{Kind}
 use Rattle.chess_board.specs.Position.{Position}
 use Rattle.chess_board.specs.Place.{legal, legal_at, legal_count, count_below}
-use Rattle.chess_board.specs.Text.{Spells, text_of, promotion_text}
+use Rattle.chess_board.specs.Text.{text_of}
 use Rattle.chess_board.proofs.Count.{count_below-le}
+use Rattle.chess_board.proofs.TextLengths.{move_fits}
 use Rattle.peer_words.specs.Tokens.{is_white, tokens}
 use Rattle.peer_words.proofs.Sizes.{digits_small}
 use Rattle.cecp_lines.specs.Replies.{Reply, Thinking, reply_text, IsWritable, HasWritableMoves}
-use Rattle.cecp_lines.proofs.Lengths.{move_short, told_short}
+use Rattle.cecp_lines.proofs.Lengths.{told_short}
 use Rattle.uci_lines.specs.declared.messages.Score.{Score}
 use Rattle.uci_lines.specs.declared.messages.Score.TheVariants.{Cp, Mate}
 use Rattle.uci_lines.specs.Infos.{no_facts}
@@ -62,23 +62,11 @@ kept_size (p ∷ ps) = kept_step (ltb 0 (length p)) p (filter (λ part. ltb 0 (l
 tokens_size : (t : List ℕ) → size (tokens t) ≤ length t + 1
 tokens_size t = omega (arith, kept_size (slice_split is_white t), parts_size t)
 
-four_size : (m : Move) → m.promo ≡ None → length (text_of m) ≤ 4
-four_size m e = omega (arith, ap (λ (p : Option Kind). length (promotion_text p)) e)
-
-spelled_size : (t : List ℕ) (m : Move) → Spells t m → length (text_of m) ≤ length t
-spelled_size [] m h = absurd h
-spelled_size (f ∷ []) m h = absurd h
-spelled_size (f ∷ r ∷ []) m h = absurd h
-spelled_size (f ∷ r ∷ g ∷ []) m h = absurd h
-spelled_size (f ∷ r ∷ g ∷ s ∷ []) m h = four_size m h.2
-spelled_size (f ∷ r ∷ g ∷ s ∷ letter ∷ []) m h = move_short m
-spelled_size (f ∷ r ∷ g ∷ s ∷ letter ∷ more ∷ others) m h = absurd h
-
 -- a run of moves is no longer than its tokens
 run_size : (ts : List (List ℕ)) (moves : List Move) (others : List (List ℕ)) → IsRun ts moves others → length (spaced moves) + size others ≤ size ts
 run_size ts _ _ (IsRun.Ends h) = omega arith
 run_size _ _ others (IsRun.Goes {t = t} {m = m} {ts = ts} {moves = moves} s r) =
-    omega (arith, spelled_size t m s, run_size ts moves others r, length-append (32 ∷ text_of m) (spaced moves))
+    omega (arith, move_fits t m s, run_size ts moves others r, length-append (32 ∷ text_of m) (spaced moves))
 
 legal_step : (w : Bool) (m : Move) (legals moves : List Move) → length (spaced legals) ≤ length (spaced moves) → length (spaced (cond w (m ∷ legals) [])) ≤ length (spaced (m ∷ moves))
 legal_step true m legals moves h = omega (arith, h, length-append (32 ∷ text_of m) (spaced legals), length-append (32 ∷ text_of m) (spaced moves))

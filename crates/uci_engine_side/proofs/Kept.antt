@@ -4,10 +4,12 @@ use Rattle.std.proofs.lemmas.Bool.Decides.{nat_tests}
 use Rattle.std.proofs.lemmas.List.{append-nil}
 use Rattle.std.proofs.lemmas.List.Folds.{list_all-append}
 use Rattle.std.specs.List.{list_all}
+use Rattle.std.proofs.lemmas.Bool.{and_parts}
+use mathlib.Core.Bool.{and-false}
 use Rattle.peer_words.specs.Tokens.{is_white, is_blank, is_token, trim_left, trim_right, trimmed, tokens}
-use Rattle.peer_words.proofs.Trims.{and_true, trim_right_again, trim_left_trimmed, drops_white}
+use Rattle.peer_words.proofs.Trims.{trim_right_again, trim_left_trimmed, drops_white}
 use Rattle.peer_words.proofs.TokenLists.{tokens_more, tokens_alone, tokens_white, tokens_trim_right}
-use Rattle.peer_words.proofs.Runs.{black, not_false}
+use Rattle.peer_words.proofs.Runs.{black, black_kept}
 use Rattle.uci_lines.specs.Spells.{ends_white}
 use Rattle.uci_engine_side.specs.Said.{spaced}
 use Rattle.uci_lines.proofs.Fronts.{BeginsWhite}
@@ -26,32 +28,21 @@ blank_by (x ∷ xs) true e s = absurd (cc (sym (ap (λ b. cond b [] (x ∷ trim_
 not_blank : (xs : List ℕ) → Solid xs → is_blank xs ≡ false
 not_blank xs s = blank_by xs (is_blank xs) refl s
 
-and_false : (b : Bool) → (b && false) ≡ false
-and_false true = refl
-and_false false = refl
-
 blank_more : (xs ys : List ℕ) → is_blank ys ≡ false → is_blank (xs ++ ys) ≡ false
-blank_more xs ys h = list_all-append is_white xs ys ∙ ap (λ b. is_blank xs && b) h ∙ and_false (is_blank xs)
+blank_more xs ys h = list_all-append is_white xs ys ∙ ap (λ b. is_blank xs && b) h ∙ and-false (is_blank xs)
 
 kept_over : (xs ys : List ℕ) → Solid ys → trim_right (xs ++ ys) ≡ xs ++ ys
 kept_over [] ys s = s.kept
-kept_over (x ∷ xs) ys s = rw (ap (λ b. is_white x && b) (blank_more xs ys (not_blank ys s)) ∙ and_false (is_white x), kept_over xs ys s) refl
+kept_over (x ∷ xs) ys s = rw (ap (λ b. is_white x && b) (blank_more xs ys (not_blank ys s)) ∙ and-false (is_white x), kept_over xs ys s) refl
 
 pub solid_over : (xs ys : List ℕ) → Solid ys → Solid (xs ++ ys)
 solid_over xs ys s = record { some = omega (arith, s.some, length-append xs ys); kept = kept_over xs ys s }
-
--- a text without white space is kept
-black_kept : (xs : List ℕ) → list_all (λ b. not (is_white b)) xs ≡ true → trim_right xs ≡ xs
-black_kept [] h = refl
-black_kept (x ∷ xs) h =
-    let both = and_true (not (is_white x)) (list_all (λ b. not (is_white b)) xs) h in
-    rw (not_false (is_white x) both.0, black_kept xs both.1) refl
 
 above : (n : ℕ) → ltb 0 n ≡ true → 0 < n
 above n h = grind (arith, nat_tests)
 
 pub solid_token : (t : List ℕ) → is_token t ≡ true → Solid t
-solid_token t h = record { some = above (length t) (and_true (ltb 0 (length t)) (list_all (λ b. not (is_white b)) t) h).0; kept = black_kept t (black t h) }
+solid_token t h = record { some = above (length t) (and_parts (ltb 0 (length t)) (list_all (λ b. not (is_white b)) t) h).0; kept = black_kept t (black t h) }
 
 -- TRIMMED TEXTS
 

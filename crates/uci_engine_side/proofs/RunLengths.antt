@@ -1,10 +1,9 @@
 -- The moves that are told are no longer than the tokens of the line.
-use Rattle.std.proofs.Common.{◌≡◌, ℕ, ◌+◌, ◌<◌, ◌≤◌, List, [], ◌∷◌, Bool, true, false, cond, ltb, length, filter, Option, Some, None, ap, arith, length-append}
+use Rattle.std.proofs.Common.{ℕ, ◌+◌, ◌<◌, ◌≤◌, List, [], ◌∷◌, Bool, true, false, cond, ltb, length, filter, arith, length-append}
 use Rattle.std.specs.List.{slice_split, onto_first}
 use Rattle.chess_board.specs.declared.board.Move.{Move}
-use Rattle.chess_board.specs.declared.board.Kind.{Kind}
-use Rattle.chess_board.specs.declared.board.Kind.TheVariants.{Pawn, Knight, Bishop, Rook, Queen, King}
-use Rattle.chess_board.specs.Text.{text_of, promotion_text, Spells as MoveSpells}
+use Rattle.chess_board.specs.Text.{text_of}
+use Rattle.chess_board.proofs.TextLengths.{move_fits}
 use Rattle.peer_words.specs.Tokens.{is_white, tokens}
 use Rattle.uci_lines.specs.Info.{Info}
 use Rattle.uci_lines.specs.Spells.{IsRun, Takes, Tells}
@@ -40,31 +39,6 @@ kept_total p (t ∷ ts) = kept_step (p t) t (filter p ts) ts (kept_total p ts)
 
 pub tokens_total : (text : List ℕ) → total (tokens text) ≤ length text + 1
 tokens_total text = omega (arith, kept_total (λ part. ltb 0 (length part)) (slice_split is_white text), (split_total text).0)
-
-promotion_length : (p : Option Kind) → length (promotion_text p) ≤ 1
-promotion_length None = omega arith
-promotion_length (Some Pawn) = omega arith
-promotion_length (Some King) = omega arith
-promotion_length (Some Queen) = omega arith
-promotion_length (Some Rook) = omega arith
-promotion_length (Some Bishop) = omega arith
-promotion_length (Some Knight) = omega arith
-
-pub move_length : (m : Move) → length (text_of m) ≤ 5
-move_length m = omega (arith, promotion_length m.promo)
-
-no_promotion : (p : Option Kind) → p ≡ None → length (promotion_text p) ≡ 0
-no_promotion p e = ap (λ o. length (promotion_text o)) e
-
--- a move is written with as many bytes as it was read
-move_fits : (text : List ℕ) (m : Move) → MoveSpells text m → length (text_of m) ≤ length text
-move_fits [] m h = absurd h
-move_fits (f ∷ []) m h = absurd h
-move_fits (f ∷ r ∷ []) m h = absurd h
-move_fits (f ∷ r ∷ g ∷ []) m h = absurd h
-move_fits (f ∷ r ∷ g ∷ s ∷ []) m h = omega (arith, no_promotion m.promo h.2)
-move_fits (f ∷ r ∷ g ∷ s ∷ letter ∷ []) m h = omega (arith, move_length m)
-move_fits (f ∷ r ∷ g ∷ s ∷ letter ∷ more ∷ others) m h = absurd h
 
 run_fits : (ts : List (List ℕ)) (moves : List Move) (others : List (List ℕ)) → IsRun ts moves others → length (each_move moves) + total others ≤ total ts
 run_fits ts _ _ (IsRun.Ends h) = omega arith

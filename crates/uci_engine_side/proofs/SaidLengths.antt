@@ -1,12 +1,12 @@
 -- The canonical text of a message is at most 256 bytes longer than the line that spells it.
-use Rattle.std.proofs.Common.{ℕ, suc, ◌+◌, ◌^◌, ◌<◌, ◌≤◌, List, [], ◌∷◌, Bool, true, false, cond, length, drop, Option, Some, None, codes, sym, ap, subst, inl, inr, arith, length-append}
+use Rattle.std.proofs.Common.{ℕ, suc, ◌+◌, ◌^◌, ◌<◌, ◌≤◌, List, [], ◌∷◌, Bool, true, false, cond, length, Option, Some, None, codes, sym, ap, subst, inl, inr, arith, length-append}
 use Rattle.std.specs.Prelude.{ℤ, int_lt, pos, negsuc, nat_abs}
 use Rattle.std.specs.Int.{int_min}
 use Rattle.std.specs.Option.{IfSome}
 use Rattle.std.specs.Fmt.{decimal, signed_decimal}
-use Rattle.std.proofs.lemmas.List.{length-drop}
 use Rattle.chess_board.specs.declared.board.Move.{Move}
-use Rattle.peer_words.specs.Tokens.{trim_left, trimmed, token_end, first_token, rest, tokens}
+use Rattle.chess_board.proofs.TextLengths.{move_length}
+use Rattle.peer_words.specs.Tokens.{trimmed, first_token, rest, tokens}
 use Rattle.uci_lines.specs.declared.messages.Score.{Score}
 use Rattle.uci_lines.specs.declared.messages.Score.TheVariants.{Cp, Mate}
 use Rattle.uci_lines.specs.Cuts.{is_word, is_known}
@@ -19,17 +19,12 @@ use Rattle.uci_lines.specs.Messages.{OptionKind, Check, Spin, Combo, Button, Tex
 use Rattle.uci_lines.specs.Spells.{Behind, HasShape, Declares, Tells, Begins, SpellsMessage}
 use Rattle.uci_engine_side.specs.Said.{spaced, score_text, bound_text, move_text, each_move, pv_text, switch_text, empty_or, shape_text, best_text, said_text}
 use Rattle.uci_engine_side.specs.Again.{TextsFitTheLine}
-use Rattle.uci_lines.proofs.Lengths.{trimmed_length, trim_left_length}
+use Rattle.peer_words.proofs.Lengths.{trimmed_length, rest_length}
 use Rattle.uci_lines.proofs.TextLengths.{count_length}
 use Rattle.uci_engine_side.proofs.SpinsAgain.{one_of, signed_small}
 use Rattle.uci_engine_side.proofs.InfosAgain.{is_small, Fits, tells_fits, none_fits, behind_counts, behind_info, facts_text_is}
-use Rattle.uci_engine_side.proofs.RunLengths.{tokens_total, move_length, told_moves}
+use Rattle.uci_engine_side.proofs.RunLengths.{tokens_total, told_moves}
 use Rattle.uci_engine_side.proofs.ValueLengths.{spaced_length, part_length, sums}
-
-rest_length : (text : List ℕ) → length (rest text) ≤ length text
-rest_length text =
-    let t = trim_left text in
-    omega (arith, trimmed_length (drop (token_end t) t), length-drop (token_end t) t, trim_left_length text)
 
 begun_length : (line word text : List ℕ) → Begins line word text → length text ≤ length line
 begun_length line word text b = omega (arith, part_length is_known line b.0 b.1, ap length b.3)

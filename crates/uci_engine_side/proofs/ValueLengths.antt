@@ -2,17 +2,17 @@
 use Rattle.std.proofs.Common.{◌≡◌, ℕ, suc, ◌+◌, ◌<◌, ◌≤◌, List, [], ◌∷◌, ◌++◌, Bool, true, false, not, ◌&&◌, ◌||◌, cond, length, Option, Some, None, codes, refl, sym, ap, ◌∙◌, subst, arith, append_assoc, length-append}
 use Rattle.std.specs.List.{list_all}
 use Rattle.std.proofs.lemmas.List.Folds.{list_all-append}
+use Rattle.std.proofs.lemmas.Bool.{and_parts}
 use Rattle.peer_words.specs.Tokens.{is_white, is_blank, is_token, tokens, trim_right, trimmed}
-use Rattle.peer_words.proofs.Trims.{and_true}
 use Rattle.uci_lines.specs.Cuts.{Found, cut, is_word, is_choice}
 use Rattle.uci_lines.specs.Choices.{before_choice}
 use Rattle.uci_lines.specs.Spells.{begins_white, ends_white, IsNoneOf, IsFirst, Behind, UpToChoice, HasValues}
 use Rattle.uci_engine_side.specs.Said.{spaced, each_value}
-use Rattle.uci_lines.proofs.Fronts.{bytes_of}
 use Rattle.uci_lines.proofs.CutTokens.{cut_tokens}
 use Rattle.uci_lines.proofs.FirstTokens.{first_cut, none_cut, cut_first, cut_none}
 use Rattle.uci_lines.proofs.Listings.{behind_cut, cut_behind, after_cut, up_to}
-use Rattle.uci_lines.proofs.Lengths.{trimmed_length}
+use Rattle.peer_words.proofs.Lengths.{trimmed_length}
+use Rattle.peer_words.proofs.Runs.{black}
 
 pub spaced_length : (xs : List ℕ) → length (spaced xs) ≤ 1 + length xs
 spaced_length [] = omega arith
@@ -70,7 +70,7 @@ token_black [] ys h k = absurd (clash h)
   where
     clash : is_token [] ≡ true → ⊥
     clash e = absurd (cc)
-token_black (b ∷ bs) ys h k = black_clash (is_white b) (and_true (not (is_white b)) (list_all (λ c. not (is_white c)) bs) (bytes_of (b ∷ bs) h)).0 k
+token_black (b ∷ bs) ys h k = black_clash (is_white b) (and_parts (not (is_white b)) (list_all (λ c. not (is_white c)) bs) (black (b ∷ bs) h)).0 k
 
 -- white space before a token
 record Opens (before : List ℕ) : Type 0 where
@@ -101,7 +101,7 @@ or_left false b h = refl
 weaker : (ts : List (List ℕ)) → IsNoneOf is_choice ts → IsNoneOf (is_word (codes "default")) ts
 weaker [] h = refl
 weaker (t ∷ ts) h =
-    let both = and_true (not (is_choice t)) (list_all (λ u. not (is_choice u)) ts) h in
+    let both = and_parts (not (is_choice t)) (list_all (λ u. not (is_choice u)) ts) h in
     rw (or_left (is_word (codes "default") t) (is_word (codes "var") t) both.0, weaker ts both.1) refl
 
 -- no `default` before a `var`, the `var`, and none behind it

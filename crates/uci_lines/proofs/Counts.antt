@@ -1,12 +1,14 @@
 -- A count behind a word, in both directions.
-use Rattle.std.proofs.Common.{◌≡◌, ℕ, ◌<◌, ◌^◌, List, ◌++◌, Bool, true, false, cond, Option, Some, None, decimal, refl, sym, ap, ◌∙◌, arith, append_assoc}
+use Rattle.std.proofs.Common.{◌≡◌, ℕ, ◌<◌, ◌^◌, List, ◌++◌, true, Option, Some, None, decimal, refl, sym, ap, ◌∙◌, arith, append_assoc}
 use Rattle.std.specs.Str.{bytes_eq}
 use Rattle.std.proofs.lemmas.Slice.Eq.{bytes_eq-Decides}
+use Rattle.std.proofs.lemmas.Option.{cond_some}
 use Rattle.peer_words.specs.Numbers.{count}
 use Rattle.peer_words.proofs.Written.{count_decimal, decimal_token}
+use Rattle.peer_words.proofs.Runs.{black}
 use Rattle.uci_lines.specs.Orders.{optional_number}
 use Rattle.uci_lines.specs.Behind.{after, exact_by, exact_count, counted, number_in, number_behind, number_or, perhaps_number}
-use Rattle.uci_lines.proofs.Fronts.{BeginsWhite, front, behind, joined, front_is, behind_is, bytes_of}
+use Rattle.uci_lines.proofs.Fronts.{BeginsWhite, front, behind, joined, front_is, behind_is}
 use Rattle.uci_lines.proofs.Stripped.{after_word, word_after}
 
 pub same_text : (a b : List ℕ) → bytes_eq a b ≡ true → a ≡ b
@@ -15,14 +17,10 @@ same_text a b h = (bytes_eq-Decides a b).0 h
 pub text_same : (a b : List ℕ) → a ≡ b → bytes_eq a b ≡ true
 text_same a b h = (bytes_eq-Decides a b).1 h
 
-exact_if : (t : Bool) (k n : ℕ) → cond t (Some k) None ≡ Some n → (t ≡ true) × (k ≡ n)
-exact_if true k n h = (refl, cc)
-exact_if false k n h = absurd (cc)
-
 exact_is : (o : Option ℕ) (word : List ℕ) (n : ℕ) → exact_by o word ≡ Some n → decimal n ≡ word
 exact_is None word n h = absurd (cc)
 exact_is (Some k) word n h =
-    let both = exact_if (bytes_eq (decimal k) word) k n h in
+    let both = cond_some (bytes_eq (decimal k) word) k n h in
     ap decimal (sym both.1) ∙ same_text (decimal k) word both.0
 
 counted_is : (o : Option ℕ) (others : List ℕ) (found : ℕ × List ℕ) → counted o others ≡ Some found → (o ≡ Some found.0) × (others ≡ found.1)
@@ -46,12 +44,12 @@ number_takes word text found h = in_is word text (after word text) found refl h
 pub number_again : (word more : List ℕ) (n : ℕ) → n < 10 ^ 18 → BeginsWhite more → number_behind word (word ++ (decimal n ++ more)) ≡ Some (n, more)
 unfolding number_behind
 number_again word more n h w =
-    let black = bytes_of (decimal n) (decimal_token n (omega arith)) in
+    let bytes = black (decimal n) (decimal_token n (omega arith)) in
     let digits : exact_count (front (decimal n ++ more)) ≡ Some n =
-    ap exact_count (front_is (decimal n) more black w) ∙ ap (λ o. exact_by o (decimal n)) (count_decimal n h) ∙ rw (text_same (decimal n) (decimal n) refl) refl in
+    ap exact_count (front_is (decimal n) more bytes w) ∙ ap (λ o. exact_by o (decimal n)) (count_decimal n h) ∙ rw (text_same (decimal n) (decimal n) refl) refl in
     ap number_in (after_word word (decimal n ++ more))
     ∙ ap (λ o. counted o (behind (decimal n ++ more))) digits
-    ∙ ap (λ t. Some (n, t)) (behind_is (decimal n) more black w)
+    ∙ ap (λ t. Some (n, t)) (behind_is (decimal n) more bytes w)
 
 or_takes : (word text : List ℕ) (o : Option (ℕ × List ℕ)) → number_behind word text ≡ o → text ≡ optional_number word (number_or o text).0 ++ (number_or o text).1
 or_takes word text None e = refl

@@ -1,10 +1,10 @@
 -- The tokens of a text that is cut: those before, the one at the cut, those after.
 use Rattle.std.proofs.Common.{◌≡◌, ℕ, List, [], ◌∷◌, ◌++◌, Bool, true, false, Option, Some, None, is_none, ltb, length, refl, sym, ap, ◌∙◌}
 use Rattle.std.specs.Option.{option_map}
+use Rattle.std.proofs.lemmas.Bool.{and_parts}
 use Rattle.chess_board.specs.declared.board.Move.{Move}
 use Rattle.peer_words.specs.Tokens.{is_white, trim_left, trimmed, tokens}
 use Rattle.peer_words.proofs.TokenLists.{tokens_some, tokens_white, tokens_trimmed}
-use Rattle.peer_words.proofs.Trims.{and_true}
 use Rattle.uci_lines.specs.Cuts.{Found, onto_part, cut, is_no_move}
 use Rattle.chess_board.specs.Spelling.{move_of}
 use Rattle.uci_lines.specs.Moves.{add_move, run}
@@ -90,5 +90,5 @@ none_is (Some m) h = absurd (cc)
 pub run_before : (text : List ℕ) (part : Found) → cut is_no_move true text ≡ Some part → run (tokens text) ≡ run (tokens part.before)
 run_before text part h =
     let passes = (cut_is is_no_move true text part h).passes in
-    let none = none_is (move_of part.word) (and_true (ltb 0 (length part.word)) (is_none (move_of part.word)) passes).1 in
+    let none = none_is (move_of part.word) (and_parts (ltb 0 (length part.word)) (is_none (move_of part.word)) passes).1 in
     ap run (cut_tokens is_no_move text part refl h) ∙ run_stops (tokens part.before) part.word (tokens part.after) none

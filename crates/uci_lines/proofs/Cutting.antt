@@ -4,8 +4,10 @@ use Rattle.std.proofs.Math.Seq.{drop-cons}
 use Rattle.std.proofs.lemmas.List.{take_more, append-nil}
 use Rattle.std.specs.List.{before_first, list_all}
 use Rattle.std.specs.Option.{option_map}
+use Rattle.std.proofs.lemmas.Bool.{and_parts}
 use Rattle.peer_words.specs.Tokens.{is_white, is_token, trim_left, token_end, first_token}
-use Rattle.uci_lines.proofs.Fronts.{BeginsWhite, joined, front_black, begins, front-white, front-byte, front_is, behind_is, bytes_of}
+use Rattle.peer_words.proofs.Runs.{black as bytes_of}
+use Rattle.uci_lines.proofs.Fronts.{BeginsWhite, joined, front_black, begins, front-white, front-byte, front_is, behind_is}
 use Rattle.uci_lines.specs.Cuts.{Found, onto_part, cut}
 
 -- a part of what stands behind some bytes, as a part of all
@@ -62,10 +64,6 @@ pub record Cuts (p : List ℕ → Bool) (text : List ℕ) (part : Found) : Type 
   pub black : list_all (λ c. not (is_white c)) part.word ≡ true
   pub begins_white : BeginsWhite part.after
 
-pub second : (a b : Bool) → (a && b) ≡ true → b ≡ true
-second true b h = h
-second false b h = absurd (cc)
-
 further_is : (p : List ℕ → Bool) (b : ℕ) (bs : List ℕ) (found : Option Found) (part : Found) → ((q : Found) → found ≡ Some q → Cuts p bs q) → option_map (onto_part b) found ≡ Some part → Cuts p (b ∷ bs) part
 further_is p b bs None part h e = absurd (cc)
 further_is p b bs (Some q) part h e =
@@ -77,7 +75,7 @@ cut_step : (t : Bool) (p : List ℕ → Bool) (fresh : Bool) (b : ℕ) (bs : Lis
 cut_step true p fresh b bs part e h k =
     let same : Some (part_at (b ∷ bs)) ≡ Some part = sym (rw e refl) ∙ k in
     let is : part_at (b ∷ bs) ≡ part = cc in
-    subst (λ (r : Found). Cuts p (b ∷ bs) r) is (record { whole = sym (joined (b ∷ bs)); passes = second fresh (p (before_first is_white (b ∷ bs))) e; black = front_black (b ∷ bs); begins_white = begins (b ∷ bs) })
+    subst (λ (r : Found). Cuts p (b ∷ bs) r) is (record { whole = sym (joined (b ∷ bs)); passes = (and_parts fresh (p (before_first is_white (b ∷ bs))) e).1; black = front_black (b ∷ bs); begins_white = begins (b ∷ bs) })
 cut_step false p fresh b bs part e h k =
     further_is p b bs (cut p (is_white b) bs) part h (sym (step p fresh b bs e) ∙ k)
 

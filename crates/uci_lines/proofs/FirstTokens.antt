@@ -3,12 +3,13 @@ use Rattle.std.proofs.Common.{◌≡◌, ℕ, suc, List, [], ◌∷◌, ◌++◌
 use Rattle.std.proofs.lemmas.Bool.Decides.{nat_tests}
 use Rattle.std.specs.List.{list_all}
 use Rattle.std.specs.Option.{option_map}
+use Rattle.std.proofs.lemmas.Bool.{not-true, not_from_false, and_parts}
 use Rattle.peer_words.specs.Tokens.{is_white, is_token, tokens}
 use Rattle.peer_words.proofs.TokenLists.{tokens_white}
-use Rattle.peer_words.proofs.Trims.{and_true}
+use Rattle.peer_words.proofs.Runs.{black}
 use Rattle.uci_lines.specs.Cuts.{Found, onto_part, cut}
 use Rattle.uci_lines.specs.Spells.{begins_white, ends_white, IsNoneOf, IsFirst}
-use Rattle.uci_lines.proofs.Fronts.{BeginsWhite, front, behind, front-white, behind-white, front-byte, behind-byte, front_is, behind_is, bytes_of}
+use Rattle.uci_lines.proofs.Fronts.{BeginsWhite, front, behind, front-white, behind-white, front-byte, behind-byte, front_is, behind_is}
 use Rattle.uci_lines.proofs.Cutting.{part_at, step, here, cut_is, front_kept}
 use Rattle.uci_lines.proofs.CutTokens.{tokens_byte}
 
@@ -34,17 +35,6 @@ kept_front : (bs ys : List ℕ) → ends_white false bs ≡ true → front (bs +
 kept_front [] ys h = absurd (cc)
 kept_front (b ∷ bs) ys h = kept_front_step (is_white b) b bs ys refl h (kept_front bs ys)
 
-and_false : (f : Bool) → (f && false) ≡ false
-and_false true = refl
-and_false false = refl
-
-not_true : (t : Bool) → not t ≡ true → t ≡ false
-not_true true h = absurd (cc)
-not_true false h = refl
-
-false_not : (t : Bool) → t ≡ false → not t ≡ true
-false_not t h = ap not h
-
 -- FROM THE RELATION TO THE CUT
 
 record Steps (p : List ℕ → Bool) (fresh : Bool) (b : ℕ) (bs ys : List ℕ) : Type 0 where
@@ -53,8 +43,8 @@ record Steps (p : List ℕ → Bool) (fresh : Bool) (b : ℕ) (bs ys : List ℕ)
 
 black_here : (p : List ℕ → Bool) (fresh : Bool) (b : ℕ) (bs ys : List ℕ) → is_white b ≡ false → front (bs ++ ys) ≡ front bs → IsNoneOf p (since fresh (b ∷ bs)) → ((fresh && p (front (b ∷ (bs ++ ys)))) ≡ false) × IsNoneOf p (tokens (behind bs))
 black_here p true b bs ys e k h =
-    let both = and_true (not (p (b ∷ front bs))) (list_all (λ t. not (p t)) (tokens (behind bs))) (sym (ap (list_all (λ t. not (p t))) (tokens_byte b bs e)) ∙ h) in
-    (ap p (front-byte b (bs ++ ys) e ∙ ap (λ t. b ∷ t) k) ∙ not_true (p (b ∷ front bs)) both.0, both.1)
+    let both = and_parts (not (p (b ∷ front bs))) (list_all (λ t. not (p t)) (tokens (behind bs))) (sym (ap (list_all (λ t. not (p t))) (tokens_byte b bs e)) ∙ h) in
+    (ap p (front-byte b (bs ++ ys) e ∙ ap (λ t. b ∷ t) k) ∙ not-true (p (b ∷ front bs)) both.0, both.1)
 black_here p false b bs ys e k h = (refl, ap (λ t. list_all (λ s. not (p s)) (tokens t)) (sym (behind-byte b bs e)) ∙ h)
 
 white_here : (p : List ℕ → Bool) (fresh : Bool) (b : ℕ) (bs ys : List ℕ) → p [] ≡ false → is_white b ≡ true → IsNoneOf p (since fresh (b ∷ bs)) → ((fresh && p (front (b ∷ (bs ++ ys)))) ≡ false) × IsNoneOf p (tokens bs)
@@ -68,8 +58,8 @@ moved_on p false fresh b bs ys z e k h = black_here p fresh b bs ys e (kept_fron
 cut_word : (p : List ℕ → Bool) (word ys : List ℕ) → is_token word ≡ true → p word ≡ true → BeginsWhite ys → cut p true (word ++ ys) ≡ Some (record { before = []; word = word; after = ys })
 cut_word p [] ys h k w = absurd (cc)
 cut_word p (b ∷ bs) ys h k w =
-    let word : front (b ∷ (bs ++ ys)) ≡ b ∷ bs = front_is (b ∷ bs) ys (bytes_of (b ∷ bs) h) w in
-    let after : behind (b ∷ (bs ++ ys)) ≡ ys = behind_is (b ∷ bs) ys (bytes_of (b ∷ bs) h) w in
+    let word : front (b ∷ (bs ++ ys)) ≡ b ∷ bs = front_is (b ∷ bs) ys (black (b ∷ bs) h) w in
+    let after : behind (b ∷ (bs ++ ys)) ≡ ys = behind_is (b ∷ bs) ys (black (b ∷ bs) h) w in
     here p b (bs ++ ys) (ap p word ∙ k) ∙ ap (λ t. Some (record { before = []; word = t; after = behind (b ∷ (bs ++ ys)) })) word
     ∙ ap (λ t. Some (record { before = []; word = b ∷ bs; after = t })) after
 
@@ -87,8 +77,8 @@ none_step : (p : List ℕ → Bool) (w fresh : Bool) (b : ℕ) (bs : List ℕ) �
 none_step p true true b bs z e h = (ap p (front-white b bs e) ∙ z, ap (list_all (λ t. not (p t))) (sym (tokens_white b bs e)) ∙ h)
 none_step p true false b bs z e h = (refl, ap (λ t. list_all (λ s. not (p s)) t) (sym (ap tokens (behind-white b bs e) ∙ tokens_white b bs e)) ∙ h)
 none_step p false true b bs z e h =
-    let both = and_true (not (p (b ∷ front bs))) (list_all (λ t. not (p t)) (tokens (behind bs))) (sym (ap (list_all (λ t. not (p t))) (tokens_byte b bs e)) ∙ h) in
-    (ap p (front-byte b bs e) ∙ not_true (p (b ∷ front bs)) both.0, both.1)
+    let both = and_parts (not (p (b ∷ front bs))) (list_all (λ t. not (p t)) (tokens (behind bs))) (sym (ap (list_all (λ t. not (p t))) (tokens_byte b bs e)) ∙ h) in
+    (ap p (front-byte b bs e) ∙ not-true (p (b ∷ front bs)) both.0, both.1)
 none_step p false false b bs z e h = (refl, ap (λ t. list_all (λ s. not (p s)) (tokens t)) (sym (behind-byte b bs e)) ∙ h)
 
 none_from : (p : List ℕ → Bool) (fresh : Bool) (text : List ℕ) → p [] ≡ false → IsNoneOf p (since fresh text) → cut p fresh text ≡ None
@@ -107,7 +97,7 @@ none_onto : (p : List ℕ → Bool) (w fresh : Bool) (b : ℕ) (bs : List ℕ) �
 none_onto p true true b bs e h n = ap (list_all (λ t. not (p t))) (tokens_white b bs e) ∙ n
 none_onto p true false b bs e h n = ap (λ t. list_all (λ s. not (p s)) t) (ap tokens (behind-white b bs e) ∙ tokens_white b bs e) ∙ n
 none_onto p false true b bs e h n =
-    let word : not (p (b ∷ front bs)) ≡ true = false_not (p (b ∷ front bs)) (sym (ap p (front-byte b bs e)) ∙ h) in
+    let word : not (p (b ∷ front bs)) ≡ true = not_from_false (p (b ∷ front bs)) (sym (ap p (front-byte b bs e)) ∙ h) in
     ap (list_all (λ t. not (p t))) (tokens_byte b bs e) ∙ rw word n
 none_onto p false false b bs e h n = ap (λ t. list_all (λ s. not (p s)) (tokens t)) (behind-byte b bs e) ∙ n
 

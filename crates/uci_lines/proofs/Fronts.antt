@@ -1,9 +1,9 @@
 -- The token at the front of a text, and what stands behind it.
-use Rattle.std.proofs.Common.{◌≡◌, ℕ, suc, ◌+◌, List, [], ◌∷◌, ◌++◌, Bool, true, false, not, ltb, length, drop, refl, sym, ap, ◌∙◌, arith}
+use Rattle.std.proofs.Common.{◌≡◌, ℕ, ◌+◌, List, [], ◌∷◌, ◌++◌, Bool, true, false, not, drop, refl, sym, ap, ◌∙◌, one-add}
 use Rattle.std.specs.List.{before_first, list_all}
-use Rattle.peer_words.specs.Tokens.{is_white, is_token, token_end, trim_left, first_token, rest, trimmed}
-use Rattle.peer_words.proofs.Trims.{and_true}
-use Rattle.peer_words.proofs.Runs.{not_false}
+use Rattle.std.proofs.lemmas.Bool.{and_parts, not-true}
+use Rattle.peer_words.specs.Tokens.{is_white, is_token, token_end, first_token, rest, trimmed}
+use Rattle.peer_words.proofs.Runs.{starts_black, black}
 
 -- nothing, or a text that begins with white space
 abbrev pub BeginsWhite : List ℕ → Type 0
@@ -16,9 +16,6 @@ front bs = before_first is_white bs
 abbrev pub behind : List ℕ → List ℕ
 behind bs = drop (token_end bs) bs
 
-one : (n : ℕ) → 1 + n ≡ suc n
-one n = omega arith
-
 pub front-white : (b : ℕ) (bs : List ℕ) → is_white b ≡ true → front (b ∷ bs) ≡ []
 front-white b bs e = rw e refl
 
@@ -26,10 +23,10 @@ pub behind-white : (b : ℕ) (bs : List ℕ) → is_white b ≡ true → behind 
 behind-white b bs e = rw e refl
 
 pub front-byte : (b : ℕ) (bs : List ℕ) → is_white b ≡ false → front (b ∷ bs) ≡ b ∷ front bs
-front-byte b bs e = rw (e, one (token_end bs)) refl
+front-byte b bs e = rw (e, one-add (token_end bs)) refl
 
 pub behind-byte : (b : ℕ) (bs : List ℕ) → is_white b ≡ false → behind (b ∷ bs) ≡ behind bs
-behind-byte b bs e = rw (e, one (token_end bs)) refl
+behind-byte b bs e = rw (e, one-add (token_end bs)) refl
 
 -- both together are the text
 joined_step : (w : Bool) (b : ℕ) (bs : List ℕ) → is_white b ≡ w → front bs ++ behind bs ≡ bs → front (b ∷ bs) ++ behind (b ∷ bs) ≡ b ∷ bs
@@ -56,7 +53,7 @@ pub front_black : (bs : List ℕ) → list_all (λ c. not (is_white c)) (front b
 front_black [] = refl
 front_black (b ∷ bs) = black_step (is_white b) b bs refl (front_black bs)
 
--- a text before one that begins with white space
+-- a text before one-add that begins with white space
 pub white_front : (ys : List ℕ) → BeginsWhite ys → front ys ≡ []
 white_front [] h = refl
 white_front (b ∷ bs) h = front-white b bs h
@@ -85,33 +82,24 @@ behind_append (b ∷ bs) ys h = behind_step (is_white b) b bs ys refl (behind_ap
 pub all_front : (t : List ℕ) → list_all (λ c. not (is_white c)) t ≡ true → front t ≡ t
 all_front [] h = refl
 all_front (b ∷ bs) h =
-    let both = and_true (not (is_white b)) (list_all (λ c. not (is_white c)) bs) h in
-    front-byte b bs (not_false (is_white b) both.0) ∙ ap (λ t. b ∷ t) (all_front bs both.1)
+    let both = and_parts (not (is_white b)) (list_all (λ c. not (is_white c)) bs) h in
+    front-byte b bs (not-true (is_white b) both.0) ∙ ap (λ t. b ∷ t) (all_front bs both.1)
 
 pub none_behind : (t : List ℕ) → list_all (λ c. not (is_white c)) t ≡ true → behind t ≡ []
 none_behind [] h = refl
 none_behind (b ∷ bs) h =
-    let both = and_true (not (is_white b)) (list_all (λ c. not (is_white c)) bs) h in
-    behind-byte b bs (not_false (is_white b) both.0) ∙ none_behind bs both.1
+    let both = and_parts (not (is_white b)) (list_all (λ c. not (is_white c)) bs) h in
+    behind-byte b bs (not-true (is_white b) both.0) ∙ none_behind bs both.1
 
--- a text without white space, before one that begins with some
+-- a text without white space, before one-add that begins with some
 pub front_is : (t ys : List ℕ) → list_all (λ c. not (is_white c)) t ≡ true → BeginsWhite ys → front (t ++ ys) ≡ t
 front_is t ys h k = front_append t ys k ∙ all_front t h
 
 pub behind_is : (t ys : List ℕ) → list_all (λ c. not (is_white c)) t ≡ true → BeginsWhite ys → behind (t ++ ys) ≡ ys
 behind_is t ys h k = behind_append t ys k ∙ ap (λ s. s ++ ys) (none_behind t h)
 
-starts : (t ys : List ℕ) → is_token t ≡ true → trim_left (t ++ ys) ≡ t ++ ys
-starts [] ys h = absurd (cc)
-starts (b ∷ bs) ys h =
-    let all = and_true (not (is_white b)) (list_all (λ c. not (is_white c)) bs) (and_true (ltb 0 (length (b ∷ bs))) (list_all (λ c. not (is_white c)) (b ∷ bs)) h).1 in
-    rw (not_false (is_white b) all.0) refl
-
-pub bytes_of : (t : List ℕ) → is_token t ≡ true → list_all (λ c. not (is_white c)) t ≡ true
-bytes_of t h = (and_true (ltb 0 (length t)) (list_all (λ c. not (is_white c)) t) h).1
-
 pub first_is : (t ys : List ℕ) → is_token t ≡ true → BeginsWhite ys → first_token (t ++ ys) ≡ t
-first_is t ys h k = ap front (starts t ys h) ∙ front_is t ys (bytes_of t h) k
+first_is t ys h k = ap front (starts_black t ys h) ∙ front_is t ys (black t h) k
 
 pub rest_is : (t ys : List ℕ) → is_token t ≡ true → BeginsWhite ys → rest (t ++ ys) ≡ trimmed ys
-rest_is t ys h k = ap (λ s. trimmed (behind s)) (starts t ys h) ∙ ap trimmed (behind_is t ys (bytes_of t h) k)
+rest_is t ys h k = ap (λ s. trimmed (behind s)) (starts_black t ys h) ∙ ap trimmed (behind_is t ys (black t h) k)

@@ -1,4 +1,3 @@
-pub mod Lengths
 pub mod Fronts
 pub mod Cutting
 pub mod CutTokens
@@ -18,3 +17,4 @@ pub mod Ranges
 pub mod Tellings
 pub mod Rows
 pub mod MoveTokens
+pub mod OrdersRead

@@ -1,14 +1,15 @@
 -- The pieces of a combo, one by one.
-use Rattle.std.proofs.Common.{◌≡◌, ℕ, suc, List, [], ◌∷◌, ◌++◌, Bool, true, false, not, ◌&&◌, ◌||◌, cond, Option, Some, None, ltb, ◌<◌, ◌≤◌, length, length-append, arith, drop, codes, refl, sym, ap, ◌∙◌}
+use Rattle.std.proofs.Common.{◌≡◌, ℕ, suc, List, [], ◌∷◌, ◌++◌, Bool, true, false, not, ◌&&◌, cond, Option, Some, None, ltb, ◌<◌, ◌≤◌, length, length-append, arith, drop, codes, refl, sym, ap, ◌∙◌}
 use Rattle.std.proofs.Math.Seq.{drop-append_seam}
 use Rattle.std.proofs.lemmas.Bool.Decides.{nat_tests}
 use Rattle.std.specs.List.{onto_first, list_all}
 use Rattle.std.specs.Option.{option_map}
+use Rattle.std.proofs.lemmas.Bool.{and_parts, or_parts}
 use Rattle.peer_words.specs.Tokens.{is_white, is_token, trimmed, first_token, rest}
 use Rattle.uci_lines.specs.Cuts.{Found, onto_part, cut, is_word, is_choice}
 use Rattle.uci_lines.specs.Choices.{pieces, values_among, values, before_choice, from_choice}
 use Rattle.uci_lines.proofs.Fronts.{BeginsWhite, front, behind, front-white, behind-white, front-byte, behind-byte, first_is, rest_is}
-use Rattle.uci_lines.proofs.Cutting.{Cuts, cut_is, part_at, step, second, first_before, first_none, cut_token}
+use Rattle.uci_lines.proofs.Cutting.{Cuts, cut_is, part_at, step, first_before, first_none, cut_token}
 
 pub join_first : List ℕ → List (List ℕ) → List (List ℕ)
 join_first w [] = w ∷ []
@@ -68,7 +69,7 @@ pieces_none fresh (b ∷ bs) h = none_step (fresh && is_choice (front (b ∷ bs)
 starts_black : (w : Bool) (fresh : Bool) (b : ℕ) (bs : List ℕ) → is_white b ≡ w → (fresh && is_choice (front (b ∷ bs))) ≡ true → is_white b ≡ false
 starts_black true fresh b bs e h =
     let no : is_choice (front (b ∷ bs)) ≡ false = ap is_choice (front-white b bs e) in
-    absurd (cc (second fresh (is_choice (front (b ∷ bs))) h))
+    absurd (cc (and_parts fresh (is_choice (front (b ∷ bs))) h).1)
 starts_black false fresh b bs e h = e
 
 here_pieces : (fresh : Bool) (b : ℕ) (bs : List ℕ) → (fresh && is_choice (front (b ∷ bs))) ≡ true → pieces fresh (b ∷ bs) ≡ [] ∷ join_first (front (b ∷ bs)) (pieces true (behind (b ∷ bs)))
@@ -102,12 +103,8 @@ pieces_some fresh [] part h = absurd (cc)
 pieces_some fresh (b ∷ bs) part h = some_step (fresh && is_choice (front (b ∷ bs))) fresh b bs part refl h (λ q k. pieces_some (is_white b) bs q k)
 
 -- no `var` begins a piece that does not begin with a choice
-or_false : (a b : Bool) → (a || b) ≡ false → b ≡ false
-or_false true b h = absurd (cc)
-or_false false b h = h
-
 no_value : (piece : List ℕ) (others : List (List ℕ)) → is_choice (first_token piece) ≡ false → values_among (piece ∷ others) ≡ values_among others
-no_value piece others h = rw (or_false (is_word (codes "default") (first_token piece)) (is_word (codes "var") (first_token piece)) h) refl
+no_value piece others h = rw (or_parts (is_word (codes "default") (first_token piece)) (is_word (codes "var") (first_token piece)) h).1 refl
 
 pub values_none : (text : List ℕ) → cut is_choice true text ≡ None → values text ≡ []
 unfolding values

@@ -3,11 +3,11 @@ use Rattle.std.proofs.Common.{◌≡◌, ℕ, zero, suc, ◌-◌, ◌<◌, ◌�
 use Rattle.std.proofs.lemmas.List.{append-nil}
 use Rattle.std.specs.List.{join_with_byte, AllByRecursion}
 use Rattle.std.proofs.lemmas.Bool.Decides.{nat_tests}
-use Rattle.peer_words.proofs.Trims.{and_true}
 use Rattle.uci_lines.specs.Orders.{Order, Position, start_text, moves_text}
 use Rattle.uci_lines.specs.Behind.{after}
 use Rattle.chess_board.specs.Spelling.{move_of}
 use Rattle.std.specs.Str.{bytes_eq}
+use Rattle.std.proofs.lemmas.Bool.{and_parts}
 use Rattle.chess_board.specs.Position.{Position as AnyPosition}
 use Rattle.chess_board.specs.Play.{IsPosition}
 use Rattle.fen_text.specs.declared.fault.FenFault.{FenFault}
@@ -150,8 +150,8 @@ written_halves p more h f w =
 fen_halves_by : (text more : List ℕ) (r : Result AnyPosition FenFault) → fen_by r text ≡ true → BeginsBlank more → fields_before 5 (text ++ more) ≡ (text, more)
 fen_halves_by text more (Err fault) h w = absurd (cc)
 fen_halves_by text more (Ok p) h w =
-    let full = and_true (bytes_eq (written p) text && leb p.half 99999) (leb p.full 99999) h in
-    let half = and_true (bytes_eq (written p) text) (leb p.half 99999) full.0 in
+    let full = and_parts (bytes_eq (written p) text && leb p.half 99999) (leb p.full 99999) h in
+    let half = and_parts (bytes_eq (written p) text) (leb p.half 99999) full.0 in
     let a : leb p.half 99999 ≡ true = half.1 in
     let b : leb p.full 99999 ≡ true = full.1 in
     let low : p.half ≤ 99999 = grind (arith, nat_tests) in

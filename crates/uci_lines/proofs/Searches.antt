@@ -1,8 +1,7 @@
 -- The orders that begin a search, in both directions.
 use Rattle.std.proofs.Common.{◌≡◌, ℕ, ◌<◌, ◌^◌, List, [], ◌∷◌, ◌++◌, Bool, true, false, not, ◌&&◌, ltb, Option, Some, None, codes, decimal, refl, sym, ap, ◌∙◌, append_assoc}
-use Rattle.std.proofs.lemmas.Bool.{ltb-true}
+use Rattle.std.proofs.lemmas.Bool.{ltb-true, and_parts}
 use Rattle.std.proofs.lemmas.List.{append-nil}
-use Rattle.peer_words.proofs.Trims.{and_true}
 use Rattle.uci_lines.specs.declared.orders.GoControl.{GoControl}
 use Rattle.uci_lines.specs.declared.orders.GoControl.TheVariants.{Infinite, MoveTime, Clock}
 use Rattle.uci_lines.specs.Orders.{Order, Go, optional_number, ponder_text, control_text}
@@ -90,7 +89,7 @@ with_takes ponder text inner None c e f h = absurd (cc)
 with_takes ponder text inner (Some found) c e f h =
     let depth = perhaps_number (codes " depth ") found.1 in
     let both = true_where (is_nil depth.1 && is_search ponder found.0 depth.0) (Go ponder found.0 depth.0) c h in
-    let tests = and_true (is_nil depth.1) (is_search ponder found.0 depth.0) both.0 in
+    let tests = and_parts (is_nil depth.1) (is_search ponder found.0 depth.0) both.0 in
     let last : found.1 ≡ optional_number (codes " depth ") depth.0 = perhaps_takes (codes " depth ") found.1 ∙ ap (λ t. optional_number (codes " depth ") depth.0 ++ t) (nil_is depth.1 tests.0) ∙ append-nil (optional_number (codes " depth ") depth.0) in
     (ponder, found.0, depth.0, sym both.1, tests.1, e ∙ ap (λ t. ponder_text ponder ++ t) (control_takes inner found f ∙ ap (λ t. control_text found.0 ++ t) last))
 
@@ -106,7 +105,7 @@ pub count_below : (n : ℕ) → is_count n ≡ true → n < 10 ^ 18
 count_below n h = ltb-true n (10 ^ 18) h
 
 pub positive_below : (n : ℕ) → is_positive n ≡ true → n < 10 ^ 18
-positive_below n h = count_below n (and_true (ltb 0 n) (is_count n) h).1
+positive_below n h = count_below n (and_parts (ltb 0 n) (is_count n) h).1
 
 abbrev depth_text : Option ℕ → List ℕ
 depth_text depth = optional_number (codes " depth ") depth
@@ -165,13 +164,13 @@ clock_again w b i j m depth hw hb hi hj hm =
 control_again : (ponder : Bool) (control : GoControl) (depth : Option ℕ) → is_search ponder control depth ≡ true → control_in (control_text control ++ depth_text depth) ≡ Some (control, depth_text depth)
 unfolding control_in
 control_again ponder Infinite depth h = refl
-control_again ponder (MoveTime time) depth h = time_again time (depth_text depth) (and_true (is_positive time) (is_positive_or_none depth) h).0 (depth_white depth)
+control_again ponder (MoveTime time) depth h = time_again time (depth_text depth) (and_parts (is_positive time) (is_positive_or_none depth) h).0 (depth_white depth)
 control_again ponder (Clock w b i j m) depth h =
-    let e = and_true (is_positive w && is_positive b && is_count i && is_count j && is_positive_or_none m) (is_positive_or_none depth) h in
-    let d = and_true (is_positive w && is_positive b && is_count i && is_count j) (is_positive_or_none m) e.0 in
-    let c = and_true (is_positive w && is_positive b && is_count i) (is_count j) d.0 in
-    let k = and_true (is_positive w && is_positive b) (is_count i) c.0 in
-    let a = and_true (is_positive w) (is_positive b) k.0 in
+    let e = and_parts (is_positive w && is_positive b && is_count i && is_count j && is_positive_or_none m) (is_positive_or_none depth) h in
+    let d = and_parts (is_positive w && is_positive b && is_count i && is_count j) (is_positive_or_none m) e.0 in
+    let c = and_parts (is_positive w && is_positive b && is_count i) (is_count j) d.0 in
+    let k = and_parts (is_positive w && is_positive b) (is_count i) c.0 in
+    let a = and_parts (is_positive w) (is_positive b) k.0 in
     clock_again w b i j m depth a.0 a.1 k.1 c.1 d.1
 
 none_positive : (depth : Option ℕ) → is_none_of depth ≡ true → is_positive_or_none depth ≡ true
@@ -179,9 +178,9 @@ none_positive None h = refl
 none_positive (Some n) h = absurd (cc)
 
 pub depth_fits : (ponder : Bool) (control : GoControl) (depth : Option ℕ) → is_search ponder control depth ≡ true → is_positive_or_none depth ≡ true
-depth_fits ponder Infinite depth h = none_positive depth (and_true (not ponder) (is_none_of depth) h).1
-depth_fits ponder (MoveTime time) depth h = (and_true (is_positive time) (is_positive_or_none depth) h).1
-depth_fits ponder (Clock w b i j m) depth h = (and_true (is_positive w && is_positive b && is_count i && is_count j && is_positive_or_none m) (is_positive_or_none depth) h).1
+depth_fits ponder Infinite depth h = none_positive depth (and_parts (not ponder) (is_none_of depth) h).1
+depth_fits ponder (MoveTime time) depth h = (and_parts (is_positive time) (is_positive_or_none depth) h).1
+depth_fits ponder (Clock w b i j m) depth h = (and_parts (is_positive w && is_positive b && is_count i && is_count j && is_positive_or_none m) (is_positive_or_none depth) h).1
 
 with_again : (ponder : Bool) (control : GoControl) (depth : Option ℕ) → is_search ponder control depth ≡ true → search_with ponder (control_in (control_text control ++ depth_text depth)) ≡ Some (Go ponder control depth)
 with_again ponder control depth h =

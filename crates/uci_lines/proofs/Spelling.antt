@@ -4,7 +4,7 @@ use Rattle.std.proofs.lemmas.List.{append-nil}
 use Rattle.std.specs.Option.{option_map, ok_or}
 use Rattle.std.specs.Result.{IfOk, IsOkAnd}
 use Rattle.std.specs.Str.{bytes_eq}
-use Rattle.peer_words.proofs.Trims.{and_true}
+use Rattle.std.proofs.lemmas.Bool.{not-true, and_parts}
 use Rattle.uci_lines.specs.Orders.{order_of, Order, Uci, IsReady, NewGame, Stop, PonderHit, Quit, SetOption, Position, Go, order_text, optional_text, optional_number, start_text, moves_text, ponder_text, control_text}
 use Rattle.uci_lines.specs.declared.orders.Order.{Order as CodeOrder}
 use Rattle.uci_lines.specs.declared.order_read.BadOrder.{BadOrder}
@@ -16,13 +16,6 @@ use Rattle.uci_lines.proofs.Counts.{same_text}
 use Rattle.uci_lines.proofs.Settings.{value_cut_is, value_cut_again, none_of}
 use Rattle.uci_lines.proofs.Positions.{position_takes, position_again}
 use Rattle.uci_lines.proofs.Searches.{true_where, search_takes, search_again}
-
-not_held : (b : Bool) → not b ≡ true → b ≡ false
-not_held true h = absurd (cc)
-not_held false h = refl
-
-held_not : (b : Bool) → b ≡ false → not b ≡ true
-held_not b h = ap not h
 
 setting_takes : (line text : List ℕ) (o : Option (List ℕ × List ℕ)) (c : Order) → line ≡ codes "setoption name " ++ text → value_cut text ≡ o → setting_by o text ≡ Some c → SpellsOrder line c
 unfolding order_text
@@ -92,12 +85,12 @@ order_takes line c h =
 -- The other way round: the text of an order that may be written is read as it.
 setting_again : (name : List ℕ) (value : Option (List ℕ)) → is_setting name value ≡ true → setting_in (name ++ optional_text (codes " value ") value) ≡ Some (SetOption name value)
 setting_again name None h =
-    let both = and_true (is_text name) (not (holds_value name)) h in
-    let none : value_cut name ≡ None = none_of (value_cut name) (not_held (holds_value name) both.1) in
+    let both = and_parts (is_text name) (not (holds_value name)) h in
+    let none : value_cut name ≡ None = none_of (value_cut name) (not-true (holds_value name) both.1) in
     ap setting_in (append-nil name) ∙ ap (λ o. setting_by o name) none ∙ ap (λ t. where_true t (SetOption name None)) both.0
 setting_again name (Some value) h =
-    let both = and_true (is_text name && is_text value) (not (holds_value (name ++ codes " value"))) h in
-    let cut = value_cut_again name value (not_held (holds_value (name ++ codes " value")) both.1) in
+    let both = and_parts (is_text name && is_text value) (not (holds_value (name ++ codes " value"))) h in
+    let cut = value_cut_again name value (not-true (holds_value (name ++ codes " value")) both.1) in
     ap (λ o. setting_by o (name ++ (codes " value " ++ value))) cut ∙ ap (λ t. where_true t (SetOption name (Some value))) both.0
 
 pub order_again : (c : Order) → is_order c ≡ true → order_in (order_text c) ≡ Some c
@@ -105,7 +98,7 @@ unfolding order_in order_text
 order_again (SetOption name value) h =
     ap long_order (append_assoc (codes "setoption name ") name (optional_text (codes " value ") value)) ∙ setting_again name value h
 order_again (Position fen moves) h =
-    let both = and_true (is_start fen) (is_played moves) h in
+    let both = and_parts (is_start fen) (is_played moves) h in
     ap long_order (append_assoc (codes "position ") (start_text fen) (moves_text moves)) ∙ position_again fen moves both.0 both.1
 order_again (Go ponder control depth) h =
     ap long_order (regrouped (ponder_text ponder) (control_text control) (optional_number (codes " depth ") depth)) ∙ search_again ponder control depth h

@@ -1,6 +1,7 @@
 -- What is told of a search, as a relation and as a function.
 use Rattle.std.proofs.Common.{◌≡◌, ◌≢◌, ℕ, zero, suc, ◌<◌, ◌≤◌, ℤ, ◌⊎◌, inl, inr, List, [], ◌∷◌, Bool, true, false, Option, Some, None, is_some, codes, cond, length, refl, sym, ap, ◌∙◌, subst, arith}
 use Rattle.std.specs.Option.{option_or, option_map}
+use Rattle.std.proofs.lemmas.Bool.{both_ways}
 use Rattle.chess_board.specs.declared.board.Move.{Move}
 use Rattle.peer_words.specs.Numbers.{count, centis}
 use Rattle.uci_lines.specs.declared.messages.Score.TheVariants.{Cp, Mate}
@@ -16,14 +17,10 @@ use Rattle.uci_lines.proofs.Counts.{same_text, text_same}
 use Rattle.uci_lines.proofs.Listings.{perhaps_is, is_perhaps}
 use Rattle.chess_board.proofs.Spelled.{move_spells, spells_move}
 
-clash : (b : Bool) → b ≡ true → b ≡ false → ⊥
-clash true h k = absurd (cc)
-clash false h k = absurd (cc)
-
 -- A token that is a value names no field.
 not_word : (r : List ℕ → Bool) (t w : List ℕ) (b : Bool) → is_word w t ≡ b → r t ≡ true → r w ≡ false → b ≡ false
 not_word r t w false e h k = refl
-not_word r t w true e h k = absurd (clash (r t) h (ap r (same_text t w e) ∙ k))
+not_word r t w true e h k = absurd (both_ways (r t) (ap r (same_text t w e) ∙ k) h)
 
 plain : (r : List ℕ → Bool) (t : List ℕ) → r t ≡ true → r (codes "depth") ≡ false → r (codes "time") ≡ false → r (codes "nodes") ≡ false → r (codes "multipv") ≡ false → r (codes "currmovenumber") ≡ false → r (codes "score") ≡ false → r (codes "lowerbound") ≡ false → r (codes "upperbound") ≡ false → r (codes "currmove") ≡ false → r (codes "pv") ≡ false → r (codes "string") ≡ false → field_named t ≡ fields.Other
 plain r t h a b c d e f g i j k l =
@@ -271,9 +268,9 @@ tells_is f _ h (Tells.Skipped {t = t} {ts = ts} n s r) = skip_by (taking (t ∷ 
 string_or : (b : Bool) (f : Info) (t : List ℕ) (ts : List (List ℕ)) → is_word (codes "string") t ≡ b → taking (t ∷ ts) ≡ false → Tells f ts (facts_from f ts) → Tells f (t ∷ ts) (facts_from f (t ∷ ts))
 string_or true f t ts e h r = subst (λ (w : List ℕ). Tells f (w ∷ ts) (facts_from f (w ∷ ts))) (sym (same_text t (codes "string") e)) Tells.Rest
 string_or false f t ts e h r =
-    let other : t ≢ codes "string" = λ same. clash (is_word (codes "string") t) (text_same t (codes "string") same) e in
+    let other : t ≢ codes "string" = λ same. both_ways (is_word (codes "string") t) e (text_same t (codes "string") same) in
     subst (λ (g : Info). Tells f (t ∷ ts) g) (sym (skipped f t ts other h))
-    (Tells.Skipped other (λ g others k. clash (taking (t ∷ ts)) (takes_taking f (t ∷ ts) g others k) h) r)
+    (Tells.Skipped other (λ g others k. both_ways (taking (t ∷ ts)) h (takes_taking f (t ∷ ts) g others k)) r)
 
 tells_by : (b : Bool) (f : Info) (t : List ℕ) (ts : List (List ℕ)) → taking (t ∷ ts) ≡ b → ((g : Info) (us : List (List ℕ)) → length us < length (t ∷ ts) → Tells g us (facts_from g us)) → Tells f (t ∷ ts) (facts_from f (t ∷ ts))
 tells_by true f t ts e i =

@@ -1,7 +1,7 @@
 -- The greatest lengths of orders.
 use Rattle.std.proofs.Common.{◌≡◌, ℕ, ◌+◌, ◌<◌, ◌≤◌, ◌^◌, List, [], ◌∷◌, Bool, true, false, ◌&&◌, Option, Some, None, codes, decimal, length, length-append, arith, lit<}
 use Rattle.std.proofs.lemmas.Fmt.{length-decimal-le}
-use Rattle.peer_words.proofs.Trims.{and_true}
+use Rattle.std.proofs.lemmas.Bool.{and_parts}
 use Rattle.uci_lines.specs.declared.orders.GoControl.{GoControl}
 use Rattle.uci_lines.specs.declared.orders.GoControl.TheVariants.{Infinite, MoveTime, Clock}
 use Rattle.uci_lines.specs.Orders.{optional_text, optional_number, set_option_text, start_text, moves_text, position_text, ponder_text, control_text, go_text}
@@ -23,14 +23,14 @@ ponder_length true = omega arith
 control_length : (ponder : Bool) (control : GoControl) (depth : Option ℕ) → is_search ponder control depth ≡ true → length (control_text control) ≤ 127
 control_length ponder Infinite depth h = omega arith
 control_length ponder (MoveTime time) depth h =
-    let a = and_true (is_positive time) (is_positive_or_none depth) h in
+    let a = and_parts (is_positive time) (is_positive_or_none depth) h in
     omega (arith, length-append (codes " movetime ") (decimal time), count_length time (positive_below time a.0))
 control_length ponder (Clock w b i j m) depth h =
-    let e = and_true (is_positive w && is_positive b && is_count i && is_count j && is_positive_or_none m) (is_positive_or_none depth) h in
-    let d = and_true (is_positive w && is_positive b && is_count i && is_count j) (is_positive_or_none m) e.0 in
-    let c = and_true (is_positive w && is_positive b && is_count i) (is_count j) d.0 in
-    let k = and_true (is_positive w && is_positive b) (is_count i) c.0 in
-    let a = and_true (is_positive w) (is_positive b) k.0 in
+    let e = and_parts (is_positive w && is_positive b && is_count i && is_count j && is_positive_or_none m) (is_positive_or_none depth) h in
+    let d = and_parts (is_positive w && is_positive b && is_count i && is_count j) (is_positive_or_none m) e.0 in
+    let c = and_parts (is_positive w && is_positive b && is_count i) (is_count j) d.0 in
+    let k = and_parts (is_positive w && is_positive b) (is_count i) c.0 in
+    let a = and_parts (is_positive w) (is_positive b) k.0 in
     simp length-append (omega (arith, count_length w (positive_below w a.0), count_length b (positive_below b a.1), count_length i (count_below i k.1), count_length j (count_below j c.1), optional_number_length (codes " movestogo ") m d.1))
 
 -- a `go` order

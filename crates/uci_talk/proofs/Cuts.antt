@@ -2,10 +2,9 @@
 use Rattle.std.proofs.Common.{◌≡◌, ℕ, List, [], ◌∷◌, ◌++◌, true, not, Option, Some, None, refl, sym, ap, ◌∙◌}
 use Rattle.std.specs.List.{list_all}
 use Rattle.std.specs.Option.{option_map}
+use Rattle.std.proofs.lemmas.Bool.{and_parts, not-true}
 use Rattle.peer_words.specs.Tokens.{tokens, trimmed}
 use Rattle.peer_words.proofs.TokenLists.{tokens_trimmed}
-use Rattle.peer_words.proofs.Trims.{and_true}
-use Rattle.peer_words.proofs.Runs.{not_false}
 use Rattle.uci_lines.specs.Cuts.{Found, cut}
 use Rattle.uci_lines.specs.Spells.{IsNoneOf}
 use Rattle.uci_lines.proofs.CutTokens.{cut_tokens}
@@ -15,26 +14,26 @@ use Rattle.uci_talk.specs.Lines.{sides, is_moves, before_moves, behind_moves}
 pub before_at : (ts us : List (List ℕ)) (t : List ℕ) → IsNoneOf is_moves ts → is_moves t ≡ true → before_moves (ts ++ (t ∷ us)) ≡ ts
 before_at [] us t n e = rw e refl
 before_at (s ∷ ts) us t n e =
-    let both = and_true (not (is_moves s)) (list_all (λ x. not (is_moves x)) ts) n in
-    rw (not_false (is_moves s) both.0) (ap (λ xs. s ∷ xs) (before_at ts us t both.1 e))
+    let both = and_parts (not (is_moves s)) (list_all (λ x. not (is_moves x)) ts) n in
+    rw (not-true (is_moves s) both.0) (ap (λ xs. s ∷ xs) (before_at ts us t both.1 e))
 
 pub behind_at : (ts us : List (List ℕ)) (t : List ℕ) → IsNoneOf is_moves ts → is_moves t ≡ true → behind_moves (ts ++ (t ∷ us)) ≡ us
 behind_at [] us t n e = rw e refl
 behind_at (s ∷ ts) us t n e =
-    let both = and_true (not (is_moves s)) (list_all (λ x. not (is_moves x)) ts) n in
-    rw (not_false (is_moves s) both.0) (behind_at ts us t both.1 e)
+    let both = and_parts (not (is_moves s)) (list_all (λ x. not (is_moves x)) ts) n in
+    rw (not-true (is_moves s) both.0) (behind_at ts us t both.1 e)
 
 pub before_none : (ts : List (List ℕ)) → IsNoneOf is_moves ts → before_moves ts ≡ ts
 before_none [] n = refl
 before_none (s ∷ ts) n =
-    let both = and_true (not (is_moves s)) (list_all (λ x. not (is_moves x)) ts) n in
-    rw (not_false (is_moves s) both.0) (ap (λ xs. s ∷ xs) (before_none ts both.1))
+    let both = and_parts (not (is_moves s)) (list_all (λ x. not (is_moves x)) ts) n in
+    rw (not-true (is_moves s) both.0) (ap (λ xs. s ∷ xs) (before_none ts both.1))
 
 pub behind_none : (ts : List (List ℕ)) → IsNoneOf is_moves ts → behind_moves ts ≡ []
 behind_none [] n = refl
 behind_none (s ∷ ts) n =
-    let both = and_true (not (is_moves s)) (list_all (λ x. not (is_moves x)) ts) n in
-    rw (not_false (is_moves s) both.0) (behind_none ts both.1)
+    let both = and_parts (not (is_moves s)) (list_all (λ x. not (is_moves x)) ts) n in
+    rw (not-true (is_moves s) both.0) (behind_none ts both.1)
 
 -- what was found before and behind the first `moves`
 pub record Splits (text before behind : List ℕ) : Type 0 where

@@ -1,5 +1,4 @@
 pub mod Cuts
-pub mod Legal
 pub mod Played
 pub mod Fields
 pub mod Saying

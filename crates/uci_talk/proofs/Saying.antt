@@ -2,7 +2,6 @@
 use Rattle.std.proofs.Common.{◌≡◌, ◌⊎◌, inl, inr, ℕ, List, [], ◌∷◌, ◌++◌, Bool, true, false, not, cond, Option, Some, None, codes, refl, sym, ap, ◌∙◌, subst}
 use Rattle.std.specs.Prelude.{◌↔◌, Result, Ok, Err}
 use Rattle.std.specs.List.{list_all}
-use Rattle.peer_words.proofs.Runs.{not_false}
 use Rattle.chess_board.specs.declared.board.Move.{Move}
 use Rattle.chess_board.specs.Position.{Position}
 use Rattle.chess_board.specs.Place.{legal}
@@ -18,7 +17,7 @@ use Rattle.uci_lines.proofs.Counts.{same_text}
 use Rattle.uci_talk.specs.Lines.{Line, played, played_if_legal, led, is_moves, before_moves, behind_moves, if_right, standard_if_alone, start_in, line_to, line_from, line_in}
 use Rattle.uci_talk.specs.Speaks.{Leads, Starts, Speaks}
 use Rattle.uci_talk.proofs.Cuts.{before_at, before_none, behind_at, behind_none}
-use Rattle.uci_talk.proofs.Legal.{is_legal, legal_is}
+use Rattle.chess_board.proofs.LegalMoves.{is_legal, legal_is}
 use Rattle.uci_talk.proofs.Played.{led_none}
 use Rattle.uci_talk.proofs.Fields.{fields_none}
 

@@ -1,7 +1,8 @@
 use Rattle.driver_lines.specs.Lines.{Analyze, line_text, lines_text}
 use Rattle.cecp_driver.specs.Deeds.{leave_lines}
-use Rattle.cecp_driver.proofs.Puts.{put_two, setup_then}
+use Rattle.cecp_driver.proofs.Puts.{setup_then}
 use Rattle.std.proofs.Common.{◌∷◌}
+use Rattle.line_io.proofs.Puts.{put_two}
 use Rattle.cecp_driver.proofs.deeds.write_analyse.Goals as goal
 
 pub returns-clause-text : goal.returns-clause-text

@@ -1,12 +1,12 @@
 use Rattle.std.proofs.Common.{◌≡◌, ◌≢◌, ◌<◌, ◌≤◌, ℕ, false, None, length, sym, subst, arith, ⊎_elim, ◌∙◌}
-use Rattle.std.proofs.lemmas.Bool.{cases_lt}
+use Rattle.std.proofs.lemmas.Bool.{cases_lt, or_parts}
 use Rattle.chess_board.specs.Attack.{is_checked}
 use Rattle.chess_board.specs.Board.{man_at, is_king, other}
 use Rattle.chess_board.specs.declared.board.Side.{Side}
 use Rattle.chess_board.specs.Position.{Position}
 use Rattle.chess_board.specs.Reach.{has, IsSetOf, Shields}
 use Rattle.chess_board.proofs.Sets.{has-either}
-use Rattle.chess_board.proofs.Tied.{frees_all, unpinned, neither, no_some}
+use Rattle.chess_board.proofs.Tied.{frees_all, unpinned, no_some}
 use Rattle.chess_board.proofs.rules.tied_squares.Goals as goal
 
 pub returns-then-is_some : goal.returns-then-is_some
@@ -25,7 +25,7 @@ returns c piece from to promo fl tl out man promoted =
     let quiet : is_checked p.men p.side ≡ false = sym c.in_check.ensures ∙ c.if-in_check.false in
     let none : p.passant ≡ None = subst (λ (q : Position). q.passant ≡ None) c.setup.view_is (no_some c.setup.inside.passant (sym c.is_some.ensures ∙ c.if-is_some.false)) in
     let low : k < 64 = omega arith in
-    let apart = neither (has kings from) (has c.shields_of.result from) (sym (has-either kings c.shields_of.result from) ∙ out) in
+    let apart = or_parts (has kings from) (has c.shields_of.result from) (sym (has-either kings c.shields_of.result from) ∙ out) in
     let shielded : (x : ℕ) → x < 64 → Shields p.men (other p.side) x k c.shields_of.result = λ x l. subst (λ (q : Position). Shields q.men (other q.side) x k c.shields_of.result) c.setup.view_is (subst (λ (s : Side). Shields c.setup.inside.board s x k c.shields_of.result) c.other.ensures (c.shields_of.ensures x l)) in
     unpinned p k from to c.shields_of.result piece promo size quiet none low
     (λ (s : ℕ) (l : s < 64) (other : s ≢ k).

@@ -1,7 +1,7 @@
 use Rattle.std.proofs.Common.{ap, ◌∙◌}
 use Rattle.chess_board.specs.Position.{Position}
 use Rattle.chess_board.specs.Place.{legal}
-use Rattle.think_text.proofs.Legal.{legal_test}
+use Rattle.chess_board.proofs.LegalMoves.{legal_test}
 use Rattle.desk_rules.proofs.refuse.is_legal.Goals as goal
 
 pub returns : goal.returns

@@ -1,4 +1,4 @@
-use Rattle.driver_lines.proofs.Named.{legal_test}
+use Rattle.chess_board.proofs.LegalMoves.{legal_test}
 use Rattle.driver_lines.proofs.moves.is_legal.Goals as goal
 
 pub returns : goal.returns

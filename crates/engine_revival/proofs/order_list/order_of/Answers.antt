@@ -1,4 +1,4 @@
-use Rattle.engine_revival.proofs.Read.{order_read}
+use Rattle.uci_lines.proofs.OrdersRead.{order_read}
 use Rattle.engine_revival.proofs.order_list.order_of.Goals as goal
 
 pub returns : goal.returns

@@ -5,9 +5,10 @@ use Rattle.std.specs.Prelude.{codes}
 use Rattle.chess_board.specs.declared.board.Move.{Move}
 use Rattle.chess_board.specs.Text.{text_of, promotion_text}
 use Rattle.line_io.specs.Out.{Text, with}
+use Rattle.line_io.proofs.Puts.{put_three, put_again}
 use Rattle.game_record.specs.Game.{ply_of, plies_of}
 use Rattle.game_record.specs.Line.{spaced, told, moves_text}
-use Rattle.game_record.proofs.Lines.{after_put, parts_fit, put_three, put_again, told_some, told_none}
+use Rattle.game_record.proofs.Lines.{after_put, parts_fit, told_some, told_none}
 use Rattle.game_record.proofs.line.write_told.Goals as goal
 
 pub put-requires : goal.put-requires

@@ -1,7 +1,7 @@
 use Rattle.std.proofs.Common.{◌++◌, ◌∷◌, [], List, ℕ, sym, ap, ◌∙◌}
 use Rattle.line_io.specs.Out.{with}
+use Rattle.line_io.proofs.Puts.{put_three}
 use Rattle.game_record.specs.Game.{ply_of}
-use Rattle.game_record.proofs.Lines.{put_three}
 use Rattle.game_text.specs.San.{san}
 use Rattle.game_text.specs.Text.{number_by, spaced}
 use Rattle.game_text.proofs.Sans.{san-law}

@@ -1,8 +1,9 @@
 use Rattle.std.proofs.Common.{◌≡◌, ◌∙◌, ap, sym, refl, subst, arith, true}
+use Rattle.std.proofs.lemmas.Bool.{and_parts}
 use Rattle.line_io.specs.Event.{Event, IfaceLost}
 use Rattle.line_io.specs.Out.{Text}
 use Rattle.adapter_core.specs.Ends.{may}
-use Rattle.pipe_runner.proofs.Loops.{reached_first, may_take, after_iface_lost, after_engine_lost, after_take, looped, step_of, both_ends}
+use Rattle.pipe_runner.proofs.Loops.{reached_first, may_take, after_iface_lost, after_engine_lost, after_take, looped, step_of}
 use Rattle.pipe_runner.proofs.looping.core_loop.Goals as goal
 
 pub loop-init : goal.loop-init
@@ -15,7 +16,7 @@ loop-init g c = record {
 }
 
 pub loop_step-at-requires-then-owes-clause-may : goal.loop_step-at-requires-then-owes-clause-may
-loop_step-at-requires-then-owes-clause-may g c = (both_ends c.loop.at.end.output (may c.loop.core.ends IfaceLost) (sym c.owes.ensures ∙ c.if-owes.true)).1
+loop_step-at-requires-then-owes-clause-may g c = (and_parts c.loop.at.end.output (may c.loop.core.ends IfaceLost) (sym c.owes.ensures ∙ c.if-owes.true)).1
 
 pub loop-preserved-then-owes : goal.loop-preserved-then-owes
 loop-preserved-then-owes g c = record {

@@ -1,4 +1,4 @@
-use Rattle.uci_talk.proofs.Legal.{legal_test}
+use Rattle.chess_board.proofs.LegalMoves.{legal_test}
 use Rattle.session_judge.proofs.talk.is_legal.Goals as goal
 
 pub returns : goal.returns

@@ -1,4 +1,4 @@
-use Rattle.think_text.proofs.Legal.{legal_test}
+use Rattle.chess_board.proofs.LegalMoves.{legal_test}
 use Rattle.think_text.proofs.value.is_legal.Goals as goal
 
 pub returns : goal.returns

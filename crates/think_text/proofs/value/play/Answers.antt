@@ -1,4 +1,4 @@
-use Rattle.think_text.proofs.Legal.{is_legal}
+use Rattle.chess_board.proofs.LegalMoves.{is_legal}
 use Rattle.think_text.proofs.value.play.Goals as goal
 
 pub play-requires : goal.play-requires

@@ -1,4 +1,4 @@
-use Rattle.uci_talk.proofs.Legal.{is_legal}
+use Rattle.chess_board.proofs.LegalMoves.{is_legal}
 use Rattle.uci_talk.proofs.moves.play.Goals as goal
 
 pub play-requires : goal.play-requires

@@ -1,5 +1,5 @@
 use Rattle.std.proofs.Common.{◌∙◌, sym}
-use Rattle.uci_lines.proofs.Lengths.{none_first, some_first, some_shorter}
+use Rattle.peer_words.proofs.Lengths.{none_first, some_first, some_shorter}
 use Rattle.uci_talk.proofs.words.next_token.Goals as goal
 
 pub returns-then-is_empty-clause-first : goal.returns-then-is_empty-clause-first

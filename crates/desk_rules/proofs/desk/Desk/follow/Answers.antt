@@ -1,8 +1,8 @@
 use Rattle.std.proofs.Common.{subst}
+use Rattle.chess_board.proofs.LegalMoves.{is_legal}
 use Rattle.peer_words.specs.declared.kinds.GoKind.TheVariants as kinds
 use Rattle.cecp_lines.specs.Messages.{message_of}
 use Rattle.game_record.specs.Game.{now_of}
-use Rattle.think_text.proofs.Legal.{is_legal}
 use Rattle.desk_rules.specs.declared.effect.Effect as code
 use Rattle.desk_rules.specs.Desk.{at}
 use Rattle.desk_rules.specs.Steps.{effect_of}

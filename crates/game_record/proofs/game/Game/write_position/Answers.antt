@@ -4,9 +4,10 @@ use Rattle.std.specs.Option.{option_map}
 use Rattle.std.specs.Prelude.{codes}
 use Rattle.chess_board.specs.Position.{Position}
 use Rattle.line_io.specs.Out.{with}
+use Rattle.line_io.proofs.Puts.{put_three}
 use Rattle.game_record.specs.Game.{Ply, ply_of, plies_of, AreLegal}
 use Rattle.game_record.specs.Line.{start_text, told, moves_text, position_text}
-use Rattle.game_record.proofs.Lines.{after_put, line_fits, officers, put_three}
+use Rattle.game_record.proofs.Lines.{after_put, line_fits, officers}
 use Rattle.game_record.proofs.game.Game.write_position.Goals as goal
 
 pub put-requires : goal.put-requires

@@ -2,12 +2,13 @@ use Rattle.std.proofs.Common.{Ok, Err, OnErr, ◌≡◌, ◌∙◌, ◌∷◌, �
 use Rattle.line_io.specs.Lines.{Whole}
 use Rattle.line_io.specs.Out.{Text, with}
 use Rattle.line_io.specs.Event.{event_of}
+use Rattle.line_io.proofs.Puts.{put_again}
 use Rattle.script_lines.specs.Marks.{Mark, Happens, ToIface, ToEngine, mark_of, marked}
 use Rattle.script_lines.specs.StepLine.{step_line, step_number}
 use Rattle.script_migration.specs.declared.migration.Migration.{Migration}
 use Rattle.script_migration.specs.Begun.{beginning_by}
 use Rattle.script_migration.specs.Migration.{line_migrated, line_text, steps_after, steps_over}
-use Rattle.script_migration.proofs.Lines.{count_is, line_put, sound_begun, two, unmarked_put}
+use Rattle.script_migration.proofs.Lines.{count_is, line_put, sound_begun, unmarked_put}
 use Rattle.script_migration.proofs.migration.MigrationScribe.line.Goals as goal
 
 pub returns-in-Ok-Event-clause-puts : goal.returns-in-Ok-Event-clause-puts
@@ -20,8 +21,8 @@ returns-in-Ok-Event-clause-puts c =
     record {
       more = beginning_by s.last s.settings ++ (line_text (step_line next) ++ line_text line);
       put = c.put_line.ensures ∙ ap (λ (t : Text). with t (line_text line)) (c.put_number.ensures.put ∙ ap (λ (t : Text). with t (line_text (step_line next))) b.put)
-          ∙ two (with c.args.text.now (beginning_by s.last s.settings)) (line_text (step_line next)) (line_text line)
-          ∙ two c.args.text.now (beginning_by s.last s.settings) (line_text (step_line next) ++ line_text line);
+          ∙ put_again (with c.args.text.now (beginning_by s.last s.settings)) (line_text (step_line next)) (line_text line)
+          ∙ put_again c.args.text.now (beginning_by s.last s.settings) (line_text (step_line next) ++ line_text line);
       goes = λ s0 lines front m n.
           let k = count_is s0 s lines front m in
           let number = c.next_number-next.ensures.next k.0 (b.number_is ∙ k.2) in
@@ -55,7 +56,7 @@ returns-in-Ok-ToIface c =
       of_line = tt;
       puts = record {
         more = beginning_by s.last s.settings ++ line_text line;
-        put = put ∙ ap (λ (t : Text). with t (line_text line)) b.put ∙ two c.args.text.now (beginning_by s.last s.settings) (line_text line);
+        put = put ∙ ap (λ (t : Text). with t (line_text line)) b.put ∙ put_again c.args.text.now (beginning_by s.last s.settings) (line_text line);
         goes = λ s0 lines front m n.
             let k = count_is s0 s lines front m in
             line_put s0 s lines front m (Whole line) c.begin-last.new.self k.0 (line_text line) b.settings
@@ -78,7 +79,7 @@ returns-in-Ok-ToEngine c =
       of_line = tt;
       puts = record {
         more = beginning_by s.last s.settings ++ line_text line;
-        put = put ∙ ap (λ (t : Text). with t (line_text line)) b.put ∙ two c.args.text.now (beginning_by s.last s.settings) (line_text line);
+        put = put ∙ ap (λ (t : Text). with t (line_text line)) b.put ∙ put_again c.args.text.now (beginning_by s.last s.settings) (line_text line);
         goes = λ s0 lines front m n.
             let k = count_is s0 s lines front m in
             line_put s0 s lines front m (Whole line) c.begin-last.new.self k.0 (line_text line) b.settings

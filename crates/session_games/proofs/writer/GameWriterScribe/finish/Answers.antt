@@ -1,6 +1,6 @@
 use Rattle.std.proofs.Common.{◌++◌, ◌∙◌, sym, ap}
 use Rattle.line_io.specs.Out.{Text, with}
-use Rattle.game_record.proofs.Lines.{put_again}
+use Rattle.line_io.proofs.Puts.{put_again}
 use Rattle.session_games.specs.Games.{games_text}
 use Rattle.session_games.specs.Gathering.{last_by}
 use Rattle.session_games.proofs.Came.{finished_first, finished_later}

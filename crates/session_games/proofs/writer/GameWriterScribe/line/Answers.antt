@@ -1,8 +1,8 @@
 use Rattle.std.proofs.Common.{◌++◌, ◌∷◌, [], ◌∙◌, None, sym, ap}
 use Rattle.line_io.specs.Lines.{Whole}
 use Rattle.line_io.specs.Out.{Text, with}
+use Rattle.line_io.proofs.Puts.{put_again}
 use Rattle.script_player.specs.Versions.{version_by}
-use Rattle.game_record.proofs.Lines.{put_again}
 use Rattle.session_games.proofs.Came.{first_came, header_came, later_line, then_by}
 use Rattle.session_games.proofs.writer.GameWriterScribe.line.Goals as goal
 

@@ -1,16 +1,13 @@
-use Rattle.std.proofs.Common.{◌≡◌, ℕ, List, ◌++◌, ◌∷◌, [], ◌∙◌, Some, sym, ap, append-nil}
+use Rattle.std.proofs.Common.{ℕ, List, ◌++◌, ◌∷◌, [], ◌∙◌, Some, sym}
 use Rattle.line_io.specs.Lines.{TooLong}
-use Rattle.line_io.specs.Out.{Text, with}
+use Rattle.line_io.specs.Out.{Text}
+use Rattle.line_io.proofs.Puts.{put_none}
 use Rattle.command_endings.specs.declared.ending.Ending.TheVariants as endings
 use Rattle.session_games.proofs.Came.{long_first, long_later, then_by}
 use Rattle.session_games.proofs.writer.GameWriterScribe.long.Goals as goal
 
 text_with : List ℕ → ℕ → Text
 text_with text room = record { text = text; room = room }
-
-nothing_put : (t : Text) → t ≡ with t []
-unfolding text_with
-nothing_put t = let same : text_with t.text t.room ≡ text_with (t.text ++ []) t.room = ap (λ (l : List ℕ). text_with l t.room) (sym (append-nil t.text)) in same
 
 pub returns-then-is_new-clause-puts : goal.returns-then-is_new-clause-puts
 returns-then-is_new-clause-puts c =
@@ -26,7 +23,7 @@ returns-then-is_new-clause-puts c =
 pub returns-clause-puts : goal.returns-clause-puts
 returns-clause-puts c = record {
   more = [];
-  put = nothing_put c.args.text.now;
+  put = put_none c.args.text.now;
   goes = λ s0 lines text p n.
       then_by s0 (lines ++ TooLong ∷ []) (Some (endings.NoMark c.args.number)) c.args.self.now (text ++ [])
       (λ o u. long_later o lines c.args.self.now text c.args.number (sym c.is_new.ensures ∙ c.if-is_new.false) (p o u) n);

@@ -46,3 +46,6 @@ some_first line (c ∷ cs) others e f h = tokens_some line c cs (sym e) ∙ ap (
 pub some_shorter : (line word others : List ℕ) → word ≡ first_token line → others ≡ rest line → eqb (length word) 0 ≡ false → length others < length line
 some_shorter line [] others e f h = absurd (cc)
 some_shorter line (c ∷ cs) others e f h = let s : length (rest line) < length line = rest_shorter line c cs (sym e) in rw f s
+
+pub rest_length : (line : List ℕ) → length (rest line) ≤ length line
+rest_length line = let t = trim_left line in omega (arith, trimmed_length (drop (token_end t) t), length-drop (token_end t) t, trim_left_length line)
