@@ -152,7 +152,13 @@ BRIDGE = [
     bridge("an output that does not block",
            "cut -c 3- pings pings | { ./unblocked 1; bridge --LogFile log %s; } | { sleep 1; cat; }" % LISTENS, (0, 5),
            memory=None),
-    bridge("100,000 words", "bridge --LogFile log -- true", (0, 7), words=100000, memory=32 * MIB),
+    # the words have room for 16,000 of one byte
+    bridge("16,000 words", "bridge --LogFile log -- true", (0, 7), words=16000),
+    unlogged("100,000 words", "bridge --LogFile log -- true", 3, output="", log="[ ! -e log ]", words=100000),
+    bridge("words of 1,000,000 bytes", "bridge --LogFile log -- true $(head -c 1000000 letters | fold -w 100000)",
+           (0, 7)),
+    unlogged("words of 1,100,000 bytes", "bridge --LogFile log -- true $(head -c 1100000 letters | fold -w 100000)", 3,
+             output="", log="[ ! -e log ]"),
 ]
 
 

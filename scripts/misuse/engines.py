@@ -35,9 +35,9 @@ class Table:
     def logged(self, name, command, status, **wanted):
         return self.row(name, command, status, log=OWN_LOG[self.program], **wanted)
 
-    def unstarted(self, name, command, status):
+    def unstarted(self, name, command, status, **wanted):
         """No engine was started, so nothing is written and no log is made."""
-        return self.row(name, command, status, output="", log="[ ! -e log ]")
+        return self.row(name, command, status, output="", log="[ ! -e log ]", **wanted)
 
     def engines(self):
         """Engines that cannot be started, and engines that misbehave."""
@@ -57,7 +57,8 @@ class Table:
             self.logged("an engine that never reads or answers", plays + "sleep 1", 0, output=mute),
             self.logged("an engine that closes its input", plays + "sh -c 'exec <&-; sleep 1'", (0, 7)),
             self.logged("an engine that closes its output", plays + "sh -c 'exec >&-; cat >/dev/null'", 0),
-            self.row("100,000 words", log + "true", (0, 7), words=100000, memory=32 * MIB),
+            self.row("16,000 words", log + "true", (0, 7), words=16000),
+            self.unstarted("100,000 words", log + "true", 3, words=100000),
         ]
 
     def streams(self):

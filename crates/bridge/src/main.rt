@@ -4,7 +4,7 @@
 use bridge_app::{bridge_main, refuse_for_memory};
 use child_engine::RealHost;
 use line_io::{ReadAdapter, WriteAdapter};
-use program_edges::{ClosedStreams, words_of};
+use program_edges::{ClosedStreams, WORDS_ROOM, words_of};
 use std::process::ExitCode;
 
 fn main(rt: HostRuntime) -> ExitCode {
@@ -13,7 +13,7 @@ fn main(rt: HostRuntime) -> ExitCode {
     let mut output = WriteAdapter::new(closed.output(rt.stdout()));
     let mut diag = WriteAdapter::new(closed.diag(rt.stderr()));
     let mut host = RealHost::new(&rt);
-    let status = match words_of(&rt, rt.alloc()) {
+    let status = match words_of(&rt, rt.alloc(), WORDS_ROOM) {
         Ok(words) => bridge_main(
             &rt,
             rt.alloc(),

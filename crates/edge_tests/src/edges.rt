@@ -1,4 +1,4 @@
-use program_edges::words_of;
+use program_edges::{WORD_ROOM, WORDS_ROOM, words_of};
 use std::env::{Env, FillError};
 use std::test::Fail;
 
@@ -35,10 +35,23 @@ fn words_of_any_bytes_and_length(rt: HostRuntime) -> Result<(), Fail> {
     let called = Called {
         words: &[b"program", b"\xff", b"", long.as_slice()],
     };
-    let words = words_of(&called, rt.alloc())?;
+    let words = words_of(&called, rt.alloc(), WORDS_ROOM)?;
     assert_eq!(rt; words.len(), 3);
     assert_eq!(rt; words[0].as_slice(), b"\xff".as_slice());
     assert_eq!(rt; words[1].as_slice(), b"".as_slice());
     assert_eq!(rt; words[2].as_slice(), long.as_slice());
+    Ok(())
+}
+
+// Two words of together 5 bytes take the room of two words, and 5 bytes.
+#[test]
+fn words_within_their_room(rt: HostRuntime) -> Result<(), Fail> {
+    let called = Called {
+        words: &[b"program", b"abc", b"de"],
+    };
+    let room = WORD_ROOM + WORD_ROOM + 5;
+    assert_eq!(rt; words_of(&called, rt.alloc(), room)?.len(), 2);
+    assert!(rt; words_of(&called, rt.alloc(), room - 1).is_err());
+    assert!(rt; words_of(&called, rt.alloc(), 0).is_err());
     Ok(())
 }

@@ -6,4 +6,4 @@ mod streams;
 mod words;
 
 pub use streams::{ClosedStreams, IfOpen};
-pub use words::words_of;
+pub use words::{WORD_ROOM, WORDS_ROOM, words_of};

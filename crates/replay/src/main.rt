@@ -10,7 +10,7 @@ fn main(rt: HostRuntime) -> ExitCode {
     let mut input = ReadAdapter::new(rt.stdin());
     let mut output = WriteAdapter::new(rt.stdout());
     let mut diag = WriteAdapter::new(rt.stderr());
-    let status = match words_of(&rt, rt.alloc()) {
+    let status = match words_of(&rt, rt.alloc(), usize::MAX) {
         Ok(words) => replay_main(
             rt.alloc(),
             words.as_slice(),

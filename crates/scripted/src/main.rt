@@ -45,7 +45,7 @@ fn name_in(words: &[Vec<u8>]) -> &[u8] {
 
 fn main(rt: HostRuntime) -> ExitCode {
     let closed = ClosedStreams::fill(&rt);
-    let Ok(words) = words_of(&rt, rt.alloc()) else {
+    let Ok(words) = words_of(&rt, rt.alloc(), usize::MAX) else {
         return ExitCode::from(NO_MEMORY);
     };
     let mut file = ReadAdapter::new(OpenedLate {

@@ -6,7 +6,7 @@ mod host;
 use host::PipeHost;
 use line_io::{ReadAdapter, WriteAdapter};
 use os::FromRawFd;
-use program_edges::{ClosedStreams, words_of};
+use program_edges::{ClosedStreams, WORDS_ROOM, words_of};
 use std::os::fd::OwnedFd;
 use std::process::{ChildStdin, ExitCode};
 use tap_app::{refuse_for_memory, tap_main};
@@ -23,7 +23,7 @@ fn main(rt: HostRuntime) -> ExitCode {
     let mut output = Closing::new(closed.output(own_output()));
     let mut diag = WriteAdapter::new(closed.diag(rt.stderr()));
     let mut host = PipeHost::new(&rt);
-    let status = match words_of(&rt, rt.alloc()) {
+    let status = match words_of(&rt, rt.alloc(), WORDS_ROOM) {
         Ok(words) => tap_main(
             &rt,
             rt.alloc(),
