@@ -6,8 +6,6 @@ mod order_list;
 mod revival;
 mod script;
 mod state;
-#[cfg(test)]
-mod tests;
 mod words;
 
 pub use laws::{lines_up_are_waited_for, lives_are_in_order, no_life_idles, searches_are_given};

@@ -4,8 +4,6 @@
 mod life;
 mod looping;
 mod reading;
-#[cfg(test)]
-mod tests;
 
 pub use life::one_life;
 pub use looping::{hear, offer_all, wait_for_ever};

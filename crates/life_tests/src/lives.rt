@@ -1,7 +1,7 @@
 // Lives over the channel.
-use crate::{one_life, read_life};
 use engine_revival::{EVENT_ROOM, Revival};
 use event_pipe::{Pipe, ReadEnd, read_pipe};
+use life_runner::{one_life, read_life};
 use line_io::{Event, MemSink, MemSource, Out};
 use sink_offers::LoopEnd;
 use std::test::Fail;

@@ -1,0 +1,7 @@
+//! Tests of the revival of an engine.
+#![tactic(auto)]
+
+#[cfg(test)]
+mod calls;
+#[cfg(test)]
+mod sessions;
