@@ -76,34 +76,46 @@ fn count_lines(position: Position, depth: u32) -> u64 {
     count
 }
 
-#[test]
-fn counts_lines_of_play(rt: HostRuntime) -> Result<(), Fail> {
-    let table = [
-        (
-            "rnbqkbnr/pppppppp/8/8/8/8/PPPPPPPP/RNBQKBNR",
-            "KQkq",
-            3,
-            8_902,
-        ),
-        (
-            "r3k2r/p1ppqpb1/bn2pnp1/3PN3/1p2P3/2N2Q1p/PPPBBPPP/R3K2R",
-            "KQkq",
-            3,
-            97_862,
-        ),
-        ("8/2p5/3p4/KP5r/1R3p1k/8/4P1P1/8", "-", 3, 2_812),
-        (
-            "rnbq1k1r/pp1Pbppp/2p5/8/2B5/8/PPP1NnPP/RNBQK2R",
-            "KQ",
-            3,
-            62_379,
-        ),
-    ];
-    for (field, rights, depth, lines) in table {
+// A board, its rights, a depth, and how many lines of play there are of that depth, White first.
+type Count = (&'static str, &'static str, u32, u64);
+
+const COUNTS: [Count; 4] = [
+    (
+        "rnbqkbnr/pppppppp/8/8/8/8/PPPPPPPP/RNBQKBNR",
+        "KQkq",
+        3,
+        8_902,
+    ),
+    (
+        "r3k2r/p1ppqpb1/bn2pnp1/3PN3/1p2P3/2N2Q1p/PPPBBPPP/R3K2R",
+        "KQkq",
+        3,
+        97_862,
+    ),
+    ("8/2p5/3p4/KP5r/1R3p1k/8/4P1P1/8", "-", 3, 2_812),
+    (
+        "rnbq1k1r/pp1Pbppp/2p5/8/2B5/8/PPP1NnPP/RNBQK2R",
+        "KQ",
+        3,
+        62_379,
+    ),
+];
+
+fn expect_count(rt: &impl Abort, position: Position, depth: u32, lines: u64, field: &str) {
+    assert_eq!(rt; count_lines(position, depth), lines, "{field}");
+}
+
+fn expect_counts(rt: &impl Abort, rows: &[Count]) -> Result<(), Fail> {
+    for (field, rights, depth, lines) in rows {
         let position = position_of(field, Side::White, rights, None)?;
-        assert_eq!(rt; count_lines(position, depth), lines, "{field}");
+        expect_count(rt, position, *depth, *lines, field);
     }
     Ok(())
+}
+
+#[test]
+fn counts_lines_of_play(rt: HostRuntime) -> Result<(), Fail> {
+    expect_counts(&rt, &COUNTS)
 }
 
 /// The position after moves that are written with blanks between.
@@ -116,12 +128,9 @@ fn after(rt: &impl Abort, mut position: Position, moves: &str) -> Position {
     position
 }
 
-#[test]
-fn plays_moves(rt: HostRuntime) -> Result<(), Fail> {
-    let start = Position::start();
-    let e1 = Square::at(4, 0).expect(&rt, "e1");
-    let d6 = Square::at(3, 5).expect(&rt, "d6");
-    let f3 = Square::at(5, 2).expect(&rt, "f3");
+fn expect_start(rt: &impl Abort, start: &Position) {
+    let e1 = Square::at(4, 0).expect(rt, "e1");
+    let f3 = Square::at(5, 2).expect(rt, "f3");
     assert_eq!(rt; Square::at(8, 0), None);
     assert_eq!(rt; (f3.file(), f3.rank()), (5, 2));
     assert_eq!(rt; start.piece(e1), Some((Side::White, Kind::King)));
@@ -129,39 +138,67 @@ fn plays_moves(rt: HostRuntime) -> Result<(), Fail> {
     assert!(rt; start.rights().wk && start.rights().bq);
     assert!(rt; start.attacked(f3, Side::White) && !start.attacked(f3, Side::Black));
     assert!(rt; !start.in_check());
-    assert!(rt; equal_positions(&start, &Position::start()));
+    assert!(rt; equal_positions(start, &Position::start()));
     start.facts();
+}
 
-    let knights = after(&rt, start, "g1f3 g8f6 f3g1 f6g8");
-    assert!(rt; knights.same(&start) && knights != start);
-    assert_eq!(rt; (knights.half(), knights.full()), (4, 3));
-    assert_eq!(rt; after(&rt, start, "e2e4").passant(), None);
-    assert_eq!(rt;
-        after(&rt, start, "e2e4 a7a6 e4e5 d7d5").passant(),
-        Some(d6)
-    );
-    assert_eq!(rt;
-        after(&rt, start, "e2e4 a7a6 e4e5 d7d5 e5d6").piece(d6),
-        Some((Side::White, Kind::Pawn))
-    );
-    let castled = after(&rt, start, "g2g3 a7a6 f1g2 a6a5 g1f3 a5a4 e1g1");
-    assert!(rt; !castled.rights().wk && castled.rights().bk);
-    assert_eq!(rt;
-        after(&rt, start, "f2f3 e7e5 g2g4 d8h4").state(),
-        State::Mate
-    );
-    Ok(())
+fn expect_counters(rt: &impl Abort, position: &Position, half: u32, full: u32) {
+    assert_eq!(rt; (position.half(), position.full()), (half, full));
+}
+
+fn expect_passant(rt: &impl Abort, position: &Position, want: Option<Square>) {
+    assert_eq!(rt; position.passant(), want);
 }
 
 #[test]
-fn reads_and_builds(rt: HostRuntime) -> Result<(), Fail> {
+fn plays_moves(rt: HostRuntime) -> Result<(), Fail> {
     let start = Position::start();
+    expect_start(&rt, &start);
+    let knights = after(&rt, start, "g1f3 g8f6 f3g1 f6g8");
+    assert!(rt; knights.same(&start) && knights != start);
+    expect_counters(&rt, &knights, 4, 3);
+    let d6 = Square::at(3, 5).expect(&rt, "d6");
+    expect_passant(&rt, &after(&rt, start, "e2e4"), None);
+    expect_passant(&rt, &after(&rt, start, "e2e4 a7a6 e4e5 d7d5"), Some(d6));
+    let captured = after(&rt, start, "e2e4 a7a6 e4e5 d7d5 e5d6");
+    assert_eq!(rt; captured.piece(d6), Some((Side::White, Kind::Pawn)));
+    let castled = after(&rt, start, "g2g3 a7a6 f1g2 a6a5 g1f3 a5a4 e1g1");
+    assert!(rt; !castled.rights().wk && castled.rights().bk);
+    let mated = after(&rt, start, "f2f3 e7e5 g2g4 d8h4");
+    assert_eq!(rt; mated.state(), State::Mate);
+    Ok(())
+}
+
+// A board, the side on move, and the state of the position, or why there is none.
+type Stated = (&'static str, Side, Result<State, BuildFault>);
+
+const STATES: [Stated; 6] = [
+    ("7k/5Q2/6K1/8/8/8/8/8", Side::Black, Ok(State::Stale)),
+    ("8/8/4k3/8/8/3NK3/8/8", Side::White, Ok(State::Dead)),
+    ("8/8/4k3/8/8/3RK3/8/8", Side::White, Ok(State::Open)),
+    ("4k2P/8/8/8/8/8/8/4K3", Side::White, Err(BuildFault::Board)),
+    ("4k3/8/8/8/8/8/8/8", Side::White, Err(BuildFault::Kings)),
+    ("4k3/8/8/8/8/8/4R3/4K3", Side::White, Err(BuildFault::Kings)),
+];
+
+fn expect_state(rt: &impl Abort, field: &str, side: Side, want: Result<State, BuildFault>) {
+    let found = position_of(field, side, "KQkq", None).map(|position| position.state());
+    assert_eq!(rt; found, want, "{field}");
+}
+
+fn expect_states(rt: &impl Abort, rows: &[Stated]) {
+    for (field, side, want) in rows {
+        expect_state(rt, field, *side, *want);
+    }
+}
+
+fn expect_moves(rt: &impl Abort, start: &Position) {
     let moves = start.moves();
     let first = moves.as_slice().first().copied();
     assert_eq!(rt; first, read_move(b"a2a3"));
     let promotion = Move {
-        from: Square::at(1, 6).expect(&rt, "b7"),
-        to: Square::at(0, 7).expect(&rt, "a8"),
+        from: Square::at(1, 6).expect(rt, "b7"),
+        to: Square::at(0, 7).expect(rt, "a8"),
         promo: Some(Kind::Queen),
     };
     assert_eq!(rt; write_move(promotion).as_slice(), b"b7a8q".as_slice());
@@ -169,19 +206,13 @@ fn reads_and_builds(rt: HostRuntime) -> Result<(), Fail> {
     assert!(rt; !start.legal(promotion));
     assert_eq!(rt; read_move(b"e2e9"), None);
     assert_eq!(rt; read_move(b"e7e8k"), None);
+}
 
-    let states = [
-        ("7k/5Q2/6K1/8/8/8/8/8", Side::Black, Ok(State::Stale)),
-        ("8/8/4k3/8/8/3NK3/8/8", Side::White, Ok(State::Dead)),
-        ("8/8/4k3/8/8/3RK3/8/8", Side::White, Ok(State::Open)),
-        ("4k2P/8/8/8/8/8/8/4K3", Side::White, Err(BuildFault::Board)),
-        ("4k3/8/8/8/8/8/8/8", Side::White, Err(BuildFault::Kings)),
-        ("4k3/8/8/8/8/8/4R3/4K3", Side::White, Err(BuildFault::Kings)),
-    ];
-    for (field, side, state) in states {
-        let found = position_of(field, side, "KQkq", None).map(|position| position.state());
-        assert_eq!(rt; found, state, "{field}");
-    }
+#[test]
+fn reads_and_builds(rt: HostRuntime) -> Result<(), Fail> {
+    let start = Position::start();
+    expect_moves(&rt, &start);
+    expect_states(&rt, &STATES);
     let counted = Position::build(
         &board_of("4k3/8/8/8/8/8/8/4K2R"),
         Side::White,
@@ -190,7 +221,7 @@ fn reads_and_builds(rt: HostRuntime) -> Result<(), Fail> {
         100_000,
         0,
     )?;
-    assert_eq!(rt; (counted.half(), counted.full()), (99_999, 1));
+    expect_counters(&rt, &counted, 99_999, 1);
     assert!(rt; counted.rights().wk && !counted.rights().wq);
     Ok(())
 }

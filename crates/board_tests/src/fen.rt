@@ -1,6 +1,7 @@
 // Positions as texts: how each is written, and the first fault of texts that are none.
 use chess_board::Position;
 use fen_text::{FenFault, read_fen, write_fen};
+use std::process::Abort;
 
 const START: &str = "rnbqkbnr/pppppppp/8/8/8/8/PPPPPPPP/RNBQKBNR w KQkq - 0 1";
 
@@ -96,19 +97,35 @@ const FAULTY: [(&str, FenFault); 27] = [
     ("4k3/4R3/8/8/8/8/8/4K3 w - - 0 1", FenFault::Kings),
 ];
 
+fn expect_written(rt: &impl Abort, text: &str, want: &str) {
+    match read_fen(text.as_bytes()) {
+        Ok(position) => {
+            let written = write_fen(&position);
+            assert_eq!(rt; written.as_slice(), want.as_bytes(), "of {text}");
+        }
+        Err(fault) => panic!(rt; "{fault:?} of {text}"),
+    }
+}
+
+fn expect_all_written(rt: &impl Abort, rows: &[(&'static str, &'static str)]) {
+    for (text, want) in rows {
+        expect_written(rt, text, want);
+    }
+}
+
+fn expect_fault(rt: &impl Abort, text: &str, want: FenFault) {
+    assert_eq!(rt; read_fen(text.as_bytes()).err(), Some(want), "of {text}");
+}
+
+fn expect_faults(rt: &impl Abort, rows: &[(&'static str, FenFault)]) {
+    for (text, want) in rows {
+        expect_fault(rt, text, *want);
+    }
+}
+
 #[test]
 fn reads_and_writes(rt: HostRuntime) {
-    for (text, want) in SPELLED {
-        match read_fen(text.as_bytes()) {
-            Ok(position) => {
-                let written = write_fen(&position);
-                assert_eq!(rt; written.as_slice(), want.as_bytes(), "of {text}");
-            }
-            Err(fault) => panic!(rt; "{fault:?} of {text}"),
-        }
-    }
-    for (text, want) in FAULTY {
-        assert_eq!(rt; read_fen(text.as_bytes()).err(), Some(want), "of {text}");
-    }
+    expect_all_written(&rt, &SPELLED);
+    expect_faults(&rt, &FAULTY);
     assert_eq!(rt; write_fen(&Position::start()).as_slice(), START.as_bytes());
 }

@@ -54,102 +54,117 @@ fn check_hinted(rt: &impl Abort, game: &Game, text: &str, out: &mut Out, want: &
     check_line(rt, game, Some(m), out, want);
 }
 
+/// Checks how many half-moves there are, and how often the position has come.
+fn expect_counts(rt: &impl Abort, game: &Game, plies: u32, repeats: u32) {
+    assert_eq!(rt; (game.plies(), game.repeats()), (plies, repeats));
+}
+
+fn expect_fault(rt: &impl Abort, game: &mut Game, text: &str, fault: PushFault) {
+    assert_eq!(rt; game.push(move_of(rt, text)), Err(fault));
+}
+
+fn expect_undone(rt: &impl Abort, game: &mut Game, plies: u32, want: Result<(), NoMove>) {
+    assert_eq!(rt; game.undo(plies), want);
+}
+
+fn repeats_the_start(rt: &impl Abort, game: &mut Game) {
+    play_all(rt, game, &SHUFFLE);
+    play_all(rt, game, &SHUFFLE[..3]);
+    assert_eq!(rt; (game.repeats(), game.ended()), (2, None));
+    ends(rt, game, "f6g8", Some(End::Repetition));
+    expect_counts(rt, game, 8, 3);
+}
+
+/// The rook's first move loses the right, so the start does not come again.
+fn repeats_without_the_right(rt: &impl Abort, game: &mut Game) {
+    game.reset(position_of(rt, "4k3/8/8/8/8/8/8/4K2R w K - 0 1"));
+    play_all(rt, game, &ROOK_SHUFFLE);
+    play_all(rt, game, &ROOK_SHUFFLE);
+    assert_eq!(rt; (game.repeats(), game.ended()), (2, None));
+    play_all(rt, game, &ROOK_SHUFFLE[..3]);
+    ends(rt, game, "e7e8", Some(End::Repetition));
+    expect_counts(rt, game, 12, 3);
+}
+
+fn ends_by_moves(rt: &impl Abort, game: &mut Game) {
+    game.reset(Position::start());
+    play_all(rt, game, &MATE[..3]);
+    ends(rt, game, MATE[3], Some(End::Mate));
+
+    // 99 moves without a pawn's move or a capture, and the hundredth.
+    game.reset(position_of(rt, "4k3/8/8/8/8/8/8/4K2R w - - 98 80"));
+    ends(rt, game, "h1h2", None);
+    ends(rt, game, "e8e7", Some(End::Fifty));
+}
+
+// A position, and how a game has ended that starts there.
+const ENDED: [(&str, Option<End>); 3] = [
+    ("7k/5Q2/6K1/8/8/8/8/8 b - - 0 1", Some(End::Stale)),
+    ("4k3/8/8/8/8/8/8/4KB2 w - - 120 90", Some(End::Dead)),
+    ("4k3/8/8/8/8/8/8/4K1BB w - - 0 1", None),
+];
+
+fn ends_at_once(rt: &impl Abort, game: &mut Game, rows: &[(&'static str, Option<End>)]) {
+    for (text, want) in rows {
+        game.reset(position_of(rt, text));
+        assert_eq!(rt; game.ended(), *want, "{text}");
+    }
+}
+
 #[test]
 fn counts_repetitions_and_ends(rt: HostRuntime) -> Result<(), Fail> {
     let mut game = Game::make(rt.alloc())?;
-    play_all(&rt, &mut game, &SHUFFLE);
-    play_all(&rt, &mut game, &SHUFFLE[..3]);
-    assert_eq!(rt; (game.repeats(), game.ended()), (2, None));
-    ends(&rt, &mut game, "f6g8", Some(End::Repetition));
-    assert_eq!(rt; (game.plies(), game.repeats()), (8, 3));
-
-    // The rook's first move loses the right, so the start does not come again.
-    game.reset(position_of(&rt, "4k3/8/8/8/8/8/8/4K2R w K - 0 1"));
-    play_all(&rt, &mut game, &ROOK_SHUFFLE);
-    play_all(&rt, &mut game, &ROOK_SHUFFLE);
-    assert_eq!(rt; (game.repeats(), game.ended()), (2, None));
-    play_all(&rt, &mut game, &ROOK_SHUFFLE[..3]);
-    ends(&rt, &mut game, "e7e8", Some(End::Repetition));
-    assert_eq!(rt; (game.plies(), game.repeats()), (12, 3));
-
-    game.reset(Position::start());
-    play_all(&rt, &mut game, &MATE[..3]);
-    ends(&rt, &mut game, MATE[3], Some(End::Mate));
-
-    // 99 moves without a pawn's move or a capture, and the hundredth.
-    game.reset(position_of(&rt, "4k3/8/8/8/8/8/8/4K2R w - - 98 80"));
-    ends(&rt, &mut game, "h1h2", None);
-    ends(&rt, &mut game, "e8e7", Some(End::Fifty));
-
-    for (text, want) in [
-        ("7k/5Q2/6K1/8/8/8/8/8 b - - 0 1", Some(End::Stale)),
-        ("4k3/8/8/8/8/8/8/4KB2 w - - 120 90", Some(End::Dead)),
-        ("4k3/8/8/8/8/8/8/4K1BB w - - 0 1", None),
-    ] {
-        game.reset(position_of(&rt, text));
-        assert_eq!(rt; game.ended(), want, "{text}");
-    }
+    repeats_the_start(&rt, &mut game);
+    repeats_without_the_right(&rt, &mut game);
+    ends_by_moves(&rt, &mut game);
+    ends_at_once(&rt, &mut game, &ENDED);
     Ok(())
+}
+
+const OPENED: &str = "position startpos moves e2e4 e7e5";
+
+fn plays_and_writes(rt: &impl Abort, game: &mut Game, out: &mut Out) {
+    check_line(rt, game, None, out, "position startpos");
+    check_hinted(rt, game, "e2e4", out, "position startpos moves e2e4");
+    expect_fault(rt, game, "e2e5", PushFault::Illegal);
+    play_all(rt, game, &["e2e4", "e7e5"]);
+    check_line(rt, game, None, out, OPENED);
+    let hinted = "position startpos moves e2e4 e7e5 g1f3";
+    check_hinted(rt, game, "g1f3", out, hinted);
+}
+
+/// Takes back the second of two moves.
+fn takes_back(rt: &impl Abort, game: &mut Game) {
+    expect_undone(rt, game, 3, Err(NoMove));
+    expect_undone(rt, game, 1, Ok(()));
+    assert_eq!(rt;
+        (game.plies(), game.moves()),
+        (1, [move_of(rt, "e2e4")].as_slice())
+    );
+    assert_eq!(rt; *game.start(), Position::start());
+    let opened = "rnbqkbnr/pppppppp/8/8/4P3/8/PPPP1PPP/RNBQKBNR b KQkq - 0 1";
+    assert_eq!(rt; *game.now(), position_of(rt, opened));
+}
+
+fn writes_other_starts(rt: &impl Abort, game: &mut Game, out: &mut Out) {
+    // A start with other counts is not the standard start.
+    let counted = "rnbqkbnr/pppppppp/8/8/8/8/PPPPPPPP/RNBQKBNR w KQkq - 0 2";
+    game.reset(position_of(rt, counted));
+    let line = "position fen rnbqkbnr/pppppppp/8/8/8/8/PPPPPPPP/RNBQKBNR w KQkq - 0 2";
+    check_line(rt, game, None, out, line);
+    game.reset(position_of(rt, "7k/4P3/8/8/8/8/8/4K3 w - - 0 1"));
+    play_all(rt, game, &["e7e8q"]);
+    let line = "position fen 7k/4P3/8/8/8/8/8/4K3 w - - 0 1 moves e7e8q";
+    check_line(rt, game, None, out, line);
 }
 
 #[test]
 fn plays_takes_back_and_writes(rt: HostRuntime) -> Result<(), Fail> {
     let mut game = Game::make(rt.alloc())?;
     let mut out = Out::make(rt.alloc(), 80_000)?;
-    check_line(&rt, &game, None, &mut out, "position startpos");
-    check_hinted(&rt, &game, "e2e4", &mut out, "position startpos moves e2e4");
-    assert_eq!(rt; game.push(move_of(&rt, "e2e5")), Err(PushFault::Illegal));
-    play_all(&rt, &mut game, &["e2e4", "e7e5"]);
-    check_line(
-        &rt,
-        &game,
-        None,
-        &mut out,
-        "position startpos moves e2e4 e7e5",
-    );
-    check_hinted(
-        &rt,
-        &game,
-        "g1f3",
-        &mut out,
-        "position startpos moves e2e4 e7e5 g1f3",
-    );
-    assert_eq!(rt; game.undo(3), Err(NoMove));
-    assert_eq!(rt; game.undo(1), Ok(()));
-    assert_eq!(rt;
-        (game.plies(), game.moves()),
-        (1, [move_of(&rt, "e2e4")].as_slice())
-    );
-    assert_eq!(rt; *game.start(), Position::start());
-    assert_eq!(rt;
-        *game.now(),
-        position_of(
-            &rt,
-            "rnbqkbnr/pppppppp/8/8/4P3/8/PPPP1PPP/RNBQKBNR b KQkq - 0 1"
-        )
-    );
-
-    // A start with other counts is not the standard start.
-    game.reset(position_of(
-        &rt,
-        "rnbqkbnr/pppppppp/8/8/8/8/PPPPPPPP/RNBQKBNR w KQkq - 0 2",
-    ));
-    check_line(
-        &rt,
-        &game,
-        None,
-        &mut out,
-        "position fen rnbqkbnr/pppppppp/8/8/8/8/PPPPPPPP/RNBQKBNR w KQkq - 0 2",
-    );
-    game.reset(position_of(&rt, "7k/4P3/8/8/8/8/8/4K3 w - - 0 1"));
-    play_all(&rt, &mut game, &["e7e8q"]);
-    check_line(
-        &rt,
-        &game,
-        None,
-        &mut out,
-        "position fen 7k/4P3/8/8/8/8/8/4K3 w - - 0 1 moves e7e8q",
-    );
+    plays_and_writes(&rt, &mut game, &mut out);
+    takes_back(&rt, &mut game);
+    writes_other_starts(&rt, &mut game, &mut out);
     Ok(())
 }
 
@@ -160,14 +175,12 @@ fn takes_the_longest_game(rt: HostRuntime) -> Result<(), Fail> {
         play_all(&rt, &mut game, &SHUFFLE);
         assert_eq!(rt; game.repeats(), round + 2);
     }
-    assert_eq!(rt;
-        (game.plies(), game.repeats(), game.ended()),
-        (12_000, 3_001, Some(End::Repetition))
-    );
-    assert_eq!(rt; game.push(move_of(&rt, "e2e5")), Err(PushFault::Illegal));
-    assert_eq!(rt; game.push(move_of(&rt, "e2e4")), Err(PushFault::TooLong));
-    assert_eq!(rt; game.undo(12_001), Err(NoMove));
-    assert_eq!(rt; game.undo(12_000), Ok(()));
-    assert_eq!(rt; (game.plies(), game.repeats()), (0, 1));
+    expect_counts(&rt, &game, 12_000, 3_001);
+    assert_eq!(rt; game.ended(), Some(End::Repetition));
+    expect_fault(&rt, &mut game, "e2e5", PushFault::Illegal);
+    expect_fault(&rt, &mut game, "e2e4", PushFault::TooLong);
+    expect_undone(&rt, &mut game, 12_001, Err(NoMove));
+    expect_undone(&rt, &mut game, 12_000, Ok(()));
+    expect_counts(&rt, &game, 0, 1);
     Ok(())
 }

@@ -3,11 +3,14 @@ use fen_text::read_fen;
 use game_record::Game;
 use game_text::{GAME_ROOM, sans_are_lawful, write_game};
 use line_io::Out;
+use std::alloc::Global;
 use std::process::Abort;
 use std::test::Fail;
 
-/// A start, or the standard one, the moves, and the text.
-const GAMES: [(&str, &[&str], &str); 4] = [
+// A start, or the standard one, the moves, and the text.
+type Written = (&'static str, &'static [&'static str], &'static str);
+
+const GAMES: [Written; 4] = [
     (
         "",
         &["f2f3", "e7e5", "g2g4", "d8h4"],
@@ -38,15 +41,30 @@ fn play(rt: &impl Abort, game: &mut Game, start: &str, moves: &[&str]) {
     }
 }
 
+fn expect_game(
+    rt: &impl Abort,
+    alloc: Global,
+    start: &str,
+    moves: &[&'static str],
+    want: &str,
+) -> Result<(), Fail> {
+    let mut game = Game::make(alloc)?;
+    let mut out = Out::make(alloc, GAME_ROOM)?;
+    play(rt, &mut game, start, moves);
+    write_game(&game, &mut out);
+    assert_eq!(rt; out.bytes(), want.as_bytes());
+    Ok(())
+}
+
+fn expect_games(rt: &impl Abort, alloc: Global, rows: &[Written]) -> Result<(), Fail> {
+    for (start, moves, want) in rows {
+        expect_game(rt, alloc, start, moves, want)?;
+    }
+    Ok(())
+}
+
 #[test]
 fn writes_games(rt: HostRuntime) -> Result<(), Fail> {
     sans_are_lawful();
-    for (start, moves, want) in GAMES {
-        let mut game = Game::make(rt.alloc())?;
-        let mut out = Out::make(rt.alloc(), GAME_ROOM)?;
-        play(&rt, &mut game, start, moves);
-        write_game(&game, &mut out);
-        assert_eq!(rt; out.bytes(), want.as_bytes());
-    }
-    Ok(())
+    expect_games(&rt, rt.alloc(), &GAMES)
 }

@@ -32,6 +32,12 @@ const MARKS: [&str; 8] = ["x new", "x!", "x.", "x?", "u uciok", "u!", "u.", "u?"
 const GO_AFTER_E4: &str =
     "position startpos moves e2e4\ngo wtime 300000 btime 300000 winc 0 binc 0\n";
 
+/// A mark, and the lines to the interface and to the engine after it.
+type Step = (&'static str, &'static str, &'static str);
+
+/// The state of the engine at the end, the plies of the game, and whether the session is over.
+type End = (EngineState, u32, bool);
+
 /// The event that a mark tells.
 fn event_in<'a>(rt: &impl Abort, mark: &'a str) -> Event<'a> {
     match read_mark(mark.as_bytes()) {
@@ -53,12 +59,16 @@ fn quits(event: &Event) -> bool
 fn check_event(rt: &impl Abort, core: &mut Core, event: &Event, iface: &str, engine: &str) {
     assert!(rt; core.may(event), "{iface}{engine}");
     let step = core.step(event);
-    assert_eq!(rt; step.iface, iface.as_bytes(), "{iface}");
-    assert_eq!(rt; step.engine, engine.as_bytes(), "{engine}");
+    expect_text(rt, step.iface, iface);
+    expect_text(rt, step.engine, engine);
+}
+
+fn expect_text(rt: &impl Abort, text: &[u8], want: &str) {
+    assert_eq!(rt; text, want.as_bytes(), "{want}");
 }
 
 /// Takes the event of each mark, and compares the lines to the interface and to the engine.
-fn check_steps(rt: &impl Abort, core: &mut Core, steps: &[(&str, &str, &str)]) {
+fn check_steps(rt: &impl Abort, core: &mut Core, steps: &[Step]) {
     for (mark, iface, engine) in steps {
         check_event(rt, core, &event_in(rt, mark), iface, engine);
     }
@@ -69,24 +79,32 @@ fn check_session(
     rt: &impl Abort,
     alloc: Global,
     settings: Settings,
-    steps: &[(&str, &str, &str)],
-    end: (EngineState, u32, bool),
+    steps: &[Step],
+    end: End,
 ) -> Result<(), NoMemory>
     requires { IsProper settings }
 {
     let mut core = Core::make(alloc, &settings)?;
     check_event(rt, &mut core, &Event::Open, "", "uci\n");
     check_steps(rt, &mut core, steps);
-    assert_eq!(rt; (core.engine(), core.game().plies(), core.over()), end);
+    expect_end(rt, (core.engine(), core.game().plies(), core.over()), end);
     Ok(())
+}
+
+fn expect_end(rt: &impl Abort, end: End, want: End) {
+    assert_eq!(rt; end, want);
 }
 
 /// Compares which events may come with the marks wanted.
 fn check_may(rt: &impl Abort, core: &Core, want: [bool; 8]) {
     for at in 0..8 {
         let mark = MARKS[at];
-        assert_eq!(rt; core.may(&event_in(rt, mark)), want[at], "{mark}");
+        expect_may(rt, core.may(&event_in(rt, mark)), want[at], mark);
     }
+}
+
+fn expect_may(rt: &impl Abort, may: bool, want: bool, mark: &str) {
+    assert_eq!(rt; may, want, "{mark}");
 }
 
 #[test]
@@ -99,58 +117,93 @@ fn laws_can_be_called(_rt: HostRuntime) -> Result<(), Fail> {
     Ok(())
 }
 
+const SHORT_GAME: [Step; 6] = [
+    ("u uciok", "", "isready\n"),
+    ("u readyok", "", ""),
+    ("x usermove e2e4", "", GO_AFTER_E4),
+    ("u bestmove e7e5", "move e7e5\n", ""),
+    ("x quit", "", "quit\n"),
+    ("u.", "", ""),
+];
+
 #[test]
 fn plays_a_short_game(rt: HostRuntime) -> Result<(), Fail> {
-    let steps = [
-        ("u uciok", "", "isready\n"),
-        ("u readyok", "", ""),
-        ("x usermove e2e4", "", GO_AFTER_E4),
-        ("u bestmove e7e5", "move e7e5\n", ""),
-        ("x quit", "", "quit\n"),
-        ("u.", "", ""),
-    ];
     let end = (EngineState::Gone, 2, true);
-    check_session(&rt, rt.alloc(), Settings::usual(), &steps, end)?;
+    check_session(&rt, rt.alloc(), Settings::usual(), &SHORT_GAME, end)?;
     Ok(())
 }
 
+const STALE_SEARCH: [Step; 5] = [
+    ("u uciok", "", "isready\n"),
+    ("u readyok", "", ""),
+    ("x usermove e2e4", "", GO_AFTER_E4),
+    ("x force", "", "stop\n"),
+    ("u bestmove e7e5", "", ""),
+];
+
 #[test]
 fn shows_nothing_of_a_stale_search(rt: HostRuntime) -> Result<(), Fail> {
-    let steps = [
-        ("u uciok", "", "isready\n"),
-        ("u readyok", "", ""),
-        ("x usermove e2e4", "", GO_AFTER_E4),
-        ("x force", "", "stop\n"),
-        ("u bestmove e7e5", "", ""),
-    ];
     let stale = EngineState::Search {
         kind: GoKind::Move,
         stale: true,
         stopped: true,
     };
     let settings = Settings::usual();
-    check_session(&rt, rt.alloc(), settings, &steps[..4], (stale, 1, false))?;
+    check_session(
+        &rt,
+        rt.alloc(),
+        settings,
+        &STALE_SEARCH[..4],
+        (stale, 1, false),
+    )?;
     let end = (EngineState::Idle, 1, false);
-    check_session(&rt, rt.alloc(), settings, &steps, end)?;
+    check_session(&rt, rt.alloc(), settings, &STALE_SEARCH, end)?;
     Ok(())
 }
 
+const WITHOUT_ENGINE: [Step; 9] = [
+    ("u uciok", "", "isready\n"),
+    ("u readyok", "", ""),
+    ("x usermove e2e4", "", GO_AFTER_E4),
+    ("x ping 7", "", ""),
+    ("u.", "tellusererror Engine ended\nresign\npong 7\n", ""),
+    ("x go", "Error (engine ended): go\n", ""),
+    ("x usermove e2e5", "Illegal move: e2e5\n", ""),
+    ("x usermove e7e5", "", ""),
+    ("x.", "", ""),
+];
+
 #[test]
 fn goes_on_without_the_engine(rt: HostRuntime) -> Result<(), Fail> {
-    let steps = [
-        ("u uciok", "", "isready\n"),
-        ("u readyok", "", ""),
-        ("x usermove e2e4", "", GO_AFTER_E4),
-        ("x ping 7", "", ""),
-        ("u.", "tellusererror Engine ended\nresign\npong 7\n", ""),
-        ("x go", "Error (engine ended): go\n", ""),
-        ("x usermove e2e5", "Illegal move: e2e5\n", ""),
-        ("x usermove e7e5", "", ""),
-        ("x.", "", ""),
-    ];
     let end = (EngineState::Gone, 2, true);
-    check_session(&rt, rt.alloc(), Settings::usual(), &steps, end)?;
+    check_session(&rt, rt.alloc(), Settings::usual(), &WITHOUT_ENGINE, end)?;
     Ok(())
+}
+
+/// A mark, the lines to the engine after it, and which of the events of MARKS may come then.
+type Loss = (&'static str, &'static str, [bool; 8]);
+
+// The interface is lost, then the engine; the interface ends, then the engine.
+const LOSSES: [Loss; 4] = [
+    (
+        "x?",
+        "quit\n",
+        [true, true, true, false, true, true, true, true],
+    ),
+    ("u?", "", [true, true, true, false, true, true, true, false]),
+    (
+        "x quit",
+        "",
+        [false, false, false, false, true, true, true, false],
+    ),
+    ("u.", "", [false; 8]),
+];
+
+fn check_loss(rt: &impl Abort, core: &mut Core, losses: &[Loss]) {
+    for (mark, engine, may) in losses {
+        check_event(rt, core, &event_in(rt, mark), "", engine);
+        check_may(rt, core, *may);
+    }
 }
 
 #[test]
@@ -162,76 +215,88 @@ fn tells_which_events_may_come(rt: HostRuntime) -> Result<(), Fail> {
     assert!(rt; !core.may(&Event::Open));
     check_may(&rt, &core, [true; 8]);
 
-    // the interface is lost, then the engine; the interface ends, then the engine
-    let steps = [
-        (
-            "x?",
-            "quit\n",
-            [true, true, true, false, true, true, true, true],
-        ),
-        ("u?", "", [true, true, true, false, true, true, true, false]),
-        (
-            "x quit",
-            "",
-            [false, false, false, false, true, true, true, false],
-        ),
-        ("u.", "", [false; 8]),
-    ];
-    for (mark, engine, may) in steps {
-        check_event(&rt, &mut core, &event_in(&rt, mark), "", engine);
-        check_may(&rt, &core, may);
-    }
+    check_loss(&rt, &mut core, &LOSSES);
     assert!(rt; core.over());
     Ok(())
+}
+
+const OPENED: Ends = Ends {
+    opened: true,
+    iface: false,
+    engine: false,
+    iface_lost: false,
+    engine_lost: false,
+    closed: false,
+};
+
+const QUIT: Ends = Ends {
+    opened: true,
+    iface: true,
+    engine: false,
+    iface_lost: false,
+    engine_lost: false,
+    closed: true,
+};
+
+const LOST: Ends = Ends {
+    opened: true,
+    iface: false,
+    engine: false,
+    iface_lost: true,
+    engine_lost: false,
+    closed: true,
+};
+
+const ENGINE_ENDED: Ends = Ends {
+    opened: true,
+    iface: false,
+    engine: true,
+    iface_lost: false,
+    engine_lost: false,
+    closed: false,
+};
+
+const ENGINE_LOST: Ends = Ends {
+    opened: true,
+    iface: false,
+    engine: false,
+    iface_lost: false,
+    engine_lost: true,
+    closed: false,
+};
+
+/// A mark, and the sides that have ended after it where both had begun.
+const ENDS_AFTER: [(&'static str, Ends); 10] = [
+    ("x quit", QUIT),
+    ("x  quit now", QUIT),
+    ("x.", QUIT),
+    ("x?", LOST),
+    ("u.", ENGINE_ENDED),
+    ("u?", ENGINE_LOST),
+    ("x quitter", OPENED),
+    ("x!", OPENED),
+    ("u quit", OPENED),
+    ("u!", OPENED),
+];
+
+fn expect_ends(rt: &impl Abort, ends: Ends, want: Ends, mark: &str) {
+    assert_eq!(rt; ends, want, "{mark}");
+}
+
+fn check_ends(rt: &impl Abort, opened: Ends, rows: &[(&str, Ends)]) {
+    for (mark, want) in rows {
+        let event = event_in(rt, mark);
+        expect_ends(rt, opened.after(&event, quits(&event)), *want, mark);
+    }
 }
 
 #[test]
 fn keeps_which_sides_have_ended(rt: HostRuntime) -> Result<(), Fail> {
     let opened = AT_START.after(&Event::Open, false);
-    assert_eq!(rt;
-        opened,
-        Ends {
-            opened: true,
-            ..AT_START
-        }
-    );
+    expect_ends(&rt, opened, OPENED, "open");
     assert!(rt; AT_START.may(&Event::Open) && !AT_START.may(&Event::IfaceEnd));
     assert!(rt; !opened.may(&Event::Open) && opened.may(&Event::IfaceEnd));
-    let quit = Ends {
-        iface: true,
-        closed: true,
-        ..opened
-    };
-    let lost = Ends {
-        iface_lost: true,
-        closed: true,
-        ..opened
-    };
-    let without_engine = Ends {
-        engine: true,
-        ..opened
-    };
-    let engine_lost = Ends {
-        engine_lost: true,
-        ..opened
-    };
-    let events = [
-        ("x quit", quit),
-        ("x  quit now", quit),
-        ("x.", quit),
-        ("x?", lost),
-        ("u.", without_engine),
-        ("u?", engine_lost),
-        ("x quitter", opened),
-        ("x!", opened),
-        ("u quit", opened),
-        ("u!", opened),
-    ];
-    for (mark, want) in events {
-        let event = event_in(&rt, mark);
-        let quits = quits(&event);
-        assert_eq!(rt; opened.after(&event, quits), want, "{mark}");
-    }
+    check_ends(&rt, opened, &ENDS_AFTER);
     Ok(())
 }
 

@@ -13,7 +13,8 @@ ghost use Rattle.desk_rules.specs.declared.pings.TheConstants.{MOST_PINGS};
 mod calls;
 mod turns;
 
-use desk_rules::{Context, Desk, Effect, Ruling, is_gone};
+use chess_board::{Move, Square};
+use desk_rules::{Context, Desk, Effect, Pings, Ruling, is_gone};
 use line_io::{Event, NoMemory, Out, SCRIPT_LINE};
 use option_map::Held;
 use peer_words::GoKind;
@@ -32,6 +33,12 @@ const STALE: EngineState = EngineState::Search {
     kind: GoKind::Move,
     stale: true,
     stopped: false,
+};
+
+const G1F3: Move = Move {
+    from: Square { index: 6 },
+    to: Square { index: 21 },
+    promo: None,
 };
 
 /// Nothing is said of the engine yet, and the policy neither resigns nor accepts a draw.
@@ -201,7 +208,7 @@ impl Bench {
         self.held.facts();
         assert!(rt; self.told.spare() == SCRIPT_LINE);
         self.held.write(&mut self.told);
-        assert_eq!(rt; self.told.bytes(), want.as_bytes());
+        expect_text(rt, self.told.bytes(), want, want);
     }
 
     fn follow(&mut self, context: Context, ruling: &Ruling) -> (&'static str, bool, Call)
@@ -238,8 +245,17 @@ fn check_turn(rt: &impl Abort, bench: &mut Bench, context: Context, turn: &Turn)
     let (engine, mark, effect, begins_epoch, call, told) = *turn;
     let event = event_in(rt, mark);
     let came = bench.take(rt, Context { engine, ..context }, &event);
-    assert_eq!(rt; came, (effect, begins_epoch, call), "{mark}");
-    assert_eq!(rt; bench.told.bytes(), told.as_bytes(), "{mark}");
+    expect_came(rt, came, (effect, begins_epoch, call), mark);
+    expect_text(rt, bench.told.bytes(), told, mark);
+}
+
+/// The effect of an event, whether an epoch begins and the call are as wanted.
+fn expect_came(rt: &impl Abort, came: (&str, bool, Call), want: (&str, bool, Call), mark: &str) {
+    assert_eq!(rt; came, want, "{mark}");
+}
+
+fn expect_text(rt: &impl Abort, text: &[u8], want: &str, mark: &str) {
+    assert_eq!(rt; text, want.as_bytes(), "{mark}");
 }
 
 /// The event that a mark tells.
@@ -248,4 +264,14 @@ fn event_in<'a>(rt: &impl Abort, mark: &'a str) -> Event<'a> {
         Ok(Mark::Event(event)) => event,
         _ => panic!(rt; "no event: {mark}"),
     }
+}
+
+fn expect_move(rt: &impl Abort, played: Option<Move>, want: Option<Move>) {
+    assert_eq!(rt; played, want);
+}
+
+/// The pings that wait, in their order.
+fn expect_pings(rt: &impl Abort, pings: &Pings, want: &[u32]) {
+    assert_eq!(rt; pings.len(), want.len());
+    assert_eq!(rt; pings.numbers(), want);
 }

@@ -1,5 +1,5 @@
 // Worked sessions: what comes in each step after the opening, and the orders that it writes.
-use chess_board::{Move, read_move};
+use chess_board::{Move, Square, read_move};
 use peer_words::GoKind;
 use search_epochs::{
     Call, Dialogue, EngineState, Heard, Orders, Said, open_search, order_places, served_call,
@@ -15,244 +15,281 @@ enum Event {
     Line,
 }
 
-#[derive(Clone, Copy)]
-struct Turn {
-    event: Event,
-    begins_epoch: bool,
-    call: Call,
-    unsent: bool,
-    orders: Orders,
-}
+/// What comes, whether it begins an epoch, the call after it, whether settings wait after it, and the orders.
+type Turn = (Event, bool, Call, bool, Orders);
 
-// The engine says something that begins no epoch.
-fn says(said: Said, heard: Heard, call: Call, orders: Orders) -> Turn {
-    Turn {
-        event: Event::Says(said, heard),
-        begins_epoch: false,
-        call,
-        unsent: matches!(heard, Heard::Booted),
-        orders,
-    }
-}
+const E2E4: Move = Move {
+    from: Square { index: 12 },
+    to: Square { index: 28 },
+    promo: None,
+};
 
-// Its search closes, and no move is shown.
-fn answers(kind: GoKind, current: bool, call: Call, orders: Orders) -> Turn {
-    says(Said::Best, Heard::Answer { kind, current }, call, orders)
-}
+const G1F3: Move = Move {
+    from: Square { index: 6 },
+    to: Square { index: 21 },
+    promo: None,
+};
 
-// A move is shown.
-fn shows(call: Call, orders: Orders) -> Turn {
-    Turn {
-        begins_epoch: true,
-        ..answers(GoKind::Move, true, call, orders)
-    }
-}
+const D2D4: Move = Move {
+    from: Square { index: 11 },
+    to: Square { index: 27 },
+    promo: None,
+};
 
-// The user's line begins an epoch.
-fn line(call: Call, orders: Orders) -> Turn {
-    Turn {
-        event: Event::Line,
-        begins_epoch: true,
-        call,
-        unsent: false,
-        orders,
-    }
-}
+const HINT: Call = Call::Ponder(G1F3);
 
-fn plays(m: Move, call: Call, orders: Orders) -> Turn {
-    Turn {
-        event: Event::Plays(m),
-        ..line(call, orders)
-    }
-}
+const BEGIN: Orders = Orders::Begin(Call::Move);
 
-fn booted() -> Turn {
-    says(Said::UciOk, Heard::Booted, Call::Nothing, Orders::Batch)
-}
+const BEGIN_ANALYSIS: Orders = Orders::Begin(Call::Analyse);
 
-fn ready(call: Call, orders: Orders) -> Turn {
-    says(Said::ReadyOk, Heard::Ready, call, orders)
-}
+// A search closes: whether it is current, and what it was for.
+const MOVE_FOUND: Event = Event::Says(
+    Said::Best,
+    Heard::Answer {
+        kind: GoKind::Move,
+        current: true,
+    },
+);
 
-// Settings wait after this step.
-fn waits(turn: Turn) -> Turn {
-    Turn {
-        unsent: true,
-        ..turn
-    }
-}
+const STALE_MOVE: Event = Event::Says(
+    Said::Best,
+    Heard::Answer {
+        kind: GoKind::Move,
+        current: false,
+    },
+);
+
+const STALE_PONDER: Event = Event::Says(
+    Said::Best,
+    Heard::Answer {
+        kind: GoKind::Ponder,
+        current: false,
+    },
+);
+
+const ANALYSED: Event = Event::Says(
+    Said::Best,
+    Heard::Answer {
+        kind: GoKind::Analyse,
+        current: true,
+    },
+);
+
+const IS_READY: Event = Event::Says(Said::ReadyOk, Heard::Ready);
+
+const BOOTED: Turn = (
+    Event::Says(Said::UciOk, Heard::Booted),
+    false,
+    Call::Nothing,
+    true,
+    Orders::Batch,
+);
+
+const QUIET: Turn = (IS_READY, false, Call::Nothing, false, Orders::None);
+
+// The user plays, and a search for a move begins.
+const BEGINS: Turn = (Event::Plays(E2E4), true, Call::Move, false, BEGIN);
+
+// The user switches pondering on.
+const HARD: Turn = (Event::Line, true, Call::Nothing, true, Orders::Batch);
+
+// A move is shown, and the engine ponders.
+const PONDERS: Turn = (MOVE_FOUND, true, HINT, false, Orders::Begin(HINT));
+
+// A move is shown, and nothing more is called for.
+const SHOWS: Turn = (MOVE_FOUND, true, Call::Nothing, false, Orders::None);
+
+// The user's line stops the search.
+const STOPS: Turn = (Event::Line, true, Call::Nothing, false, Orders::Stop);
+
+// The stopped search closes, and no move is shown.
+const CLOSES: Turn = (STALE_MOVE, false, Call::Nothing, false, Orders::None);
+
+const STOPPED: [Turn; 5] = [BOOTED, QUIET, BEGINS, STOPS, CLOSES];
+
+const STOPPED_AND_BEGUN: [Turn; 7] = [
+    BOOTED,
+    QUIET,
+    BEGINS,
+    STOPS,
+    (Event::Line, true, Call::Move, false, Orders::None),
+    (STALE_MOVE, false, Call::Move, false, BEGIN),
+    SHOWS,
+];
+
+const HURRIED: [Turn; 6] = [
+    BOOTED,
+    QUIET,
+    BEGINS,
+    (Event::Hurries, false, Call::Move, false, Orders::Stop),
+    (Event::Line, true, Call::Nothing, false, Orders::None),
+    CLOSES,
+];
+
+const HINT_PLAYED: [Turn; 8] = [
+    BOOTED,
+    QUIET,
+    HARD,
+    QUIET,
+    BEGINS,
+    PONDERS,
+    (Event::Plays(G1F3), true, Call::Move, false, Orders::Hit),
+    SHOWS,
+];
+
+const OTHER_PLAYED: [Turn; 8] = [
+    BOOTED,
+    QUIET,
+    HARD,
+    QUIET,
+    BEGINS,
+    PONDERS,
+    (Event::Plays(D2D4), true, Call::Move, false, Orders::Stop),
+    (STALE_PONDER, false, Call::Move, false, BEGIN),
+];
+
+const ANALYSIS: [Turn; 5] = [
+    BOOTED,
+    QUIET,
+    (Event::Line, true, Call::Analyse, false, BEGIN_ANALYSIS),
+    (ANALYSED, false, Call::Analyse, false, Orders::None),
+    (
+        Event::Plays(E2E4),
+        true,
+        Call::Analyse,
+        false,
+        BEGIN_ANALYSIS,
+    ),
+];
+
+const HINT_AFTER_EASY: [Turn; 11] = [
+    BOOTED,
+    QUIET,
+    HARD,
+    QUIET,
+    BEGINS,
+    PONDERS,
+    (Event::Line, true, Call::Nothing, true, Orders::Stop),
+    (Event::Plays(G1F3), true, Call::Move, true, Orders::None),
+    (STALE_PONDER, false, Call::Move, true, Orders::Batch),
+    (IS_READY, false, Call::Move, false, BEGIN),
+    SHOWS,
+];
+
+const ENDED: [Turn; 5] = [
+    BOOTED,
+    QUIET,
+    BEGINS,
+    (
+        Event::Says(Said::Ended, Heard::Ended),
+        false,
+        Call::Nothing,
+        false,
+        Orders::None,
+    ),
+    (
+        Event::Says(Said::Ended, Heard::Nothing),
+        false,
+        Call::Nothing,
+        false,
+        Orders::None,
+    ),
+];
 
 fn walk(rt: &impl Abort, name: &str, turns: &[Turn]) {
     let mut dialogue = Dialogue::new();
     dialogue.rest();
     for (k, turn) in turns.iter().enumerate() {
-        if let Event::Says(said, heard) = turn.event {
-            assert_eq!(rt;
-                dialogue.heard(said),
-                heard,
-                "{name}: what is heard in turn {k}"
-            );
-        }
-        if turn.begins_epoch {
-            dialogue.new_epoch();
-        }
-        let played = match turn.event {
-            Event::Plays(m) => Some(m),
-            _ => None,
-        };
-        let hurry = matches!(turn.event, Event::Hurries);
-        let orders = dialogue.settle(turn.call, turn.unsent, played, hurry);
-        assert_eq!(rt; orders, turn.orders, "{name}: the orders of turn {k}");
+        take_turn(rt, &mut dialogue, turn, name, k);
     }
 }
 
-fn move_of(rt: &impl Abort, text: &str) -> Move {
-    read_move(text.as_bytes()).expect(rt, "a move")
+fn take_turn(rt: &impl Abort, dialogue: &mut Dialogue, turn: &Turn, name: &str, k: usize) {
+    let (event, begins_epoch, call, unsent, want) = *turn;
+    if let Event::Says(said, heard) = event {
+        expect_heard(rt, dialogue.heard(said), heard, name, k);
+    }
+    if begins_epoch {
+        dialogue.new_epoch();
+    }
+    let played = match event {
+        Event::Plays(m) => Some(m),
+        _ => None,
+    };
+    let hurry = matches!(event, Event::Hurries);
+    let orders = dialogue.settle(call, unsent, played, hurry);
+    expect_orders(rt, orders, want, name, k);
+}
+
+fn expect_heard(rt: &impl Abort, heard: Heard, want: Heard, name: &str, k: usize) {
+    assert_eq!(rt; heard, want, "{name}: what is heard in turn {k}");
+}
+
+fn expect_orders(rt: &impl Abort, orders: Orders, want: Orders, name: &str, k: usize) {
+    assert_eq!(rt; orders, want, "{name}: the orders of turn {k}");
+}
+
+fn expect_move(rt: &impl Abort, text: &str, want: Move) {
+    assert_eq!(rt; read_move(text.as_bytes()), Some(want), "{text}");
+}
+
+fn expect_owed(rt: &impl Abort, dialogue: &Dialogue, want: Call) {
+    assert_eq!(rt; dialogue.owed(Call::Analyse), want);
+}
+
+fn expect_state(rt: &impl Abort, state: EngineState, want: EngineState) {
+    assert_eq!(rt; state, want);
 }
 
 #[test]
 fn sessions(rt: HostRuntime) {
-    let e2e4 = move_of(&rt, "e2e4");
-    let g1f3 = move_of(&rt, "g1f3");
-    let d2d4 = move_of(&rt, "d2d4");
-    let hint = Call::Ponder(g1f3);
-    let begin = Orders::Begin(Call::Move);
-    let quiet = ready(Call::Nothing, Orders::None);
-    let begins = plays(e2e4, Call::Move, begin);
-    let hard = waits(line(Call::Nothing, Orders::Batch));
-    let ponders = shows(hint, Orders::Begin(hint));
-    let rows: [(&str, &[Turn]); 8] = [
-        (
-            "a stopped search shows nothing",
-            &[
-                booted(),
-                quiet,
-                begins,
-                line(Call::Nothing, Orders::Stop),
-                answers(GoKind::Move, false, Call::Nothing, Orders::None),
-            ],
-        ),
-        (
-            "a new search waits for the answer of the stopped one",
-            &[
-                booted(),
-                quiet,
-                begins,
-                line(Call::Nothing, Orders::Stop),
-                line(Call::Move, Orders::None),
-                answers(GoKind::Move, false, Call::Move, begin),
-                shows(Call::Nothing, Orders::None),
-            ],
-        ),
-        (
-            "one stop",
-            &[
-                booted(),
-                quiet,
-                begins,
-                Turn {
-                    event: Event::Hurries,
-                    begins_epoch: false,
-                    ..line(Call::Move, Orders::Stop)
-                },
-                line(Call::Nothing, Orders::None),
-                answers(GoKind::Move, false, Call::Nothing, Orders::None),
-            ],
-        ),
-        (
-            "the hint is played",
-            &[
-                booted(),
-                quiet,
-                hard,
-                quiet,
-                begins,
-                ponders,
-                plays(g1f3, Call::Move, Orders::Hit),
-                shows(Call::Nothing, Orders::None),
-            ],
-        ),
-        (
-            "another move is played",
-            &[
-                booted(),
-                quiet,
-                hard,
-                quiet,
-                begins,
-                ponders,
-                plays(d2d4, Call::Move, Orders::Stop),
-                answers(GoKind::Ponder, false, Call::Move, begin),
-            ],
-        ),
-        (
-            "analysis is not begun again before the next move",
-            &[
-                booted(),
-                quiet,
-                line(Call::Analyse, Orders::Begin(Call::Analyse)),
-                answers(GoKind::Analyse, true, Call::Analyse, Orders::None),
-                plays(e2e4, Call::Analyse, Orders::Begin(Call::Analyse)),
-            ],
-        ),
-        (
-            "the hint is played after easy had the search stopped",
-            &[
-                booted(),
-                quiet,
-                hard,
-                quiet,
-                begins,
-                ponders,
-                waits(line(Call::Nothing, Orders::Stop)),
-                waits(plays(g1f3, Call::Move, Orders::None)),
-                waits(answers(GoKind::Ponder, false, Call::Move, Orders::Batch)),
-                ready(Call::Move, begin),
-                shows(Call::Nothing, Orders::None),
-            ],
-        ),
-        (
-            "the engine ends",
-            &[
-                booted(),
-                quiet,
-                begins,
-                says(Said::Ended, Heard::Ended, Call::Nothing, Orders::None),
-                says(Said::Ended, Heard::Nothing, Call::Nothing, Orders::None),
-            ],
-        ),
-    ];
-    for (name, turns) in rows {
-        walk(&rt, name, turns);
-    }
+    expect_move(&rt, "e2e4", E2E4);
+    expect_move(&rt, "g1f3", G1F3);
+    expect_move(&rt, "d2d4", D2D4);
+    walk(&rt, "a stopped search shows nothing", &STOPPED);
+    walk(
+        &rt,
+        "a new search waits for the answer of the stopped one",
+        &STOPPED_AND_BEGUN,
+    );
+    walk(&rt, "one stop", &HURRIED);
+    walk(&rt, "the hint is played", &HINT_PLAYED);
+    walk(&rt, "another move is played", &OTHER_PLAYED);
+    walk(
+        &rt,
+        "analysis is not begun again before the next move",
+        &ANALYSIS,
+    );
+    walk(
+        &rt,
+        "the hint is played after easy had the search stopped",
+        &HINT_AFTER_EASY,
+    );
+    walk(&rt, "the engine ends", &ENDED);
 }
 
 #[test]
 fn spent(rt: HostRuntime) {
     let mut dialogue = Dialogue::new();
-    assert_eq!(rt; dialogue.heard(Said::UciOk), Heard::Booted);
-    assert_eq!(rt;
-        dialogue.settle(Call::Analyse, false, None, false),
-        Orders::Begin(Call::Analyse)
-    );
+    expect_heard(&rt, dialogue.heard(Said::UciOk), Heard::Booted, "spent", 0);
+    let orders = dialogue.settle(Call::Analyse, false, None, false);
+    expect_orders(&rt, orders, BEGIN_ANALYSIS, "spent", 0);
     let kind = GoKind::Analyse;
     let open = EngineState::Search {
         kind,
         stale: false,
         stopped: false,
     };
-    assert_eq!(rt; dialogue.state(), open);
-    assert_eq!(rt;
-        dialogue.heard(Said::Best),
-        Heard::Answer {
-            kind,
-            current: true
-        }
-    );
+    expect_state(&rt, dialogue.state(), open);
+    let answer = Heard::Answer {
+        kind,
+        current: true,
+    };
+    expect_heard(&rt, dialogue.heard(Said::Best), answer, "spent", 1);
     assert!(rt; dialogue.is_spent());
-    assert_eq!(rt; dialogue.owed(Call::Analyse), Call::Nothing);
+    expect_owed(&rt, &dialogue, Call::Nothing);
     dialogue.new_epoch();
-    assert_eq!(rt; dialogue.owed(Call::Analyse), Call::Analyse);
+    expect_owed(&rt, &dialogue, Call::Analyse);
 }
 
 #[test]

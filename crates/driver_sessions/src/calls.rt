@@ -1,157 +1,132 @@
 // Sessions, call by call: what each gives up to the interface, and to the engine.
+use crate::expected::expect_bytes;
 use cecp_driver::{
     Both, Driver, EVENT_ROOM, LINE_LIMIT, put_marks, searches_are_on_the_ordered_game,
 };
 use line_io::{Event, Out};
 use std::test::Fail;
 
-/// Whose line it is.
-#[derive(Clone, Copy)]
-enum From {
-    Iface,
-    Engine,
+/// A line with its mark, which is `x` for an order and `u` for a line of the engine, and the lines that it gives: up to
+/// the interface, and to the engine.
+type Row = (&'static str, &'static str, &'static str);
+
+fn gives(both: Both, up: &str, child: &str) -> bool {
+    both.up == up.as_bytes() && both.child == child.as_bytes()
 }
 
-/// A line, and the lines that it gives.
-#[derive(Clone, Copy)]
-struct Row {
-    from: From,
-    line: &'static [u8],
-    up: &'static [u8],
-    child: &'static [u8],
-}
-
-fn order(line: &'static [u8], up: &'static [u8], child: &'static [u8]) -> Row {
-    Row {
-        from: From::Iface,
-        line,
-        up,
-        child,
+/// Whether a line with its mark gives these lines.
+fn plays_row(driver: &mut Driver, marked: &[u8], up: &str, child: &str) -> bool {
+    match marked {
+        [b'x', b' ', line @ ..] => line.len() <= LINE_LIMIT && gives(driver.order(line), up, child),
+        [b'u', b' ', line @ ..] => line.len() <= LINE_LIMIT && gives(driver.heard(line), up, child),
+        _ => false,
     }
-}
-
-fn heard(line: &'static [u8], up: &'static [u8], child: &'static [u8]) -> Row {
-    Row {
-        from: From::Engine,
-        line,
-        up,
-        child,
-    }
-}
-
-fn gives(both: Both, row: &Row) -> bool {
-    both.up == row.up && both.child == row.child
 }
 
 /// Whether each line gives what stands beside it.
 fn plays(driver: &mut Driver, rows: &[Row]) -> bool {
-    for row in rows {
-        if row.line.len() > 65_536 {
-            return false;
-        }
-        let fits = match row.from {
-            From::Iface => gives(driver.order(row.line), row),
-            From::Engine => gives(driver.heard(row.line), row),
-        };
-        if !fits {
+    for (marked, up, child) in rows {
+        if !plays_row(driver, marked.as_bytes(), up, child) {
             return false;
         }
     }
     true
 }
 
-const GREETING: &[u8] = b"xboard\nprotover 2\n";
+const GREETING: &str = "xboard\nprotover 2\n";
 
-const FEATURES: &[u8] = b"feature ping=1 setboard=1 usermove=1 analyze=1 myname=\"Old\" done=1";
+const FEATURES: &str = "u feature ping=1 setboard=1 usermove=1 analyze=1 myname=\"Old\" done=1";
 
-const READY: &[u8] = b"id name Old\nuciok\n";
+const READY: &str = "id name Old\nuciok\n";
 
-const ANSWERS: &[u8] =
-    b"accepted ping\naccepted setboard\naccepted usermove\naccepted analyze\naccepted myname\naccepted done\n";
+const ANSWERS: &str =
+    "accepted ping\naccepted setboard\naccepted usermove\naccepted analyze\naccepted myname\naccepted done\n";
+
+// A game in which the engine resigns, and a search that waits for its `pong`.
+const A_GAME: [Row; 11] = [
+    ("x uci", "", GREETING),
+    (FEATURES, READY, ANSWERS),
+    ("x position startpos moves e2e4", "", ""),
+    (
+        "x go movetime 1500",
+        "",
+        "new\nforce\npost\nusermove e2e4\nst 2\ngo\n",
+    ),
+    ("u move e7e5", "bestmove e7e5\n", ""),
+    ("x position startpos moves e2e4 e7e5 g1f3", "", ""),
+    ("x go movetime 1500", "", "force\nusermove g1f3\nst 2\ngo\n"),
+    ("u resign", "bestmove 0000\n", "force\nping 1\n"),
+    ("x go depth 4", "", ""),
+    ("x stop", "", ""),
+    (
+        "u pong 1",
+        "",
+        "new\nforce\npost\nusermove e2e4\nusermove e7e5\nusermove g1f3\nlevel 0 9999:59 0\ntime 59999900\notim 59999900\nsd 4\ngo\n?\n",
+    ),
+];
 
 #[test]
 fn a_game_is_played(rt: HostRuntime) -> Result<(), Fail> {
     let mut driver = Driver::make(rt.alloc())?;
-    let rows = [
-        order(b"uci", b"", GREETING),
-        heard(FEATURES, READY, ANSWERS),
-        order(b"position startpos moves e2e4", b"", b""),
-        order(
-            b"go movetime 1500",
-            b"",
-            b"new\nforce\npost\nusermove e2e4\nst 2\ngo\n",
-        ),
-        heard(b"move e7e5", b"bestmove e7e5\n", b""),
-        order(b"position startpos moves e2e4 e7e5 g1f3", b"", b""),
-        order(
-            b"go movetime 1500",
-            b"",
-            b"force\nusermove g1f3\nst 2\ngo\n",
-        ),
-        heard(b"resign", b"bestmove 0000\n", b"force\nping 1\n"),
-        order(b"go depth 4", b"", b""),
-        order(b"stop", b"", b""),
-        heard(
-            b"pong 1",
-            b"",
-            b"new\nforce\npost\nusermove e2e4\nusermove e7e5\nusermove g1f3\nlevel 0 9999:59 0\ntime 59999900\notim 59999900\nsd 4\ngo\n?\n",
-        ),
-    ];
-    assert!(rt; plays(&mut driver, &rows));
-    assert!(rt; gives(driver.ended(), &heard(b"", b"bestmove 0000\n", b"")));
+    assert!(rt; plays(&mut driver, &A_GAME));
+    assert!(rt; gives(driver.ended(), "bestmove 0000\n", ""));
     Ok(())
 }
+
+// An analysis that the interface stops.
+const AN_ANALYSIS: [Row; 9] = [
+    ("x uci", "", GREETING),
+    (FEATURES, READY, ANSWERS),
+    ("x position startpos", "", ""),
+    ("x go infinite", "", "new\nforce\npost\nanalyze\n"),
+    (
+        "u 9 25 100 5000 e4 e5",
+        "info depth 9 score cp 25 time 1000 nodes 5000 pv e2e4\n",
+        "",
+    ),
+    ("x stop", "", "exit\nping 1\n"),
+    ("u 10 +30 120 6000 d4", "", ""),
+    ("u pong 1", "bestmove e2e4\n", ""),
+    ("x quit", "", "quit\n"),
+];
 
 #[test]
 fn a_position_is_analysed(rt: HostRuntime) -> Result<(), Fail> {
     let mut driver = Driver::make(rt.alloc())?;
-    let rows = [
-        order(b"uci", b"", GREETING),
-        heard(FEATURES, READY, ANSWERS),
-        order(b"position startpos", b"", b""),
-        order(b"go infinite", b"", b"new\nforce\npost\nanalyze\n"),
-        heard(
-            b"9 25 100 5000 e4 e5",
-            b"info depth 9 score cp 25 time 1000 nodes 5000 pv e2e4\n",
-            b"",
-        ),
-        order(b"stop", b"", b"exit\nping 1\n"),
-        heard(b"10 +30 120 6000 d4", b"", b""),
-        heard(b"pong 1", b"bestmove e2e4\n", b""),
-        order(b"quit", b"", b"quit\n"),
-    ];
-    assert!(rt; plays(&mut driver, &rows));
+    assert!(rt; plays(&mut driver, &AN_ANALYSIS));
     Ok(())
 }
+
+// Thinking lines with long moves, and two that tell nothing: one of statistics, and one whose move is not legal.
+const THINKING_LINES: [Row; 10] = [
+    ("x uci", "", GREETING),
+    (FEATURES, READY, ANSWERS),
+    ("x position startpos moves e2e4 a7a6 d2d4 h7h6", "", ""),
+    (
+        "x go infinite",
+        "",
+        "new\nforce\npost\nusermove e2e4\nusermove a7a6\nusermove d2d4\nusermove h7h6\nanalyze\n",
+    ),
+    ("u stat01: 0 1014 3 37 38 g1f3", "", ""),
+    (
+        "u   3    208     0     1628  Ng1-f3  Ng8-f6  Nb1-c3  ",
+        "info depth 3 score cp 208 time 0 nodes 1628 pv g1f3\n",
+        "",
+    ),
+    (
+        "u   9    154    32   143184  Nb1-c3  e7-e6  Ng1-f3  Ng8-f6  Bc1-f4",
+        "info depth 9 score cp 154 time 320 nodes 143184 pv b1c3\n",
+        "",
+    ),
+    ("u 10 150 51 232645 Nb8-c6", "", ""),
+    ("x stop", "", "exit\nping 1\n"),
+    ("u pong 1", "bestmove b1c3\n", ""),
+];
 
 #[test]
 fn moves_of_thinking_lines_are_read(rt: HostRuntime) -> Result<(), Fail> {
     let mut driver = Driver::make(rt.alloc())?;
-    let rows = [
-        order(b"uci", b"", GREETING),
-        heard(FEATURES, READY, ANSWERS),
-        order(b"position startpos moves e2e4 a7a6 d2d4 h7h6", b"", b""),
-        order(
-            b"go infinite",
-            b"",
-            b"new\nforce\npost\nusermove e2e4\nusermove a7a6\nusermove d2d4\nusermove h7h6\nanalyze\n",
-        ),
-        heard(b"stat01: 0 1014 3 37 38 g1f3", b"", b""),
-        heard(
-            b"  3    208     0     1628  Ng1-f3  Ng8-f6  Nb1-c3  ",
-            b"info depth 3 score cp 208 time 0 nodes 1628 pv g1f3\n",
-            b"",
-        ),
-        heard(
-            b"  9    154    32   143184  Nb1-c3  e7-e6  Ng1-f3  Ng8-f6  Bc1-f4",
-            b"info depth 9 score cp 154 time 320 nodes 143184 pv b1c3\n",
-            b"",
-        ),
-        heard(b"10 150 51 232645 Nb8-c6", b"", b""),
-        order(b"stop", b"", b"exit\nping 1\n"),
-        heard(b"pong 1", b"bestmove b1c3\n", b""),
-    ];
-    assert!(rt; plays(&mut driver, &rows));
+    assert!(rt; plays(&mut driver, &THINKING_LINES));
     Ok(())
 }
 
@@ -178,12 +153,12 @@ fn events_are_played(rt: HostRuntime) -> Result<(), Fail> {
     let mut driver = Driver::make(rt.alloc())?;
     let mut text = Out::make(rt.alloc(), 2 * EVENT_ROOM)?;
     assert!(rt; plays_line(&mut driver, b"uci", &mut text));
-    assert_eq!(rt; text.bytes(), b"x uci\nU xboard\nU protover 2\n".as_slice());
+    expect_bytes(&rt, text.bytes(), b"x uci\nU xboard\nU protover 2\n");
     assert!(rt; takes_end(&mut driver));
     assert!(rt; !takes_end(&mut driver));
     assert!(rt; !driver.may_come(&Event::IfaceLong));
     assert!(rt; plays_line(&mut driver, b"isready", &mut text));
-    assert_eq!(rt; driver.lines().up, b"readyok\n".as_slice());
+    expect_bytes(&rt, driver.lines().up, b"readyok\n");
     searches_are_on_the_ordered_game();
     Ok(())
 }
@@ -192,6 +167,6 @@ fn events_are_played(rt: HostRuntime) -> Result<(), Fail> {
 fn marks_are_put(rt: HostRuntime) -> Result<(), Fail> {
     let mut text = Out::make(rt.alloc(), EVENT_ROOM)?;
     put_marks(&Event::EngineEnd, b"readyok\n", b"quit\n", &mut text);
-    assert_eq!(rt; text.bytes(), b"u.\nX readyok\nU quit\n".as_slice());
+    expect_bytes(&rt, text.bytes(), b"u.\nX readyok\nU quit\n");
     Ok(())
 }

@@ -3,6 +3,7 @@ ghost use Rattle.std.specs.Prelude.{◌≡◌, []};
 ghost use Rattle.event_pipe.specs.Ends.{IsSender, IsFreshTaker, sent};
 ghost use Rattle.driver_sessions.specs.Ready.{IsReady};
 
+use crate::expected::expect_bytes;
 use crate::ready::{Ready, make_ready};
 use driver_runner::{drive_loop, run_driver_pipes};
 use event_pipe::{Pipe, PipeSend, PipeTake, ReadEnd, read_pipe};
@@ -107,10 +108,10 @@ fn long_lines_are_passed_over(rt: HostRuntime) -> Result<(), Fail> {
         &mut sinks,
     )?;
     assert!(rt; !end.output && end.engine && !end.log);
-    assert_eq!(rt; sinks.output.taken(), b"readyok\n".as_slice());
-    assert_eq!(rt; sinks.engine.taken(), b"xboard\nprotover 2\n".as_slice());
+    expect_bytes(&rt, sinks.output.taken(), b"readyok\n");
+    expect_bytes(&rt, sinks.engine.taken(), b"xboard\nprotover 2\n");
     let log = sinks.log.as_ref().map_or(b"".as_slice(), |log| log.taken());
-    assert_eq!(rt; log, LOG);
+    expect_bytes(&rt, log, LOG);
     Ok(())
 }
 

@@ -2,10 +2,12 @@
 ghost use Rattle.std.specs.Prelude.{◌≡◌};
 ghost use Rattle.host_run.specs.Outside.{unused};
 
+use crate::expected::{expect_bytes, expect_code};
 use child_engine::{Fails, Host, MemHost, SteadyHost};
 use driver_app::{Refusal, Request, drive_main, read_words, refuse_for_memory};
 use line_io::{MemSink, MemSource};
 use std::alloc::Global;
+use std::process::Abort;
 use std::sync::Wait;
 use std::test::Fail;
 use std::thread::Threads;
@@ -112,8 +114,8 @@ fn words_that_are_refused(rt: HostRuntime) -> Result<(), Fail> {
 fn words_that_are_taken(rt: HostRuntime) -> Result<(), Fail> {
     for words in TAKEN {
         let told = run_steady(&rt, rt.alloc(), words)?;
-        assert_eq!(rt; told.code, 0);
-        assert_eq!(rt; told.diag.taken(), b"".as_slice());
+        expect_code(&rt, told.code, 0);
+        expect_bytes(&rt, told.diag.taken(), b"");
     }
     Ok(())
 }
@@ -166,8 +168,20 @@ fn a_log_that_cannot_be_opened(rt: HostRuntime) -> Result<(), Fail> {
         ..Fails::default()
     };
     let told = run_failing(&rt, rt.alloc(), &fails)?;
-    assert_eq!(rt; told.code, 9);
-    assert_eq!(rt; told.diag.taken(), b"driver: log failed\n".as_slice());
+    expect_code(&rt, told.code, 9);
+    expect_bytes(&rt, told.diag.taken(), b"driver: log failed\n");
+    Ok(())
+}
+
+// Runs the program over such a host, and compares its status.
+fn expect_failing<R: Threads + Wait + Sync + Abort>(
+    rt: &R,
+    alloc: Global,
+    fails: &Fails,
+    code: u8,
+) -> Result<(), Fail> {
+    let told = run_failing(rt, alloc, fails)?;
+    expect_code(rt, told.code, code);
     Ok(())
 }
 
@@ -178,28 +192,24 @@ fn reads_and_writes_that_fail(rt: HostRuntime) -> Result<(), Fail> {
         reads: &first,
         ..Fails::default()
     };
-    let told = run_failing(&rt, rt.alloc(), &reads)?;
-    assert_eq!(rt; told.code, 6);
+    expect_failing(&rt, rt.alloc(), &reads, 6)?;
     let writes = Fails {
         writes: &first,
         ..Fails::default()
     };
-    let told = run_failing(&rt, rt.alloc(), &writes)?;
-    assert_eq!(rt; told.code, 7);
+    expect_failing(&rt, rt.alloc(), &writes, 7)?;
     let waits = Fails {
         wait: true,
         ..Fails::default()
     };
-    let told = run_failing(&rt, rt.alloc(), &waits)?;
-    assert_eq!(rt; told.code, 10);
-    Ok(())
+    expect_failing(&rt, rt.alloc(), &waits, 10)
 }
 
 #[test]
 fn no_memory_for_words(rt: HostRuntime) -> Result<(), Fail> {
     let mut diag = MemSink::make(rt.alloc(), 100, &[])?;
     let status = refuse_for_memory(&mut diag);
-    assert_eq!(rt; status.code, 3);
-    assert_eq!(rt; diag.taken(), b"driver: no memory\n".as_slice());
+    expect_code(&rt, status.code, 3);
+    expect_bytes(&rt, diag.taken(), b"driver: no memory\n");
     Ok(())
 }

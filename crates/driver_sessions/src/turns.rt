@@ -2,6 +2,7 @@
 use chess_board::{Move, Square};
 use driver_talk::{Board, Call, Clocks, Deed, Down, Reach, Talk, Up, Wanted};
 use peer_words::GoKind;
+use std::process::Abort;
 use std::test::Fail;
 
 const CLOCKS: Clocks = Clocks {
@@ -40,26 +41,39 @@ fn same(up: Up, down: Down) -> Deed {
     }
 }
 
+fn expect_deed(rt: &impl Abort, found: Deed, wanted: Deed) {
+    assert_eq!(rt; found, wanted);
+}
+
+fn expect_up(rt: &impl Abort, found: Up, wanted: Up) {
+    assert_eq!(rt; found, wanted);
+}
+
+fn expect_down(rt: &impl Abort, found: Down, wanted: Down) {
+    assert_eq!(rt; found, wanted);
+}
+
 #[test]
 fn a_pondered_search_is_played(rt: HostRuntime) -> Result<(), Fail> {
     let talk = Talk::new();
     let turn = talk.step(Call::Uci);
-    assert_eq!(rt; turn.deed, same(Up::Nothing, Down::Greeting));
+    expect_deed(&rt, turn.deed, same(Up::Nothing, Down::Greeting));
     assert!(rt; turn.talk.is_free());
     let turn = turn.talk.step(wanted(GoKind::Ponder));
     let clocks = CLOCKS;
-    assert_eq!(rt;
+    expect_deed(
+        &rt,
         turn.deed,
-        same(Up::Nothing, Down::Analyse { clocks, ping: None })
+        same(Up::Nothing, Down::Analyse { clocks, ping: None }),
     );
     let turn = turn.talk.step(Call::PonderHit);
-    assert_eq!(rt; turn.deed, same(Up::Nothing, Down::Leave { ping: 1 }));
+    expect_deed(&rt, turn.deed, same(Up::Nothing, Down::Leave { ping: 1 }));
     let turn = turn.talk.step(Call::Moved(Some(some_move())));
-    assert_eq!(rt; turn.deed, same(Up::Nothing, Down::Nothing));
+    expect_deed(&rt, turn.deed, same(Up::Nothing, Down::Nothing));
     let turn = turn.talk.step(Call::Pong(1));
-    assert_eq!(rt; turn.deed, same(Up::Nothing, Down::Resume { clocks }));
+    expect_deed(&rt, turn.deed, same(Up::Nothing, Down::Resume { clocks }));
     let turn = turn.talk.step(Call::Moved(Some(some_move())));
-    assert_eq!(rt; turn.deed.up, Up::Best(Some(some_move())));
+    expect_up(&rt, turn.deed.up, Up::Best(Some(some_move())));
     assert!(rt; turn.talk.is_free());
     Ok(())
 }
@@ -68,18 +82,19 @@ fn a_pondered_search_is_played(rt: HostRuntime) -> Result<(), Fail> {
 fn a_resignation_holds_back_the_next_search(rt: HostRuntime) -> Result<(), Fail> {
     let talk = Talk::new().step(Call::Uci).talk;
     let turn = talk.step(wanted(GoKind::Move)).talk.step(Call::Resigned);
-    assert_eq!(rt; turn.deed.up, Up::Best(None));
-    assert_eq!(rt; turn.deed.down, Down::Retreat { ping: 1 });
+    expect_up(&rt, turn.deed.up, Up::Best(None));
+    expect_down(&rt, turn.deed.down, Down::Retreat { ping: 1 });
     let turn = turn.talk.step(wanted(GoKind::Move));
-    assert_eq!(rt; turn.deed, same(Up::Nothing, Down::Nothing));
+    expect_deed(&rt, turn.deed, same(Up::Nothing, Down::Nothing));
     let turn = turn.talk.step(Call::Stop).talk.step(Call::Pong(1));
     let clocks = CLOCKS;
-    assert_eq!(rt;
+    expect_down(
+        &rt,
         turn.deed.down,
         Down::Play {
             clocks,
-            hurried: true
-        }
+            hurried: true,
+        },
     );
     Ok(())
 }

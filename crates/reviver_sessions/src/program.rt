@@ -1,8 +1,9 @@
 // The program over hosts in memory.
 use child_engine::SteadyHost;
 use line_io::{MemSink, MemSource};
-use reviver_app::{read_words, refuse_for_memory, revive_main};
+use reviver_app::{Request, read_words, refuse_for_memory, revive_main};
 use std::alloc::Global;
+use std::process::Abort;
 use std::sync::Wait;
 use std::test::Fail;
 use std::thread::Threads;
@@ -48,13 +49,24 @@ fn status_of<R: Threads + Wait + Sync>(
     Ok((diag.taken() == diagnostic).then_some(status.code))
 }
 
+fn expect_status(rt: &impl Abort, status: Option<u8>, code: u8) {
+    assert_eq!(rt; status, Some(code));
+}
+
+// Nine lives, no log, and an engine with one argument.
+fn expect_request(rt: &impl Abort, request: &Request) {
+    assert_eq!(rt; request.lives, 9);
+    assert_eq!(rt; request.log_name.as_str(), "-");
+    assert_eq!(rt; request.engine.len(), 2);
+}
+
 #[test]
 fn words_that_are_refused(rt: HostRuntime) -> Result<(), Fail> {
     let alloc = rt.alloc();
     for texts in REFUSED {
         let words = words_of(alloc, texts)?;
         let status = status_of(&rt, alloc, words.as_slice(), b"reviver: usage\n")?;
-        assert_eq!(rt; status, Some(2));
+        expect_status(&rt, status, 2);
     }
     Ok(())
 }
@@ -65,7 +77,7 @@ fn a_word_that_is_no_text_is_refused(rt: HostRuntime) -> Result<(), Fail> {
     let mut words = words_of(alloc, &["1", "a.log"])?;
     words.push(Vec::from_slice(alloc, b"\xff")?)?;
     let status = status_of(&rt, alloc, words.as_slice(), b"reviver: usage\n")?;
-    assert_eq!(rt; status, Some(2));
+    expect_status(&rt, status, 2);
     Ok(())
 }
 
@@ -74,15 +86,11 @@ fn words_that_are_taken(rt: HostRuntime) -> Result<(), Fail> {
     let alloc = rt.alloc();
     let words = words_of(alloc, &["9", "-", "toy", "--deep"])?;
     match read_words(alloc, words.as_slice()) {
-        Ok(request) => {
-            assert_eq!(rt; request.lives, 9);
-            assert_eq!(rt; request.log_name.as_str(), "-");
-            assert_eq!(rt; request.engine.len(), 2);
-        }
+        Ok(request) => expect_request(&rt, &request),
         Err(_) => assert!(rt; false),
     }
     let status = status_of(&rt, alloc, words.as_slice(), b"")?;
-    assert_eq!(rt; status, Some(0));
+    expect_status(&rt, status, 0);
     Ok(())
 }
 

@@ -8,6 +8,7 @@ use clock_map::{Clocks, clocks_stay_short, searches_are_short};
 use line_io::Out;
 use peer_words::GoKind;
 use peer_words::GoKind::{Analyse, Move, Ponder};
+use std::process::Abort;
 use std::test::Fail;
 
 fn hear(clocks: &mut Clocks, line: &[u8])
@@ -30,7 +31,13 @@ fn write(clocks: &Clocks, side: Side, plies: u32, kind: GoKind, out: &mut Out)
 }
 
 /// Two lines of the interface, what is searched, and the `go` line.
-const GO_LINES: [((&str, &str), (Side, u32, GoKind), &str); 12] = [
+type Row = (
+    (&'static str, &'static str),
+    (Side, u32, GoKind),
+    &'static str,
+);
+
+const GO_LINES: [Row; 12] = [
     // a whole game, and a clock that ran out
     (
         ("", ""),
@@ -88,16 +95,24 @@ const GO_LINES: [((&str, &str), (Side, u32, GoKind), &str); 12] = [
     (("st 0.5", "sd 6"), (White, 0, Analyse), "go infinite"),
 ];
 
-#[test]
-fn writes_the_go_lines(rt: HostRuntime) -> Result<(), Fail> {
-    let mut out = Out::make(rt.alloc(), 113)?;
-    for ((first, second), (side, plies, kind), want) in GO_LINES {
+fn expect_text(rt: &impl Abort, text: &[u8], want: &str) {
+    assert_eq!(rt; text, want.as_bytes(), "{want}");
+}
+
+fn expect_go_lines(rt: &impl Abort, rows: &[Row], out: &mut Out) {
+    for ((first, second), (side, plies, kind), want) in rows {
         let mut clocks = Clocks::new();
         hear(&mut clocks, first.as_bytes());
         hear(&mut clocks, second.as_bytes());
-        write(&clocks, side, plies, kind, &mut out);
-        assert_eq!(rt; out.bytes(), want.as_bytes(), "{want}");
+        write(&clocks, *side, *plies, *kind, out);
+        expect_text(rt, out.bytes(), want);
     }
+}
+
+#[test]
+fn writes_the_go_lines(rt: HostRuntime) -> Result<(), Fail> {
+    let mut out = Out::make(rt.alloc(), 113)?;
+    expect_go_lines(&rt, &GO_LINES, &mut out);
     Ok(())
 }
 
@@ -111,9 +126,7 @@ fn begins_a_new_game(rt: HostRuntime) -> Result<(), Fail> {
     hear(&mut clocks, b"sd 3");
     clocks.reset();
     write(&clocks, White, 0, Move, &mut out);
-    assert_eq!(rt;
-        out.bytes(),
-        b"go wtime 60000 btime 60000 winc 2000 binc 2000".as_slice()
-    );
+    let want = "go wtime 60000 btime 60000 winc 2000 binc 2000";
+    expect_text(&rt, out.bytes(), want);
     Ok(())
 }

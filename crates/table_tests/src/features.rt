@@ -7,12 +7,16 @@ use std::process::Abort;
 use std::test::Fail;
 use uci_lines::{EngineMsg, read_engine};
 
+fn expect_done(rt: &impl Abort, told: Declared, line: &str) {
+    assert_eq!(rt; told, Declared::Done, "{line}");
+}
+
 /// The options of an engine, as it declares them.
 fn declared(rt: &impl Abort, alloc: Global, lines: &[&str]) -> Result<Options, Fail> {
     let mut options = Options::make(alloc)?;
     for line in lines {
         if let EngineMsg::OptionLine(msg) = read_engine(line.as_bytes()) {
-            assert_eq!(rt; options.declare(&msg), Declared::Done, "{line}");
+            expect_done(rt, options.declare(&msg), line);
         }
     }
     Ok(options)
@@ -45,7 +49,14 @@ feature colors=0
 
 /// The name and the options of an engine, the name that is shown, and what the list has behind the
 /// usual lines.
-const ENGINES: [(&str, &[&str], &str, &str); 4] = [
+type Engine = (
+    &'static str,
+    &'static [&'static str],
+    &'static str,
+    &'static str,
+);
+
+const ENGINES: [Engine; 4] = [
     (
         "Toy 1.0",
         &[
@@ -116,65 +127,105 @@ fn listed(alloc: Global, name: &str, others: &str) -> Result<String, Fail> {
     Ok(format!(in alloc; "feature myname=\"{name}\"\n{USUAL}{others}")?)
 }
 
-#[test]
-fn writes_the_list(rt: HostRuntime) -> Result<(), Fail> {
-    let mut out = Out::make(rt.alloc(), 3_000)?;
-    for (name, lines, shown, others) in ENGINES {
-        let options = declared(&rt, rt.alloc(), lines)?;
-        write(&options, name, &mut out);
-        let want = listed(rt.alloc(), shown, others)?;
-        assert_eq!(rt; out.bytes(), want.as_bytes(), "{name}");
+fn expect_text(rt: &impl Abort, text: &[u8], want: &str, name: &str) {
+    assert_eq!(rt; text, want.as_bytes(), "{name}");
+}
+
+fn expect_list(rt: &impl Abort, alloc: Global, engine: &Engine, out: &mut Out) -> Result<(), Fail> {
+    let (name, lines, shown, others) = engine;
+    let options = declared(rt, alloc, lines)?;
+    write(&options, name, out);
+    let want = listed(alloc, shown, others)?;
+    expect_text(rt, out.bytes(), want.as_str(), name);
+    Ok(())
+}
+
+fn expect_lists(
+    rt: &impl Abort,
+    alloc: Global,
+    engines: &[Engine],
+    out: &mut Out,
+) -> Result<(), Fail> {
+    for engine in engines {
+        expect_list(rt, alloc, engine, out)?;
     }
     Ok(())
 }
 
 #[test]
+fn writes_the_list(rt: HostRuntime) -> Result<(), Fail> {
+    let mut out = Out::make(rt.alloc(), 3_000)?;
+    expect_lists(&rt, rt.alloc(), &ENGINES, &mut out)
+}
+
+#[test]
 fn writes_the_bare_list(rt: HostRuntime) -> Result<(), Fail> {
+    let name = "Toga II 3.0";
     let mut out = Out::make(rt.alloc(), 1_000)?;
     feature_lists_are_short();
-    write_bare_list(b"Toga II 3.0", &mut out);
+    write_bare_list(name.as_bytes(), &mut out);
     let others = "feature memory=0\nfeature smp=0\nfeature done=1\n";
-    let want = listed(rt.alloc(), "Toga II 3.0", others)?;
-    assert_eq!(rt; out.bytes(), want.as_bytes());
+    let want = listed(rt.alloc(), name, others)?;
+    expect_text(&rt, out.bytes(), want.as_str(), name);
     Ok(())
+}
+
+/// What is shown of a name that does not fit.
+const USUAL_NAME: &[u8] = b"UCI engine";
+
+/// The name that an engine tells, and the name that is shown.
+const NAMES: [(&[u8], &[u8]); 5] = [
+    (b"Toy", b"Toy"),
+    (b"Toga II\t3.0 (it's)", b"Toga II\t3.0 (it's)"),
+    (b"", USUAL_NAME),
+    (b"The \"Turk\"", USUAL_NAME),
+    (b"\"", USUAL_NAME),
+];
+
+fn expect_name(rt: &impl Abort, said: &[u8], want: &[u8]) {
+    assert_eq!(rt; shown_name(said), want);
+}
+
+fn expect_names(rt: &impl Abort, rows: &[(&[u8], &[u8])]) {
+    for (said, want) in rows {
+        expect_name(rt, said, want);
+    }
 }
 
 #[test]
 fn shows_names_that_fit(rt: HostRuntime) -> Result<(), Fail> {
     let letters = vec![in rt.alloc(); b'x'; 257]?;
-    let usual = b"UCI engine".as_slice();
-    let names = [
-        (b"Toy".as_slice(), b"Toy".as_slice()),
-        (b"Toga II\t3.0 (it's)", b"Toga II\t3.0 (it's)"),
-        (b"", usual),
-        (b"The \"Turk\"", usual),
-        (b"\"", usual),
-        (&letters[..256], &letters[..256]),
-        (letters.as_slice(), usual),
-    ];
-    for (said, want) in names {
-        assert_eq!(rt; shown_name(said), want);
-    }
+    expect_names(&rt, &NAMES);
+    expect_name(&rt, &letters[..256], &letters[..256]);
+    expect_name(&rt, letters.as_slice(), USUAL_NAME);
     Ok(())
+}
+
+fn expect_said(rt: &impl Abort, said: Say, want: Say) {
+    assert_eq!(rt; said, want);
+}
+
+fn expect_due(rt: &impl Abort, due: bool, want: bool) {
+    assert_eq!(rt; due, want);
 }
 
 #[test]
 fn tells_the_list_once_the_engine_has_started(rt: HostRuntime) {
     let mut talk = Talk::new();
-    assert!(rt; !talk.is_due());
+    expect_due(&rt, talk.is_due(), false);
     // before the options were declared, twice
-    assert_eq!(rt; talk.protover(true), Say::Wait);
-    assert_eq!(rt; talk.protover(true), Say::Wait);
-    assert!(rt; talk.is_due());
-    assert!(rt; talk.left_boot());
-    assert!(rt; !talk.is_due());
+    expect_said(&rt, talk.protover(true), Say::Wait);
+    expect_said(&rt, talk.protover(true), Say::Wait);
+    expect_due(&rt, talk.is_due(), true);
+    expect_due(&rt, talk.left_boot(), true);
+    expect_due(&rt, talk.is_due(), false);
     // and after
-    assert_eq!(rt; talk.protover(false), Say::List);
-    assert!(rt; !talk.is_due());
+    expect_said(&rt, talk.protover(false), Say::List);
+    expect_due(&rt, talk.is_due(), false);
 
     // an engine that declared its options before `protover` came
     let mut talk = Talk::new();
-    assert!(rt; !talk.left_boot());
-    assert_eq!(rt; talk.protover(false), Say::List);
-    assert!(rt; !talk.is_due());
+    expect_due(&rt, talk.left_boot(), false);
+    expect_said(&rt, talk.protover(false), Say::List);
+    expect_due(&rt, talk.is_due(), false);
 }

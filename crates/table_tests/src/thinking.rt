@@ -4,6 +4,8 @@ ghost use Rattle.cecp_lines.specs.Replies.{IsWritable};
 
 use chess_board::{Position, read_move};
 use line_io::Out;
+use std::alloc::Global;
+use std::process::Abort;
 use std::test::Fail;
 use think_text::{Seen, current_stays_writable, stat01, thinking, thinking_lines_are_short};
 use uci_lines::{EngineMsg, read_engine};
@@ -36,72 +38,147 @@ fn show(moves: &[&str], hint: &str, line: &str, out: &mut Out) -> Option<bool> {
     }
 }
 
+/// Moves, the engine's line, and what is shown of it.
+type Shown = (&'static [&'static str], &'static str, &'static str);
+
+const SHOWN: [Shown; 11] = [
+    (
+        &["e2e4"],
+        "info depth 8 score cp -20 time 350 nodes 51000 pv e7e5 g1f3",
+        "8 -20 35 51000 e7e5 g1f3",
+    ),
+    // a bound is shown as a score, and so is a further variation
+    (
+        &["e2e4"],
+        "info depth 8 seldepth 11 multipv 1 score cp 13 upperbound nodes 5100 nps 51000 hashfull 3 tbhits 0 time 100 pv e7e5 g1f3",
+        "8 13 10 5100 e7e5 g1f3",
+    ),
+    (
+        &[],
+        "info depth 4 seldepth 2 multipv 2 score cp 75 nodes 711 nps 355500 hashfull 0 tbhits 0 time 29 pv d2d4",
+        "4 75 2 711 d2d4",
+    ),
+    (
+        &[],
+        "info depth 20 seldepth 26 multipv 1 score cp 36 nodes 575588 nps 388124 hashfull 64 tbhits 0 time 1483 pv d2d4 g8f6 c2c4 c7c6 b1c3 d7d5 g1f3 d5c4 a2a4 c8f5 e2e3 e7e6 f1c4 f8b4 e1g1 e8g8 d1b3 c6c5 a4a5 c5d4",
+        "20 36 148 575588 d2d4 g8f6 c2c4 c7c6 b1c3 d7d5 g1f3 d5c4 a2a4 c8f5 e2e3 e7e6 f1c4 f8b4 e1g1 e8g8 d1b3 c6c5 a4a5 c5d4",
+    ),
+    // mates
+    (
+        &[],
+        "info depth 5 score mate 3 pv e2e4 e7e5 a1a8",
+        "5 100003 0 0 e2e4 e7e5",
+    ),
+    (
+        &["f2f3", "e7e5", "g2g4"],
+        "info depth 2 score mate 1 time 9 nodes 31 pv d8h4 e1f2",
+        "2 100001 0 31 d8h4",
+    ),
+    (
+        &["f2f3", "e7e5"],
+        "info depth 3 score mate -1 time 10 pv g2g4 d8h4",
+        "3 -100001 1 0 g2g4 d8h4",
+    ),
+    (
+        &[],
+        "info depth 1 score mate 0 pv e2e4",
+        "1 -100000 0 0 e2e4",
+    ),
+    // the largest numbers
+    (
+        &[],
+        "info depth 999999999999999999 score cp -999999999 time 999999999999999999 nodes 999999999999999999 pv g1f3",
+        "999999999999999999 -999999999 99999999999999999 999999999999999999 g1f3",
+    ),
+    (
+        &[],
+        "info depth 1 score mate 999999999 pv g1f3",
+        "1 1000099999 0 0 g1f3",
+    ),
+    (
+        &[],
+        "info depth 1 score mate -999999999 pv g1f3",
+        "1 -1000099999 0 0 g1f3",
+    ),
+];
+
+fn expect_told(rt: &impl Abort, told: Option<bool>, want: bool, line: &str) {
+    assert_eq!(rt; told, Some(want), "{line}");
+}
+
+fn expect_text(rt: &impl Abort, text: &[u8], want: &str, line: &str) {
+    assert_eq!(rt; text, want.as_bytes(), "{line}");
+}
+
+fn expect_all_shown(rt: &impl Abort, rows: &[Shown], out: &mut Out) {
+    for (moves, line, want) in rows {
+        expect_told(rt, show(moves, "", line, out), true, line);
+        expect_text(rt, out.bytes(), want, line);
+    }
+}
+
 #[test]
 fn shows_what_engines_tell(rt: HostRuntime) -> Result<(), Fail> {
     let mut out = Out::make(rt.alloc(), 928)?;
-    let lines: [(&[&str], &str, &str); 11] = [
-        (
-            &["e2e4"],
-            "info depth 8 score cp -20 time 350 nodes 51000 pv e7e5 g1f3",
-            "8 -20 35 51000 e7e5 g1f3",
-        ),
-        // a bound is shown as a score, and so is a further variation
-        (
-            &["e2e4"],
-            "info depth 8 seldepth 11 multipv 1 score cp 13 upperbound nodes 5100 nps 51000 hashfull 3 tbhits 0 time 100 pv e7e5 g1f3",
-            "8 13 10 5100 e7e5 g1f3",
-        ),
-        (
-            &[],
-            "info depth 4 seldepth 2 multipv 2 score cp 75 nodes 711 nps 355500 hashfull 0 tbhits 0 time 29 pv d2d4",
-            "4 75 2 711 d2d4",
-        ),
-        (
-            &[],
-            "info depth 20 seldepth 26 multipv 1 score cp 36 nodes 575588 nps 388124 hashfull 64 tbhits 0 time 1483 pv d2d4 g8f6 c2c4 c7c6 b1c3 d7d5 g1f3 d5c4 a2a4 c8f5 e2e3 e7e6 f1c4 f8b4 e1g1 e8g8 d1b3 c6c5 a4a5 c5d4",
-            "20 36 148 575588 d2d4 g8f6 c2c4 c7c6 b1c3 d7d5 g1f3 d5c4 a2a4 c8f5 e2e3 e7e6 f1c4 f8b4 e1g1 e8g8 d1b3 c6c5 a4a5 c5d4",
-        ),
-        // mates
-        (
-            &[],
-            "info depth 5 score mate 3 pv e2e4 e7e5 a1a8",
-            "5 100003 0 0 e2e4 e7e5",
-        ),
-        (
-            &["f2f3", "e7e5", "g2g4"],
-            "info depth 2 score mate 1 time 9 nodes 31 pv d8h4 e1f2",
-            "2 100001 0 31 d8h4",
-        ),
-        (
-            &["f2f3", "e7e5"],
-            "info depth 3 score mate -1 time 10 pv g2g4 d8h4",
-            "3 -100001 1 0 g2g4 d8h4",
-        ),
-        (
-            &[],
-            "info depth 1 score mate 0 pv e2e4",
-            "1 -100000 0 0 e2e4",
-        ),
-        // the largest numbers
-        (
-            &[],
-            "info depth 999999999999999999 score cp -999999999 time 999999999999999999 nodes 999999999999999999 pv g1f3",
-            "999999999999999999 -999999999 99999999999999999 999999999999999999 g1f3",
-        ),
-        (
-            &[],
-            "info depth 1 score mate 999999999 pv g1f3",
-            "1 1000099999 0 0 g1f3",
-        ),
-        (
-            &[],
-            "info depth 1 score mate -999999999 pv g1f3",
-            "1 -1000099999 0 0 g1f3",
-        ),
-    ];
-    for (moves, line, want) in lines {
-        assert_eq!(rt; show(moves, "", line, &mut out), Some(true), "{line}");
-        assert_eq!(rt; out.bytes(), want.as_bytes(), "{line}");
+    expect_all_shown(&rt, &SHOWN, &mut out);
+    Ok(())
+}
+
+/// The variation that an engine tells, and the moves of it that are shown.
+const VARIATIONS: [(&str, &str); 7] = [
+    // a blocked pawn
+    ("e2e4 e7e5 e4e5 g1f3", "e2e4 e7e5"),
+    // en passant, at once and too late
+    (
+        "e2e4 a7a6 e4e5 d7d5 e5d6 c7d6",
+        "e2e4 a7a6 e4e5 d7d5 e5d6 c7d6",
+    ),
+    (
+        "e2e4 a7a6 e4e5 d7d5 h2h3 h7h6 e5d6 c7d6",
+        "e2e4 a7a6 e4e5 d7d5 h2h3 h7h6",
+    ),
+    // a promotion, and a pawn that stays one on the last rank
+    (
+        "a2a4 b7b5 a4b5 a7a6 b5a6 b8c6 a6a7 a8b8 a7b8Q c6b8",
+        "a2a4 b7b5 a4b5 a7a6 b5a6 b8c6 a6a7 a8b8 a7b8q c6b8",
+    ),
+    (
+        "a2a4 b7b5 a4b5 a7a6 b5a6 b8c6 a6a7 a8b8 a7b8 c6b8",
+        "a2a4 b7b5 a4b5 a7a6 b5a6 b8c6 a6a7 a8b8",
+    ),
+    // castling, and castling out of check
+    (
+        "e2e4 e7e5 g1f3 b8c6 f1c4 f8c5 e1g1",
+        "e2e4 e7e5 g1f3 b8c6 f1c4 f8c5 e1g1",
+    ),
+    (
+        "e2e4 e7e5 g1f3 d8h4 f1c4 h4f2 e1g1",
+        "e2e4 e7e5 g1f3 d8h4 f1c4 h4f2",
+    ),
+];
+
+fn expect_variation(
+    rt: &impl Abort,
+    alloc: Global,
+    pv: &str,
+    want: &str,
+    out: &mut Out,
+) -> Result<(), Fail> {
+    let line = format!(in alloc; "info depth 10 score cp 0 pv {pv}")?;
+    let want = format!(in alloc; "10 0 0 0 {want}")?;
+    expect_told(rt, show(&[], "", line.as_str(), out), true, line.as_str());
+    expect_text(rt, out.bytes(), want.as_str(), line.as_str());
+    Ok(())
+}
+
+fn expect_variations(
+    rt: &impl Abort,
+    alloc: Global,
+    rows: &[(&str, &str)],
+    out: &mut Out,
+) -> Result<(), Fail> {
+    for (pv, want) in rows {
+        expect_variation(rt, alloc, pv, want, out)?;
     }
     Ok(())
 }
@@ -109,76 +186,39 @@ fn shows_what_engines_tell(rt: HostRuntime) -> Result<(), Fail> {
 #[test]
 fn shows_moves_as_long_as_they_are_legal(rt: HostRuntime) -> Result<(), Fail> {
     let mut out = Out::make(rt.alloc(), 928)?;
-    let lines = [
-        // a blocked pawn
-        ("e2e4 e7e5 e4e5 g1f3", "e2e4 e7e5"),
-        // en passant, at once and too late
-        (
-            "e2e4 a7a6 e4e5 d7d5 e5d6 c7d6",
-            "e2e4 a7a6 e4e5 d7d5 e5d6 c7d6",
-        ),
-        (
-            "e2e4 a7a6 e4e5 d7d5 h2h3 h7h6 e5d6 c7d6",
-            "e2e4 a7a6 e4e5 d7d5 h2h3 h7h6",
-        ),
-        // a promotion, and a pawn that stays one on the last rank
-        (
-            "a2a4 b7b5 a4b5 a7a6 b5a6 b8c6 a6a7 a8b8 a7b8Q c6b8",
-            "a2a4 b7b5 a4b5 a7a6 b5a6 b8c6 a6a7 a8b8 a7b8q c6b8",
-        ),
-        (
-            "a2a4 b7b5 a4b5 a7a6 b5a6 b8c6 a6a7 a8b8 a7b8 c6b8",
-            "a2a4 b7b5 a4b5 a7a6 b5a6 b8c6 a6a7 a8b8",
-        ),
-        // castling, and castling out of check
-        (
-            "e2e4 e7e5 g1f3 b8c6 f1c4 f8c5 e1g1",
-            "e2e4 e7e5 g1f3 b8c6 f1c4 f8c5 e1g1",
-        ),
-        (
-            "e2e4 e7e5 g1f3 d8h4 f1c4 h4f2 e1g1",
-            "e2e4 e7e5 g1f3 d8h4 f1c4 h4f2",
-        ),
-    ];
-    for (pv, want) in lines {
-        let line = format!(in rt.alloc(); "info depth 10 score cp 0 pv {pv}")?;
-        let want = format!(in rt.alloc(); "10 0 0 0 {want}")?;
-        assert_eq!(rt;
-            show(&[], "", line.as_str(), &mut out),
-            Some(true),
-            "{line}"
-        );
-        assert_eq!(rt; out.bytes(), want.as_bytes(), "{line}");
-    }
-    Ok(())
+    expect_variations(&rt, rt.alloc(), &VARIATIONS, &mut out)
 }
 
 #[test]
 fn shows_the_hint(rt: HostRuntime) -> Result<(), Fail> {
     let mut out = Out::make(rt.alloc(), 928)?;
     let line = "info depth 7 score cp 25 time 99 nodes 4000 pv b8c6 f1b5";
-    assert_eq!(rt;
-        show(&["e2e4", "e7e5", "g1f3"], "g1f3", line, &mut out),
-        Some(true)
-    );
-    assert_eq!(rt; out.bytes(), b"7 25 9 4000 (g1f3) b8c6 f1b5".as_slice());
+    let moves = ["e2e4", "e7e5", "g1f3"];
+    expect_told(&rt, show(&moves, "g1f3", line, &mut out), true, line);
+    expect_text(&rt, out.bytes(), "7 25 9 4000 (g1f3) b8c6 f1b5", line);
     Ok(())
+}
+
+/// Lines of which nothing is shown.
+const UNSHOWN: [&str; 5] = [
+    "info depth 12 time 4200 nodes 900000 currmove e2e4 currmovenumber 3",
+    "info depth 4 score cp 3 pv e7e5 e2e4",
+    "info score cp 3 nodes 2 pv e2e4",
+    "info depth 4 nodes 2 pv e2e4",
+    "info depth 0 score mate 0",
+];
+
+fn expect_none_shown(rt: &impl Abort, lines: &[&str], out: &mut Out) {
+    for line in lines {
+        expect_told(rt, show(&[], "", line, out), false, line);
+        expect_text(rt, out.bytes(), "", line);
+    }
 }
 
 #[test]
 fn shows_nothing(rt: HostRuntime) -> Result<(), Fail> {
     let mut out = Out::make(rt.alloc(), 928)?;
-    let lines = [
-        "info depth 12 time 4200 nodes 900000 currmove e2e4 currmovenumber 3",
-        "info depth 4 score cp 3 pv e7e5 e2e4",
-        "info score cp 3 nodes 2 pv e2e4",
-        "info depth 4 nodes 2 pv e2e4",
-        "info depth 0 score mate 0",
-    ];
-    for line in lines {
-        assert_eq!(rt; show(&[], "", line, &mut out), Some(false), "{line}");
-        assert_eq!(rt; out.bytes(), b"".as_slice(), "{line}");
-    }
+    expect_none_shown(&rt, &UNSHOWN, &mut out);
     Ok(())
 }
 
@@ -214,147 +254,197 @@ fn keep(moves: &[&str], lines: [&str; 3], out: &mut Out) -> Option<Seen> {
     Some(seen)
 }
 
+/// What is kept, with the move that is searched as text.
+struct Kept {
+    depth: u64,
+    time: u64,
+    nodes: u64,
+    current: &'static str,
+    number: u64,
+    score: Option<i64>,
+}
+
+/// Three lines, what is kept of them at the start of a game, and the answer to `.`.
+const KEPT: [([&str; 3], Kept, &str); 3] = [
+    (
+        [
+            "info depth 12 time 4200 nodes 900000 currmove e2e4 currmovenumber 3",
+            "",
+            "",
+        ],
+        Kept {
+            depth: 12,
+            time: 4_200,
+            nodes: 900_000,
+            current: "e2e4",
+            number: 3,
+            score: None,
+        },
+        "stat01: 420 900000 12 17 20 e2e4",
+    ),
+    (
+        [
+            "info depth 12 time 4200 nodes 900000 currmove e2e4 currmovenumber 3",
+            "info depth 5 score mate 3 pv e2e4 e7e5 a1a8",
+            "info string time 1",
+        ],
+        Kept {
+            depth: 5,
+            time: 4_200,
+            nodes: 900_000,
+            current: "e2e4",
+            number: 3,
+            score: Some(100_003),
+        },
+        "stat01: 420 900000 5 17 20 e2e4",
+    ),
+    // The move is illegal, and its number is more than there are moves.
+    (
+        [
+            "info depth 3 currmove d2d4 currmovenumber 1",
+            "info currmove e7e5 currmovenumber 25",
+            "info time 9",
+        ],
+        Kept {
+            depth: 3,
+            time: 9,
+            nodes: 0,
+            current: "d2d4",
+            number: 25,
+            score: None,
+        },
+        "stat01: 0 0 3 0 20 d2d4",
+    ),
+];
+
+fn seen_as(kept: &Kept) -> Seen {
+    Seen {
+        depth: kept.depth,
+        time: kept.time,
+        nodes: kept.nodes,
+        current: read_move(kept.current.as_bytes()),
+        number: kept.number,
+        score: kept.score,
+    }
+}
+
+fn expect_seen(rt: &impl Abort, seen: Option<Seen>, want: Seen, line: &str) {
+    assert_eq!(rt; seen, Some(want), "{line}");
+}
+
+fn expect_all_kept(rt: &impl Abort, rows: &[([&str; 3], Kept, &str)], out: &mut Out) {
+    for (lines, kept, answer) in rows {
+        expect_seen(rt, keep(&[], *lines, out), seen_as(kept), answer);
+        expect_text(rt, out.bytes(), answer, answer);
+    }
+}
+
 #[test]
 fn keeps_what_was_told_last(rt: HostRuntime) -> Result<(), Fail> {
     let mut out = Out::make(rt.alloc(), 128)?;
-    let told: [(&[&str], [&str; 3], Seen, &str); 4] = [
-        (&[], ["", "", ""], Seen::new(), "stat01: 0 0 0 20 20"),
-        (
-            &[],
-            [
-                "info depth 12 time 4200 nodes 900000 currmove e2e4 currmovenumber 3",
-                "",
-                "",
-            ],
-            Seen {
-                depth: 12,
-                time: 4_200,
-                nodes: 900_000,
-                current: read_move(b"e2e4"),
-                number: 3,
-                score: None,
-            },
-            "stat01: 420 900000 12 17 20 e2e4",
-        ),
-        (
-            &[],
-            [
-                "info depth 12 time 4200 nodes 900000 currmove e2e4 currmovenumber 3",
-                "info depth 5 score mate 3 pv e2e4 e7e5 a1a8",
-                "info string time 1",
-            ],
-            Seen {
-                depth: 5,
-                time: 4_200,
-                nodes: 900_000,
-                current: read_move(b"e2e4"),
-                number: 3,
-                score: Some(100_003),
-            },
-            "stat01: 420 900000 5 17 20 e2e4",
-        ),
-        // The move is illegal, and its number is more than there are moves.
-        (
-            &[],
-            [
-                "info depth 3 currmove d2d4 currmovenumber 1",
-                "info currmove e7e5 currmovenumber 25",
-                "info time 9",
-            ],
-            Seen {
-                depth: 3,
-                time: 9,
-                nodes: 0,
-                current: read_move(b"d2d4"),
-                number: 25,
-                score: None,
-            },
-            "stat01: 0 0 3 0 20 d2d4",
-        ),
-    ];
-    for (moves, lines, want, line) in told {
-        assert_eq!(rt; keep(moves, lines, &mut out), Some(want), "{line}");
-        assert_eq!(rt; out.bytes(), line.as_bytes());
-    }
+    let answer = "stat01: 0 0 0 20 20";
+    expect_seen(&rt, keep(&[], ["", "", ""], &mut out), Seen::new(), answer);
+    expect_text(&rt, out.bytes(), answer, answer);
+    expect_all_kept(&rt, &KEPT, &mut out);
     Ok(())
+}
+
+/// Three lines, and the score that is kept of them.
+type Scored = ([&'static str; 3], Option<i64>);
+
+const SCORES: [Scored; 8] = [
+    (["info score cp 30", "info score cp -7", ""], Some(-7)),
+    (["info score cp 30", "info depth 9", ""], Some(30)),
+    (["info multipv 1 score cp -5", "", ""], Some(-5)),
+    (["info score mate -2", "", ""], Some(-100_002)),
+    (["info score mate 0", "", ""], Some(-100_000)),
+    // a bound, and other variations
+    (
+        [
+            "info score cp 30",
+            "info score cp 13 lowerbound",
+            "info score mate 2 upperbound",
+        ],
+        Some(30),
+    ),
+    (
+        [
+            "info score cp 30",
+            "info multipv 2 score cp -69",
+            "info multipv 0 score cp 7",
+        ],
+        Some(30),
+    ),
+    (
+        [
+            "info score cp 30 lowerbound",
+            "info multipv 2 score cp -69",
+            "",
+        ],
+        None,
+    ),
+];
+
+fn expect_score(rt: &impl Abort, seen: Option<Seen>, want: Option<i64>) {
+    assert_eq!(rt; seen.map(|seen| seen.score), Some(want));
+}
+
+fn expect_scores(rt: &impl Abort, rows: &[Scored], out: &mut Out) {
+    for (lines, want) in rows {
+        expect_score(rt, keep(&[], *lines, out), *want);
+    }
 }
 
 #[test]
 fn keeps_the_score_of_the_first_variation(rt: HostRuntime) -> Result<(), Fail> {
     let mut out = Out::make(rt.alloc(), 128)?;
-    let told = [
-        (["info score cp 30", "info score cp -7", ""], Some(-7)),
-        (["info score cp 30", "info depth 9", ""], Some(30)),
-        (["info multipv 1 score cp -5", "", ""], Some(-5)),
-        (["info score mate -2", "", ""], Some(-100_002)),
-        (["info score mate 0", "", ""], Some(-100_000)),
-        // a bound, and other variations
-        (
-            [
-                "info score cp 30",
-                "info score cp 13 lowerbound",
-                "info score mate 2 upperbound",
-            ],
-            Some(30),
-        ),
-        (
-            [
-                "info score cp 30",
-                "info multipv 2 score cp -69",
-                "info multipv 0 score cp 7",
-            ],
-            Some(30),
-        ),
-        (
-            [
-                "info score cp 30 lowerbound",
-                "info multipv 2 score cp -69",
-                "",
-            ],
-            None,
-        ),
-    ];
-    for (lines, want) in told {
-        let seen = keep(&[], lines, &mut out);
-        assert_eq!(rt; seen.map(|seen| seen.score), Some(want));
-    }
+    expect_scores(&rt, &SCORES, &mut out);
     Ok(())
+}
+
+/// Moves, the engine's line, and the answer to `.`.
+const COUNTED: [Shown; 4] = [
+    (
+        &["e2e4", "e7e5"],
+        "info currmove e1e2 currmovenumber 29",
+        "stat01: 0 0 0 0 29 e1e2",
+    ),
+    // in check
+    (
+        &["e2e4", "d7d5", "f1b5"],
+        "info currmove c7c6 currmovenumber 1",
+        "stat01: 0 0 0 4 5 c7c6",
+    ),
+    // two ways to promote, of four each
+    (
+        &[
+            "a2a4", "b7b5", "a4b5", "a7a6", "b5a6", "b8c6", "a6a7", "a8b8",
+        ],
+        "info currmove a7b8N currmovenumber 2",
+        "stat01: 0 0 0 29 31 a7b8n",
+    ),
+    // mate
+    (
+        &["f2f3", "e7e5", "g2g4", "d8h4"],
+        "info depth 0 score mate 0",
+        "stat01: 0 0 0 0 0",
+    ),
+];
+
+fn expect_some(rt: &impl Abort, seen: Option<Seen>, line: &str) {
+    assert!(rt; seen.is_some(), "{line}");
+}
+
+fn expect_counted(rt: &impl Abort, rows: &[Shown], out: &mut Out) {
+    for (moves, line, want) in rows {
+        expect_some(rt, keep(moves, [line, "", ""], out), line);
+        expect_text(rt, out.bytes(), want, line);
+    }
 }
 
 #[test]
 fn counts_legal_moves(rt: HostRuntime) -> Result<(), Fail> {
     let mut out = Out::make(rt.alloc(), 128)?;
-    let told: [(&[&str], &str, &str); 4] = [
-        (
-            &["e2e4", "e7e5"],
-            "info currmove e1e2 currmovenumber 29",
-            "stat01: 0 0 0 0 29 e1e2",
-        ),
-        // in check
-        (
-            &["e2e4", "d7d5", "f1b5"],
-            "info currmove c7c6 currmovenumber 1",
-            "stat01: 0 0 0 4 5 c7c6",
-        ),
-        // two ways to promote, of four each
-        (
-            &[
-                "a2a4", "b7b5", "a4b5", "a7a6", "b5a6", "b8c6", "a6a7", "a8b8",
-            ],
-            "info currmove a7b8N currmovenumber 2",
-            "stat01: 0 0 0 29 31 a7b8n",
-        ),
-        // mate
-        (
-            &["f2f3", "e7e5", "g2g4", "d8h4"],
-            "info depth 0 score mate 0",
-            "stat01: 0 0 0 0 0",
-        ),
-    ];
-    for (moves, line, want) in told {
-        let seen = keep(moves, [line, "", ""], &mut out);
-        assert!(rt; seen.is_some(), "{line}");
-        assert_eq!(rt; out.bytes(), want.as_bytes());
-    }
+    expect_counted(&rt, &COUNTED, &mut out);
     Ok(())
 }

@@ -2,9 +2,9 @@
 ghost use Rattle.std.specs.Prelude.{◌≡◌, true};
 ghost use Rattle.desk_rules.specs.Fits.{IsSound, CanSearch, CanWrite};
 
-use super::{Bench, MOVE, SIGHT, STALE, check_turns};
+use super::{Bench, MOVE, SIGHT, STALE, Turn, check_turns, expect_move, expect_pings, expect_text};
 use cecp_lines::{IfaceMsg, read_iface};
-use chess_board::read_move;
+use chess_board::{Move, Square, read_move};
 use desk_rules::{Desk, Effect, EngineName, Pings, is_gone, put_chosen, put_pongs};
 use game_record::Game;
 use line_io::Out;
@@ -47,78 +47,95 @@ fn check_chosen(
     assert!(rt; out.spare() >= 72_300);
     assert!(rt; can_write(&desk.game, orders), "{want}");
     put_chosen(held, desk, orders, out);
-    assert_eq!(rt; out.bytes(), want.as_bytes());
+    expect_text(rt, out.bytes(), want, want);
+}
+
+const E7E5: Move = Move {
+    from: Square { index: 52 },
+    to: Square { index: 36 },
+    promo: None,
+};
+
+const AFTER_E4: [Turn<'static>; 2] = [
+    (
+        EngineState::Idle,
+        "x new",
+        "accepts",
+        true,
+        Call::Nothing,
+        "",
+    ),
+    (
+        EngineState::Idle,
+        "x usermove e2e4",
+        "accepts",
+        true,
+        Call::Move,
+        "",
+    ),
+];
+
+/// Orders, and the lines that they are put in.
+const CHOSEN: [(Orders, &'static str); 7] = [
+    (Orders::None, ""),
+    (Orders::Batch, "ucinewgame\nisready\n"),
+    (
+        Orders::Begin(Call::Move),
+        "position startpos moves e2e4\ngo wtime 300000 btime 300000 winc 0 binc 0\n",
+    ),
+    (
+        Orders::Begin(Call::Ponder(E7E5)),
+        "position startpos moves e2e4 e7e5\ngo ponder wtime 300000 btime 300000 winc 0 binc 0\n",
+    ),
+    (Orders::Begin(Call::Analyse), ANALYSIS_AFTER_E4),
+    (Orders::Hit, "ponderhit\n"),
+    (Orders::Stop, "stop\n"),
+];
+
+const ANALYSIS_AFTER_E4: &str = "position startpos moves e2e4\ngo infinite\n";
+
+fn check_all_chosen(
+    rt: &impl Abort,
+    held: &Held,
+    desk: &Desk,
+    rows: &[(Orders, &str)],
+    out: &mut Out,
+)
+    requires { IsSound desk.now }
+{
+    for (orders, want) in rows {
+        check_chosen(rt, held, desk, *orders, out, want);
+    }
 }
 
 #[test]
 fn puts_the_chosen_orders(rt: HostRuntime) -> Result<(), Fail> {
+    expect_move(&rt, read_move(b"e7e5"), Some(E7E5));
     let mut bench = Bench::make(rt.alloc())?;
-    let turns = [
-        (
-            EngineState::Idle,
-            "x new",
-            "accepts",
-            true,
-            Call::Nothing,
-            "",
-        ),
-        (
-            EngineState::Idle,
-            "x usermove e2e4",
-            "accepts",
-            true,
-            Call::Move,
-            "",
-        ),
-    ];
-    check_turns(&rt, &mut bench, SIGHT, &turns);
+    check_turns(&rt, &mut bench, SIGHT, &AFTER_E4);
     let mut out = Out::make(rt.alloc(), 72_300)?;
-    let hint = read_move(b"e7e5").expect(&rt, "a move");
-    let chosen = [
-        (Orders::None, ""),
-        (Orders::Batch, "ucinewgame\nisready\n"),
-        (
-            Orders::Begin(Call::Move),
-            "position startpos moves e2e4\ngo wtime 300000 btime 300000 winc 0 binc 0\n",
-        ),
-        (
-            Orders::Begin(Call::Ponder(hint)),
-            "position startpos moves e2e4 e7e5\ngo ponder wtime 300000 btime 300000 winc 0 binc 0\n",
-        ),
-        (
-            Orders::Begin(Call::Analyse),
-            "position startpos moves e2e4\ngo infinite\n",
-        ),
-        (Orders::Hit, "ponderhit\n"),
-        (Orders::Stop, "stop\n"),
-    ];
-    for (orders, want) in chosen {
-        check_chosen(&rt, &bench.held, &bench.desk, orders, &mut out, want);
-    }
+    check_all_chosen(&rt, &bench.held, &bench.desk, &CHOSEN, &mut out);
     out.clear();
     assert!(rt; out.spare() >= 72_300);
     bench.desk.put_search(Call::Analyse, &mut out);
-    assert_eq!(rt;
-        out.bytes(),
-        b"position startpos moves e2e4\ngo infinite\n".as_slice()
-    );
+    expect_text(&rt, out.bytes(), ANALYSIS_AFTER_E4, "analysis");
     Ok(())
 }
 
 #[test]
 fn answers_pings_in_turn(rt: HostRuntime) -> Result<(), Fail> {
     let mut pings = Pings::make(rt.alloc())?;
-    assert_eq!(rt; pings.len(), 0);
+    expect_pings(&rt, &pings, &[]);
     pings.add(999_999_999);
     pings.add(0);
-    assert_eq!(rt; pings.numbers(), [999_999_999, 0].as_slice());
+    expect_pings(&rt, &pings, &[999_999_999, 0]);
     let mut out = Out::make(rt.alloc(), 32)?;
     let numbers = pings.numbers();
     assert!(rt; numbers.len() == 2);
     put_pongs(numbers, &mut out);
-    assert_eq!(rt; out.bytes(), b"pong 999999999\npong 0\n".as_slice());
+    expect_text(&rt, out.bytes(), "pong 999999999\npong 0\n", "pongs");
     pings.clear();
-    assert_eq!(rt; pings.len(), 0);
+    expect_pings(&rt, &pings, &[]);
     Ok(())
 }
 
@@ -136,58 +153,81 @@ fn clears_scores(rt: &impl Abort, message: IfaceMsg) -> bool {
     !scores.resigns()
 }
 
+/// A line, and whether it clears the scores.
+const CLEARINGS: [(&'static str, bool); 13] = [
+    ("new", true),
+    ("go", true),
+    ("playother", true),
+    ("undo", true),
+    ("remove", true),
+    ("setboard 8/8", true),
+    ("force", false),
+    ("result 1-0", false),
+    ("usermove e2e4", false),
+    ("analyze", false),
+    ("exit", false),
+    ("hard", false),
+    ("draw", false),
+];
+
+fn check_clearings(rt: &impl Abort, rows: &[(&str, bool)]) {
+    for (line, want) in rows {
+        let message = read_iface(line.as_bytes()).expect(rt, "a message");
+        expect_cleared(rt, clears_scores(rt, message), *want, line);
+    }
+}
+
+fn expect_cleared(rt: &impl Abort, cleared: bool, want: bool, line: &str) {
+    assert_eq!(rt; cleared, want, "{line}");
+}
+
 #[test]
 fn clears_scores_by_lines(rt: HostRuntime) -> Result<(), Fail> {
-    let lines = [
-        ("new", true),
-        ("go", true),
-        ("playother", true),
-        ("undo", true),
-        ("remove", true),
-        ("setboard 8/8", true),
-        ("force", false),
-        ("result 1-0", false),
-        ("usermove e2e4", false),
-        ("analyze", false),
-        ("exit", false),
-        ("hard", false),
-        ("draw", false),
-    ];
-    for (line, want) in lines {
-        let message = read_iface(line.as_bytes()).expect(&rt, "a message");
-        assert_eq!(rt; clears_scores(&rt, message), want, "{line}");
-    }
+    check_clearings(&rt, &CLEARINGS);
     Ok(())
+}
+
+const NOT_GONE: [EngineState; 5] = [
+    EngineState::Boot,
+    EngineState::Getting,
+    EngineState::Idle,
+    MOVE,
+    STALE,
+];
+
+fn expect_none_gone(rt: &impl Abort, engines: &[EngineState]) {
+    for engine in engines {
+        assert!(rt; !is_gone(*engine));
+    }
 }
 
 #[test]
 fn knows_a_gone_engine(rt: HostRuntime) -> Result<(), Fail> {
     assert!(rt; is_gone(EngineState::Gone));
-    for engine in [
-        EngineState::Boot,
-        EngineState::Getting,
-        EngineState::Idle,
-        MOVE,
-        STALE,
-    ] {
-        assert!(rt; !is_gone(engine));
-    }
+    expect_none_gone(&rt, &NOT_GONE);
     Ok(())
+}
+
+/// What the engine says of its name, and the name that is shown after it.
+const NAMES: [(&'static str, &'static str); 5] = [
+    ("Toy", "Toy"),
+    ("Toy 1.0", "Toy 1.0"),
+    ("The \"Toy\"", "UCI engine"),
+    ("Toy", "Toy"),
+    ("", "UCI engine"),
+];
+
+fn check_names(rt: &impl Abort, name: &mut EngineName, rows: &[(&str, &str)]) {
+    for (said, want) in rows {
+        name.set(said.as_bytes());
+        expect_text(rt, name.text(), want, said);
+    }
 }
 
 #[test]
 fn shows_the_name_given_last(rt: HostRuntime) -> Result<(), Fail> {
     let mut name = EngineName::new();
-    assert_eq!(rt; name.text(), b"UCI engine".as_slice());
-    for (said, want) in [
-        ("Toy", "Toy"),
-        ("Toy 1.0", "Toy 1.0"),
-        ("The \"Toy\"", "UCI engine"),
-        ("Toy", "Toy"),
-        ("", "UCI engine"),
-    ] {
-        name.set(said.as_bytes());
-        assert_eq!(rt; name.text(), want.as_bytes(), "{said}");
-    }
+    expect_text(&rt, name.text(), "UCI engine", "at first");
+    check_names(&rt, &mut name, &NAMES);
     Ok(())
 }

@@ -1,12 +1,17 @@
 // Turns of the dialogue, as the desk sees them.
-use super::{Bench, MOVE, SIGHT, STALE, Turn, check_turns};
+use super::{
+    Bench, G1F3, MOVE, SIGHT, STALE, Turn, check_turns, expect_came, expect_move, expect_pings,
+    expect_text,
+};
 use chess_board::{Side, read_move};
-use desk_rules::{Context, Mode};
+use desk_rules::{Context, Desk, Mode};
 use line_io::Event;
+use option_map::Held;
 use peer_words::GoKind;
 use search_epochs::Call::{Analyse, Move, Nothing, Ponder};
-use search_epochs::EngineState;
 use search_epochs::EngineState::{Boot, Getting, Gone, Idle};
+use search_epochs::{Call, EngineState};
+use std::process::Abort;
 use std::test::Fail;
 
 const LIST: &str = "feature myname=\"Toy\"
@@ -34,106 +39,362 @@ const ILLEGAL_BY_ENGINE: &str = "tellusererror Illegal move by engine\nresign\n"
 
 const PONDER_IS_OPTION: &str = "u option name Ponder type check default false";
 
-fn refused<'a>(engine: EngineState, mark: &'a str, told: &'a str) -> Turn<'a> {
-    (engine, mark, "refuses", false, Nothing, told)
+const REFUSALS: [Turn<'static>; 8] = [
+    (
+        Boot,
+        "x hello",
+        "refuses",
+        false,
+        Nothing,
+        "Error (unknown command): hello\n",
+    ),
+    (
+        Boot,
+        "x  st x ",
+        "refuses",
+        false,
+        Nothing,
+        "Error (bad argument): st x\n",
+    ),
+    (
+        Gone,
+        "x go",
+        "refuses",
+        false,
+        Nothing,
+        "Error (engine ended): go\n",
+    ),
+    (
+        Idle,
+        "x exit",
+        "refuses",
+        false,
+        Nothing,
+        "Error (not analyzing): exit\n",
+    ),
+    (
+        Idle,
+        "x undo",
+        "refuses",
+        false,
+        Nothing,
+        "Error (no move to undo): undo\n",
+    ),
+    (
+        Idle,
+        "x usermove e2e5",
+        "refuses",
+        false,
+        Nothing,
+        "Illegal move: e2e5\n",
+    ),
+    (
+        Idle,
+        "x setboard 8/8",
+        "refuses",
+        false,
+        Nothing,
+        "tellusererror Illegal position\n",
+    ),
+    (
+        Idle,
+        "x option A=1",
+        "refuses",
+        false,
+        Nothing,
+        "Error (unknown option): option A=1\n",
+    ),
+];
+
+const TOO_LONG: &str = "Error (line too long): ...\n";
+
+const PASSED: [Turn<'static>; 9] = [
+    (Boot, "x!", "long line", false, Nothing, TOO_LONG),
+    (Boot, "x.", "nothing", false, Nothing, ""),
+    (Boot, "x?", "nothing", false, Nothing, ""),
+    (Boot, "u!", "nothing", false, Nothing, ""),
+    (Boot, "u readyok", "nothing", false, Nothing, ""),
+    (Getting, "u uciok", "nothing", false, Nothing, ""),
+    (Idle, "u bestmove e2e4", "nothing", false, Nothing, ""),
+    (
+        Idle,
+        "u info depth 1 score cp 0 pv e2e4",
+        "nothing",
+        false,
+        Nothing,
+        "",
+    ),
+    (Gone, "u.", "nothing", false, Nothing, ""),
+];
+
+const PASSED_WHEN_CLOSED: [Turn<'static>; 3] = [
+    (Boot, "x force", "nothing", false, Nothing, ""),
+    (Boot, "x!", "nothing", false, Nothing, ""),
+    (Boot, "u uciok", "nothing", false, Nothing, ""),
+];
+
+const DECLARATIONS: [Turn<'static>; 4] = [
+    (
+        Boot,
+        "x protover 2",
+        "accepts",
+        false,
+        Nothing,
+        "feature done=0\n",
+    ),
+    (Boot, "u id name Toy", "names", false, Nothing, ""),
+    (Boot, PONDER_IS_OPTION, "declares", false, Nothing, ""),
+    // no option counts as declared yet
+    (Boot, "x hard", "accepts", true, Nothing, ""),
+];
+
+const BOOTING: [Turn<'static>; 3] = [
+    (Boot, "u uciok", "boots", false, Nothing, LIST),
+    (Getting, "u readyok", "readies", false, Nothing, ""),
+    (Idle, "x protover 2", "accepts", false, Nothing, LIST),
+];
+
+const BEST_WITH_HINT: &str = "u bestmove e7e5 ponder g1f3";
+
+const PLAYED: [Turn<'static>; 6] = [
+    (Idle, "x post", "accepts", false, Nothing, ""),
+    (Idle, "x usermove e2e4", "accepts", true, Move, ""),
+    (
+        MOVE,
+        "u info depth 8 score cp -20 time 350 nodes 51000 pv e7e5 g1f3",
+        "thinks",
+        false,
+        Move,
+        "8 -20 35 51000 e7e5 g1f3\n",
+    ),
+    (
+        STALE,
+        "u info depth 9 score cp 0",
+        "nothing",
+        false,
+        Move,
+        "",
+    ),
+    (MOVE, BEST_WITH_HINT, "shows", true, Nothing, "move e7e5\n"),
+    (Idle, "x hint", "accepts", false, Nothing, "Hint: g1f3\n"),
+];
+
+// The user's move stays, and Black is on move again.
+const TAKEN_BACK: [Turn<'static>; 2] = [
+    (Idle, "x undo", "accepts", true, Move, ""),
+    (MOVE, "x hint", "accepts", false, Move, ""),
+];
+
+const GIVEN_UP: [Turn<'static>; 8] = [
+    (Idle, "x usermove e2e4", "accepts", true, Move, ""),
+    (STALE, "u bestmove e7e5", "answers", false, Move, ""),
+    (
+        MOVE,
+        "u bestmove e2e4",
+        "forfeits",
+        false,
+        Nothing,
+        ILLEGAL_BY_ENGINE,
+    ),
+    (Idle, "x go", "accepts", true, Move, ""),
+    (
+        MOVE,
+        "u bestmove 0000",
+        "forfeits",
+        false,
+        Nothing,
+        ILLEGAL_BY_ENGINE,
+    ),
+    (Idle, "x go", "accepts", true, Move, ""),
+    (MOVE, "u.", "dies", false, Nothing, ENGINE_ENDED),
+    (Gone, "x hard", "accepts", true, Nothing, ""),
+];
+
+const RESIGNED: [Turn<'static>; 4] = [
+    (Idle, "x draw", "accepts", false, Nothing, "offer draw\n"),
+    (Idle, "x usermove e2e4", "accepts", true, Move, ""),
+    (
+        MOVE,
+        "u bestmove e7e5",
+        "shows",
+        true,
+        Nothing,
+        "move e7e5\nresign\n",
+    ),
+    (Idle, "x draw", "accepts", false, Nothing, ""),
+];
+
+// Where the move ends the game, the engine does not resign.
+const MATED: [Turn<'static>; 8] = [
+    (Idle, "x force", "accepts", true, Nothing, ""),
+    (Idle, "x usermove f2f3", "accepts", true, Nothing, ""),
+    (Idle, "x usermove e7e5", "accepts", true, Nothing, ""),
+    (Idle, "x usermove g2g4", "accepts", true, Nothing, ""),
+    (Idle, "x go", "accepts", true, Move, ""),
+    (
+        MOVE,
+        "u bestmove d8h4",
+        "shows",
+        true,
+        Nothing,
+        "move d8h4\n0-1 {Black mates}\n",
+    ),
+    (
+        Idle,
+        "x go",
+        "accepts",
+        true,
+        Nothing,
+        "0-1 {Black mates}\n",
+    ),
+    (Idle, "x draw", "accepts", false, Nothing, ""),
+];
+
+const HINT: Call = Ponder(G1F3);
+
+const PONDERING: EngineState = EngineState::Search {
+    kind: GoKind::Ponder,
+    stale: false,
+    stopped: false,
+};
+
+const HINTED: [Turn<'static>; 6] = [
+    (Boot, PONDER_IS_OPTION, "declares", false, Nothing, ""),
+    (Boot, "u uciok", "boots", false, Nothing, ""),
+    (Idle, "x hard", "accepts", true, Nothing, ""),
+    (Idle, "x post", "accepts", false, Nothing, ""),
+    (Idle, "x usermove e2e4", "accepts", true, Move, ""),
+    (MOVE, BEST_WITH_HINT, "shows", true, HINT, "move e7e5\n"),
+];
+
+const PONDER_INFO: &str = "u info depth 7 score cp 25 time 99 nodes 4000 pv b8c6 f1b5";
+
+const PONDERED: [Turn<'static>; 1] = [(
+    PONDERING,
+    PONDER_INFO,
+    "thinks",
+    false,
+    HINT,
+    "7 25 9 4000 (g1f3) b8c6 f1b5\n",
+)];
+
+const PONDERED_UNSEEN: [Turn<'static>; 2] = [
+    (PONDERING, PONDER_INFO, "thinks", false, HINT, ""),
+    (PONDERING, "x usermove g1f3", "accepts", true, Move, ""),
+];
+
+const ANALYSING: EngineState = EngineState::Search {
+    kind: GoKind::Analyse,
+    stale: false,
+    stopped: false,
+};
+
+const ANALYSIS_BEGUN: [Turn<'static>; 3] = [
+    (
+        Boot,
+        "u option name UCI_AnalyseMode type check default false",
+        "declares",
+        false,
+        Nothing,
+        "",
+    ),
+    (Boot, "x analyze", "accepts", true, Analyse, ""),
+    (Boot, "u uciok", "boots", false, Analyse, ""),
+];
+
+const ANALYSED: [Turn<'static>; 5] = [
+    (
+        ANALYSING,
+        "u info depth 12 time 4200 nodes 900000 currmove e2e4 currmovenumber 3",
+        "thinks",
+        false,
+        Analyse,
+        "",
+    ),
+    (
+        ANALYSING,
+        "x .",
+        "accepts",
+        false,
+        Analyse,
+        "stat01: 420 900000 12 17 20 e2e4\n",
+    ),
+    (ANALYSING, "x usermove e2e4", "accepts", true, Analyse, ""),
+    (ANALYSING, "u bestmove e7e5", "answers", false, Analyse, ""),
+    (Idle, "x exit", "accepts", true, Nothing, ""),
+];
+
+const MOVE_OWED: [Turn<'static>; 1] = [(Idle, "x usermove e2e4", "accepts", true, Move, "")];
+
+const PINGED: [Turn<'static>; 64] = [(MOVE, "x ping 1", "accepts", false, Move, ""); 64];
+
+const PINGED_TOO_OFTEN: [Turn<'static>; 1] = [(
+    MOVE,
+    "x ping 2",
+    "refuses",
+    false,
+    Move,
+    "Error (too many pings): ping 2\n",
+)];
+
+fn expect_mode(rt: &impl Abort, desk: &Desk, want: Mode) {
+    assert_eq!(rt; desk.mode, want);
 }
 
-fn passed(engine: EngineState, mark: &str) -> Turn<'_> {
-    (engine, mark, "nothing", false, Nothing, "")
+fn expect_plies(rt: &impl Abort, desk: &Desk, want: u32) {
+    assert_eq!(rt; desk.game.plies(), want);
+}
+
+fn expect_none_held(rt: &impl Abort, held: &Held) {
+    assert_eq!(rt; held.count(), 0);
+}
+
+fn expect_seen(rt: &impl Abort, desk: &Desk, depth: u64, score: i64) {
+    assert_eq!(rt; (desk.seen.depth, desk.seen.score), (depth, Some(score)));
 }
 
 #[test]
 fn begins_with_an_empty_desk(rt: HostRuntime) -> Result<(), Fail> {
     let mut bench = Bench::make(rt.alloc())?;
-    assert_eq!(rt;
-        (bench.desk.game.plies(), bench.desk.mode),
-        (0, Mode::Plays(Side::Black))
-    );
+    expect_plies(&rt, &bench.desk, 0);
+    expect_mode(&rt, &bench.desk, Mode::Plays(Side::Black));
     assert!(rt; !bench.desk.post && !bench.desk.pondering && !bench.desk.booted);
     assert!(rt; bench.desk.hint.is_none() && !bench.desk.due.is_due());
-    assert_eq!(rt; bench.desk.pings.len(), 0);
-    assert_eq!(rt;
-        bench.take(&rt, SIGHT, &Event::Open),
-        ("opens", false, Nothing)
-    );
-    assert_eq!(rt; bench.told.bytes(), b"".as_slice());
+    expect_pings(&rt, &bench.desk.pings, &[]);
+    let came = bench.take(&rt, SIGHT, &Event::Open);
+    expect_came(&rt, came, ("opens", false, Nothing), "open");
+    expect_text(&rt, bench.told.bytes(), "", "open");
     Ok(())
 }
 
 #[test]
 fn refuses_lines(rt: HostRuntime) -> Result<(), Fail> {
     let mut bench = Bench::make(rt.alloc())?;
-    let turns = [
-        refused(Boot, "x hello", "Error (unknown command): hello\n"),
-        refused(Boot, "x  st x ", "Error (bad argument): st x\n"),
-        refused(Gone, "x go", "Error (engine ended): go\n"),
-        refused(Idle, "x exit", "Error (not analyzing): exit\n"),
-        refused(Idle, "x undo", "Error (no move to undo): undo\n"),
-        refused(Idle, "x usermove e2e5", "Illegal move: e2e5\n"),
-        refused(Idle, "x setboard 8/8", "tellusererror Illegal position\n"),
-        refused(Idle, "x option A=1", "Error (unknown option): option A=1\n"),
-    ];
-    check_turns(&rt, &mut bench, SIGHT, &turns);
-    assert_eq!(rt; bench.desk.game.plies(), 0);
+    check_turns(&rt, &mut bench, SIGHT, &REFUSALS);
+    expect_plies(&rt, &bench.desk, 0);
     Ok(())
 }
 
 #[test]
 fn passes_over_events(rt: HostRuntime) -> Result<(), Fail> {
     let mut bench = Bench::make(rt.alloc())?;
-    let long = "Error (line too long): ...\n";
-    let turns = [
-        (Boot, "x!", "long line", false, Nothing, long),
-        passed(Boot, "x."),
-        passed(Boot, "x?"),
-        passed(Boot, "u!"),
-        passed(Boot, "u readyok"),
-        passed(Getting, "u uciok"),
-        passed(Idle, "u bestmove e2e4"),
-        passed(Idle, "u info depth 1 score cp 0 pv e2e4"),
-        passed(Gone, "u."),
-    ];
-    check_turns(&rt, &mut bench, SIGHT, &turns);
+    check_turns(&rt, &mut bench, SIGHT, &PASSED);
     let closed = Context {
         closed: true,
         ..SIGHT
     };
-    let turns = [
-        passed(Boot, "x force"),
-        passed(Boot, "x!"),
-        passed(Boot, "u uciok"),
-    ];
-    check_turns(&rt, &mut bench, closed, &turns);
-    assert_eq!(rt; bench.desk.mode, Mode::Plays(Side::Black));
+    check_turns(&rt, &mut bench, closed, &PASSED_WHEN_CLOSED);
+    expect_mode(&rt, &bench.desk, Mode::Plays(Side::Black));
     Ok(())
 }
 
 #[test]
 fn learns_what_the_engine_is(rt: HostRuntime) -> Result<(), Fail> {
     let mut bench = Bench::make(rt.alloc())?;
-    let turns = [
-        (
-            Boot,
-            "x protover 2",
-            "accepts",
-            false,
-            Nothing,
-            "feature done=0\n",
-        ),
-        (Boot, "u id name Toy", "names", false, Nothing, ""),
-        (Boot, PONDER_IS_OPTION, "declares", false, Nothing, ""),
-        // no option counts as declared yet
-        (Boot, "x hard", "accepts", true, Nothing, ""),
-    ];
-    check_turns(&rt, &mut bench, SIGHT, &turns);
+    check_turns(&rt, &mut bench, SIGHT, &DECLARATIONS);
     assert!(rt; bench.desk.due.is_due() && !bench.desk.booted);
-    assert_eq!(rt; bench.held.count(), 0);
-    let turns = [
-        (Boot, "u uciok", "boots", false, Nothing, LIST),
-        (Getting, "u readyok", "readies", false, Nothing, ""),
-        (Idle, "x protover 2", "accepts", false, Nothing, LIST),
-    ];
-    check_turns(&rt, &mut bench, SIGHT, &turns);
+    expect_none_held(&rt, &bench.held);
+    check_turns(&rt, &mut bench, SIGHT, &BOOTING);
     assert!(rt; !bench.desk.due.is_due() && bench.desk.booted);
     bench.check_held(&rt, "setoption name Ponder value true\n");
     Ok(())
@@ -142,77 +403,24 @@ fn learns_what_the_engine_is(rt: HostRuntime) -> Result<(), Fail> {
 #[test]
 fn plays_a_move(rt: HostRuntime) -> Result<(), Fail> {
     let mut bench = Bench::make(rt.alloc())?;
-    let info = "u info depth 8 score cp -20 time 350 nodes 51000 pv e7e5 g1f3";
-    let best = "u bestmove e7e5 ponder g1f3";
-    let turns = [
-        (Idle, "x post", "accepts", false, Nothing, ""),
-        (Idle, "x usermove e2e4", "accepts", true, Move, ""),
-        (
-            MOVE,
-            info,
-            "thinks",
-            false,
-            Move,
-            "8 -20 35 51000 e7e5 g1f3\n",
-        ),
-        (
-            STALE,
-            "u info depth 9 score cp 0",
-            "nothing",
-            false,
-            Move,
-            "",
-        ),
-        (MOVE, best, "shows", true, Nothing, "move e7e5\n"),
-        (Idle, "x hint", "accepts", false, Nothing, "Hint: g1f3\n"),
-    ];
-    check_turns(&rt, &mut bench, SIGHT, &turns);
-    assert_eq!(rt; bench.desk.hint, read_move(b"g1f3"));
-    assert_eq!(rt;
-        (bench.desk.seen.depth, bench.desk.seen.score),
-        (8, Some(-20))
-    );
-    assert_eq!(rt; bench.desk.game.plies(), 2);
-    // the user's move stays, and Black is on move again
-    let turns = [
-        (Idle, "x undo", "accepts", true, Move, ""),
-        (MOVE, "x hint", "accepts", false, Move, ""),
-    ];
-    check_turns(&rt, &mut bench, SIGHT, &turns);
-    assert_eq!(rt; (bench.desk.hint, bench.desk.game.plies()), (None, 1));
+    check_turns(&rt, &mut bench, SIGHT, &PLAYED);
+    expect_move(&rt, read_move(b"g1f3"), Some(G1F3));
+    expect_move(&rt, bench.desk.hint, Some(G1F3));
+    expect_seen(&rt, &bench.desk, 8, -20);
+    expect_plies(&rt, &bench.desk, 2);
+    check_turns(&rt, &mut bench, SIGHT, &TAKEN_BACK);
+    expect_move(&rt, bench.desk.hint, None);
+    expect_plies(&rt, &bench.desk, 1);
     Ok(())
 }
 
 #[test]
 fn gives_up_without_a_legal_move(rt: HostRuntime) -> Result<(), Fail> {
     let mut bench = Bench::make(rt.alloc())?;
-    let turns = [
-        (Idle, "x usermove e2e4", "accepts", true, Move, ""),
-        (STALE, "u bestmove e7e5", "answers", false, Move, ""),
-        (
-            MOVE,
-            "u bestmove e2e4",
-            "forfeits",
-            false,
-            Nothing,
-            ILLEGAL_BY_ENGINE,
-        ),
-        (Idle, "x go", "accepts", true, Move, ""),
-        (
-            MOVE,
-            "u bestmove 0000",
-            "forfeits",
-            false,
-            Nothing,
-            ILLEGAL_BY_ENGINE,
-        ),
-        (Idle, "x go", "accepts", true, Move, ""),
-        (MOVE, "u.", "dies", false, Nothing, ENGINE_ENDED),
-        (Gone, "x hard", "accepts", true, Nothing, ""),
-    ];
-    check_turns(&rt, &mut bench, SIGHT, &turns);
-    assert_eq!(rt; (bench.desk.mode, bench.desk.game.plies()), (Mode::Over, 1));
-    assert_eq!(rt; bench.held.count(), 0);
+    check_turns(&rt, &mut bench, SIGHT, &GIVEN_UP);
+    expect_mode(&rt, &bench.desk, Mode::Over);
+    expect_plies(&rt, &bench.desk, 1);
+    expect_none_held(&rt, &bench.held);
     Ok(())
 }
 
@@ -224,128 +432,46 @@ fn resigns_and_draws_by_the_policy(rt: HostRuntime) -> Result<(), Fail> {
         ..SIGHT
     };
     let mut bench = Bench::make(rt.alloc())?;
-    let turns = [
-        (Idle, "x draw", "accepts", false, Nothing, "offer draw\n"),
-        (Idle, "x usermove e2e4", "accepts", true, Move, ""),
-        (
-            MOVE,
-            "u bestmove e7e5",
-            "shows",
-            true,
-            Nothing,
-            "move e7e5\nresign\n",
-        ),
-        (Idle, "x draw", "accepts", false, Nothing, ""),
-    ];
-    check_turns(&rt, &mut bench, lost, &turns);
-    assert_eq!(rt; bench.desk.mode, Mode::Over);
-
-    // Where the move ends the game, the engine does not resign.
+    check_turns(&rt, &mut bench, lost, &RESIGNED);
+    expect_mode(&rt, &bench.desk, Mode::Over);
     let mut mate = Bench::make(rt.alloc())?;
-    let result = "move d8h4\n0-1 {Black mates}\n";
-    let turns = [
-        (Idle, "x force", "accepts", true, Nothing, ""),
-        (Idle, "x usermove f2f3", "accepts", true, Nothing, ""),
-        (Idle, "x usermove e7e5", "accepts", true, Nothing, ""),
-        (Idle, "x usermove g2g4", "accepts", true, Nothing, ""),
-        (Idle, "x go", "accepts", true, Move, ""),
-        (MOVE, "u bestmove d8h4", "shows", true, Nothing, result),
-        (
-            Idle,
-            "x go",
-            "accepts",
-            true,
-            Nothing,
-            "0-1 {Black mates}\n",
-        ),
-        (Idle, "x draw", "accepts", false, Nothing, ""),
-    ];
-    check_turns(&rt, &mut mate, lost, &turns);
-    assert_eq!(rt; mate.desk.mode, Mode::Plays(Side::White));
+    check_turns(&rt, &mut mate, lost, &MATED);
+    expect_mode(&rt, &mate.desk, Mode::Plays(Side::White));
     Ok(())
 }
 
 #[test]
 fn ponders_on_the_hint(rt: HostRuntime) -> Result<(), Fail> {
     let mut bench = Bench::make(rt.alloc())?;
-    let hint = Ponder(read_move(b"g1f3").expect(&rt, "a move"));
-    let pondering = EngineState::Search {
-        kind: GoKind::Ponder,
-        stale: false,
-        stopped: false,
-    };
-    let best = "u bestmove e7e5 ponder g1f3";
-    let turns = [
-        (Boot, PONDER_IS_OPTION, "declares", false, Nothing, ""),
-        (Boot, "u uciok", "boots", false, Nothing, ""),
-        (Idle, "x hard", "accepts", true, Nothing, ""),
-        (Idle, "x post", "accepts", false, Nothing, ""),
-        (Idle, "x usermove e2e4", "accepts", true, Move, ""),
-        (MOVE, best, "shows", true, hint, "move e7e5\n"),
-    ];
-    check_turns(&rt, &mut bench, SIGHT, &turns);
+    expect_move(&rt, read_move(b"g1f3"), Some(G1F3));
+    check_turns(&rt, &mut bench, SIGHT, &HINTED);
     // the value that was asked for last
     bench.check_held(&rt, "setoption name Ponder value true\n");
-    let info = "u info depth 7 score cp 25 time 99 nodes 4000 pv b8c6 f1b5";
-    let line = "7 25 9 4000 (g1f3) b8c6 f1b5\n";
-    check_turns(
-        &rt,
-        &mut bench,
-        SIGHT,
-        &[(pondering, info, "thinks", false, hint, line)],
-    );
+    check_turns(&rt, &mut bench, SIGHT, &PONDERED);
     let hidden = Context {
         show_ponder: false,
         ..SIGHT
     };
-    let turns = [
-        (pondering, info, "thinks", false, hint, ""),
-        (pondering, "x usermove g1f3", "accepts", true, Move, ""),
-    ];
-    check_turns(&rt, &mut bench, hidden, &turns);
+    check_turns(&rt, &mut bench, hidden, &PONDERED_UNSEEN);
     Ok(())
 }
 
 #[test]
 fn analyses(rt: HostRuntime) -> Result<(), Fail> {
     let mut bench = Bench::make(rt.alloc())?;
-    let searching = EngineState::Search {
-        kind: GoKind::Analyse,
-        stale: false,
-        stopped: false,
-    };
-    let option = "u option name UCI_AnalyseMode type check default false";
-    let info = "u info depth 12 time 4200 nodes 900000 currmove e2e4 currmovenumber 3";
-    let turns = [
-        (Boot, option, "declares", false, Nothing, ""),
-        (Boot, "x analyze", "accepts", true, Analyse, ""),
-        (Boot, "u uciok", "boots", false, Analyse, ""),
-    ];
-    check_turns(&rt, &mut bench, SIGHT, &turns);
+    check_turns(&rt, &mut bench, SIGHT, &ANALYSIS_BEGUN);
     bench.check_held(&rt, "setoption name UCI_AnalyseMode value true\n");
-    let stat = "stat01: 420 900000 12 17 20 e2e4\n";
-    let turns = [
-        (searching, info, "thinks", false, Analyse, ""),
-        (searching, "x .", "accepts", false, Analyse, stat),
-        (searching, "x usermove e2e4", "accepts", true, Analyse, ""),
-        (searching, "u bestmove e7e5", "answers", false, Analyse, ""),
-        (Idle, "x exit", "accepts", true, Nothing, ""),
-    ];
-    check_turns(&rt, &mut bench, SIGHT, &turns);
+    check_turns(&rt, &mut bench, SIGHT, &ANALYSED);
     bench.check_held(&rt, "setoption name UCI_AnalyseMode value false\n");
-    assert_eq!(rt;
-        (bench.desk.mode, bench.desk.game.plies()),
-        (Mode::Force, 1)
-    );
+    expect_mode(&rt, &bench.desk, Mode::Force);
+    expect_plies(&rt, &bench.desk, 1);
     Ok(())
 }
 
 #[test]
 fn keeps_so_many_pings(rt: HostRuntime) -> Result<(), Fail> {
     let mut bench = Bench::make(rt.alloc())?;
-    let last = "Error (too many pings): ping 2\n";
-    let turns = [(Idle, "x usermove e2e4", "accepts", true, Move, "")];
-    check_turns(&rt, &mut bench, SIGHT, &turns);
+    check_turns(&rt, &mut bench, SIGHT, &MOVE_OWED);
     assert!(rt; bench.desk.owes_move(SIGHT));
     assert!(rt;
         !bench.desk.owes_move(Context {
@@ -353,11 +479,9 @@ fn keeps_so_many_pings(rt: HostRuntime) -> Result<(), Fail> {
             ..SIGHT
         })
     );
-    let pings = [(MOVE, "x ping 1", "accepts", false, Move, ""); 64];
-    check_turns(&rt, &mut bench, SIGHT, &pings);
-    assert_eq!(rt; bench.desk.pings.len(), 64);
-    let turns = [(MOVE, "x ping 2", "refuses", false, Move, last)];
-    check_turns(&rt, &mut bench, SIGHT, &turns);
-    assert_eq!(rt; bench.desk.pings.numbers(), [1; 64].as_slice());
+    check_turns(&rt, &mut bench, SIGHT, &PINGED);
+    expect_pings(&rt, &bench.desk.pings, &[1; 64]);
+    check_turns(&rt, &mut bench, SIGHT, &PINGED_TOO_OFTEN);
+    expect_pings(&rt, &bench.desk.pings, &[1; 64]);
     Ok(())
 }
