@@ -1,11 +1,12 @@
 /* The least that can stand between an interface and an engine: it hands on what driver.c and
  * engine.c say, and checks nothing. What an adapter takes beyond it is its own work.
  *
- * usage: floor channel|direct ENGINE ARG..
+ * usage: floor channel|direct|relay-channel|relay-direct ENGINE ARG..
  *
  * Two threads read the peers. With `channel` they put each line into one channel of 64 lines, and
  * the main thread takes it and writes, as in the bridge. With `direct` the thread that reads writes
- * too, under one lock, as in UCI2WB.
+ * too, under one lock, as in UCI2WB. With `relay-` each line goes on as it came: that is the least
+ * that can stand between a bridge and an engine, as reviver does.
  */
 #include <pthread.h>
 #include <spawn.h>
@@ -29,7 +30,7 @@ static struct line channel[ROOM];
 static unsigned taken, put;
 static pthread_mutex_t lock = PTHREAD_MUTEX_INITIALIZER;
 static pthread_cond_t filled = PTHREAD_COND_INITIALIZER, emptied = PTHREAD_COND_INITIALIZER;
-static int is_direct, to_engine, from_engine;
+static int is_direct, is_relay, to_engine, from_engine;
 static char moves[1 << 16];
 
 static void say(int to, const char *text) {
@@ -40,7 +41,9 @@ static void say(int to, const char *text) {
 static void answer(const struct line *line) {
   static char text[sizeof moves + 64];
   const char *word = line->text;
-  if (line->peer == IFACE && !strncmp(word, "protover", 8)) {
+  if (is_relay) {
+    say(line->peer == IFACE ? to_engine : 1, word);
+  } else if (line->peer == IFACE && !strncmp(word, "protover", 8)) {
     say(to_engine, "uci\n");
   } else if (line->peer == IFACE && !strncmp(word, "new", 3)) {
     moves[0] = 0;
@@ -126,7 +129,8 @@ static pid_t start(char **words) {
 
 int main(int argc, char **argv) {
   if (argc < 3) return 2;
-  is_direct = !strcmp(argv[1], "direct");
+  is_relay = !strncmp(argv[1], "relay-", 6);
+  is_direct = !strcmp(argv[1] + 6 * is_relay, "direct");
   pid_t pid = start(argv + 2);
   pthread_t iface, engine;
   if (pthread_create(&engine, NULL, read_engine, NULL)) return 1;
