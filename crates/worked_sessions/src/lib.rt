@@ -1,31 +1,6 @@
-//! Worked sessions: what the program `replay` makes of whole inputs, worked out by hand.
+//! Sessions of the program `replay` whose input comes in pieces, or whose reads and writes fail.
+//! Its sessions over files stand in `scripts/worked`.
 #![tactic(auto)]
 
-#[cfg(test)]
-mod analysis;
-#[cfg(test)]
-mod checks;
-#[cfg(test)]
-mod drills;
-#[cfg(test)]
-mod games;
-#[cfg(test)]
-mod logs;
-#[cfg(test)]
-mod moves;
-#[cfg(test)]
-mod numbered;
-#[cfg(test)]
-mod played;
-#[cfg(test)]
-mod pondering;
-#[cfg(test)]
-mod results;
-#[cfg(test)]
-mod session;
-#[cfg(test)]
-mod settings;
-#[cfg(test)]
-mod start;
 #[cfg(test)]
 mod words;
