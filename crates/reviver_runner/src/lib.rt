@@ -6,6 +6,7 @@ mod drain;
 mod lives;
 mod parts;
 mod run;
+mod starting;
 mod turns;
 
 pub use run::revive_run;

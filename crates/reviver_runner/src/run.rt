@@ -1,13 +1,11 @@
 // One run of all lives over a host.
-ghost use Rattle.std.specs.Prelude.{◌≡◌, ◌≤◌, ◌<◌, ◌||◌, [], length, is_some, IfOk, IfErr, OnOk, OnErr, false, true};
+ghost use Rattle.std.specs.Prelude.{◌≡◌, ◌≤◌, ◌<◌, ◌||◌, [], length, is_some, false, true};
 ghost use Rattle.std.specs.VecDeque.{deque_len, deque_capacity};
 ghost use Rattle.child_engine.specs.Hosts.{with_run};
 ghost use Rattle.engine_revival.specs.declared.words.LifeState.TheVariants as life;
 ghost use Rattle.event_pipe.specs.Arrivals.{Arrived};
 ghost use Rattle.event_pipe.specs.Ends.{IsFreshSender, KeepsSender, KeepsTaker, AreOne, sent, taken};
 ghost use Rattle.event_pipe.specs.declared.message.Peer.TheVariants as peers;
-ghost use Rattle.host_run.specs.Early.{AreEarly};
-ghost use Rattle.host_run.specs.Logs.{is_failed, is_no_memory};
 ghost use Rattle.host_run.specs.Outside.{outside, unused};
 ghost use Rattle.sink_offers.specs.Streams.{log_state};
 ghost use Rattle.reviver_runner.specs.Lives.{AreReady, AreTallied, Goes, IsBegun, HasLived, Tallies, begins, none_failed};
@@ -16,13 +14,13 @@ ghost use Rattle.reviver_runner.specs.Ran.{HandsOut, KeepsEnds, MayRun, Leaves};
 use crate::closing::close_everything;
 use crate::drain::drain;
 use crate::lives::{Run, Tally};
-use crate::parts::{Made, Parts, make_parts};
+use crate::parts::{Made, Parts};
+use crate::starting::{Ready, start};
 use crate::turns::{Next, life_turn};
-use child_engine::{Host, HostFault, LetGo, Started};
+use child_engine::{Host, HostFault, LetGo};
 use event_pipe::{Pipe, PipeSend, ReadEnd, read_pipe};
 use host_run::{
-    Failures, Opened, TriedThreads, has_failed, has_lacked_memory, is_open_failure, is_open_memory,
-    only_memory, only_start, open_log,
+    Failures, Opened, has_failed, has_lacked_memory, is_open_failure, is_open_memory, open_log,
 };
 use line_io::{Sink, Source};
 use sink_offers::LoopEnd;
@@ -241,13 +239,6 @@ fn either(a: bool, b: bool) -> bool
     a || b
 }
 
-// What a run needs beside its host, and the engine that was started first.
-struct Ready<S, K, P> {
-    made: Made,
-    runs: Runs<S, K>,
-    kids: VecDeque<P>,
-}
-
 // The run of an engine that was started.
 fn run_started<I: Source + Send, O: Sink + Send, H: Host + Send, R: Threads + Wait + Sync>(
     rt: &R,
@@ -310,69 +301,6 @@ where
         engine_start: is_open_failure(lives.start),
         log: either(is_open_failure(fault), lives.done.log),
         engine_wait: waiting_failed,
-    }
-}
-
-// Takes the memory of a run, and starts the first engine.
-fn start<H: Host, R: Threads>(
-    rt: &R,
-    alloc: Global,
-    lives: u32,
-    words: Vec<String>,
-    host: &mut H,
-) -> Result<Ready<H::Src, H::Snk, H::Kid>, Failures>
-where
-    H::Src: Drop,
-    H::Snk: LetGo + Drop,
-    H::Kid: Drop,
-    requires words { 0 < length words.items }
-    requires some { 1 ≤ lives }
-    requires few { lives ≤ 9 }
-    requires unused { H.books host.old ≡ unused }
-    ensures iface { IfOk result (λ ready. IsFreshSender ready.made.iface peers.Iface) }
-    ensures one { IfOk result (λ ready. AreOne ready.made.iface ready.made.parts.to ready.made.parts.from) }
-    ensures begins { IfOk result (λ ready. begins lives ready.made.parts.revival.state) }
-    ensures lives { IfOk result (λ ready. ready.made.parts.revival.state.lives ≡ lives) }
-    ensures may { IfOk result (λ ready. MayRun H.Src.state H.Snk.state (H.books host.new)
-        ready.made.parts ready.runs (deque_len ready.kids) (deque_capacity ready.kids)) }
-    ensures books { OnOk result (H.books host.new ≡ with_run unused) }
-    ensures faults { OnOk result (H.faults host.new ≡ H.faults host.old) }
-    ensures unstarted { OnErr result (H.books host.new ≡ unused) }
-    ensures early { IfErr result (AreEarly (H.faults host.old) (H.faults host.new)) }
-{
-    let Ok(made) = make_parts(alloc, lives) else {
-        return Err(only_memory());
-    };
-    let Ok(ended) = VecDeque::with_capacity(alloc, 9) else {
-        return Err(only_memory());
-    };
-    let Ok(mut kids) = VecDeque::with_capacity(alloc, 10) else {
-        return Err(only_memory());
-    };
-    let threads = TriedThreads::ask(rt);
-    if !threads.were_given() {
-        threads.join(rt);
-        return Err(only_memory());
-    }
-    let started = host.start(alloc, words.as_slice());
-    threads.join(rt);
-    match started {
-        Ok(run) => {
-            let Started { src, snk, kid } = run;
-            kids.push_back_reserved(kid);
-            let first = Some(Run { src, snk });
-            Ok(Ready {
-                made,
-                runs: Runs {
-                    words,
-                    first,
-                    ended,
-                },
-                kids,
-            })
-        }
-        Err(HostFault::NoMemory) => Err(only_memory()),
-        Err(HostFault::Failed) => Err(only_start()),
     }
 }
 
