@@ -1,68 +1,11 @@
 //! Move counts that are known of the rules, and each public function once.
+use crate::positions::{board_of, expect_text, move_of, position_of};
 use chess_board::{
-    BuildFault, Kind, Move, Position, Rights, Side, Square, State, equal_moves, equal_positions,
-    read_move, write_move,
+    BuildFault, Kind, Move, Position, Side, Square, State, equal_moves, equal_positions, read_move,
+    write_move,
 };
 use std::process::Abort;
 use std::test::Fail;
-
-/// The man of a FEN's letter.
-fn man_of(letter: u8) -> Option<(Side, Kind)> {
-    let side = if letter.is_ascii_uppercase() {
-        Side::White
-    } else {
-        Side::Black
-    };
-    let kind = match letter.to_ascii_lowercase() {
-        b'p' => Kind::Pawn,
-        b'n' => Kind::Knight,
-        b'b' => Kind::Bishop,
-        b'r' => Kind::Rook,
-        b'q' => Kind::Queen,
-        b'k' => Kind::King,
-        _ => return None,
-    };
-    Some((side, kind))
-}
-
-/// The men of a FEN's first field.
-fn board_of(field: &str) -> [Option<(Side, Kind)>; 64] {
-    let mut board = [None; 64];
-    let mut file = 0u8;
-    let mut rank = 7u8;
-    for letter in field.as_bytes() {
-        match *letter {
-            b'/' => {
-                file = 0;
-                rank = rank.saturating_sub(1);
-            }
-            b'1'..=b'8' => file = file.saturating_add(*letter - b'0'),
-            _ => {
-                if let Some(at) = Square::at(file, rank) {
-                    board[at.index as usize] = man_of(*letter);
-                }
-                file = file.saturating_add(1);
-            }
-        }
-    }
-    board
-}
-
-/// The position of a FEN's first four fields, with the rights as letters.
-fn position_of(
-    field: &str,
-    side: Side,
-    rights: &str,
-    passant: Option<Square>,
-) -> Result<Position, BuildFault> {
-    let rights = Rights {
-        wk: rights.contains('K'),
-        wq: rights.contains('Q'),
-        bk: rights.contains('k'),
-        bq: rights.contains('q'),
-    };
-    Position::build(&board_of(field), side, rights, passant, 0, 1)
-}
 
 /// How many ways there are to play so many moves.
 fn count_lines(position: Position, depth: u32) -> u64 {
@@ -121,20 +64,28 @@ fn counts_lines_of_play(rt: HostRuntime) -> Result<(), Fail> {
 /// The position after moves that are written with blanks between.
 fn after(rt: &impl Abort, mut position: Position, moves: &str) -> Position {
     for text in moves.split(' ') {
-        let m = read_move(text.as_bytes()).expect(rt, "a move text");
+        let m = move_of(rt, text);
         assert!(rt; position.legal(m), "{text}");
         position = position.play(m);
     }
     position
 }
 
+fn expect_square(rt: &impl Abort, found: Option<Square>, want: Option<Square>) {
+    assert_eq!(rt; found, want);
+}
+
+fn expect_man(rt: &impl Abort, found: Option<(Side, Kind)>, side: Side, kind: Kind) {
+    assert_eq!(rt; found, Some((side, kind)));
+}
+
 fn expect_start(rt: &impl Abort, start: &Position) {
     let e1 = Square::at(4, 0).expect(rt, "e1");
     let f3 = Square::at(5, 2).expect(rt, "f3");
-    assert_eq!(rt; Square::at(8, 0), None);
-    assert_eq!(rt; (f3.file(), f3.rank()), (5, 2));
-    assert_eq!(rt; start.piece(e1), Some((Side::White, Kind::King)));
-    assert_eq!(rt; start.side().other(), Side::Black);
+    expect_square(rt, Square::at(8, 0), None);
+    assert!(rt; f3.file() == 5 && f3.rank() == 2);
+    expect_man(rt, start.piece(e1), Side::White, Kind::King);
+    assert!(rt; start.side().other() == Side::Black);
     assert!(rt; start.rights().wk && start.rights().bq);
     assert!(rt; start.attacked(f3, Side::White) && !start.attacked(f3, Side::Black));
     assert!(rt; !start.in_check());
@@ -146,10 +97,6 @@ fn expect_counters(rt: &impl Abort, position: &Position, half: u32, full: u32) {
     assert_eq!(rt; (position.half(), position.full()), (half, full));
 }
 
-fn expect_passant(rt: &impl Abort, position: &Position, want: Option<Square>) {
-    assert_eq!(rt; position.passant(), want);
-}
-
 #[test]
 fn plays_moves(rt: HostRuntime) -> Result<(), Fail> {
     let start = Position::start();
@@ -158,14 +105,16 @@ fn plays_moves(rt: HostRuntime) -> Result<(), Fail> {
     assert!(rt; knights.same(&start) && knights != start);
     expect_counters(&rt, &knights, 4, 3);
     let d6 = Square::at(3, 5).expect(&rt, "d6");
-    expect_passant(&rt, &after(&rt, start, "e2e4"), None);
-    expect_passant(&rt, &after(&rt, start, "e2e4 a7a6 e4e5 d7d5"), Some(d6));
+    let opened = after(&rt, start, "e2e4");
+    expect_square(&rt, opened.passant(), None);
+    let passed = after(&rt, start, "e2e4 a7a6 e4e5 d7d5");
+    expect_square(&rt, passed.passant(), Some(d6));
     let captured = after(&rt, start, "e2e4 a7a6 e4e5 d7d5 e5d6");
-    assert_eq!(rt; captured.piece(d6), Some((Side::White, Kind::Pawn)));
+    expect_man(&rt, captured.piece(d6), Side::White, Kind::Pawn);
     let castled = after(&rt, start, "g2g3 a7a6 f1g2 a6a5 g1f3 a5a4 e1g1");
     assert!(rt; !castled.rights().wk && castled.rights().bk);
     let mated = after(&rt, start, "f2f3 e7e5 g2g4 d8h4");
-    assert_eq!(rt; mated.state(), State::Mate);
+    assert!(rt; mated.state() == State::Mate);
     Ok(())
 }
 
@@ -182,7 +131,10 @@ const STATES: [Stated; 6] = [
 ];
 
 fn expect_state(rt: &impl Abort, field: &str, side: Side, want: Result<State, BuildFault>) {
-    let found = position_of(field, side, "KQkq", None).map(|position| position.state());
+    let found = match position_of(field, side, "KQkq", None) {
+        Ok(position) => Ok(position.state()),
+        Err(fault) => Err(fault),
+    };
     assert_eq!(rt; found, want, "{field}");
 }
 
@@ -201,8 +153,8 @@ fn expect_moves(rt: &impl Abort, start: &Position) {
         to: Square::at(0, 7).expect(rt, "a8"),
         promo: Some(Kind::Queen),
     };
-    assert_eq!(rt; write_move(promotion).as_slice(), b"b7a8q".as_slice());
-    assert!(rt; read_move(b"b7a8Q").is_some_and(|m| equal_moves(m, promotion)));
+    expect_text(rt, write_move(promotion).as_slice(), "b7a8q");
+    assert!(rt; equal_moves(move_of(rt, "b7a8Q"), promotion));
     assert!(rt; !start.legal(promotion));
     assert_eq!(rt; read_move(b"e2e9"), None);
     assert_eq!(rt; read_move(b"e7e8k"), None);

@@ -1,4 +1,5 @@
 // Positions as texts: how each is written, and the first fault of texts that are none.
+use crate::positions::expect_text;
 use chess_board::Position;
 use fen_text::{FenFault, read_fen, write_fen};
 use std::process::Abort;
@@ -98,13 +99,11 @@ const FAULTY: [(&str, FenFault); 27] = [
 ];
 
 fn expect_written(rt: &impl Abort, text: &str, want: &str) {
-    match read_fen(text.as_bytes()) {
-        Ok(position) => {
-            let written = write_fen(&position);
-            assert_eq!(rt; written.as_slice(), want.as_bytes(), "of {text}");
-        }
-        Err(fault) => panic!(rt; "{fault:?} of {text}"),
-    }
+    let written = match read_fen(text.as_bytes()) {
+        Ok(position) => write_fen(&position),
+        Err(_) => panic!(rt; "no position: {text}"),
+    };
+    expect_text(rt, written.as_slice(), want);
 }
 
 fn expect_all_written(rt: &impl Abort, rows: &[(&'static str, &'static str)]) {
@@ -114,7 +113,8 @@ fn expect_all_written(rt: &impl Abort, rows: &[(&'static str, &'static str)]) {
 }
 
 fn expect_fault(rt: &impl Abort, text: &str, want: FenFault) {
-    assert_eq!(rt; read_fen(text.as_bytes()).err(), Some(want), "of {text}");
+    let found = read_fen(text.as_bytes()).err();
+    assert!(rt; found == Some(want), "{found:?} of {text}");
 }
 
 fn expect_faults(rt: &impl Abort, rows: &[(&'static str, FenFault)]) {
@@ -127,5 +127,5 @@ fn expect_faults(rt: &impl Abort, rows: &[(&'static str, FenFault)]) {
 fn reads_and_writes(rt: HostRuntime) {
     expect_all_written(&rt, &SPELLED);
     expect_faults(&rt, &FAULTY);
-    assert_eq!(rt; write_fen(&Position::start()).as_slice(), START.as_bytes());
+    expect_text(&rt, write_fen(&Position::start()).as_slice(), START);
 }

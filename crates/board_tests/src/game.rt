@@ -2,7 +2,8 @@
 ghost use Rattle.std.specs.Prelude.{◌≡◌, ◌+◌, ◌≤◌, length, IfSome};
 ghost use Rattle.game_record.specs.Game.{ply_of, IsPlayable, now_of};
 
-use chess_board::{Move, Position, read_move};
+use crate::positions::{expect_text, move_of};
+use chess_board::{Move, Position, equal_positions};
 use fen_text::read_fen;
 use game_record::{End, Game, NoMove, PushFault};
 use line_io::Out;
@@ -15,27 +16,34 @@ const ROOK_SHUFFLE: [&str; 4] = ["h1h2", "e8e7", "h2h1", "e7e8"];
 
 const MATE: [&str; 4] = ["f2f3", "e7e5", "g2g4", "d8h4"];
 
-fn move_of(rt: &impl Abort, text: &str) -> Move {
-    read_move(text.as_bytes()).expect(rt, "a move")
-}
-
-fn position_of(rt: &impl Abort, text: &str) -> Position {
+pub fn position_of(rt: &impl Abort, text: &str) -> Position {
     read_fen(text.as_bytes()).expect(rt, "a position")
 }
 
-fn play_all(rt: &impl Abort, game: &mut Game, moves: &[&str]) {
+type Pushed = Result<(), PushFault>;
+
+/// Plays a move, and compares what comes of it.
+fn expect_pushed(rt: &impl Abort, game: &mut Game, text: &str, want: Pushed) {
+    assert_eq!(rt; game.push(move_of(rt, text)), want, "{text}");
+}
+
+pub fn play_all(rt: &impl Abort, game: &mut Game, moves: &[&str]) {
     for text in moves {
-        assert_eq!(rt; game.push(move_of(rt, text)), Ok(()), "{text}");
+        expect_pushed(rt, game, text, Ok(()));
     }
+}
+
+fn expect_end(rt: &impl Abort, found: Option<End>, want: Option<End>, text: &str) {
+    assert_eq!(rt; found, want, "{text}");
 }
 
 /// Checks how a game will have ended after a move, and plays it.
 fn ends(rt: &impl Abort, game: &mut Game, text: &str, want: Option<End>) {
     let m = move_of(rt, text);
     assert!(rt; game.now().legal(m), "{text}");
-    assert_eq!(rt; game.ended_after(m), want, "{text}");
-    assert_eq!(rt; game.push(m), Ok(()), "{text}");
-    assert_eq!(rt; game.ended(), want, "{text}");
+    expect_end(rt, game.ended_after(m), want, text);
+    expect_pushed(rt, game, text, Ok(()));
+    expect_end(rt, game.ended(), want, text);
 }
 
 fn check_line(rt: &impl Abort, game: &Game, hint: Option<Move>, out: &mut Out, want: &str)
@@ -45,7 +53,7 @@ fn check_line(rt: &impl Abort, game: &Game, hint: Option<Move>, out: &mut Out, w
     game.facts();
     assert!(rt; out.spare() >= 72_126);
     game.write_position(hint, out);
-    assert_eq!(rt; out.bytes(), want.as_bytes());
+    expect_text(rt, out.bytes(), want);
 }
 
 fn check_hinted(rt: &impl Abort, game: &Game, text: &str, out: &mut Out, want: &str) {
@@ -59,10 +67,6 @@ fn expect_counts(rt: &impl Abort, game: &Game, plies: u32, repeats: u32) {
     assert_eq!(rt; (game.plies(), game.repeats()), (plies, repeats));
 }
 
-fn expect_fault(rt: &impl Abort, game: &mut Game, text: &str, fault: PushFault) {
-    assert_eq!(rt; game.push(move_of(rt, text)), Err(fault));
-}
-
 fn expect_undone(rt: &impl Abort, game: &mut Game, plies: u32, want: Result<(), NoMove>) {
     assert_eq!(rt; game.undo(plies), want);
 }
@@ -70,7 +74,8 @@ fn expect_undone(rt: &impl Abort, game: &mut Game, plies: u32, want: Result<(), 
 fn repeats_the_start(rt: &impl Abort, game: &mut Game) {
     play_all(rt, game, &SHUFFLE);
     play_all(rt, game, &SHUFFLE[..3]);
-    assert_eq!(rt; (game.repeats(), game.ended()), (2, None));
+    expect_counts(rt, game, 7, 2);
+    expect_end(rt, game.ended(), None, "twice");
     ends(rt, game, "f6g8", Some(End::Repetition));
     expect_counts(rt, game, 8, 3);
 }
@@ -80,7 +85,8 @@ fn repeats_without_the_right(rt: &impl Abort, game: &mut Game) {
     game.reset(position_of(rt, "4k3/8/8/8/8/8/8/4K2R w K - 0 1"));
     play_all(rt, game, &ROOK_SHUFFLE);
     play_all(rt, game, &ROOK_SHUFFLE);
-    assert_eq!(rt; (game.repeats(), game.ended()), (2, None));
+    expect_counts(rt, game, 8, 2);
+    expect_end(rt, game.ended(), None, "twice");
     play_all(rt, game, &ROOK_SHUFFLE[..3]);
     ends(rt, game, "e7e8", Some(End::Repetition));
     expect_counts(rt, game, 12, 3);
@@ -107,7 +113,7 @@ const ENDED: [(&str, Option<End>); 3] = [
 fn ends_at_once(rt: &impl Abort, game: &mut Game, rows: &[(&'static str, Option<End>)]) {
     for (text, want) in rows {
         game.reset(position_of(rt, text));
-        assert_eq!(rt; game.ended(), *want, "{text}");
+        expect_end(rt, game.ended(), *want, text);
     }
 }
 
@@ -126,7 +132,7 @@ const OPENED: &str = "position startpos moves e2e4 e7e5";
 fn plays_and_writes(rt: &impl Abort, game: &mut Game, out: &mut Out) {
     check_line(rt, game, None, out, "position startpos");
     check_hinted(rt, game, "e2e4", out, "position startpos moves e2e4");
-    expect_fault(rt, game, "e2e5", PushFault::Illegal);
+    expect_pushed(rt, game, "e2e5", Err(PushFault::Illegal));
     play_all(rt, game, &["e2e4", "e7e5"]);
     check_line(rt, game, None, out, OPENED);
     let hinted = "position startpos moves e2e4 e7e5 g1f3";
@@ -137,13 +143,11 @@ fn plays_and_writes(rt: &impl Abort, game: &mut Game, out: &mut Out) {
 fn takes_back(rt: &impl Abort, game: &mut Game) {
     expect_undone(rt, game, 3, Err(NoMove));
     expect_undone(rt, game, 1, Ok(()));
-    assert_eq!(rt;
-        (game.plies(), game.moves()),
-        (1, [move_of(rt, "e2e4")].as_slice())
-    );
-    assert_eq!(rt; *game.start(), Position::start());
+    assert!(rt; game.plies() == 1);
+    assert!(rt; game.moves() == [move_of(rt, "e2e4")].as_slice());
+    assert!(rt; equal_positions(game.start(), &Position::start()));
     let opened = "rnbqkbnr/pppppppp/8/8/4P3/8/PPPP1PPP/RNBQKBNR b KQkq - 0 1";
-    assert_eq!(rt; *game.now(), position_of(rt, opened));
+    assert!(rt; equal_positions(game.now(), &position_of(rt, opened)));
 }
 
 fn writes_other_starts(rt: &impl Abort, game: &mut Game, out: &mut Out) {
@@ -173,12 +177,12 @@ fn takes_the_longest_game(rt: HostRuntime) -> Result<(), Fail> {
     let mut game = Game::make(rt.alloc())?;
     for round in 0..3_000 {
         play_all(&rt, &mut game, &SHUFFLE);
-        assert_eq!(rt; game.repeats(), round + 2);
+        assert!(rt; game.repeats() == round + 2);
     }
     expect_counts(&rt, &game, 12_000, 3_001);
-    assert_eq!(rt; game.ended(), Some(End::Repetition));
-    expect_fault(&rt, &mut game, "e2e5", PushFault::Illegal);
-    expect_fault(&rt, &mut game, "e2e4", PushFault::TooLong);
+    expect_end(&rt, game.ended(), Some(End::Repetition), "the longest");
+    expect_pushed(&rt, &mut game, "e2e5", Err(PushFault::Illegal));
+    expect_pushed(&rt, &mut game, "e2e4", Err(PushFault::TooLong));
     expect_undone(&rt, &mut game, 12_001, Err(NoMove));
     expect_undone(&rt, &mut game, 12_000, Ok(()));
     expect_counts(&rt, &game, 0, 1);

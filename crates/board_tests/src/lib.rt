@@ -8,6 +8,8 @@ mod fen;
 #[cfg(test)]
 mod game;
 #[cfg(test)]
+mod positions;
+#[cfg(test)]
 mod san;
 #[cfg(test)]
 mod texts;

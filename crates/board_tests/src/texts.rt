@@ -1,5 +1,5 @@
-use chess_board::read_move;
-use fen_text::read_fen;
+use crate::game::{play_all, position_of};
+use crate::positions::expect_text;
 use game_record::Game;
 use game_text::{GAME_ROOM, sans_are_lawful, write_game};
 use line_io::Out;
@@ -31,16 +31,6 @@ const GAMES: [Written; 4] = [
     ),
 ];
 
-fn play(rt: &impl Abort, game: &mut Game, start: &str, moves: &[&str]) {
-    if !start.is_empty() {
-        game.reset(read_fen(start.as_bytes()).expect(rt, "a position"));
-    }
-    for text in moves {
-        let m = read_move(text.as_bytes()).expect(rt, "a move");
-        assert_eq!(rt; game.push(m), Ok(()), "{text}");
-    }
-}
-
 fn expect_game(
     rt: &impl Abort,
     alloc: Global,
@@ -50,9 +40,12 @@ fn expect_game(
 ) -> Result<(), Fail> {
     let mut game = Game::make(alloc)?;
     let mut out = Out::make(alloc, GAME_ROOM)?;
-    play(rt, &mut game, start, moves);
+    if !start.is_empty() {
+        game.reset(position_of(rt, start));
+    }
+    play_all(rt, &mut game, moves);
     write_game(&game, &mut out);
-    assert_eq!(rt; out.bytes(), want.as_bytes());
+    expect_text(rt, out.bytes(), want);
     Ok(())
 }
 
