@@ -1,5 +1,8 @@
+use crate::expected::expect_bytes;
 use program_edges::{WORD_ROOM, WORDS_ROOM, words_of};
+use std::alloc::Global;
 use std::env::{Env, FillError};
+use std::process::Abort;
 use std::test::Fail;
 
 // A program that was called with these words.
@@ -29,6 +32,17 @@ impl Env for Called<'_> {
     }
 }
 
+fn expect_count(rt: &impl Abort, found: Option<usize>, want: Option<usize>) {
+    assert_eq!(rt; found, want);
+}
+
+fn expect_words(rt: &impl Abort, found: &[Vec<u8>], want: &[&[u8]]) {
+    expect_count(rt, Some(found.len()), Some(want.len()));
+    for (word, wanted) in found.iter().zip(want) {
+        expect_bytes(rt, word.as_slice(), wanted);
+    }
+}
+
 #[test]
 fn words_of_any_bytes_and_length(rt: HostRuntime) -> Result<(), Fail> {
     let long = [b'a'; 300];
@@ -36,22 +50,26 @@ fn words_of_any_bytes_and_length(rt: HostRuntime) -> Result<(), Fail> {
         words: &[b"program", b"\xff", b"", long.as_slice()],
     };
     let words = words_of(&called, rt.alloc(), WORDS_ROOM)?;
-    assert_eq!(rt; words.len(), 3);
-    assert_eq!(rt; words[0].as_slice(), b"\xff".as_slice());
-    assert_eq!(rt; words[1].as_slice(), b"".as_slice());
-    assert_eq!(rt; words[2].as_slice(), long.as_slice());
+    expect_words(&rt, words.as_slice(), &[b"\xff", b"", long.as_slice()]);
     Ok(())
+}
+
+/// How many words there are, if they fit into the room.
+fn count_within(alloc: Global, called: &Called<'_>, room: usize) -> Option<usize> {
+    match words_of(called, alloc, room) {
+        Ok(words) => Some(words.len()),
+        Err(_) => None,
+    }
 }
 
 // Two words of together 5 bytes take the room of two words, and 5 bytes.
 #[test]
-fn words_within_their_room(rt: HostRuntime) -> Result<(), Fail> {
+fn words_within_their_room(rt: HostRuntime) {
     let called = Called {
         words: &[b"program", b"abc", b"de"],
     };
     let room = WORD_ROOM + WORD_ROOM + 5;
-    assert_eq!(rt; words_of(&called, rt.alloc(), room)?.len(), 2);
-    assert!(rt; words_of(&called, rt.alloc(), room - 1).is_err());
-    assert!(rt; words_of(&called, rt.alloc(), 0).is_err());
-    Ok(())
+    expect_count(&rt, count_within(rt.alloc(), &called, room), Some(2));
+    expect_count(&rt, count_within(rt.alloc(), &called, room - 1), None);
+    expect_count(&rt, count_within(rt.alloc(), &called, 0), None);
 }

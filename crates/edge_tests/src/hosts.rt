@@ -1,4 +1,5 @@
 // Endings and what is reported of them.
+use crate::expected::{expect_bytes, expect_code, expect_same};
 use child_engine::{Fails, MemHost};
 use event_pipe::ReadEnd;
 use host_run::{
@@ -6,6 +7,7 @@ use host_run::{
     is_open_failure, is_open_memory, only_memory, only_start, open_log, tell,
 };
 use line_io::{MemSink, ReadFault, Sink};
+use std::process::Abort;
 use std::test::Fail;
 
 #[test]
@@ -17,12 +19,12 @@ fn the_first_failure_is_reported(rt: HostRuntime) -> Result<(), Fail> {
         ..Failures::default()
     };
     let ending = Ending::of(failures);
-    assert_eq!(rt; ending.code(), 7);
+    expect_code(&rt, ending.code(), 7);
     tell(b"driver", ending, &mut diag);
     tell(b"driver", Ending::of(Failures::default()), &mut diag);
-    assert_eq!(rt; diag.taken(), b"driver: engine writing failed\n".as_slice());
-    assert_eq!(rt; Ending::of(only_memory()).code(), 3);
-    assert_eq!(rt; Ending::of(only_start()).code(), 8);
+    expect_bytes(&rt, diag.taken(), b"driver: engine writing failed\n");
+    expect_code(&rt, Ending::of(only_memory()).code(), 3);
+    expect_code(&rt, Ending::of(only_start()).code(), 8);
     Ok(())
 }
 
@@ -31,13 +33,10 @@ fn a_log_is_opened_and_closed(rt: HostRuntime) -> Result<(), Fail> {
     let alloc = rt.alloc();
     let mut host = MemHost::make(alloc, b"uciok\n", 100, 100, &Fails::default())?;
     let Opened { log, fault } = open_log(&mut host, alloc, "a.log");
-    assert!(rt; !is_open_failure(fault));
-    assert!(rt; !is_open_memory(fault));
-    let Some(mut log) = log else {
-        assert!(rt; false);
-        return Ok(());
-    };
-    assert!(rt; log.write(b"U uci\n").is_ok());
+    expect_same(&rt, is_open_failure(fault), false);
+    expect_same(&rt, is_open_memory(fault), false);
+    let mut log = log.expect(&rt, "a log");
+    expect_same(&rt, log.write(b"U uci\n").is_ok(), true);
     close_log(&mut host, Some(log));
     Ok(())
 }
@@ -50,11 +49,14 @@ fn threads_are_tried(rt: HostRuntime) -> Result<(), Fail> {
     Ok(())
 }
 
+fn expect_end(rt: &impl Abort, end: ReadEnd, failed: bool, lacked_memory: bool) {
+    expect_same(rt, has_failed(end), failed);
+    expect_same(rt, has_lacked_memory(end), lacked_memory);
+}
+
 #[test]
-fn readers_end_in_three_ways(rt: HostRuntime) -> Result<(), Fail> {
-    assert!(rt; has_failed(ReadEnd::Fault(ReadFault)));
-    assert!(rt; !has_failed(ReadEnd::NoMemory));
-    assert!(rt; has_lacked_memory(ReadEnd::NoMemory));
-    assert!(rt; !has_lacked_memory(ReadEnd::Done));
-    Ok(())
+fn readers_end_in_three_ways(rt: HostRuntime) {
+    expect_end(&rt, ReadEnd::Fault(ReadFault), true, false);
+    expect_end(&rt, ReadEnd::NoMemory, false, true);
+    expect_end(&rt, ReadEnd::Done, false, false);
 }
