@@ -1,7 +1,9 @@
 // Scripts of driven engines.
+use crate::streams::{Streams, expect_ending};
 use command_endings::Ending;
 use driver_script::run_drive;
-use line_io::{MemSink, MemSource};
+use std::alloc::Global;
+use std::process::Abort;
 use std::test::Fail;
 
 // The events of a script, the script that is written for them, and how that ends.
@@ -40,37 +42,46 @@ const ROWS: [Row; 7] = [
     ),
 ];
 
-#[test]
-fn scripts_are_driven(rt: HostRuntime) -> Result<(), Fail> {
-    let alloc = rt.alloc();
-    for (script, written, ending) in ROWS {
-        let mut source = MemSource::make(alloc, script, 7, &[])?;
-        let mut output = MemSink::make(alloc, 2_000, &[])?;
-        let mut diag = MemSink::make(alloc, 100, &[])?;
-        let ends = run_drive(alloc, &mut source, &mut output, &mut diag);
-        assert_eq!(rt; output.taken(), written);
-        assert_eq!(rt; ends, ending);
+/// Drives a script, and compares how that ends.
+fn drive(rt: &impl Abort, alloc: Global, script: &[u8], ending: Ending) -> Result<Streams, Fail> {
+    let mut streams = Streams::make(alloc, script, 7)?;
+    let found = run_drive(
+        alloc,
+        &mut streams.input,
+        &mut streams.output,
+        &mut streams.diag,
+    );
+    expect_ending(rt, found, ending);
+    Ok(streams)
+}
+
+fn expect_driven(rt: &impl Abort, alloc: Global, rows: &[Row]) -> Result<(), Fail> {
+    for (script, written, ending) in rows {
+        drive(rt, alloc, script, *ending)?.expect_written(rt, written);
     }
     Ok(())
+}
+
+#[test]
+fn scripts_are_driven(rt: HostRuntime) -> Result<(), Fail> {
+    expect_driven(&rt, rt.alloc(), &ROWS)
 }
 
 // Long lines and writes that failed.
 const NEVER: [&[u8]; 4] = [b"u!\n", b"x!\n", b"x?\n", b"u?\n"];
 
+/// The one mark of a script may not come.
+fn expect_never(rt: &impl Abort, alloc: Global, script: &[u8]) -> Result<(), Fail> {
+    let streams = drive(rt, alloc, script, Ending::MayNotCome(1))?;
+    streams.expect_written(rt, b"");
+    streams.expect_told(rt, b"replay: line 1 may not come here\n");
+    Ok(())
+}
+
 #[test]
 fn some_marks_may_not_come(rt: HostRuntime) -> Result<(), Fail> {
-    let alloc = rt.alloc();
     for script in NEVER {
-        let mut source = MemSource::make(alloc, script, 7, &[])?;
-        let mut output = MemSink::make(alloc, 100, &[])?;
-        let mut diag = MemSink::make(alloc, 100, &[])?;
-        let ends = run_drive(alloc, &mut source, &mut output, &mut diag);
-        assert_eq!(rt; ends, Ending::MayNotCome(1));
-        assert_eq!(rt; output.taken(), b"".as_slice());
-        assert_eq!(rt;
-            diag.taken(),
-            b"replay: line 1 may not come here\n".as_slice()
-        );
+        expect_never(&rt, rt.alloc(), script)?;
     }
     Ok(())
 }

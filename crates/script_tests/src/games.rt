@@ -1,40 +1,58 @@
-use line_io::{MemSink, MemSource};
+use crate::streams::Streams;
 use policy_rules::Settings;
 use session_games::write_games;
+use std::alloc::Global;
+use std::process::Abort;
 use std::test::Fail;
+
+// The lines of a session, its games, and what is told.
+type Row = (&'static [u8], &'static [u8], &'static [u8]);
 
 // A game that Black mates; a game behind one that began with a position, and a fault; a game in which a position was
 // refused and a move taken back, then a `new` without moves, and a game from a position that is not over.
-const SESSIONS: [&[u8]; 3] = [
-    b"U uci\nu uciok\nU isready\nu readyok\nx usermove f2f3\nu bestmove e7e5\nX move e7e5\nx usermove g2g4\nu bestmove d8h4\n",
-    b"x force\nx setboard 4r1k1/8/8/8/8/8/5PPP/6K1 b - - 12 40\nx usermove e8e1\nx new\nx usermove d2d4\nhello\n",
-    b"x force\nx usermove e2e4\nx usermove e7e5\nx setboard nothing\nx undo\nx usermove c7c5\nx setboard 4k3/8/8/8/8/8/4p3/2K5 b - - 12 40\nx new\nx setboard 4k3/8/8/8/8/8/4p3/2K5 b - - 12 40\nx usermove e2e1q\nx usermove c1c2\n",
+const ROWS: [Row; 3] = [
+    (
+        b"U uci\nu uciok\nU isready\nu readyok\nx usermove f2f3\nu bestmove e7e5\nX move e7e5\nx usermove g2g4\nu bestmove d8h4\n",
+        b"1. f3 e5 2. g4 Qh4# 0-1\n",
+        b"",
+    ),
+    (
+        b"x force\nx setboard 4r1k1/8/8/8/8/8/5PPP/6K1 b - - 12 40\nx usermove e8e1\nx new\nx usermove d2d4\nhello\n",
+        b"[FEN \"4r1k1/8/8/8/8/8/5PPP/6K1 b - - 12 40\"]\n40... Re1# 0-1\n",
+        b"replay: line 6 has no mark\n",
+    ),
+    (
+        b"x force\nx usermove e2e4\nx usermove e7e5\nx setboard nothing\nx undo\nx usermove c7c5\nx setboard 4k3/8/8/8/8/8/4p3/2K5 b - - 12 40\nx new\nx setboard 4k3/8/8/8/8/8/4p3/2K5 b - - 12 40\nx usermove e2e1q\nx usermove c1c2\n",
+        b"1. e4 c5 *\n[FEN \"4k3/8/8/8/8/8/4p3/2K5 b - - 12 40\"]\n40... e1=Q+ 41. Kc2 *\n",
+        b"",
+    ),
 ];
 
-const GAMES: [&[u8]; 3] = [
-    b"1. f3 e5 2. g4 Qh4# 0-1\n",
-    b"[FEN \"4r1k1/8/8/8/8/8/5PPP/6K1 b - - 12 40\"]\n40... Re1# 0-1\n",
-    b"1. e4 c5 *\n[FEN \"4k3/8/8/8/8/8/4p3/2K5 b - - 12 40\"]\n40... e1=Q+ 41. Kc2 *\n",
-];
-
-const TOLD: [&[u8]; 3] = [b"", b"replay: line 6 has no mark\n", b""];
+/// Writes the games of a session, and compares them and what is told.
+fn expect_games(
+    rt: &impl Abort,
+    alloc: Global,
+    script: &[u8],
+    games: &[u8],
+    told: &[u8],
+) -> Result<(), Fail> {
+    let mut streams = Streams::make(alloc, script, 7)?;
+    let _ = write_games(
+        alloc,
+        &Settings::usual(),
+        &mut streams.input,
+        &mut streams.output,
+        &mut streams.diag,
+    );
+    streams.expect_written(rt, games);
+    streams.expect_told(rt, told);
+    Ok(())
+}
 
 #[test]
 fn games_of_sessions_are_written(rt: HostRuntime) -> Result<(), Fail> {
-    let alloc = rt.alloc();
-    for k in 0..3usize {
-        let mut source = MemSource::make(alloc, SESSIONS[k], 7, &[])?;
-        let mut output = MemSink::make(alloc, 1_000, &[])?;
-        let mut diag = MemSink::make(alloc, 100, &[])?;
-        let _ = write_games(
-            alloc,
-            &Settings::usual(),
-            &mut source,
-            &mut output,
-            &mut diag,
-        );
-        assert_eq!(rt; output.taken(), GAMES[k]);
-        assert_eq!(rt; diag.taken(), TOLD[k]);
+    for (script, games, told) in ROWS {
+        expect_games(&rt, rt.alloc(), script, games, told)?;
     }
     Ok(())
 }

@@ -19,3 +19,5 @@ mod played;
 mod reports;
 #[cfg(test)]
 mod revived;
+#[cfg(test)]
+mod streams;

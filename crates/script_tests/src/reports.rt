@@ -1,7 +1,10 @@
 // Logs and the reports on them.
+use crate::streams::{Streams, expect_bytes};
 use command_endings::Ending;
 use judge_report::{LAST_LINES, Report, run_judge};
-use line_io::{MemSink, MemSource, Out};
+use line_io::Out;
+use std::alloc::Global;
+use std::process::Abort;
 use std::test::Fail;
 
 // A log, what is written of it, and how the judging ends.
@@ -36,31 +39,52 @@ const ROWS: [Row; 6] = [
     (b"", b"lawful talk\n", Ending::Done),
 ];
 
-#[test]
-fn reports_are_written(rt: HostRuntime) -> Result<(), Fail> {
-    let alloc = rt.alloc();
-    for (log, report, ending) in ROWS {
-        let mut input = MemSource::make(alloc, log, 7, &[])?;
-        let mut output = MemSink::make(alloc, 1_000, &[])?;
-        let mut diag = MemSink::make(alloc, 100, &[])?;
-        assert_eq!(rt;
-            run_judge(alloc, &mut input, &mut output, &mut diag),
-            ending
-        );
-        assert_eq!(rt; output.taken(), report);
+fn expect_ending(rt: &impl Abort, found: Option<Ending>, want: Option<Ending>) {
+    assert_eq!(rt; found, want);
+}
+
+/// Judges a log, and compares the report and how the judging ends.
+fn expect_report(
+    rt: &impl Abort,
+    alloc: Global,
+    log: &[u8],
+    report: &[u8],
+    ending: Ending,
+) -> Result<(), Fail> {
+    let mut streams = Streams::make(alloc, log, 7)?;
+    let found = run_judge(
+        alloc,
+        &mut streams.input,
+        &mut streams.output,
+        &mut streams.diag,
+    );
+    expect_ending(rt, Some(found), Some(ending));
+    streams.expect_written(rt, report);
+    Ok(())
+}
+
+fn expect_reports(rt: &impl Abort, alloc: Global, rows: &[Row]) -> Result<(), Fail> {
+    for (log, report, ending) in rows {
+        expect_report(rt, alloc, log, report, *ending)?;
     }
     Ok(())
+}
+
+#[test]
+fn reports_are_written(rt: HostRuntime) -> Result<(), Fail> {
+    expect_reports(&rt, rt.alloc(), &ROWS)
 }
 
 #[test]
 fn a_report_grows(rt: HostRuntime) -> Result<(), Fail> {
     let mut text = Out::make(rt.alloc(), 3 * LAST_LINES)?;
     let mut report = Report::new();
-    assert_eq!(rt; report.read_line(1, b"U uci", &mut text), None);
+    expect_ending(&rt, report.read_line(1, b"U uci", &mut text), None);
     assert!(rt; text.bytes().is_empty());
     report.put_last(Ending::Done, &mut text);
-    assert_eq!(rt; text.bytes(), b"lawful talk\n".as_slice());
+    expect_bytes(&rt, text.bytes(), b"lawful talk\n");
     text.clear();
-    assert_eq!(rt; report.read_long(2, &mut text), Some(Ending::NoMark(2)));
+    let long = report.read_long(2, &mut text);
+    expect_ending(&rt, long, Some(Ending::NoMark(2)));
     Ok(())
 }

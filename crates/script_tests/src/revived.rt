@@ -1,6 +1,8 @@
 // Scripts that are played to engines that end.
+ghost use Rattle.std.specs.Prelude.{◌<◌};
+
+use crate::streams::Streams;
 use command_endings::Ending;
-use line_io::{MemSink, MemSource};
 use revival_script::run_revive;
 use std::alloc::Global;
 use std::process::Abort;
@@ -65,37 +67,41 @@ const ENDS: [Row; 7] = [
     ),
 ];
 
-fn revive(
-    rt: &impl Abort,
-    alloc: Global,
-    row: Row,
-    script: &[u8],
-    piece: usize,
-) -> Result<(), Fail> {
-    if piece == 0 {
-        return Err(Fail::from("a piece has bytes"));
+/// Plays a script in pieces to the lives of a row, and compares what is written and told.
+fn revive(rt: &impl Abort, alloc: Global, row: Row, script: &[u8], piece: usize) -> Result<(), Fail>
+    requires { 0 < piece }
+{
+    let (lives, _, written, told) = row;
+    let mut streams = Streams::make(alloc, script, piece)?;
+    let ending = run_revive(
+        alloc,
+        lives,
+        &mut streams.input,
+        &mut streams.output,
+        &mut streams.diag,
+    );
+    streams.expect_written(rt, written);
+    streams.expect_told(rt, told);
+    assert_eq!(rt; ending == Ending::Done, told.is_empty());
+    Ok(())
+}
+
+/// The script of a row, and what is written for it, give the same in pieces of any size.
+fn revive_in_pieces(rt: &impl Abort, alloc: Global, row: Row) -> Result<(), Fail> {
+    for script in [row.1, row.2] {
+        revive(rt, alloc, row, script, 1)?;
+        revive(rt, alloc, row, script, 7)?;
+        revive(rt, alloc, row, script, 1_000)?;
     }
-    let mut input = MemSource::make(alloc, script, piece, &[])?;
-    let mut output = MemSink::make(alloc, 1_000, &[])?;
-    let mut diag = MemSink::make(alloc, 100, &[])?;
-    let ending = run_revive(alloc, row.0, &mut input, &mut output, &mut diag);
-    assert_eq!(rt; output.taken(), row.2);
-    assert_eq!(rt; diag.taken(), row.3);
-    assert_eq!(rt; ending == Ending::Done, row.3.is_empty());
     Ok(())
 }
 
 #[test]
 fn scripts_are_played(rt: HostRuntime) -> Result<(), Fail> {
-    let alloc = rt.alloc();
-    for row in [SECOND_LIFE, NO_LIFE] {
-        for piece in [1, 7, 1_000] {
-            revive(&rt, alloc, row, row.1, piece)?;
-            revive(&rt, alloc, row, row.2, piece)?;
-        }
-    }
+    revive_in_pieces(&rt, rt.alloc(), SECOND_LIFE)?;
+    revive_in_pieces(&rt, rt.alloc(), NO_LIFE)?;
     for row in ENDS {
-        revive(&rt, alloc, row, row.1, 7)?;
+        revive(&rt, rt.alloc(), row, row.1, 7)?;
     }
     Ok(())
 }
