@@ -1,10 +1,18 @@
 // Lines on their way through the channel.
-use event_pipe::{Pipe, ReadEnd, Sent, read_pipe};
+ghost use Rattle.event_pipe.specs.Ends.{IsTaker, KeepsTaker};
+
+use event_pipe::{Pipe, PipeTake, ReadEnd, read_pipe};
 use line_io::{Event, MemSource, ReadFault};
 use std::process::Abort;
+use std::sync::Wait;
 use std::test::Fail;
 
-fn expect(rt: &impl Abort, sent: &Sent, want: Event<'_>) {
+/// Takes the next event, and compares it.
+fn expect(rt: &(impl Abort + Wait), taker: &mut PipeTake, want: Event<'_>)
+    requires { IsTaker taker.old }
+    ensures { KeepsTaker taker.old taker.new }
+{
+    let sent = taker.take(rt);
     assert!(rt; sent.event() == want);
 }
 
@@ -16,12 +24,12 @@ fn lines_arrive_in_order(rt: HostRuntime) -> Result<(), Fail> {
     let (mut iface, mut child, mut taker) = Pipe::make(alloc)?;
     assert!(rt; read_pipe(&rt, alloc, &mut source, &mut child) == ReadEnd::Done);
     assert!(rt; read_pipe(&rt, alloc, &mut input, &mut iface) == ReadEnd::Done);
-    expect(&rt, &taker.take(&rt), Event::Engine(b"uciok"));
-    expect(&rt, &taker.take(&rt), Event::Engine(b"best"));
-    expect(&rt, &taker.take(&rt), Event::EngineEnd);
+    expect(&rt, &mut taker, Event::Engine(b"uciok"));
+    expect(&rt, &mut taker, Event::Engine(b"best"));
+    expect(&rt, &mut taker, Event::EngineEnd);
     // nothing comes behind `quit`
-    expect(&rt, &taker.take(&rt), Event::Iface(b"ping 1"));
-    expect(&rt, &taker.take(&rt), Event::Iface(b"quit"));
+    expect(&rt, &mut taker, Event::Iface(b"ping 1"));
+    expect(&rt, &mut taker, Event::Iface(b"quit"));
     Pipe::finish(iface, child, taker);
     Ok(())
 }
@@ -32,9 +40,9 @@ fn a_fault_ends_a_side(rt: HostRuntime) -> Result<(), Fail> {
     let mut input = MemSource::make(alloc, b"xboard\nnew\n", 9, &[2])?;
     let (mut iface, child, mut taker) = Pipe::make(alloc)?;
     assert!(rt; read_pipe(&rt, alloc, &mut input, &mut iface) == ReadEnd::Fault(ReadFault));
-    expect(&rt, &taker.take(&rt), Event::Iface(b"xboard"));
+    expect(&rt, &mut taker, Event::Iface(b"xboard"));
     // the line that was not read to its end is not sent
-    expect(&rt, &taker.take(&rt), Event::IfaceEnd);
+    expect(&rt, &mut taker, Event::IfaceEnd);
     Pipe::finish(iface, child, taker);
     Ok(())
 }
@@ -47,9 +55,9 @@ fn long_lines_are_told(rt: HostRuntime) -> Result<(), Fail> {
     let mut source = MemSource::make(alloc, bytes.as_slice(), 5_000, &[])?;
     let (iface, mut child, mut taker) = Pipe::make(alloc)?;
     assert!(rt; read_pipe(&rt, alloc, &mut source, &mut child) == ReadEnd::Done);
-    expect(&rt, &taker.take(&rt), Event::EngineLong);
-    expect(&rt, &taker.take(&rt), Event::Engine(b""));
-    expect(&rt, &taker.take(&rt), Event::EngineEnd);
+    expect(&rt, &mut taker, Event::EngineLong);
+    expect(&rt, &mut taker, Event::Engine(b""));
+    expect(&rt, &mut taker, Event::EngineEnd);
     Pipe::finish(iface, child, taker);
     Ok(())
 }
