@@ -1,14 +1,16 @@
 // The hosts' calls, and a program that a real host starts.
-ghost use Rattle.std.specs.Prelude.{◌<◌, length, IfOk};
+ghost use Rattle.std.specs.Prelude.{◌≡◌, ◌<◌, [], length, IfOk};
+ghost use Rattle.child_engine.specs.Memory.{books_of};
+ghost use Rattle.host_run.specs.Outside.{unused};
 
+use crate::expected::expect_bytes;
 use child_engine::{EngineInput, Fails, Host, HostFault, MemHost, RealHost, SteadyHost};
-use line_io::{Failed, Sink, Source, write_all};
+use line_io::{Failed, NoMemory, Sink, Source, write_all};
 use std::alloc::Global;
+use std::process::Abort;
 use std::test::Fail;
 
-const NO_FAULTS: [u64; 0] = [];
-
-fn engine_words(alloc: Global) -> Result<Vec<String>, Fail>
+fn engine_words(alloc: Global) -> Result<Vec<String>, NoMemory>
     ensures { IfOk result (λ words. 0 < length words.items) }
 {
     let mut words: Vec<String> = Vec::new(alloc);
@@ -16,104 +18,157 @@ fn engine_words(alloc: Global) -> Result<Vec<String>, Fail>
     Ok(words)
 }
 
-#[test]
-fn a_host_in_memory_keeps_what_was_written(rt: HostRuntime) -> Result<(), Fail> {
-    let alloc = rt.alloc();
-    let fails = Fails {
-        start: false,
-        log: false,
-        wait: false,
-        reads: &NO_FAULTS,
-        writes: &NO_FAULTS,
-        logs: &NO_FAULTS,
-    };
-    let mut host = MemHost::make(alloc, b"uciok\n", 4, 16, &fails)?;
+/// What a run answered: its write, its reads and its end.
+#[derive(Clone, Copy, Debug, PartialEq, Eq)]
+struct Answers {
+    write: Result<usize, Failed>,
+    reads: [Result<usize, Failed>; 2],
+    close: Result<(), Failed>,
+}
+
+// Starts an engine, writes this to it, reads twice and closes it.
+fn run_once<H: Host>(host: &mut H, alloc: Global, piece: &[u8]) -> Result<Answers, HostFault>
+    requires piece { 0 < length piece.now }
+    requires unused { H.books host.old ≡ unused }
+    ensures runs { IfOk result (λ _. length (H.books host.new).runs ≡ 1) }
+    ensures logs { IfOk result (λ _. (H.books host.new).logs ≡ []) }
+    ensures logs_out { IfOk result (λ _. (H.books host.new).logs_out ≡ 0) }
+{
     let words = engine_words(alloc)?;
+    let mut run = host.start(alloc, words.as_slice())?;
     let mut buf = [0; 8];
-    if let Ok(mut run) = host.start(alloc, words.as_slice()) {
-        assert_eq!(rt; run.src.read(&mut buf), Ok(4));
-        assert_eq!(rt; write_all(&mut run.snk, b"uci\n"), Ok(()));
-        assert_eq!(rt; host.close(run), Ok(()));
-        assert_eq!(rt; host.wrote(0), b"uci\n".as_slice());
-    }
-    if let Ok(mut log) = host.open_log(alloc, "a.log") {
-        assert_eq!(rt; write_all(&mut log, b"U uci\n"), Ok(()));
-        host.close_log(log);
-        assert_eq!(rt; host.logged(0), b"U uci\n".as_slice());
-    }
-    Ok(())
+    let write = run.snk.write(piece);
+    let reads = [run.src.read(&mut buf), run.src.read(&mut buf)];
+    let close = host.close(run);
+    Ok(Answers {
+        write,
+        reads,
+        close,
+    })
+}
+
+// Opens a log, writes this into it and closes it.
+fn log_once<H: Host>(
+    host: &mut H,
+    alloc: Global,
+    piece: &[u8],
+) -> Result<Result<(), Failed>, HostFault>
+    requires logs { (H.books host.old).logs ≡ [] }
+    requires logs_out { (H.books host.old).logs_out ≡ 0 }
+    ensures { IfOk result (λ _. length (H.books host.new).logs ≡ 1) }
+{
+    let mut log = host.open_log(alloc, "a.log")?;
+    let written = write_all(&mut log, piece);
+    host.close_log(log);
+    Ok(written)
+}
+
+// Compares what a run answered that ended well.
+fn expect_answers(rt: &impl Abort, found: &Answers, written: usize, read: [usize; 2]) {
+    let wanted = Answers {
+        write: Ok(written),
+        reads: [Ok(read[0]), Ok(read[1])],
+        close: Ok(()),
+    };
+    assert_eq!(rt; *found, wanted);
 }
 
 #[test]
-fn a_host_in_memory_refuses_what_it_is_told_to(rt: HostRuntime) -> Result<(), Fail> {
-    let alloc = rt.alloc();
-    let fails = Fails {
-        start: true,
-        log: true,
-        wait: false,
-        reads: &NO_FAULTS,
-        writes: &NO_FAULTS,
-        logs: &NO_FAULTS,
-    };
-    let mut host = MemHost::make(alloc, b"uciok\n", 4, 16, &fails)?;
+fn a_host_in_memory_keeps_what_was_written(rt: HostRuntime) -> Result<(), Fail> {
+    let mut host = MemHost::make(rt.alloc(), b"uciok\n", 4, 16, &Fails::default())?;
+    let answers = run_once(&mut host, rt.alloc(), b"uci\n")?;
+    expect_answers(&rt, &answers, 4, [4, 2]);
+    expect_bytes(&rt, host.wrote(0), b"uci\n");
+    assert_eq!(rt; log_once(&mut host, rt.alloc(), b"U uci\n")?, Ok(()));
+    expect_bytes(&rt, host.logged(0), b"U uci\n");
+    Ok(())
+}
+
+// Whether the host starts no engine.
+fn starts_nothing(host: &mut MemHost, alloc: Global) -> Result<bool, NoMemory>
+    requires { books_of host.old ≡ unused }
+    ensures { (books_of host.new).logs_out ≡ 0 }
+{
     let words = engine_words(alloc)?;
     match host.start(alloc, words.as_slice()) {
         Ok(run) => {
             let _ = host.close(run);
-            return Err(Fail::new("the engine was started"));
+            Ok(false)
         }
-        Err(fault) => assert_eq!(rt; fault, HostFault::Failed),
+        Err(fault) => Ok(fault == HostFault::Failed),
     }
+}
+
+// Whether the host opens no log.
+fn opens_nothing(host: &mut MemHost, alloc: Global) -> bool
+    requires { (books_of host.old).logs_out ≡ 0 }
+{
     match host.open_log(alloc, "a.log") {
-        Ok(_) => return Err(Fail::new("the log was opened")),
-        Err(fault) => assert_eq!(rt; fault, HostFault::Failed),
+        Ok(_) => false,
+        Err(fault) => fault == HostFault::Failed,
     }
+}
+
+#[test]
+fn a_host_in_memory_refuses_what_it_is_told_to(rt: HostRuntime) -> Result<(), NoMemory> {
+    let fails = Fails {
+        start: true,
+        log: true,
+        ..Fails::default()
+    };
+    let mut host = MemHost::make(rt.alloc(), b"uciok\n", 4, 16, &fails)?;
+    assert!(rt;
+        starts_nothing(&mut host, rt.alloc())?,
+        "the engine was started"
+    );
+    assert!(rt; opens_nothing(&mut host, rt.alloc()), "the log was opened");
     Ok(())
 }
 
 #[test]
 fn a_steady_host_says_the_same_bytes(rt: HostRuntime) -> Result<(), Fail> {
-    let alloc = rt.alloc();
-    let mut host = SteadyHost::make(alloc, b"uciok\n", 4)?;
-    let words = engine_words(alloc)?;
-    let mut buf = [0; 8];
-    if let Ok(mut run) = host.start(alloc, words.as_slice()) {
-        assert_eq!(rt; run.src.read(&mut buf), Ok(4));
-        assert_eq!(rt; run.snk.write(b"uci\n"), Ok(4));
-        assert_eq!(rt; host.close(run), Ok(()));
-    }
-    if let Ok(log) = host.open_log(alloc, "a.log") {
-        host.close_log(log);
-    }
+    let mut host = SteadyHost::make(rt.alloc(), b"uciok\n", 4)?;
+    let answers = run_once(&mut host, rt.alloc(), b"uci\n")?;
+    expect_answers(&rt, &answers, 4, [4, 2]);
+    assert_eq!(rt; log_once(&mut host, rt.alloc(), b"U uci\n")?, Ok(()));
     Ok(())
 }
 
+// A piece for an engine, what its write answers, and whether the input is open behind it.
+fn expect_write(
+    rt: &impl Abort,
+    input: &mut EngineInput<&mut Vec<u8>>,
+    piece: &[u8],
+    answer: Result<usize, Failed>,
+    is_open: bool,
+)
+    requires { 0 < length piece.now }
+{
+    assert_eq!(rt; input.write(piece), answer);
+    assert_eq!(rt; input.is_open(), is_open);
+}
+
 #[test]
-fn an_engine_input_ends_behind_quit(rt: HostRuntime) -> Result<(), Fail> {
+fn an_engine_input_ends_behind_quit(rt: HostRuntime) {
     let mut taken: Vec<u8> = Vec::new(rt.alloc());
     let mut input = EngineInput::new(&mut taken);
-    assert_eq!(rt; input.write(b"position startpos moves e2e4\ngo\n"), Ok(32));
-    assert!(rt; input.is_open());
-    assert_eq!(rt; input.write(b"quit\n"), Ok(5));
-    assert!(rt; !input.is_open());
-    assert_eq!(rt; input.write(b"stop\n"), Err(Failed));
+    expect_write(
+        &rt,
+        &mut input,
+        b"position startpos moves e2e4\ngo\n",
+        Ok(32),
+        true,
+    );
+    expect_write(&rt, &mut input, b"quit\n", Ok(5), false);
+    expect_write(&rt, &mut input, b"stop\n", Err(Failed), false);
     assert_eq!(rt; input.faults(), 1);
-    Ok(())
 }
 
 // `cat` gives its input back, and ends at the end of it, which comes behind `quit`.
 #[test]
 fn a_real_host_starts_a_program(rt: HostRuntime) -> Result<(), Fail> {
-    let alloc = rt.alloc();
     let mut host = RealHost::new(&rt);
-    let words = engine_words(alloc)?;
-    let mut buf = [0; 8];
-    let Ok(mut run) = host.start(alloc, words.as_slice()) else {
-        return Err(Fail::new("cat was not started"));
-    };
-    assert_eq!(rt; run.snk.write(b"quit\n"), Ok(5));
-    assert_eq!(rt; run.src.read(&mut buf), Ok(5));
-    assert_eq!(rt; run.src.read(&mut buf), Ok(0));
-    assert_eq!(rt; host.close(run), Ok(()));
+    let answers = run_once(&mut host, rt.alloc(), b"quit\n")?;
+    expect_answers(&rt, &answers, 5, [5, 0]);
     Ok(())
 }

@@ -4,6 +4,8 @@
 #[cfg(test)]
 mod beside;
 #[cfg(test)]
+mod expected;
+#[cfg(test)]
 mod hosts;
 #[cfg(test)]
 mod lost_engine;

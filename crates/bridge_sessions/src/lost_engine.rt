@@ -3,14 +3,14 @@ ghost use Rattle.std.specs.Prelude.{◌≡◌, []};
 ghost use Rattle.event_pipe.specs.Ends.{IsSender, IsFreshTaker, sent};
 ghost use Rattle.bridge_sessions.specs.Ready.{IsReady};
 
+use crate::expected::{expect_bytes, expect_log};
 use crate::ready::{Ready, make_ready};
 use event_pipe::{Pipe, PipeSend, PipeTake, ReadEnd, read_pipe};
-use line_io::{MemSink, MemSource};
+use line_io::{MemSink, MemSource, NoMemory};
 use pipe_runner::core_loop;
 use sink_offers::LoopEnd;
 use std::alloc::Global;
 use std::sync::Wait;
-use std::test::Fail;
 
 const LOG: &[u8] = b"\
     #2 Resign=false ResignMoves=3 ResignScore=600 ShowPonder=true\n\
@@ -35,13 +35,22 @@ struct Sinks {
     log: Option<MemSink>,
 }
 
+// The engine's second write fails.
+fn make_sinks(alloc: Global) -> Result<Sinks, NoMemory> {
+    Ok(Sinks {
+        output: MemSink::make(alloc, 1_000, &[])?,
+        engine: MemSink::make(alloc, 1_000, &[2])?,
+        log: Some(MemSink::make(alloc, 1_000, &[])?),
+    })
+}
+
 // Puts these lines into the channel.
 fn read_lines<R: Wait>(
     rt: &R,
     alloc: Global,
     lines: &[u8],
     to: &mut PipeSend,
-) -> Result<ReadEnd, Fail>
+) -> Result<ReadEnd, NoMemory>
     requires sender { IsSender to.old }
     requires fresh { sent to.old ≡ [] }
 {
@@ -73,7 +82,7 @@ fn run_loop<R: Wait>(
     alloc: Global,
     lines: (&[u8], &[u8]),
     sinks: &mut Sinks,
-) -> Result<LoopEnd, Fail> {
+) -> Result<LoopEnd, NoMemory> {
     let ready = make_ready(alloc)?;
     let (mut iface, mut child, taker) = Pipe::make(alloc)?;
     let _engine_end = read_lines(rt, alloc, lines.0, &mut child)?;
@@ -81,23 +90,14 @@ fn run_loop<R: Wait>(
     Ok(step_all(rt, ready, taker, sinks))
 }
 
-// The engine's second write fails: that it is lost is the very next step.
+// That the engine is lost is the very next step behind the write that fails.
 #[test]
-fn a_lost_engine_is_logged(rt: HostRuntime) -> Result<(), Fail> {
-    let alloc = rt.alloc();
-    let mut sinks = Sinks {
-        output: MemSink::make(alloc, 1_000, &[])?,
-        engine: MemSink::make(alloc, 1_000, &[2])?,
-        log: Some(MemSink::make(alloc, 1_000, &[])?),
-    };
-    let end = run_loop(&rt, alloc, (b"uciok\n", b"quit\n"), &mut sinks)?;
+fn a_lost_engine_is_logged(rt: HostRuntime) -> Result<(), NoMemory> {
+    let mut sinks = make_sinks(rt.alloc())?;
+    let end = run_loop(&rt, rt.alloc(), (b"uciok\n", b"quit\n"), &mut sinks)?;
     assert!(rt; end.engine && !end.output && !end.log);
-    assert_eq!(rt; sinks.engine.taken(), b"uci\n".as_slice());
-    assert_eq!(rt;
-        sinks.output.taken(),
-        b"tellusererror Engine ended\n".as_slice()
-    );
-    let log = sinks.log.as_ref().map_or(b"".as_slice(), |log| log.taken());
-    assert_eq!(rt; log, LOG);
+    expect_bytes(&rt, sinks.engine.taken(), b"uci\n");
+    expect_bytes(&rt, sinks.output.taken(), b"tellusererror Engine ended\n");
+    expect_log(&rt, &sinks.log, LOG);
     Ok(())
 }

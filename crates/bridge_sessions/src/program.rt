@@ -2,12 +2,12 @@
 ghost use Rattle.std.specs.Prelude.{◌≡◌};
 ghost use Rattle.host_run.specs.Outside.{unused};
 
+use crate::expected::expect_bytes;
 use bridge_app::bridge_main;
 use child_engine::{Host, SteadyHost};
-use line_io::{MemSink, MemSource};
+use line_io::{MemSink, MemSource, NoMemory};
 use std::alloc::Global;
 use std::sync::Wait;
-use std::test::Fail;
 use std::thread::Threads;
 
 pub const ENGINE: &[u8] = b"uciok\nreadyok\n";
@@ -34,9 +34,15 @@ impl Told {
         let output = self.output.taken();
         output == PONG || output == PONG_AND_END || output == END_AND_PONG
     }
+
+    /// Whether the run answered this and wrote these bytes and this diagnostic.
+    pub fn is(&self, code: u8, output: &[u8], diag: &[u8]) -> bool {
+        self.code == code && self.output.taken() == output && self.diag.taken() == diag
+    }
 }
 
-fn words_of(alloc: Global, texts: &[&str]) -> Result<Vec<Vec<u8>>, Fail> {
+/// These words, as a program gets them.
+pub fn words_of(alloc: Global, texts: &[&str]) -> Result<Vec<Vec<u8>>, NoMemory> {
     let mut words: Vec<Vec<u8>> = Vec::new(alloc);
     for text in texts {
         words.push(Vec::from_slice(alloc, text.as_bytes())?)?;
@@ -52,7 +58,7 @@ pub fn run_over<H: Host, R: Threads + Wait + Sync>(
     words: &[&str],
     host: &mut H,
     failing: &[u64],
-) -> Result<Told, Fail>
+) -> Result<Told, NoMemory>
     requires { H.books host.old ≡ unused }
 {
     let words = words_of(alloc, words)?;
@@ -80,16 +86,16 @@ pub fn run_steady<R: Threads + Wait + Sync>(
     rt: &R,
     alloc: Global,
     words: &[&str],
-) -> Result<Told, Fail> {
+) -> Result<Told, NoMemory> {
     let mut host = SteadyHost::make(alloc, ENGINE, 5)?;
     run_over(rt, alloc, words, &mut host, &[])
 }
 
 #[test]
-fn a_session_over_a_steady_host(rt: HostRuntime) -> Result<(), Fail> {
+fn a_session_over_a_steady_host(rt: HostRuntime) -> Result<(), NoMemory> {
     let told = run_steady(&rt, rt.alloc(), &["toy"])?;
     assert_eq!(rt; told.code, 0);
     assert!(rt; told.is_of_a_ping());
-    assert_eq!(rt; told.diag.taken(), b"".as_slice());
+    expect_bytes(&rt, told.diag.taken(), b"");
     Ok(())
 }

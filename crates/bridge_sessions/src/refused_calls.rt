@@ -2,12 +2,11 @@
 use crate::program::{ENGINE, Told, run_over};
 use crate::recorder::Recorder;
 use child_engine::Fails;
+use line_io::NoMemory;
 use std::alloc::Global;
+use std::process::Abort;
 use std::sync::Wait;
-use std::test::Fail;
 use std::thread::Threads;
-
-const NONE: [u64; 0] = [];
 
 const FIRST_STEP: &[u8] = b"\
     #2 Resign=false ResignMoves=3 ResignScore=600 ShowPonder=true\n\
@@ -22,15 +21,19 @@ struct Kept {
     host: Recorder,
 }
 
-fn no_fails<'a>() -> Fails<'a> {
-    Fails {
-        start: false,
-        log: false,
-        wait: false,
-        reads: &NONE,
-        writes: &NONE,
-        logs: &NONE,
+// The call of this name fails; of reads and writes, those with these numbers.
+fn failing<'a>(call: &str, numbers: &'a [u64]) -> Fails<'a> {
+    let mut fails = Fails::default();
+    match call {
+        "start" => fails.start = true,
+        "log" => fails.log = true,
+        "wait" => fails.wait = true,
+        "read" => fails.reads = numbers,
+        "write" => fails.writes = numbers,
+        "log write" => fails.logs = numbers,
+        _ => {}
     }
+    fails
 }
 
 // The diagnostic fails too, and changes no status.
@@ -38,10 +41,41 @@ fn run_failing<R: Threads + Wait + Sync>(
     rt: &R,
     alloc: Global,
     fails: &Fails,
-) -> Result<Kept, Fail> {
+) -> Result<Kept, NoMemory> {
     let mut host = Recorder::make(alloc, ENGINE, fails)?;
     let told = run_over(rt, alloc, &["toy"], &mut host, &[1])?;
     Ok(Kept { told, host })
+}
+
+/// A call that fails, and the status of the run.
+const ONCE: [(&str, u8); 3] = [("start", 8), ("log", 9), ("wait", 10)];
+
+// Where the engine is not started, nothing is written. Otherwise the ping is answered.
+fn writes_as_after(told: &Told, call: &str) -> bool {
+    if call == "start" {
+        told.output.taken().is_empty()
+    } else {
+        told.is_of_a_ping()
+    }
+}
+
+fn expect_once<R: Threads + Wait + Sync + Abort>(
+    rt: &R,
+    alloc: Global,
+    call: &str,
+    code: u8,
+) -> Result<(), NoMemory> {
+    let told = run_failing(rt, alloc, &failing(call, &[]))?.told;
+    assert!(rt; told.code == code && writes_as_after(&told, call), "{call}");
+    Ok(())
+}
+
+#[test]
+fn calls_that_fail_once(rt: HostRuntime) -> Result<(), NoMemory> {
+    for (call, code) in ONCE {
+        expect_once(&rt, rt.alloc(), call, code)?;
+    }
+    Ok(())
 }
 
 // Whether these are the first of the orders that the engine gets in some order of events.
@@ -60,90 +94,73 @@ fn marks_in(log: &[u8]) -> u64 {
     marks
 }
 
-#[test]
-fn calls_that_fail_once(rt: HostRuntime) -> Result<(), Fail> {
-    let alloc = rt.alloc();
-    let mut fails = no_fails();
-    fails.start = true;
-    let kept = run_failing(&rt, alloc, &fails)?;
-    assert_eq!(rt; kept.told.code, 8);
-    assert_eq!(rt; kept.told.output.taken(), b"".as_slice());
-    fails = no_fails();
-    fails.log = true;
-    let kept = run_failing(&rt, alloc, &fails)?;
-    assert_eq!(rt; kept.told.code, 9);
-    assert!(rt; kept.told.is_of_a_ping());
-    fails = no_fails();
-    fails.wait = true;
-    let kept = run_failing(&rt, alloc, &fails)?;
-    assert_eq!(rt; kept.told.code, 10);
-    assert!(rt; kept.told.is_of_a_ping());
-    Ok(())
-}
-
 // The engine's 14 bytes and its end are four reads.
-#[test]
-fn each_read_that_fails(rt: HostRuntime) -> Result<(), Fail> {
-    let alloc = rt.alloc();
-    for number in 1..=12 {
-        let failing = [number];
-        let mut fails = no_fails();
-        fails.reads = &failing;
-        let kept = run_failing(&rt, alloc, &fails)?;
-        assert_eq!(rt;
-            kept.told.code,
-            if number <= 4 { 6 } else { 0 },
-            "read {number}"
-        );
-        assert!(rt; kept.told.is_of_a_ping(), "read {number}");
-        assert!(rt;
-            begins_a_session(kept.host.wrote.as_slice()),
-            "read {number}"
-        );
-    }
-    Ok(())
+fn fits_failing_read(kept: &Kept, number: u64) -> bool {
+    let code = if number <= 4 { 6 } else { 0 };
+    kept.told.code == code && begins_a_session(kept.host.wrote.as_slice())
 }
 
 // The engine gets `uci`, then `isready` or `quit`, and `quit` behind `isready` where it comes
 // before the engine's end.
+fn fits_failing_write(kept: &Kept, number: u64) -> bool {
+    let code = kept.told.code;
+    (code == 7 || code == 0 && number > 2)
+        && (code == 0 || number < 4)
+        && begins_a_session(kept.host.wrote.as_slice())
+}
+
+// The start, two lines of each side and the engine's end are six steps, behind the first line.
+fn fits_failing_log_write(kept: &Kept, number: u64) -> bool {
+    let code = if number <= 6 { 9 } else { 0 };
+    let marks = if number == 1 { 0 } else { number.min(7) };
+    let log = kept.host.logged.as_slice();
+    kept.told.code == code
+        && marks_in(log) == marks
+        && (log.starts_with(FIRST_STEP) || FIRST_STEP.starts_with(log))
+}
+
+fn fits(kept: &Kept, call: &str, number: u64) -> bool {
+    match call {
+        "read" => fits_failing_read(kept, number),
+        "write" => fits_failing_write(kept, number),
+        "log write" => fits_failing_log_write(kept, number),
+        _ => false,
+    }
+}
+
+// The ping is answered each time.
+fn expect_failing<R: Threads + Wait + Sync + Abort>(
+    rt: &R,
+    alloc: Global,
+    call: &str,
+    number: u64,
+) -> Result<(), NoMemory> {
+    let kept = run_failing(rt, alloc, &failing(call, &[number]))?;
+    assert!(rt; kept.told.is_of_a_ping(), "{call} {number}");
+    assert!(rt; fits(&kept, call, number), "{call} {number}");
+    Ok(())
+}
+
 #[test]
-fn each_write_that_fails(rt: HostRuntime) -> Result<(), Fail> {
-    let alloc = rt.alloc();
+fn each_read_that_fails(rt: HostRuntime) -> Result<(), NoMemory> {
     for number in 1..=12 {
-        let failing = [number];
-        let mut fails = no_fails();
-        fails.writes = &failing;
-        let kept = run_failing(&rt, alloc, &fails)?;
-        let code = kept.told.code;
-        assert!(rt; code == 7 || code == 0 && number > 2, "write {number}");
-        assert!(rt; code == 0 || number < 4, "write {number}");
-        assert!(rt; kept.told.is_of_a_ping(), "write {number}");
-        assert!(rt;
-            begins_a_session(kept.host.wrote.as_slice()),
-            "write {number}"
-        );
+        expect_failing(&rt, rt.alloc(), "read", number)?;
     }
     Ok(())
 }
 
-// The start, two lines of each side and the engine's end are six steps, behind the first line.
 #[test]
-fn each_log_write_that_fails(rt: HostRuntime) -> Result<(), Fail> {
-    let alloc = rt.alloc();
+fn each_write_that_fails(rt: HostRuntime) -> Result<(), NoMemory> {
     for number in 1..=12 {
-        let failing = [number];
-        let mut fails = no_fails();
-        fails.logs = &failing;
-        let kept = run_failing(&rt, alloc, &fails)?;
-        let log = kept.host.logged.as_slice();
-        assert_eq!(rt;
-            kept.told.code,
-            if number <= 6 { 9 } else { 0 },
-            "log write {number}"
-        );
-        assert!(rt; kept.told.is_of_a_ping(), "log write {number}");
-        assert_eq!(rt; marks_in(log), if number == 1 { 0 } else { number.min(7) });
-        assert!(rt; log.starts_with(FIRST_STEP) || FIRST_STEP.starts_with(log));
+        expect_failing(&rt, rt.alloc(), "write", number)?;
+    }
+    Ok(())
+}
+
+#[test]
+fn each_log_write_that_fails(rt: HostRuntime) -> Result<(), NoMemory> {
+    for number in 1..=12 {
+        expect_failing(&rt, rt.alloc(), "log write", number)?;
     }
     Ok(())
 }

@@ -1,6 +1,6 @@
 // Words that the program takes, and words that it refuses.
 use crate::program::run_steady;
-use std::test::Fail;
+use line_io::NoMemory;
 
 const REFUSED: [&[&str]; 5] = [
     &[],
@@ -24,22 +24,19 @@ const TAKEN: [&[&str]; 3] = [
 ];
 
 #[test]
-fn words_that_are_refused(rt: HostRuntime) -> Result<(), Fail> {
+fn words_that_are_refused(rt: HostRuntime) -> Result<(), NoMemory> {
     for words in REFUSED {
         let told = run_steady(&rt, rt.alloc(), words)?;
-        assert_eq!(rt; told.code, 2);
-        assert_eq!(rt; told.diag.taken(), b"bridge: usage\n".as_slice());
-        assert_eq!(rt; told.output.taken(), b"".as_slice());
+        assert!(rt; told.is(2, b"", b"bridge: usage\n"), "{words:?}");
     }
     Ok(())
 }
 
 #[test]
-fn words_that_are_taken(rt: HostRuntime) -> Result<(), Fail> {
+fn words_that_are_taken(rt: HostRuntime) -> Result<(), NoMemory> {
     for words in TAKEN {
         let told = run_steady(&rt, rt.alloc(), words)?;
-        assert_eq!(rt; told.code, 0);
-        assert!(rt; told.is_of_a_ping());
+        assert!(rt; told.code == 0 && told.is_of_a_ping(), "{words:?}");
     }
     Ok(())
 }

@@ -4,4 +4,6 @@
 #[cfg(test)]
 mod directions;
 #[cfg(test)]
+mod expected;
+#[cfg(test)]
 mod program;
