@@ -5,13 +5,15 @@ ghost use Rattle.driver_sessions.specs.Ready.{IsReady};
 
 use crate::expected::expect_bytes;
 use crate::ready::{Ready, make_ready};
-use driver_runner::{drive_loop, run_driver_pipes};
+use driver_runner::{RunEnd, drive_loop, run_driver_pipes};
 use event_pipe::{Pipe, PipeSend, PipeTake, ReadEnd, read_pipe};
 use line_io::{MemSink, MemSource};
 use sink_offers::LoopEnd;
 use std::alloc::Global;
+use std::process::Abort;
 use std::sync::Wait;
 use std::test::Fail;
+use std::thread::Threads;
 
 const LOG: &[u8] = b"\
     x uci\n\
@@ -30,6 +32,31 @@ struct Sinks {
     output: MemSink,
     engine: MemSink,
     log: Option<MemSink>,
+}
+
+// Sinks of which that of the engine fails at these writes.
+fn make_sinks(alloc: Global, failing: &[u64], log: Option<MemSink>) -> Result<Sinks, Fail> {
+    Ok(Sinks {
+        output: MemSink::make(alloc, 100, &[])?,
+        engine: MemSink::make(alloc, 100, failing)?,
+        log,
+    })
+}
+
+fn expect_loop_end(rt: &impl Abort, found: LoopEnd, wanted: LoopEnd) {
+    assert_eq!(rt; found, wanted);
+}
+
+fn expect_run_end(rt: &impl Abort, found: RunEnd, wanted: RunEnd) {
+    assert_eq!(rt; found, wanted);
+}
+
+// Compares what each sink took; one that is not there took nothing.
+fn expect_taken(rt: &impl Abort, sinks: &Sinks, output: &[u8], engine: &[u8], log: &[u8]) {
+    expect_bytes(rt, sinks.output.taken(), output);
+    expect_bytes(rt, sinks.engine.taken(), engine);
+    let logged = sinks.log.as_ref().map_or(b"".as_slice(), |log| log.taken());
+    expect_bytes(rt, logged, log);
 }
 
 // A line of 65,537 bytes, and these lines behind it.
@@ -94,11 +121,8 @@ fn run_loop<R: Wait>(
 #[test]
 fn long_lines_are_passed_over(rt: HostRuntime) -> Result<(), Fail> {
     let alloc = rt.alloc();
-    let mut sinks = Sinks {
-        output: MemSink::make(alloc, 100, &[])?,
-        engine: MemSink::make(alloc, 100, &[2])?,
-        log: Some(MemSink::make(alloc, 1_000, &[])?),
-    };
+    let log = MemSink::make(alloc, 1_000, &[])?;
+    let mut sinks = make_sinks(alloc, &[2], Some(log))?;
     let lines = behind_a_long_line(alloc, b"uci\nisready\n")?;
     let end = run_loop(
         &rt,
@@ -107,43 +131,61 @@ fn long_lines_are_passed_over(rt: HostRuntime) -> Result<(), Fail> {
         b"feature ping=1\n",
         &mut sinks,
     )?;
-    assert!(rt; !end.output && end.engine && !end.log);
-    expect_bytes(&rt, sinks.output.taken(), b"readyok\n");
-    expect_bytes(&rt, sinks.engine.taken(), b"xboard\nprotover 2\n");
-    let log = sinks.log.as_ref().map_or(b"".as_slice(), |log| log.taken());
-    expect_bytes(&rt, log, LOG);
+    let wanted = LoopEnd {
+        output: false,
+        engine: true,
+        log: false,
+    };
+    expect_loop_end(&rt, end, wanted);
+    expect_taken(&rt, &sinks, b"readyok\n", b"xboard\nprotover 2\n", LOG);
     Ok(())
 }
 
-#[test]
-fn both_pipes_are_read(rt: HostRuntime) -> Result<(), Fail> {
-    let alloc = rt.alloc();
-    let (iface, child, taker) = Pipe::make(alloc)?;
+// Reads both pipes beside the loop.
+fn run_pipes<R: Threads + Wait + Sync>(
+    rt: &R,
+    alloc: Global,
+    input: &mut MemSource,
+    source: &mut MemSource,
+    sinks: &mut Sinks,
+) -> Result<RunEnd, Fail> {
     let Ready {
         mut driver,
         mut text,
     } = make_ready(alloc)?;
-    let mut input = MemSource::make(alloc, b"uci\nquit\n", 3, &[])?;
-    let mut source = MemSource::make(alloc, b"", 3, &[])?;
-    let mut output = MemSink::make(alloc, 100, &[])?;
-    let mut engine = MemSink::make(alloc, 100, &[])?;
-    let mut log: Option<MemSink> = None;
-    let end = run_driver_pipes(
-        &rt,
+    let (iface, child, taker) = Pipe::make(alloc)?;
+    Ok(run_driver_pipes(
+        rt,
         alloc,
         &mut driver,
         iface,
         child,
         taker,
-        &mut input,
-        &mut source,
-        &mut output,
-        &mut engine,
-        &mut log,
+        input,
+        source,
+        &mut sinks.output,
+        &mut sinks.engine,
+        &mut sinks.log,
         &mut text,
-    );
-    assert!(rt; end.iface == ReadEnd::Done);
-    assert!(rt; end.engine == ReadEnd::Done);
-    assert!(rt; !end.done.output && !end.done.engine && !end.done.log);
+    ))
+}
+
+#[test]
+fn both_pipes_are_read(rt: HostRuntime) -> Result<(), Fail> {
+    let alloc = rt.alloc();
+    let mut input = MemSource::make(alloc, b"uci\nquit\n", 3, &[])?;
+    let mut source = MemSource::make(alloc, b"", 3, &[])?;
+    let mut sinks = make_sinks(alloc, &[], None)?;
+    let end = run_pipes(&rt, alloc, &mut input, &mut source, &mut sinks)?;
+    let wanted = RunEnd {
+        iface: ReadEnd::Done,
+        engine: ReadEnd::Done,
+        done: LoopEnd {
+            output: false,
+            engine: false,
+            log: false,
+        },
+    };
+    expect_run_end(&rt, end, wanted);
     Ok(())
 }

@@ -8,32 +8,9 @@ use std::alloc::Global;
 use std::process::Abort;
 use std::test::Fail;
 
-#[derive(Clone, Copy)]
-enum Mark {
-    Order(&'static str),
-    Heard(&'static str),
-    /// The life ends, and another one begins.
-    Next,
-    /// The life ends, and none follows.
-    Last,
-}
-
-type Row = (Mark, &'static str, &'static str);
-
-const UNFIT: &str = "it may not come here";
-
-fn expect(rt: &impl Abort, name: &str, k: usize, both: Both, row: Row) {
-    assert_eq!(rt;
-        both.up,
-        row.1.as_bytes(),
-        "{name}: the lines up of row {k}"
-    );
-    assert_eq!(rt;
-        both.child,
-        row.2.as_bytes(),
-        "{name}: the lines to the engine of row {k}"
-    );
-}
+/// What comes, the lines up, and the lines to the engine. An order comes behind `x`, a line of the engine behind `u`;
+/// at `u!` the life ends and another one begins, and at `u.` it ends and none follows.
+type Row = (&'static str, &'static str, &'static str);
 
 fn is_line(line: &[u8]) -> bool
     ensures yes { result ≡ true → length line.now ≤ PEER_LINE }
@@ -42,119 +19,85 @@ fn is_line(line: &[u8]) -> bool
     line.len() <= MOST_LINE && !line.contains(&b'\n')
 }
 
-// An order, whose lines are those of the row.
-fn play_order(
-    rt: &impl Abort,
-    name: &str,
-    k: usize,
-    revival: &mut Revival,
-    line: &'static str,
-    row: Row,
-) -> Result<(), Fail> {
-    if revival.awaits_next() || !is_line(line.as_bytes()) {
-        return Err(Fail::from(UNFIT));
+// What an order gives, where it may come.
+fn order<'a>(revival: &'a mut Revival, line: &[u8]) -> Option<Both<'a>> {
+    if revival.awaits_next() || !is_line(line) {
+        return None;
     }
-    expect(rt, name, k, revival.order(line.as_bytes()), row);
-    Ok(())
+    Some(revival.order(line))
 }
 
-fn play_heard(
-    rt: &impl Abort,
-    name: &str,
-    k: usize,
-    revival: &mut Revival,
-    line: &'static str,
-    row: Row,
-) -> Result<(), Fail> {
+fn heard<'a>(revival: &'a mut Revival, line: &[u8]) -> Option<Both<'a>> {
     if !revival.is_alive() || line.len() > MOST_LINE {
-        return Err(Fail::from(UNFIT));
+        return None;
     }
-    expect(rt, name, k, revival.heard(line.as_bytes()), row);
-    Ok(())
+    Some(revival.heard(line))
 }
 
-fn play_next(
-    rt: &impl Abort,
-    name: &str,
-    k: usize,
-    revival: &mut Revival,
-    row: Row,
-) -> Result<(), Fail> {
-    if !revival.is_alive() || !revival.ended() {
-        return Err(Fail::from(UNFIT));
+// What the end of the life gives, where another one follows just if one is wanted.
+fn ended(revival: &mut Revival, next: bool) -> Option<Both<'_>> {
+    if !revival.is_alive() {
+        return None;
     }
-    expect(rt, name, k, revival.begin(), row);
-    Ok(())
+    match (revival.ended(), next) {
+        (true, true) => Some(revival.begin()),
+        (false, false) => Some(revival.over()),
+        _ => None,
+    }
 }
 
-fn play_last(
-    rt: &impl Abort,
-    name: &str,
-    k: usize,
-    revival: &mut Revival,
-    row: Row,
-) -> Result<(), Fail> {
-    if !revival.is_alive() || revival.ended() {
-        return Err(Fail::from(UNFIT));
+// What this gives, where it may come.
+fn answer<'a>(revival: &'a mut Revival, comes: &[u8]) -> Option<Both<'a>> {
+    match comes {
+        [b'x', b' ', line @ ..] => order(revival, line),
+        [b'u', b' ', line @ ..] => heard(revival, line),
+        b"u!" => ended(revival, true),
+        b"u." => ended(revival, false),
+        _ => None,
     }
-    expect(rt, name, k, revival.over(), row);
-    Ok(())
 }
 
-fn play_row(
-    rt: &impl Abort,
-    name: &str,
-    k: usize,
-    revival: &mut Revival,
-    row: Row,
-) -> Result<(), Fail> {
-    match row.0 {
-        Mark::Order(line) => play_order(rt, name, k, revival, line, row),
-        Mark::Heard(line) => play_heard(rt, name, k, revival, line, row),
-        Mark::Next => play_next(rt, name, k, revival, row),
-        Mark::Last => play_last(rt, name, k, revival, row),
-    }
+fn expect_lines(rt: &impl Abort, name: &str, k: usize, found: Option<Both>, row: Row) {
+    let found = found.map(|both| (both.up, both.child));
+    let wanted = Some((row.1.as_bytes(), row.2.as_bytes()));
+    assert_eq!(rt; found, wanted, "{name}: row {k}");
+}
+
+fn expect_room(rt: &impl Abort, name: &str, revival: &Revival) {
+    assert!(rt; !revival.full(), "{name}");
 }
 
 fn play(rt: &impl Abort, alloc: Global, name: &str, lives: u32, rows: &[Row]) -> Result<(), Fail> {
     let mut revival = Revival::make(alloc, lives)?;
     for (k, row) in rows.iter().enumerate() {
-        play_row(rt, name, k, &mut revival, *row)?;
+        expect_lines(rt, name, k, answer(&mut revival, row.0.as_bytes()), *row);
     }
-    assert!(rt; !revival.full());
+    expect_room(rt, name, &revival);
     Ok(())
 }
 
 const SECOND_LIFE: [Row; 11] = [
-    (Mark::Order("uci"), "", "uci\n"),
-    (Mark::Heard("uciok"), "uciok\n", ""),
-    (Mark::Order("setoption name Hash value 8"), "", ""),
+    ("x uci", "", "uci\n"),
+    ("u uciok", "uciok\n", ""),
+    ("x setoption name Hash value 8", "", ""),
+    ("x isready", "", "setoption name Hash value 8\nisready\n"),
+    ("u readyok", "readyok\n", ""),
+    ("x position startpos", "", ""),
+    ("x go infinite", "", "position startpos\ngo infinite\n"),
+    ("u!", "", "uci\n"),
     (
-        Mark::Order("isready"),
-        "",
-        "setoption name Hash value 8\nisready\n",
-    ),
-    (Mark::Heard("readyok"), "readyok\n", ""),
-    (Mark::Order("position startpos"), "", ""),
-    (
-        Mark::Order("go infinite"),
-        "",
-        "position startpos\ngo infinite\n",
-    ),
-    (Mark::Next, "", "uci\n"),
-    (
-        Mark::Heard("uciok"),
+        "u uciok",
         "",
         "setoption name Hash value 8\nposition startpos\ngo infinite\n",
     ),
-    (Mark::Last, "", ""),
-    (Mark::Order("stop"), "bestmove 0000\n", ""),
+    ("u.", "", ""),
+    ("x stop", "bestmove 0000\n", ""),
 ];
 
 const NO_LIFE: [Row; 3] = [
-    (Mark::Order("uci"), "", "uci\n"),
-    (Mark::Last, "uciok\n", ""),
-    (Mark::Order("isready"), "readyok\n", ""),
+    ("x uci", "", "uci\n"),
+    ("u.", "uciok\n", ""),
+    ("x isready", "readyok\n", ""),
 ];
 
 #[test]
