@@ -1,6 +1,14 @@
 // Lines as engines print them.
+ghost use Rattle.std.specs.Prelude.{◌≤◌, length};
+ghost use Rattle.uci_lines.specs.Messages.{engine_message_of};
+ghost use Rattle.uci_lines.specs.Writable.{CanWrite};
+ghost use Rattle.uci_engine_side.specs.Said.{said_text};
+
+use super::expect::expect_text;
 use chess_board::{Move, Square};
 use line_io::Out;
+use std::alloc::Global;
+use std::process::Abort;
 use std::test::Fail;
 use uci_engine_side::{
     write_engine, written_messages_are_read_again, written_messages_fit_the_line,
@@ -13,30 +21,33 @@ const E2E4: Move = Move {
     promo: None,
 };
 
+fn expect_written(rt: &impl Abort, alloc: Global, msg: &EngineMsg, want: &str) -> Result<(), Fail>
+    requires writable { CanWrite (engine_message_of msg.now) }
+    requires short { length (said_text (engine_message_of msg.now)) ≤ 200 }
+{
+    let mut out = Out::make(alloc, 200)?;
+    write_engine(msg, &mut out);
+    expect_text(rt, out.bytes(), want);
+    Ok(())
+}
+
 #[test]
 #[tactic(auto, unfolding(uci_engine_side::specs::Said::said_text))]
 fn writes_what_an_engine_says(rt: HostRuntime) -> Result<(), Fail> {
     written_messages_are_read_again();
     written_messages_fit_the_line();
-    let mut out = Out::make(rt.alloc(), 200)?;
-    write_engine(&EngineMsg::Name(b"Toga II"), &mut out);
-    assert!(rt; out.bytes() == b"id name Toga II".as_slice());
-    out.clear();
-    write_engine(&EngineMsg::UciOk, &mut out);
-    assert!(rt; out.bytes() == b"uciok".as_slice());
-    out.clear();
+    let alloc = rt.alloc();
+    expect_written(&rt, alloc, &EngineMsg::Name(b"Toga II"), "id name Toga II")?;
+    expect_written(&rt, alloc, &EngineMsg::UciOk, "uciok")?;
     let best = EngineMsg::Best {
         best: Some(E2E4),
         hint: None,
     };
-    write_engine(&best, &mut out);
-    assert!(rt; out.bytes() == b"bestmove e2e4".as_slice());
-    out.clear();
+    expect_written(&rt, alloc, &best, "bestmove e2e4")?;
     let ponder = EngineMsg::OptionLine(OptionMsg {
         name: b"Ponder",
         kind: OptionKind::Check { on: false },
     });
-    write_engine(&ponder, &mut out);
-    assert!(rt; out.bytes() == b"option name Ponder type check default false".as_slice());
-    Ok(())
+    let line = "option name Ponder type check default false";
+    expect_written(&rt, alloc, &ponder, line)
 }

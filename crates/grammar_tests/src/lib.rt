@@ -6,6 +6,8 @@ mod cecp;
 #[cfg(test)]
 mod engine_side;
 #[cfg(test)]
+mod expect;
+#[cfg(test)]
 mod iface_side;
 #[cfg(test)]
 mod script;

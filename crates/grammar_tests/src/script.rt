@@ -1,4 +1,7 @@
 // Marks, headers, step lines and the texts of steps.
+ghost use Rattle.policy_rules.specs.Policy.{IsProper};
+
+use super::expect::{expect_holds, expect_text};
 use line_io::{Event, Out};
 use policy_rules::Settings;
 use script_lines::{
@@ -10,19 +13,15 @@ use std::alloc::Global;
 use std::process::Abort;
 use std::test::Fail;
 
-fn expect_text(rt: &impl Abort, text: &[u8], want: &[u8]) {
-    assert_eq!(rt; text, want);
-}
-
 #[test]
 fn steps_are_marked(rt: HostRuntime) -> Result<(), Fail> {
     let mut out = Out::make(rt.alloc(), STEP_ROOM)?;
     let event = Event::Iface(b"ping 1");
     put_step(&event, b"pong 1\n", b"", &mut out);
-    expect_text(&rt, out.bytes(), b"x ping 1\nX pong 1\n");
+    expect_text(&rt, out.bytes(), "x ping 1\nX pong 1\n");
     out.clear();
     put_step(&Event::Open, b"", b"uci\n", &mut out);
-    expect_text(&rt, out.bytes(), b"U uci\n");
+    expect_text(&rt, out.bytes(), "U uci\n");
     out.clear();
     put_step(
         &Event::EngineEnd,
@@ -33,7 +32,7 @@ fn steps_are_marked(rt: HostRuntime) -> Result<(), Fail> {
     expect_text(
         &rt,
         out.bytes(),
-        b"u.\nX tellusererror Engine ended\nX resign\n",
+        "u.\nX tellusererror Engine ended\nX resign\n",
     );
     Ok(())
 }
@@ -45,7 +44,7 @@ fn lines_to_the_interface_come_first(rt: HostRuntime) -> Result<(), Fail> {
     expect_text(
         &rt,
         out.bytes(),
-        b"X move e7e5\nU position startpos\nU go ponder\n",
+        "X move e7e5\nU position startpos\nU go ponder\n",
     );
     Ok(())
 }
@@ -83,7 +82,7 @@ fn expect_mark(rt: &impl Abort, text: &str, out: &mut Out) {
         Ok(mark) if text.len() <= out.spare() => write_mark(&mark, out),
         _ => {}
     }
-    expect_text(rt, out.bytes(), text.as_bytes());
+    expect_text(rt, out.bytes(), text);
 }
 
 fn expect_marks(rt: &impl Abort, texts: &[&'static str], out: &mut Out) {
@@ -94,29 +93,36 @@ fn expect_marks(rt: &impl Abort, texts: &[&'static str], out: &mut Out) {
 
 fn expect_no_marks(rt: &impl Abort, texts: &[&'static str]) {
     for text in texts {
-        assert!(rt; read_mark(text.as_bytes()).is_err(), "{text}");
+        expect_holds(rt, read_mark(text.as_bytes()).is_err(), text);
     }
 }
 
-fn expect_long(
-    rt: &impl Abort,
-    alloc: Global,
-    letter: u8,
-    length: usize,
-    good: bool,
-) -> Result<(), Fail> {
+/// A line of a length that begins with a letter.
+fn long_line(alloc: Global, letter: u8, length: usize) -> Result<Vec<u8>, Fail> {
     let mut line = vec![in alloc; b' '; length]?;
     if let Some(first) = line.first_mut() {
         *first = letter;
     }
-    assert_eq!(rt; read_mark(&line).is_ok(), good);
-    Ok(())
+    Ok(line)
+}
+
+fn expect_length(rt: &impl Abort, is_mark: bool, want: bool, length: usize) {
+    assert!(rt; is_mark == want, "{length}");
 }
 
 fn expect_lengths(rt: &impl Abort, alloc: Global, rows: &[(u8, usize, bool)]) -> Result<(), Fail> {
     for (letter, length, good) in rows {
-        expect_long(rt, alloc, *letter, *length, *good)?;
+        let line = long_line(alloc, *letter, *length)?;
+        expect_length(rt, read_mark(&line).is_ok(), *good, *length);
     }
+    Ok(())
+}
+
+fn expect_mark_lines(rt: &impl Abort, alloc: Global) -> Result<(), Fail> {
+    let mut script = Out::make(alloc, 9)?;
+    write_mark_line(&Mark::Event(Event::Open), &mut script);
+    write_mark_line(&Mark::ToEngine(b"uci"), &mut script);
+    expect_text(rt, script.bytes(), "U uci\n");
     Ok(())
 }
 
@@ -126,11 +132,7 @@ fn reads_what_marks_spell(rt: HostRuntime) -> Result<(), Fail> {
     expect_marks(&rt, &MARKS, &mut out);
     expect_no_marks(&rt, &NO_MARKS);
     expect_lengths(&rt, rt.alloc(), &LENGTHS)?;
-    let mut script = Out::make(rt.alloc(), 9)?;
-    write_mark_line(&Mark::Event(Event::Open), &mut script);
-    write_mark_line(&Mark::ToEngine(b"uci"), &mut script);
-    expect_text(&rt, script.bytes(), b"U uci\n");
-    Ok(())
+    expect_mark_lines(&rt, rt.alloc())
 }
 
 const USUAL: &str = "#2 Resign=false ResignMoves=3 ResignScore=600 ShowPonder=true";
@@ -176,27 +178,46 @@ const NO_HEADERS: [&str; 22] = [
     "#2 resign=false ResignMoves=3 ResignScore=600 ShowPonder=true",
 ];
 
-fn expect_header(rt: &impl Abort, text: &[u8], want: Settings) {
-    assert_eq!(rt; read_header(text), Some(want));
-}
-
 fn expect_no_headers(rt: &impl Abort, texts: &[&'static str]) {
     for text in texts {
-        assert!(rt; read_header(text.as_bytes()).is_none(), "{text}");
+        expect_holds(rt, read_header(text.as_bytes()).is_none(), text);
     }
+}
+
+/// Writes a header, if there is room enough.
+fn write(settings: &Settings, out: &mut Out)
+    requires { IsProper settings.now }
+{
+    out.clear();
+    if out.spare() >= 68 {
+        write_header(settings, out);
+    }
+}
+
+fn expect_usual(rt: &impl Abort, out: &mut Out) {
+    write(&Settings::usual(), out);
+    expect_text(rt, out.bytes(), USUAL);
+    let read = read_header(USUAL.as_bytes());
+    expect_holds(rt, read == Some(Settings::usual()), USUAL);
+}
+
+fn expect_longest(rt: &impl Abort, out: &mut Out) {
+    write(&LONGEST, out);
+    expect_holds(rt, out.spare() == 0, "no room left");
+    expect_holds(rt, read_header(out.bytes()) == Some(LONGEST), "longest");
+}
+
+fn expect_least(rt: &impl Abort) {
+    let read = read_header(LEAST.as_bytes());
+    expect_holds(rt, read == Some(LEAST_SETTINGS), LEAST);
 }
 
 #[test]
 fn reads_what_headers_spell(rt: HostRuntime) -> Result<(), Fail> {
     let mut out = Out::make(rt.alloc(), 68)?;
-    write_header(&Settings::usual(), &mut out);
-    expect_text(&rt, out.bytes(), USUAL.as_bytes());
-    expect_header(&rt, USUAL.as_bytes(), Settings::usual());
-    out.clear();
-    write_header(&LONGEST, &mut out);
-    assert_eq!(rt; out.spare(), 0);
-    expect_header(&rt, out.bytes(), LONGEST);
-    expect_header(&rt, LEAST.as_bytes(), LEAST_SETTINGS);
+    expect_usual(&rt, &mut out);
+    expect_longest(&rt, &mut out);
+    expect_least(&rt);
     expect_no_headers(&rt, &NO_HEADERS);
     Ok(())
 }
@@ -229,34 +250,38 @@ const NO_STEPS: [&str; 15] = [
     "x # 0",
 ];
 
-fn expect_step(rt: &impl Abort, alloc: Global, number: u64, text: &str) -> Result<(), Fail> {
-    let mut out = Out::make(alloc, 20)?;
-    assert!(rt; number <= LAST);
-    write_step(number, &mut out);
-    expect_text(rt, out.bytes(), text.as_bytes());
-    assert_eq!(rt; read_step(text.as_bytes()), Some(number));
-    Ok(())
+fn expect_step(rt: &impl Abort, number: u64, text: &str, out: &mut Out) {
+    out.clear();
+    if number <= LAST && out.spare() >= 20 {
+        write_step(number, out);
+    }
+    expect_text(rt, out.bytes(), text);
+    expect_holds(rt, read_step(text.as_bytes()) == Some(number), text);
 }
 
-fn expect_steps(rt: &impl Abort, alloc: Global, rows: &[(u64, &'static str)]) -> Result<(), Fail> {
+fn expect_steps(rt: &impl Abort, rows: &[(u64, &'static str)], out: &mut Out) {
     for (number, text) in rows {
-        expect_step(rt, alloc, *number, text)?;
+        expect_step(rt, *number, text, out);
     }
-    Ok(())
 }
 
 fn expect_no_steps(rt: &impl Abort, texts: &[&'static str]) {
     for text in texts {
-        assert!(rt; read_step(text.as_bytes()).is_none(), "{text}");
+        expect_holds(rt, read_step(text.as_bytes()).is_none(), text);
     }
+}
+
+fn expect_next_numbers(rt: &impl Abort) {
+    expect_holds(rt, next_number(0) == 1, "after the first");
+    expect_holds(rt, next_number(LAST) == 0, "after the last");
 }
 
 #[test]
 fn reads_what_step_lines_spell(rt: HostRuntime) -> Result<(), Fail> {
-    expect_steps(&rt, rt.alloc(), &STEPS)?;
-    assert_eq!(rt; next_number(0), 1);
-    assert_eq!(rt; next_number(LAST), 0);
+    let mut out = Out::make(rt.alloc(), 20)?;
+    expect_steps(&rt, &STEPS, &mut out);
     expect_no_steps(&rt, &NO_STEPS);
+    expect_next_numbers(&rt);
     scripts_are_read_back();
     lines_are_of_one_kind();
     Ok(())
@@ -266,11 +291,11 @@ fn reads_what_step_lines_spell(rt: HostRuntime) -> Result<(), Fail> {
 fn numbered_steps_begin_with_their_number(rt: HostRuntime) -> Result<(), Fail> {
     let mut out = Out::make(rt.alloc(), STEP_ROOM)?;
     put_numbered_step(0, &Event::Open, b"", b"uci\n", &mut out);
-    expect_text(&rt, out.bytes(), b"# 0\nU uci\n");
+    expect_text(&rt, out.bytes(), "# 0\nU uci\n");
     out.clear();
     let event = Event::EngineLost;
     let told = b"tellusererror Engine ended\n";
     put_numbered_step(2, &event, told, b"", &mut out);
-    expect_text(&rt, out.bytes(), b"# 2\nu?\nX tellusererror Engine ended\n");
+    expect_text(&rt, out.bytes(), "# 2\nu?\nX tellusererror Engine ended\n");
     Ok(())
 }

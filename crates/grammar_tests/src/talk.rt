@@ -1,76 +1,73 @@
 // Orders as interfaces spell them.
+use super::expect::{expect_holds, expect_text};
 use fen_text::write_fen;
 use peer_words::GoKind;
 use std::process::Abort;
 use uci_talk::{go_kind, spoken};
 
-const START: &[u8] = b"rnbqkbnr/pppppppp/8/8/8/8/PPPPPPPP/RNBQKBNR w KQkq - 0 1";
+const START: &str = "rnbqkbnr/pppppppp/8/8/8/8/PPPPPPPP/RNBQKBNR w KQkq - 0 1";
 
 // A line, and the kind of its search.
-const KINDS: [(&[u8], GoKind); 6] = [
-    (b"go", GoKind::Move),
-    (b"go wtime 300000 btime 300000 winc 0 binc 0", GoKind::Move),
-    (b"go ponder wtime 1 btime 1", GoKind::Ponder),
-    (b"go infinite", GoKind::Analyse),
-    (b"go infinite ponder", GoKind::Ponder),
-    (b"go\tsearchmoves e2e4  infinite\r", GoKind::Analyse),
+const KINDS: [(&str, GoKind); 6] = [
+    ("go", GoKind::Move),
+    ("go wtime 300000 btime 300000 winc 0 binc 0", GoKind::Move),
+    ("go ponder wtime 1 btime 1", GoKind::Ponder),
+    ("go infinite", GoKind::Analyse),
+    ("go infinite ponder", GoKind::Ponder),
+    ("go\tsearchmoves e2e4  infinite\r", GoKind::Analyse),
 ];
 
 // A line, its moves, and the position after them.
-type Spoken = (&'static [u8], &'static [u8], &'static [u8]);
+type Spoken = (&'static str, &'static str, &'static str);
 
 const POSITIONS: [Spoken; 6] = [
-    (b"position startpos", b"", START),
-    (b"position startpos moves", b"", START),
+    ("position startpos", "", START),
+    ("position startpos moves", "", START),
     (
-        b"position\t startpos  moves e2e4 e7e5\r",
-        b"e2e4 e7e5",
-        b"rnbqkbnr/pppp1ppp/8/4p3/4P3/8/PPPP1PPP/RNBQKBNR w KQkq - 0 2",
+        "position\t startpos  moves e2e4 e7e5\r",
+        "e2e4 e7e5",
+        "rnbqkbnr/pppp1ppp/8/4p3/4P3/8/PPPP1PPP/RNBQKBNR w KQkq - 0 2",
     ),
     (
-        b"position fen 4k3/8/8/8/8/8/8/4K2R w K - 0 1 moves e1g1",
-        b"e1g1",
-        b"4k3/8/8/8/8/8/8/5RK1 b - - 1 1",
+        "position fen 4k3/8/8/8/8/8/8/4K2R w K - 0 1 moves e1g1",
+        "e1g1",
+        "4k3/8/8/8/8/8/8/5RK1 b - - 1 1",
     ),
     (
-        b"position fen 7k/4P3/8/8/8/8/8/4K3 w - - moves e7e8Q",
-        b"e7e8Q",
-        b"4Q2k/8/8/8/8/8/8/4K3 b - - 0 1",
+        "position fen 7k/4P3/8/8/8/8/8/4K3 w - - moves e7e8Q",
+        "e7e8Q",
+        "4Q2k/8/8/8/8/8/8/4K3 b - - 0 1",
     ),
     (
-        b"position fen 7k/4P3/8/8/8/8/8/4K3 w - -",
-        b"",
-        b"7k/4P3/8/8/8/8/8/4K3 w - - 0 1",
+        "position fen 7k/4P3/8/8/8/8/8/4K3 w - -",
+        "",
+        "7k/4P3/8/8/8/8/8/4K3 w - - 0 1",
     ),
 ];
 
-const NO_POSITIONS: [&[u8]; 7] = [
-    b"position",
-    b"position moves e2e4",
-    b"position startpos e2e4",
-    b"position startpos moves e2e5",
-    b"position startpos moves e2e4 e2e4",
-    b"position fen 8/8/8/8/8/8/8/4K3 w - - 0 1",
-    b"position fen moves e2e4",
+const NO_POSITIONS: [&str; 7] = [
+    "position",
+    "position moves e2e4",
+    "position startpos e2e4",
+    "position startpos moves e2e5",
+    "position startpos moves e2e4 e2e4",
+    "position fen 8/8/8/8/8/8/8/4K3 w - - 0 1",
+    "position fen moves e2e4",
 ];
 
-fn expect_kind(rt: &impl Abort, line: &[u8], want: GoKind) {
-    assert_eq!(rt; go_kind(line), want);
-}
-
-fn expect_kinds(rt: &impl Abort, rows: &[(&'static [u8], GoKind)]) {
+fn expect_kinds(rt: &impl Abort, rows: &[(&'static str, GoKind)]) {
     for (line, want) in rows {
-        expect_kind(rt, line, *want);
+        expect_holds(rt, go_kind(line.as_bytes()) == *want, line);
     }
 }
 
-fn expect_spoken(rt: &impl Abort, line: &[u8], moves: &[u8], end: &[u8]) {
-    match spoken(line) {
+fn expect_spoken(rt: &impl Abort, line: &str, moves: &str, end: &str) {
+    match spoken(line.as_bytes()) {
         Some(said) => {
-            assert!(rt; said.moves == moves);
-            assert!(rt; write_fen(&said.end).as_slice() == end);
+            expect_text(rt, said.moves, moves);
+            expect_text(rt, write_fen(&said.end).as_slice(), end);
         }
-        None => panic!(rt; "a position"),
+        None => expect_holds(rt, false, line),
     }
 }
 
@@ -80,9 +77,9 @@ fn expect_all_spoken(rt: &impl Abort, rows: &[Spoken]) {
     }
 }
 
-fn expect_none_spoken(rt: &impl Abort, lines: &[&'static [u8]]) {
+fn expect_none_spoken(rt: &impl Abort, lines: &[&'static str]) {
     for line in lines {
-        assert!(rt; spoken(line).is_none());
+        expect_holds(rt, spoken(line.as_bytes()).is_none(), line);
     }
 }
 
