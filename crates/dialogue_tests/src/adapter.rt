@@ -4,6 +4,7 @@ ghost use Rattle.line_io.specs.Event.{event_of};
 ghost use Rattle.policy_rules.specs.Policy.{IsProper};
 ghost use Rattle.desk_rules.specs.Steps.{quits as quits_by};
 
+use crate::rows::{event_in, expect, expect_text};
 use adapter_core::{
     Core, Ends, ended_sides_get_nothing, interface_alone, moves_are_shown_in_time, one_dialogue,
 };
@@ -11,7 +12,6 @@ use cecp_lines::is_quit;
 use line_io::{Event, NoMemory};
 use peer_words::GoKind;
 use policy_rules::Settings;
-use script_lines::{Mark, read_mark};
 use search_epochs::EngineState;
 use std::alloc::Global;
 use std::process::Abort;
@@ -38,13 +38,8 @@ type Step = (&'static str, &'static str, &'static str);
 /// The state of the engine at the end, the plies of the game, and whether the session is over.
 type End = (EngineState, u32, bool);
 
-/// The event that a mark tells.
-fn event_in<'a>(rt: &impl Abort, mark: &'a str) -> Event<'a> {
-    match read_mark(mark.as_bytes()) {
-        Ok(Mark::Event(event)) => event,
-        _ => panic!(rt; "no event: {mark}"),
-    }
-}
+/// Lets a core go. That is proved here once, and not in each function that makes one.
+fn end_core(_core: Core) {}
 
 fn quits(event: &Event) -> bool
     ensures { result ≡ quits_by (event_of event.now) }
@@ -59,12 +54,8 @@ fn quits(event: &Event) -> bool
 fn check_event(rt: &impl Abort, core: &mut Core, event: &Event, iface: &str, engine: &str) {
     assert!(rt; core.may(event), "{iface}{engine}");
     let step = core.step(event);
-    expect_text(rt, step.iface, iface);
-    expect_text(rt, step.engine, engine);
-}
-
-fn expect_text(rt: &impl Abort, text: &[u8], want: &str) {
-    assert_eq!(rt; text, want.as_bytes(), "{want}");
+    expect_text(rt, step.iface, iface, iface);
+    expect_text(rt, step.engine, engine, engine);
 }
 
 /// Takes the event of each mark, and compares the lines to the interface and to the engine.
@@ -87,24 +78,20 @@ fn check_session(
     let mut core = Core::make(alloc, &settings)?;
     check_event(rt, &mut core, &Event::Open, "", "uci\n");
     check_steps(rt, &mut core, steps);
-    expect_end(rt, (core.engine(), core.game().plies(), core.over()), end);
+    let (engine, plies, over) = end;
+    expect(rt, core.engine() == engine, "the state of the engine");
+    expect(rt, core.game().plies() == plies, "the plies of the game");
+    expect(rt, core.over() == over, "whether the session is over");
+    end_core(core);
     Ok(())
-}
-
-fn expect_end(rt: &impl Abort, end: End, want: End) {
-    assert_eq!(rt; end, want);
 }
 
 /// Compares which events may come with the marks wanted.
 fn check_may(rt: &impl Abort, core: &Core, want: [bool; 8]) {
     for at in 0..8 {
         let mark = MARKS[at];
-        expect_may(rt, core.may(&event_in(rt, mark)), want[at], mark);
+        expect(rt, core.may(&event_in(rt, mark)) == want[at], mark);
     }
-}
-
-fn expect_may(rt: &impl Abort, may: bool, want: bool, mark: &str) {
-    assert_eq!(rt; may, want, "{mark}");
 }
 
 #[test]
@@ -209,14 +196,15 @@ fn check_loss(rt: &impl Abort, core: &mut Core, losses: &[Loss]) {
 #[test]
 fn tells_which_events_may_come(rt: HostRuntime) -> Result<(), Fail> {
     let mut core = Core::make(rt.alloc(), &Settings::usual())?;
-    assert!(rt; core.may(&Event::Open));
+    expect(&rt, core.may(&Event::Open), "it may open");
     check_may(&rt, &core, [false; 8]);
     check_event(&rt, &mut core, &Event::Open, "", "uci\n");
-    assert!(rt; !core.may(&Event::Open));
+    expect(&rt, !core.may(&Event::Open), "it opens once");
     check_may(&rt, &core, [true; 8]);
 
     check_loss(&rt, &mut core, &LOSSES);
-    assert!(rt; core.over());
+    expect(&rt, core.over(), "it is over");
+    end_core(core);
     Ok(())
 }
 
@@ -279,23 +267,26 @@ const ENDS_AFTER: [(&'static str, Ends); 10] = [
     ("u!", OPENED),
 ];
 
-fn expect_ends(rt: &impl Abort, ends: Ends, want: Ends, mark: &str) {
-    assert_eq!(rt; ends, want, "{mark}");
-}
-
 fn check_ends(rt: &impl Abort, opened: Ends, rows: &[(&str, Ends)]) {
     for (mark, want) in rows {
         let event = event_in(rt, mark);
-        expect_ends(rt, opened.after(&event, quits(&event)), *want, mark);
+        let ends = opened.after(&event, quits(&event));
+        expect(rt, ends == *want, mark);
     }
+}
+
+/// The session may open, or the input of the interface may end, and not the other.
+fn expect_open_or_end(rt: &impl Abort, ends: Ends, opens: bool, row: &str) {
+    expect(rt, ends.may(&Event::Open) == opens, row);
+    expect(rt, ends.may(&Event::IfaceEnd) != opens, row);
 }
 
 #[test]
 fn keeps_which_sides_have_ended(rt: HostRuntime) -> Result<(), Fail> {
     let opened = AT_START.after(&Event::Open, false);
-    expect_ends(&rt, opened, OPENED, "open");
-    assert!(rt; AT_START.may(&Event::Open) && !AT_START.may(&Event::IfaceEnd));
-    assert!(rt; !opened.may(&Event::Open) && opened.may(&Event::IfaceEnd));
+    expect(&rt, opened == OPENED, "open");
+    expect_open_or_end(&rt, AT_START, true, "at the start");
+    expect_open_or_end(&rt, opened, false, "once it is open");
     check_ends(&rt, opened, &ENDS_AFTER);
     Ok(())
 }
@@ -308,6 +299,7 @@ fn settings_are_chosen_before_the_first_step(rt: HostRuntime) -> Result<(), Fail
         ..Settings::usual()
     };
     core.set(&chosen);
-    assert_eq!(rt; core.settings(), chosen);
+    expect(&rt, core.settings() == chosen, "the settings");
+    end_core(core);
     Ok(())
 }

@@ -13,33 +13,15 @@ ghost use Rattle.desk_rules.specs.declared.pings.TheConstants.{MOST_PINGS};
 mod calls;
 mod turns;
 
-use chess_board::{Move, Square};
+use crate::rows::{call_in, engine_in, event_in, expect, expect_text};
+use chess_board::Move;
 use desk_rules::{Context, Desk, Effect, Pings, Ruling, is_gone};
 use line_io::{Event, NoMemory, Out, SCRIPT_LINE};
 use option_map::Held;
 use peer_words::GoKind;
-use script_lines::{Mark, read_mark};
 use search_epochs::{Call, EngineState};
 use std::alloc::Global;
 use std::process::Abort;
-
-const MOVE: EngineState = EngineState::Search {
-    kind: GoKind::Move,
-    stale: false,
-    stopped: false,
-};
-
-const STALE: EngineState = EngineState::Search {
-    kind: GoKind::Move,
-    stale: true,
-    stopped: false,
-};
-
-const G1F3: Move = Move {
-    from: Square { index: 6 },
-    to: Square { index: 21 },
-    promo: None,
-};
 
 /// Nothing is said of the engine yet, and the policy neither resigns nor accepts a draw.
 const SIGHT: Context = Context {
@@ -61,22 +43,14 @@ struct Bench {
 
 /// An event, and what comes of it: the state of the engine before it, its mark, the effect, whether the epoch rises, the
 /// call after it, and what the interface is told.
-type Turn<'a> = (EngineState, &'a str, &'a str, bool, Call, &'a str);
-
-fn is_line(line: &[u8]) -> bool
-    ensures { result ≡ is_line line.now }
-{
-    line.len() <= 65_536 && !line.contains(&b'\n')
-}
-
-fn is_line_event(event: &Event) -> bool
-    ensures { result ≡ true → IsLineEvent (event_of event.now) }
-{
-    match event {
-        Event::Iface(line) | Event::Engine(line) => is_line(line),
-        _ => true,
-    }
-}
+type Turn = (
+    &'static str,
+    &'static str,
+    &'static str,
+    bool,
+    &'static str,
+    &'static str,
+);
 
 fn is_of_kind(kind: GoKind, call: Call) -> bool
     ensures { result ≡ true → Serves kind call }
@@ -133,13 +107,6 @@ fn can_hold(held: &Held, effect: &Effect) -> bool
     }
 }
 
-/// The line of an event is a line that a peer may send.
-fn expect_line_event(rt: &impl Abort, event: &Event)
-    ensures { IsLineEvent (event_of event.now) }
-{
-    assert!(rt; is_line_event(event));
-}
-
 /// There is room for the orders of an effect.
 fn expect_room(rt: &impl Abort, held: &Held, effect: &Effect)
     ensures { CanHold held.now (effect_of effect.now) }
@@ -170,12 +137,14 @@ impl Bench {
     fn make(alloc: Global) -> Result<Bench, NoMemory>
         ensures { IfOk result (λ bench. IsSound bench.desk) }
     {
-        Ok(Bench {
-            desk: Desk::make(alloc)?,
-            held: Held::make(alloc)?,
-            told: Out::make(alloc, 131_072)?,
-        })
+        let told = Out::make(alloc, 131_072)?;
+        let held = Held::make(alloc)?;
+        let desk = Desk::make(alloc)?;
+        Ok(Bench { desk, held, told })
     }
+
+    /// Lets the bench go. That is proved here once, and not in each function that makes one.
+    fn end(self) {}
 
     /// Decides what comes of an event, and does it. It gives the effect, whether an epoch begins and the call.
     fn take(
@@ -184,13 +153,13 @@ impl Bench {
         context: Context,
         event: &Event,
     ) -> (&'static str, bool, Call)
-        requires { IsSound self.old.desk }
+        requires sound { IsSound self.old.desk }
+        requires line { IsLineEvent (event_of event.now) }
         ensures { IsSound self.new.desk }
     {
         self.told.clear();
         assert!(rt; self.told.spare() == SCRIPT_LINE);
         assert!(rt; self.desk.pings.len() <= 64);
-        expect_line_event(rt, event);
         assert!(rt; is_served(&self.desk, context));
         let decision = self.desk.decide(context, &self.held, event);
         expect_room(rt, &self.held, &decision.ruling.effect);
@@ -243,6 +212,7 @@ fn check_turn(rt: &impl Abort, bench: &mut Bench, context: Context, turn: &Turn)
     ensures { IsSound bench.new.desk }
 {
     let (engine, mark, effect, begins_epoch, call, told) = *turn;
+    let engine = engine_in(rt, engine);
     let event = event_in(rt, mark);
     let came = bench.take(rt, Context { engine, ..context }, &event);
     expect_came(rt, came, (effect, begins_epoch, call), mark);
@@ -250,28 +220,18 @@ fn check_turn(rt: &impl Abort, bench: &mut Bench, context: Context, turn: &Turn)
 }
 
 /// The effect of an event, whether an epoch begins and the call are as wanted.
-fn expect_came(rt: &impl Abort, came: (&str, bool, Call), want: (&str, bool, Call), mark: &str) {
-    assert_eq!(rt; came, want, "{mark}");
-}
-
-fn expect_text(rt: &impl Abort, text: &[u8], want: &str, mark: &str) {
-    assert_eq!(rt; text, want.as_bytes(), "{mark}");
-}
-
-/// The event that a mark tells.
-fn event_in<'a>(rt: &impl Abort, mark: &'a str) -> Event<'a> {
-    match read_mark(mark.as_bytes()) {
-        Ok(Mark::Event(event)) => event,
-        _ => panic!(rt; "no event: {mark}"),
-    }
+fn expect_came(rt: &impl Abort, came: (&str, bool, Call), want: (&str, bool, &str), mark: &str) {
+    expect(rt, came.0 == want.0, mark);
+    expect(rt, came.1 == want.1, mark);
+    expect(rt, came.2 == call_in(rt, want.2), mark);
 }
 
 fn expect_move(rt: &impl Abort, played: Option<Move>, want: Option<Move>) {
-    assert_eq!(rt; played, want);
+    expect(rt, played == want, "a move");
 }
 
 /// The pings that wait, in their order.
 fn expect_pings(rt: &impl Abort, pings: &Pings, want: &[u32]) {
-    assert_eq!(rt; pings.len(), want.len());
-    assert_eq!(rt; pings.numbers(), want);
+    expect(rt, pings.len() == want.len(), "the number of pings");
+    expect(rt, pings.numbers() == want, "the pings");
 }

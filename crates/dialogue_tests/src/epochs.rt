@@ -1,32 +1,35 @@
 // Worked sessions: what comes in each step after the opening, and the orders that it writes.
+use crate::rows::{G1F3, call_in, expect, search};
 use chess_board::{Move, Square, read_move};
 use peer_words::GoKind;
 use search_epochs::{
-    Call, Dialogue, EngineState, Heard, Orders, Said, open_search, order_places, served_call,
-    whole_dialogue, whole_turn,
+    Call, Dialogue, Heard, Orders, Said, open_search, order_places, served_call, whole_dialogue,
+    whole_turn,
 };
 use std::process::Abort;
 
 #[derive(Clone, Copy)]
 enum Event {
-    Says(Said, Heard),
+    Says(Said),
     Plays(Move),
     Hurries,
     Line,
 }
 
-/// What comes, whether it begins an epoch, the call after it, whether settings wait after it, and the orders.
-type Turn = (Event, bool, Call, bool, Orders);
+/// What comes, what it means if the engine says it, whether it begins an epoch, the call after it, whether settings
+/// wait after it, and the orders.
+type Turn = (
+    &'static str,
+    &'static str,
+    bool,
+    &'static str,
+    bool,
+    &'static str,
+);
 
 const E2E4: Move = Move {
     from: Square { index: 12 },
     to: Square { index: 28 },
-    promo: None,
-};
-
-const G1F3: Move = Move {
-    from: Square { index: 6 },
-    to: Square { index: 21 },
     promo: None,
 };
 
@@ -36,74 +39,34 @@ const D2D4: Move = Move {
     promo: None,
 };
 
-const HINT: Call = Call::Ponder(G1F3);
+const BOOTED: Turn = ("uciok", "booted", false, "nothing", true, "batch");
 
-const BEGIN: Orders = Orders::Begin(Call::Move);
-
-const BEGIN_ANALYSIS: Orders = Orders::Begin(Call::Analyse);
-
-// A search closes: whether it is current, and what it was for.
-const MOVE_FOUND: Event = Event::Says(
-    Said::Best,
-    Heard::Answer {
-        kind: GoKind::Move,
-        current: true,
-    },
-);
-
-const STALE_MOVE: Event = Event::Says(
-    Said::Best,
-    Heard::Answer {
-        kind: GoKind::Move,
-        current: false,
-    },
-);
-
-const STALE_PONDER: Event = Event::Says(
-    Said::Best,
-    Heard::Answer {
-        kind: GoKind::Ponder,
-        current: false,
-    },
-);
-
-const ANALYSED: Event = Event::Says(
-    Said::Best,
-    Heard::Answer {
-        kind: GoKind::Analyse,
-        current: true,
-    },
-);
-
-const IS_READY: Event = Event::Says(Said::ReadyOk, Heard::Ready);
-
-const BOOTED: Turn = (
-    Event::Says(Said::UciOk, Heard::Booted),
-    false,
-    Call::Nothing,
-    true,
-    Orders::Batch,
-);
-
-const QUIET: Turn = (IS_READY, false, Call::Nothing, false, Orders::None);
+const QUIET: Turn = ("readyok", "ready", false, "nothing", false, "none");
 
 // The user plays, and a search for a move begins.
-const BEGINS: Turn = (Event::Plays(E2E4), true, Call::Move, false, BEGIN);
+const BEGINS: Turn = ("plays e2e4", "", true, "move", false, "begin move");
 
 // The user switches pondering on.
-const HARD: Turn = (Event::Line, true, Call::Nothing, true, Orders::Batch);
+const HARD: Turn = ("line", "", true, "nothing", true, "batch");
 
 // A move is shown, and the engine ponders.
-const PONDERS: Turn = (MOVE_FOUND, true, HINT, false, Orders::Begin(HINT));
+const PONDERS: Turn = (
+    "bestmove",
+    "move",
+    true,
+    "ponder g1f3",
+    false,
+    "begin ponder g1f3",
+);
 
 // A move is shown, and nothing more is called for.
-const SHOWS: Turn = (MOVE_FOUND, true, Call::Nothing, false, Orders::None);
+const SHOWS: Turn = ("bestmove", "move", true, "nothing", false, "none");
 
 // The user's line stops the search.
-const STOPS: Turn = (Event::Line, true, Call::Nothing, false, Orders::Stop);
+const STOPS: Turn = ("line", "", true, "nothing", false, "stop");
 
 // The stopped search closes, and no move is shown.
-const CLOSES: Turn = (STALE_MOVE, false, Call::Nothing, false, Orders::None);
+const CLOSES: Turn = ("bestmove", "stale move", false, "nothing", false, "none");
 
 const STOPPED: [Turn; 5] = [BOOTED, QUIET, BEGINS, STOPS, CLOSES];
 
@@ -112,8 +75,8 @@ const STOPPED_AND_BEGUN: [Turn; 7] = [
     QUIET,
     BEGINS,
     STOPS,
-    (Event::Line, true, Call::Move, false, Orders::None),
-    (STALE_MOVE, false, Call::Move, false, BEGIN),
+    ("line", "", true, "move", false, "none"),
+    ("bestmove", "stale move", false, "move", false, "begin move"),
     SHOWS,
 ];
 
@@ -121,8 +84,8 @@ const HURRIED: [Turn; 6] = [
     BOOTED,
     QUIET,
     BEGINS,
-    (Event::Hurries, false, Call::Move, false, Orders::Stop),
-    (Event::Line, true, Call::Nothing, false, Orders::None),
+    ("hurries", "", false, "move", false, "stop"),
+    ("line", "", true, "nothing", false, "none"),
     CLOSES,
 ];
 
@@ -133,7 +96,7 @@ const HINT_PLAYED: [Turn; 8] = [
     QUIET,
     BEGINS,
     PONDERS,
-    (Event::Plays(G1F3), true, Call::Move, false, Orders::Hit),
+    ("plays g1f3", "", true, "move", false, "hit"),
     SHOWS,
 ];
 
@@ -144,22 +107,23 @@ const OTHER_PLAYED: [Turn; 8] = [
     QUIET,
     BEGINS,
     PONDERS,
-    (Event::Plays(D2D4), true, Call::Move, false, Orders::Stop),
-    (STALE_PONDER, false, Call::Move, false, BEGIN),
+    ("plays d2d4", "", true, "move", false, "stop"),
+    (
+        "bestmove",
+        "stale ponder",
+        false,
+        "move",
+        false,
+        "begin move",
+    ),
 ];
 
 const ANALYSIS: [Turn; 5] = [
     BOOTED,
     QUIET,
-    (Event::Line, true, Call::Analyse, false, BEGIN_ANALYSIS),
-    (ANALYSED, false, Call::Analyse, false, Orders::None),
-    (
-        Event::Plays(E2E4),
-        true,
-        Call::Analyse,
-        false,
-        BEGIN_ANALYSIS,
-    ),
+    ("line", "", true, "analyse", false, "begin analyse"),
+    ("bestmove", "analyse", false, "analyse", false, "none"),
+    ("plays e2e4", "", true, "analyse", false, "begin analyse"),
 ];
 
 const HINT_AFTER_EASY: [Turn; 11] = [
@@ -169,10 +133,10 @@ const HINT_AFTER_EASY: [Turn; 11] = [
     QUIET,
     BEGINS,
     PONDERS,
-    (Event::Line, true, Call::Nothing, true, Orders::Stop),
-    (Event::Plays(G1F3), true, Call::Move, true, Orders::None),
-    (STALE_PONDER, false, Call::Move, true, Orders::Batch),
-    (IS_READY, false, Call::Move, false, BEGIN),
+    ("line", "", true, "nothing", true, "stop"),
+    ("plays g1f3", "", true, "move", true, "none"),
+    ("bestmove", "stale ponder", false, "move", true, "batch"),
+    ("readyok", "ready", false, "move", false, "begin move"),
     SHOWS,
 ];
 
@@ -180,21 +144,56 @@ const ENDED: [Turn; 5] = [
     BOOTED,
     QUIET,
     BEGINS,
-    (
-        Event::Says(Said::Ended, Heard::Ended),
-        false,
-        Call::Nothing,
-        false,
-        Orders::None,
-    ),
-    (
-        Event::Says(Said::Ended, Heard::Nothing),
-        false,
-        Call::Nothing,
-        false,
-        Orders::None,
-    ),
+    ("end", "ended", false, "nothing", false, "none"),
+    ("end", "nothing", false, "nothing", false, "none"),
 ];
+
+fn event_in(rt: &impl Abort, word: &str) -> Event {
+    match word {
+        "uciok" => Event::Says(Said::UciOk),
+        "readyok" => Event::Says(Said::ReadyOk),
+        "bestmove" => Event::Says(Said::Best),
+        "end" => Event::Says(Said::Ended),
+        "plays e2e4" => Event::Plays(E2E4),
+        "plays g1f3" => Event::Plays(G1F3),
+        "plays d2d4" => Event::Plays(D2D4),
+        "hurries" => Event::Hurries,
+        "line" => Event::Line,
+        _ => panic!(rt; "no event: {word}"),
+    }
+}
+
+/// What a word means. An answer is named by what its search was for, and by `stale` if that is not current.
+fn heard_in(rt: &impl Abort, word: &str) -> Heard {
+    match word {
+        "nothing" => Heard::Nothing,
+        "booted" => Heard::Booted,
+        "ready" => Heard::Ready,
+        "ended" => Heard::Ended,
+        "move" => answer(GoKind::Move, true),
+        "stale move" => answer(GoKind::Move, false),
+        "stale ponder" => answer(GoKind::Ponder, false),
+        "analyse" => answer(GoKind::Analyse, true),
+        _ => panic!(rt; "nothing that is heard: {word}"),
+    }
+}
+
+fn answer(kind: GoKind, current: bool) -> Heard {
+    Heard::Answer { kind, current }
+}
+
+fn orders_in(rt: &impl Abort, words: &str) -> Orders {
+    match words {
+        "none" => Orders::None,
+        "batch" => Orders::Batch,
+        "begin move" => Orders::Begin(Call::Move),
+        "begin ponder g1f3" => Orders::Begin(Call::Ponder(G1F3)),
+        "begin analyse" => Orders::Begin(Call::Analyse),
+        "hit" => Orders::Hit,
+        "stop" => Orders::Stop,
+        _ => panic!(rt; "no orders: {words}"),
+    }
+}
 
 fn walk(rt: &impl Abort, name: &str, turns: &[Turn]) {
     let mut dialogue = Dialogue::new();
@@ -205,40 +204,37 @@ fn walk(rt: &impl Abort, name: &str, turns: &[Turn]) {
 }
 
 fn take_turn(rt: &impl Abort, dialogue: &mut Dialogue, turn: &Turn, name: &str, k: usize) {
-    let (event, begins_epoch, call, unsent, want) = *turn;
-    if let Event::Says(said, heard) = event {
-        expect_heard(rt, dialogue.heard(said), heard, name, k);
+    let (event, meaning, begins_epoch, call, unsent, orders) = *turn;
+    let event = event_in(rt, event);
+    if let Event::Says(said) = event {
+        let heard = dialogue.heard(said);
+        expect_in_turn(rt, heard == heard_in(rt, meaning), name, k);
     }
     if begins_epoch {
         dialogue.new_epoch();
     }
-    let played = match event {
+    let call = call_in(rt, call);
+    let came = dialogue.settle(call, unsent, played(event), hurries(event));
+    expect_in_turn(rt, came == orders_in(rt, orders), name, k);
+}
+
+fn played(event: Event) -> Option<Move> {
+    match event {
         Event::Plays(m) => Some(m),
         _ => None,
-    };
-    let hurry = matches!(event, Event::Hurries);
-    let orders = dialogue.settle(call, unsent, played, hurry);
-    expect_orders(rt, orders, want, name, k);
+    }
 }
 
-fn expect_heard(rt: &impl Abort, heard: Heard, want: Heard, name: &str, k: usize) {
-    assert_eq!(rt; heard, want, "{name}: what is heard in turn {k}");
+fn hurries(event: Event) -> bool {
+    matches!(event, Event::Hurries)
 }
 
-fn expect_orders(rt: &impl Abort, orders: Orders, want: Orders, name: &str, k: usize) {
-    assert_eq!(rt; orders, want, "{name}: the orders of turn {k}");
+fn expect_in_turn(rt: &impl Abort, holds: bool, name: &str, k: usize) {
+    assert!(rt; holds, "{name}: turn {k}");
 }
 
 fn expect_move(rt: &impl Abort, text: &str, want: Move) {
-    assert_eq!(rt; read_move(text.as_bytes()), Some(want), "{text}");
-}
-
-fn expect_owed(rt: &impl Abort, dialogue: &Dialogue, want: Call) {
-    assert_eq!(rt; dialogue.owed(Call::Analyse), want);
-}
-
-fn expect_state(rt: &impl Abort, state: EngineState, want: EngineState) {
-    assert_eq!(rt; state, want);
+    expect(rt, read_move(text.as_bytes()) == Some(want), text);
 }
 
 #[test]
@@ -271,25 +267,19 @@ fn sessions(rt: HostRuntime) {
 #[test]
 fn spent(rt: HostRuntime) {
     let mut dialogue = Dialogue::new();
-    expect_heard(&rt, dialogue.heard(Said::UciOk), Heard::Booted, "spent", 0);
-    let orders = dialogue.settle(Call::Analyse, false, None, false);
-    expect_orders(&rt, orders, BEGIN_ANALYSIS, "spent", 0);
-    let kind = GoKind::Analyse;
-    let open = EngineState::Search {
-        kind,
-        stale: false,
-        stopped: false,
-    };
-    expect_state(&rt, dialogue.state(), open);
-    let answer = Heard::Answer {
-        kind,
-        current: true,
-    };
-    expect_heard(&rt, dialogue.heard(Said::Best), answer, "spent", 1);
-    assert!(rt; dialogue.is_spent());
-    expect_owed(&rt, &dialogue, Call::Nothing);
+    expect(&rt, dialogue.heard(Said::UciOk) == Heard::Booted, "uciok");
+    let begun = dialogue.settle(Call::Analyse, false, None, false);
+    expect(&rt, begun == Orders::Begin(Call::Analyse), "go");
+    let open = search(GoKind::Analyse, false);
+    expect(&rt, dialogue.state() == open, "an open search");
+    let answered = dialogue.heard(Said::Best) == answer(GoKind::Analyse, true);
+    expect(&rt, answered, "bestmove");
+    expect(&rt, dialogue.is_spent(), "spent");
+    let owed = dialogue.owed(Call::Analyse);
+    expect(&rt, owed == Call::Nothing, "nothing is owed");
     dialogue.new_epoch();
-    expect_owed(&rt, &dialogue, Call::Analyse);
+    let owed = dialogue.owed(Call::Analyse);
+    expect(&rt, owed == Call::Analyse, "an analysis is owed");
 }
 
 #[test]

@@ -12,4 +12,6 @@ mod epochs;
 #[cfg(test)]
 mod laws;
 #[cfg(test)]
+mod rows;
+#[cfg(test)]
 mod script;

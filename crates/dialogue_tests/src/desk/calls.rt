@@ -2,7 +2,8 @@
 ghost use Rattle.std.specs.Prelude.{◌≡◌, true};
 ghost use Rattle.desk_rules.specs.Fits.{IsSound, CanSearch, CanWrite};
 
-use super::{Bench, MOVE, SIGHT, STALE, Turn, check_turns, expect_move, expect_pings, expect_text};
+use super::{Bench, SIGHT, Turn, check_turns, expect_move, expect_pings};
+use crate::rows::{engine_in, expect, expect_text};
 use cecp_lines::{IfaceMsg, read_iface};
 use chess_board::{Move, Square, read_move};
 use desk_rules::{Desk, Effect, EngineName, Pings, is_gone, put_chosen, put_pongs};
@@ -56,23 +57,9 @@ const E7E5: Move = Move {
     promo: None,
 };
 
-const AFTER_E4: [Turn<'static>; 2] = [
-    (
-        EngineState::Idle,
-        "x new",
-        "accepts",
-        true,
-        Call::Nothing,
-        "",
-    ),
-    (
-        EngineState::Idle,
-        "x usermove e2e4",
-        "accepts",
-        true,
-        Call::Move,
-        "",
-    ),
+const AFTER_E4: [Turn; 2] = [
+    ("idle", "x new", "accepts", true, "nothing", ""),
+    ("idle", "x usermove e2e4", "accepts", true, "move", ""),
 ];
 
 /// Orders, and the lines that they are put in.
@@ -111,14 +98,15 @@ fn check_all_chosen(
 #[test]
 fn puts_the_chosen_orders(rt: HostRuntime) -> Result<(), Fail> {
     expect_move(&rt, read_move(b"e7e5"), Some(E7E5));
+    let mut out = Out::make(rt.alloc(), 72_300)?;
     let mut bench = Bench::make(rt.alloc())?;
     check_turns(&rt, &mut bench, SIGHT, &AFTER_E4);
-    let mut out = Out::make(rt.alloc(), 72_300)?;
     check_all_chosen(&rt, &bench.held, &bench.desk, &CHOSEN, &mut out);
     out.clear();
     assert!(rt; out.spare() >= 72_300);
     bench.desk.put_search(Call::Analyse, &mut out);
     expect_text(&rt, out.bytes(), ANALYSIS_AFTER_E4, "analysis");
+    bench.end();
     Ok(())
 }
 
@@ -148,7 +136,7 @@ fn clears_scores(rt: &impl Abort, message: IfaceMsg) -> bool {
     };
     let mut scores = Scores::new(&one_is_lost);
     scores.shown(Some(-700));
-    assert!(rt; scores.resigns());
+    expect(rt, scores.resigns(), "a lost move was shown");
     Effect::Accepts(message).count(&mut scores, None);
     !scores.resigns()
 }
@@ -173,12 +161,8 @@ const CLEARINGS: [(&'static str, bool); 13] = [
 fn check_clearings(rt: &impl Abort, rows: &[(&str, bool)]) {
     for (line, want) in rows {
         let message = read_iface(line.as_bytes()).expect(rt, "a message");
-        expect_cleared(rt, clears_scores(rt, message), *want, line);
+        expect(rt, clears_scores(rt, message) == *want, line);
     }
-}
-
-fn expect_cleared(rt: &impl Abort, cleared: bool, want: bool, line: &str) {
-    assert_eq!(rt; cleared, want, "{line}");
 }
 
 #[test]
@@ -187,23 +171,17 @@ fn clears_scores_by_lines(rt: HostRuntime) -> Result<(), Fail> {
     Ok(())
 }
 
-const NOT_GONE: [EngineState; 5] = [
-    EngineState::Boot,
-    EngineState::Getting,
-    EngineState::Idle,
-    MOVE,
-    STALE,
-];
+const NOT_GONE: [&str; 5] = ["boot", "getting", "idle", "move", "stale"];
 
-fn expect_none_gone(rt: &impl Abort, engines: &[EngineState]) {
+fn expect_none_gone(rt: &impl Abort, engines: &[&str]) {
     for engine in engines {
-        assert!(rt; !is_gone(*engine));
+        expect(rt, !is_gone(engine_in(rt, engine)), engine);
     }
 }
 
 #[test]
 fn knows_a_gone_engine(rt: HostRuntime) -> Result<(), Fail> {
-    assert!(rt; is_gone(EngineState::Gone));
+    expect(&rt, is_gone(EngineState::Gone), "gone");
     expect_none_gone(&rt, &NOT_GONE);
     Ok(())
 }

@@ -1,16 +1,11 @@
 // Turns of the dialogue, as the desk sees them.
-use super::{
-    Bench, G1F3, MOVE, SIGHT, STALE, Turn, check_turns, expect_came, expect_move, expect_pings,
-    expect_text,
-};
+use super::{Bench, SIGHT, Turn, check_turns, expect_came, expect_move, expect_pings};
+use crate::rows::{G1F3, expect, expect_text};
 use chess_board::{Side, read_move};
 use desk_rules::{Context, Desk, Mode};
-use line_io::Event;
+use line_io::{Event, NoMemory};
 use option_map::Held;
-use peer_words::GoKind;
-use search_epochs::Call::{Analyse, Move, Nothing, Ponder};
-use search_epochs::EngineState::{Boot, Getting, Gone, Idle};
-use search_epochs::{Call, EngineState};
+use std::alloc::Global;
 use std::process::Abort;
 use std::test::Fail;
 
@@ -39,331 +34,368 @@ const ILLEGAL_BY_ENGINE: &str = "tellusererror Illegal move by engine\nresign\n"
 
 const PONDER_IS_OPTION: &str = "u option name Ponder type check default false";
 
-const REFUSALS: [Turn<'static>; 8] = [
+const REFUSALS: [Turn; 8] = [
     (
-        Boot,
+        "boot",
         "x hello",
         "refuses",
         false,
-        Nothing,
+        "nothing",
         "Error (unknown command): hello\n",
     ),
     (
-        Boot,
+        "boot",
         "x  st x ",
         "refuses",
         false,
-        Nothing,
+        "nothing",
         "Error (bad argument): st x\n",
     ),
     (
-        Gone,
+        "gone",
         "x go",
         "refuses",
         false,
-        Nothing,
+        "nothing",
         "Error (engine ended): go\n",
     ),
     (
-        Idle,
+        "idle",
         "x exit",
         "refuses",
         false,
-        Nothing,
+        "nothing",
         "Error (not analyzing): exit\n",
     ),
     (
-        Idle,
+        "idle",
         "x undo",
         "refuses",
         false,
-        Nothing,
+        "nothing",
         "Error (no move to undo): undo\n",
     ),
     (
-        Idle,
+        "idle",
         "x usermove e2e5",
         "refuses",
         false,
-        Nothing,
+        "nothing",
         "Illegal move: e2e5\n",
     ),
     (
-        Idle,
+        "idle",
         "x setboard 8/8",
         "refuses",
         false,
-        Nothing,
+        "nothing",
         "tellusererror Illegal position\n",
     ),
     (
-        Idle,
+        "idle",
         "x option A=1",
         "refuses",
         false,
-        Nothing,
+        "nothing",
         "Error (unknown option): option A=1\n",
     ),
 ];
 
 const TOO_LONG: &str = "Error (line too long): ...\n";
 
-const PASSED: [Turn<'static>; 9] = [
-    (Boot, "x!", "long line", false, Nothing, TOO_LONG),
-    (Boot, "x.", "nothing", false, Nothing, ""),
-    (Boot, "x?", "nothing", false, Nothing, ""),
-    (Boot, "u!", "nothing", false, Nothing, ""),
-    (Boot, "u readyok", "nothing", false, Nothing, ""),
-    (Getting, "u uciok", "nothing", false, Nothing, ""),
-    (Idle, "u bestmove e2e4", "nothing", false, Nothing, ""),
+const PASSED: [Turn; 9] = [
+    ("boot", "x!", "long line", false, "nothing", TOO_LONG),
+    ("boot", "x.", "nothing", false, "nothing", ""),
+    ("boot", "x?", "nothing", false, "nothing", ""),
+    ("boot", "u!", "nothing", false, "nothing", ""),
+    ("boot", "u readyok", "nothing", false, "nothing", ""),
+    ("getting", "u uciok", "nothing", false, "nothing", ""),
+    ("idle", "u bestmove e2e4", "nothing", false, "nothing", ""),
     (
-        Idle,
+        "idle",
         "u info depth 1 score cp 0 pv e2e4",
         "nothing",
         false,
-        Nothing,
+        "nothing",
         "",
     ),
-    (Gone, "u.", "nothing", false, Nothing, ""),
+    ("gone", "u.", "nothing", false, "nothing", ""),
 ];
 
-const PASSED_WHEN_CLOSED: [Turn<'static>; 3] = [
-    (Boot, "x force", "nothing", false, Nothing, ""),
-    (Boot, "x!", "nothing", false, Nothing, ""),
-    (Boot, "u uciok", "nothing", false, Nothing, ""),
+const PASSED_WHEN_CLOSED: [Turn; 3] = [
+    ("boot", "x force", "nothing", false, "nothing", ""),
+    ("boot", "x!", "nothing", false, "nothing", ""),
+    ("boot", "u uciok", "nothing", false, "nothing", ""),
 ];
 
-const DECLARATIONS: [Turn<'static>; 4] = [
+const DECLARATIONS: [Turn; 4] = [
     (
-        Boot,
+        "boot",
         "x protover 2",
         "accepts",
         false,
-        Nothing,
+        "nothing",
         "feature done=0\n",
     ),
-    (Boot, "u id name Toy", "names", false, Nothing, ""),
-    (Boot, PONDER_IS_OPTION, "declares", false, Nothing, ""),
+    ("boot", "u id name Toy", "names", false, "nothing", ""),
+    ("boot", PONDER_IS_OPTION, "declares", false, "nothing", ""),
     // no option counts as declared yet
-    (Boot, "x hard", "accepts", true, Nothing, ""),
+    ("boot", "x hard", "accepts", true, "nothing", ""),
 ];
 
-const BOOTING: [Turn<'static>; 3] = [
-    (Boot, "u uciok", "boots", false, Nothing, LIST),
-    (Getting, "u readyok", "readies", false, Nothing, ""),
-    (Idle, "x protover 2", "accepts", false, Nothing, LIST),
+const BOOTING: [Turn; 3] = [
+    ("boot", "u uciok", "boots", false, "nothing", LIST),
+    ("getting", "u readyok", "readies", false, "nothing", ""),
+    ("idle", "x protover 2", "accepts", false, "nothing", LIST),
 ];
 
 const BEST_WITH_HINT: &str = "u bestmove e7e5 ponder g1f3";
 
-const PLAYED: [Turn<'static>; 6] = [
-    (Idle, "x post", "accepts", false, Nothing, ""),
-    (Idle, "x usermove e2e4", "accepts", true, Move, ""),
+const PLAYED: [Turn; 6] = [
+    ("idle", "x post", "accepts", false, "nothing", ""),
+    ("idle", "x usermove e2e4", "accepts", true, "move", ""),
     (
-        MOVE,
+        "move",
         "u info depth 8 score cp -20 time 350 nodes 51000 pv e7e5 g1f3",
         "thinks",
         false,
-        Move,
+        "move",
         "8 -20 35 51000 e7e5 g1f3\n",
     ),
     (
-        STALE,
+        "stale",
         "u info depth 9 score cp 0",
         "nothing",
         false,
-        Move,
+        "move",
         "",
     ),
-    (MOVE, BEST_WITH_HINT, "shows", true, Nothing, "move e7e5\n"),
-    (Idle, "x hint", "accepts", false, Nothing, "Hint: g1f3\n"),
+    (
+        "move",
+        BEST_WITH_HINT,
+        "shows",
+        true,
+        "nothing",
+        "move e7e5\n",
+    ),
+    (
+        "idle",
+        "x hint",
+        "accepts",
+        false,
+        "nothing",
+        "Hint: g1f3\n",
+    ),
 ];
 
 // The user's move stays, and Black is on move again.
-const TAKEN_BACK: [Turn<'static>; 2] = [
-    (Idle, "x undo", "accepts", true, Move, ""),
-    (MOVE, "x hint", "accepts", false, Move, ""),
+const TAKEN_BACK: [Turn; 2] = [
+    ("idle", "x undo", "accepts", true, "move", ""),
+    ("move", "x hint", "accepts", false, "move", ""),
 ];
 
-const GIVEN_UP: [Turn<'static>; 8] = [
-    (Idle, "x usermove e2e4", "accepts", true, Move, ""),
-    (STALE, "u bestmove e7e5", "answers", false, Move, ""),
+const GIVEN_UP: [Turn; 8] = [
+    ("idle", "x usermove e2e4", "accepts", true, "move", ""),
+    ("stale", "u bestmove e7e5", "answers", false, "move", ""),
     (
-        MOVE,
+        "move",
         "u bestmove e2e4",
         "forfeits",
         false,
-        Nothing,
+        "nothing",
         ILLEGAL_BY_ENGINE,
     ),
-    (Idle, "x go", "accepts", true, Move, ""),
+    ("idle", "x go", "accepts", true, "move", ""),
     (
-        MOVE,
+        "move",
         "u bestmove 0000",
         "forfeits",
         false,
-        Nothing,
+        "nothing",
         ILLEGAL_BY_ENGINE,
     ),
-    (Idle, "x go", "accepts", true, Move, ""),
-    (MOVE, "u.", "dies", false, Nothing, ENGINE_ENDED),
-    (Gone, "x hard", "accepts", true, Nothing, ""),
+    ("idle", "x go", "accepts", true, "move", ""),
+    ("move", "u.", "dies", false, "nothing", ENGINE_ENDED),
+    ("gone", "x hard", "accepts", true, "nothing", ""),
 ];
 
-const RESIGNED: [Turn<'static>; 4] = [
-    (Idle, "x draw", "accepts", false, Nothing, "offer draw\n"),
-    (Idle, "x usermove e2e4", "accepts", true, Move, ""),
+const RESIGNED: [Turn; 4] = [
     (
-        MOVE,
+        "idle",
+        "x draw",
+        "accepts",
+        false,
+        "nothing",
+        "offer draw\n",
+    ),
+    ("idle", "x usermove e2e4", "accepts", true, "move", ""),
+    (
+        "move",
         "u bestmove e7e5",
         "shows",
         true,
-        Nothing,
+        "nothing",
         "move e7e5\nresign\n",
     ),
-    (Idle, "x draw", "accepts", false, Nothing, ""),
+    ("idle", "x draw", "accepts", false, "nothing", ""),
 ];
 
 // Where the move ends the game, the engine does not resign.
-const MATED: [Turn<'static>; 8] = [
-    (Idle, "x force", "accepts", true, Nothing, ""),
-    (Idle, "x usermove f2f3", "accepts", true, Nothing, ""),
-    (Idle, "x usermove e7e5", "accepts", true, Nothing, ""),
-    (Idle, "x usermove g2g4", "accepts", true, Nothing, ""),
-    (Idle, "x go", "accepts", true, Move, ""),
+const MATED: [Turn; 8] = [
+    ("idle", "x force", "accepts", true, "nothing", ""),
+    ("idle", "x usermove f2f3", "accepts", true, "nothing", ""),
+    ("idle", "x usermove e7e5", "accepts", true, "nothing", ""),
+    ("idle", "x usermove g2g4", "accepts", true, "nothing", ""),
+    ("idle", "x go", "accepts", true, "move", ""),
     (
-        MOVE,
+        "move",
         "u bestmove d8h4",
         "shows",
         true,
-        Nothing,
+        "nothing",
         "move d8h4\n0-1 {Black mates}\n",
     ),
     (
-        Idle,
+        "idle",
         "x go",
         "accepts",
         true,
-        Nothing,
+        "nothing",
         "0-1 {Black mates}\n",
     ),
-    (Idle, "x draw", "accepts", false, Nothing, ""),
+    ("idle", "x draw", "accepts", false, "nothing", ""),
 ];
 
-const HINT: Call = Ponder(G1F3);
-
-const PONDERING: EngineState = EngineState::Search {
-    kind: GoKind::Ponder,
-    stale: false,
-    stopped: false,
-};
-
-const HINTED: [Turn<'static>; 6] = [
-    (Boot, PONDER_IS_OPTION, "declares", false, Nothing, ""),
-    (Boot, "u uciok", "boots", false, Nothing, ""),
-    (Idle, "x hard", "accepts", true, Nothing, ""),
-    (Idle, "x post", "accepts", false, Nothing, ""),
-    (Idle, "x usermove e2e4", "accepts", true, Move, ""),
-    (MOVE, BEST_WITH_HINT, "shows", true, HINT, "move e7e5\n"),
+const HINTED: [Turn; 6] = [
+    ("boot", PONDER_IS_OPTION, "declares", false, "nothing", ""),
+    ("boot", "u uciok", "boots", false, "nothing", ""),
+    ("idle", "x hard", "accepts", true, "nothing", ""),
+    ("idle", "x post", "accepts", false, "nothing", ""),
+    ("idle", "x usermove e2e4", "accepts", true, "move", ""),
+    (
+        "move",
+        BEST_WITH_HINT,
+        "shows",
+        true,
+        "ponder g1f3",
+        "move e7e5\n",
+    ),
 ];
 
 const PONDER_INFO: &str = "u info depth 7 score cp 25 time 99 nodes 4000 pv b8c6 f1b5";
 
-const PONDERED: [Turn<'static>; 1] = [(
-    PONDERING,
+const PONDERED: [Turn; 1] = [(
+    "ponder",
     PONDER_INFO,
     "thinks",
     false,
-    HINT,
+    "ponder g1f3",
     "7 25 9 4000 (g1f3) b8c6 f1b5\n",
 )];
 
-const PONDERED_UNSEEN: [Turn<'static>; 2] = [
-    (PONDERING, PONDER_INFO, "thinks", false, HINT, ""),
-    (PONDERING, "x usermove g1f3", "accepts", true, Move, ""),
+const PONDERED_UNSEEN: [Turn; 2] = [
+    ("ponder", PONDER_INFO, "thinks", false, "ponder g1f3", ""),
+    ("ponder", "x usermove g1f3", "accepts", true, "move", ""),
 ];
 
-const ANALYSING: EngineState = EngineState::Search {
-    kind: GoKind::Analyse,
-    stale: false,
-    stopped: false,
-};
-
-const ANALYSIS_BEGUN: [Turn<'static>; 3] = [
+const ANALYSIS_BEGUN: [Turn; 3] = [
     (
-        Boot,
+        "boot",
         "u option name UCI_AnalyseMode type check default false",
         "declares",
         false,
-        Nothing,
+        "nothing",
         "",
     ),
-    (Boot, "x analyze", "accepts", true, Analyse, ""),
-    (Boot, "u uciok", "boots", false, Analyse, ""),
+    ("boot", "x analyze", "accepts", true, "analyse", ""),
+    ("boot", "u uciok", "boots", false, "analyse", ""),
 ];
 
-const ANALYSED: [Turn<'static>; 5] = [
+const ANALYSED: [Turn; 5] = [
     (
-        ANALYSING,
+        "analyse",
         "u info depth 12 time 4200 nodes 900000 currmove e2e4 currmovenumber 3",
         "thinks",
         false,
-        Analyse,
+        "analyse",
         "",
     ),
     (
-        ANALYSING,
+        "analyse",
         "x .",
         "accepts",
         false,
-        Analyse,
+        "analyse",
         "stat01: 420 900000 12 17 20 e2e4\n",
     ),
-    (ANALYSING, "x usermove e2e4", "accepts", true, Analyse, ""),
-    (ANALYSING, "u bestmove e7e5", "answers", false, Analyse, ""),
-    (Idle, "x exit", "accepts", true, Nothing, ""),
+    ("analyse", "x usermove e2e4", "accepts", true, "analyse", ""),
+    (
+        "analyse",
+        "u bestmove e7e5",
+        "answers",
+        false,
+        "analyse",
+        "",
+    ),
+    ("idle", "x exit", "accepts", true, "nothing", ""),
 ];
 
-const MOVE_OWED: [Turn<'static>; 1] = [(Idle, "x usermove e2e4", "accepts", true, Move, "")];
+const MOVE_OWED: [Turn; 1] = [("idle", "x usermove e2e4", "accepts", true, "move", "")];
 
-const PINGED: [Turn<'static>; 64] = [(MOVE, "x ping 1", "accepts", false, Move, ""); 64];
+const PINGED: [Turn; 64] = [("move", "x ping 1", "accepts", false, "move", ""); 64];
 
-const PINGED_TOO_OFTEN: [Turn<'static>; 1] = [(
-    MOVE,
+const PINGED_TOO_OFTEN: [Turn; 1] = [(
+    "move",
     "x ping 2",
     "refuses",
     false,
-    Move,
+    "move",
     "Error (too many pings): ping 2\n",
 )];
 
 fn expect_mode(rt: &impl Abort, desk: &Desk, want: Mode) {
-    assert_eq!(rt; desk.mode, want);
+    expect(rt, desk.mode == want, "the mode");
 }
 
 fn expect_plies(rt: &impl Abort, desk: &Desk, want: u32) {
-    assert_eq!(rt; desk.game.plies(), want);
+    expect(rt, desk.game.plies() == want, "the plies");
 }
 
 fn expect_none_held(rt: &impl Abort, held: &Held) {
-    assert_eq!(rt; held.count(), 0);
+    expect(rt, held.count() == 0, "no orders are held");
 }
 
+/// The depth and the score that the search told last.
 fn expect_seen(rt: &impl Abort, desk: &Desk, depth: u64, score: i64) {
-    assert_eq!(rt; (desk.seen.depth, desk.seen.score), (depth, Some(score)));
+    expect(rt, desk.seen.depth == depth, "the depth");
+    expect(rt, desk.seen.score == Some(score), "the score");
+}
+
+/// Whether the feature list is due, and whether the engine has left its boot.
+fn expect_talk(rt: &impl Abort, desk: &Desk, due: bool, booted: bool) {
+    expect(rt, desk.due.is_due() == due, "the feature list");
+    expect(rt, desk.booted == booted, "the boot");
+}
+
+/// Nothing was asked of the desk yet.
+fn expect_fresh(rt: &impl Abort, desk: &Desk) {
+    expect(rt, !desk.post, "no thinking lines");
+    expect(rt, !desk.pondering, "no pondering");
+    expect(rt, desk.hint.is_none(), "no hint");
+    expect_plies(rt, desk, 0);
+    expect_mode(rt, desk, Mode::Plays(Side::Black));
+    expect_talk(rt, desk, false, false);
+    expect_pings(rt, &desk.pings, &[]);
 }
 
 #[test]
 fn begins_with_an_empty_desk(rt: HostRuntime) -> Result<(), Fail> {
     let mut bench = Bench::make(rt.alloc())?;
-    expect_plies(&rt, &bench.desk, 0);
-    expect_mode(&rt, &bench.desk, Mode::Plays(Side::Black));
-    assert!(rt; !bench.desk.post && !bench.desk.pondering && !bench.desk.booted);
-    assert!(rt; bench.desk.hint.is_none() && !bench.desk.due.is_due());
-    expect_pings(&rt, &bench.desk.pings, &[]);
+    expect_fresh(&rt, &bench.desk);
     let came = bench.take(&rt, SIGHT, &Event::Open);
-    expect_came(&rt, came, ("opens", false, Nothing), "open");
+    expect_came(&rt, came, ("opens", false, "nothing"), "open");
     expect_text(&rt, bench.told.bytes(), "", "open");
+    bench.end();
     Ok(())
 }
 
@@ -372,6 +404,7 @@ fn refuses_lines(rt: HostRuntime) -> Result<(), Fail> {
     let mut bench = Bench::make(rt.alloc())?;
     check_turns(&rt, &mut bench, SIGHT, &REFUSALS);
     expect_plies(&rt, &bench.desk, 0);
+    bench.end();
     Ok(())
 }
 
@@ -385,6 +418,7 @@ fn passes_over_events(rt: HostRuntime) -> Result<(), Fail> {
     };
     check_turns(&rt, &mut bench, closed, &PASSED_WHEN_CLOSED);
     expect_mode(&rt, &bench.desk, Mode::Plays(Side::Black));
+    bench.end();
     Ok(())
 }
 
@@ -392,11 +426,12 @@ fn passes_over_events(rt: HostRuntime) -> Result<(), Fail> {
 fn learns_what_the_engine_is(rt: HostRuntime) -> Result<(), Fail> {
     let mut bench = Bench::make(rt.alloc())?;
     check_turns(&rt, &mut bench, SIGHT, &DECLARATIONS);
-    assert!(rt; bench.desk.due.is_due() && !bench.desk.booted);
+    expect_talk(&rt, &bench.desk, true, false);
     expect_none_held(&rt, &bench.held);
     check_turns(&rt, &mut bench, SIGHT, &BOOTING);
-    assert!(rt; !bench.desk.due.is_due() && bench.desk.booted);
+    expect_talk(&rt, &bench.desk, false, true);
     bench.check_held(&rt, "setoption name Ponder value true\n");
+    bench.end();
     Ok(())
 }
 
@@ -411,6 +446,7 @@ fn plays_a_move(rt: HostRuntime) -> Result<(), Fail> {
     check_turns(&rt, &mut bench, SIGHT, &TAKEN_BACK);
     expect_move(&rt, bench.desk.hint, None);
     expect_plies(&rt, &bench.desk, 1);
+    bench.end();
     Ok(())
 }
 
@@ -421,22 +457,28 @@ fn gives_up_without_a_legal_move(rt: HostRuntime) -> Result<(), Fail> {
     expect_mode(&rt, &bench.desk, Mode::Over);
     expect_plies(&rt, &bench.desk, 1);
     expect_none_held(&rt, &bench.held);
+    bench.end();
     Ok(())
 }
 
-#[test]
-fn resigns_and_draws_by_the_policy(rt: HostRuntime) -> Result<(), Fail> {
+/// Takes turns with a policy that resigns and accepts draws, and compares the mode after them.
+fn check_lost(rt: &impl Abort, alloc: Global, turns: &[Turn], mode: Mode) -> Result<(), NoMemory> {
     let lost = Context {
         resigns: true,
         accepts: true,
         ..SIGHT
     };
-    let mut bench = Bench::make(rt.alloc())?;
-    check_turns(&rt, &mut bench, lost, &RESIGNED);
-    expect_mode(&rt, &bench.desk, Mode::Over);
-    let mut mate = Bench::make(rt.alloc())?;
-    check_turns(&rt, &mut mate, lost, &MATED);
-    expect_mode(&rt, &mate.desk, Mode::Plays(Side::White));
+    let mut bench = Bench::make(alloc)?;
+    check_turns(rt, &mut bench, lost, turns);
+    expect_mode(rt, &bench.desk, mode);
+    bench.end();
+    Ok(())
+}
+
+#[test]
+fn resigns_and_draws_by_the_policy(rt: HostRuntime) -> Result<(), Fail> {
+    check_lost(&rt, rt.alloc(), &RESIGNED, Mode::Over)?;
+    check_lost(&rt, rt.alloc(), &MATED, Mode::Plays(Side::White))?;
     Ok(())
 }
 
@@ -453,6 +495,7 @@ fn ponders_on_the_hint(rt: HostRuntime) -> Result<(), Fail> {
         ..SIGHT
     };
     check_turns(&rt, &mut bench, hidden, &PONDERED_UNSEEN);
+    bench.end();
     Ok(())
 }
 
@@ -465,6 +508,7 @@ fn analyses(rt: HostRuntime) -> Result<(), Fail> {
     bench.check_held(&rt, "setoption name UCI_AnalyseMode value false\n");
     expect_mode(&rt, &bench.desk, Mode::Force);
     expect_plies(&rt, &bench.desk, 1);
+    bench.end();
     Ok(())
 }
 
@@ -472,16 +516,16 @@ fn analyses(rt: HostRuntime) -> Result<(), Fail> {
 fn keeps_so_many_pings(rt: HostRuntime) -> Result<(), Fail> {
     let mut bench = Bench::make(rt.alloc())?;
     check_turns(&rt, &mut bench, SIGHT, &MOVE_OWED);
-    assert!(rt; bench.desk.owes_move(SIGHT));
-    assert!(rt;
-        !bench.desk.owes_move(Context {
-            spent: true,
-            ..SIGHT
-        })
-    );
+    let spent = Context {
+        spent: true,
+        ..SIGHT
+    };
+    expect(&rt, bench.desk.owes_move(SIGHT), "a move is owed");
+    expect(&rt, !bench.desk.owes_move(spent), "no move is owed");
     check_turns(&rt, &mut bench, SIGHT, &PINGED);
     expect_pings(&rt, &bench.desk.pings, &[1; 64]);
     check_turns(&rt, &mut bench, SIGHT, &PINGED_TOO_OFTEN);
     expect_pings(&rt, &bench.desk.pings, &[1; 64]);
+    bench.end();
     Ok(())
 }

@@ -14,11 +14,11 @@ hold-requires g c =
     let h = at c.args.context c.args.self.now.desk in
     let held = c.args.self.now.held in
     let d = effect_of c.decide-decision.result.ruling.effect in
-    let fits = subst (λ (x : Effect). Fits h held x) (sym c.decide-decision.ensures.effect) (comes_fits h held (event_of c.args.event.now) c.expect_line_event.ensures) in
-    subst (λ (os : List Order). AllJoin held os) (sym c.decide-decision.ensures.asks) (asked_join h held d c.requires fits c.expect_room.ensures)
+    let fits = subst (λ (x : Effect). Fits h held x) (sym c.decide-decision.ensures.effect) (comes_fits h held (event_of c.args.event.now) c.requires.line) in
+    subst (λ (os : List Order). AllJoin held os) (sym c.decide-decision.ensures.asks) (asked_join h held d c.requires.sound fits c.expect_room.ensures)
 
 pub follow-requires-clause-fits : goal.follow-requires-clause-fits
 follow-requires-clause-fits g c =
     let h = at c.args.context c.args.self.now.desk in
     let held = c.args.self.now.held in
-    (held, subst (λ (x : Effect). Fits h held x) (sym c.decide-decision.ensures.effect) (comes_fits h held (event_of c.args.event.now) c.expect_line_event.ensures))
+    (held, subst (λ (x : Effect). Fits h held x) (sym c.decide-decision.ensures.effect) (comes_fits h held (event_of c.args.event.now) c.requires.line))
