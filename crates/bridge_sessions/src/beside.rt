@@ -12,6 +12,7 @@ use event_pipe::{Pipe, ReadEnd};
 use line_io::{MemSink, NoMemory, NullSink};
 use pipe_runner::{RunEnd, run_pipes};
 use std::alloc::Global;
+use std::process::Abort;
 use std::sync::Wait;
 use std::sync::atomic::{AtomicU64, Ordering};
 use std::thread::Threads;
@@ -46,25 +47,20 @@ fn run_talk<R: Threads + Wait + Sync>(
 }
 
 #[test]
-fn readers_run_beside(rt: HostRuntime) -> Result<(), NoMemory> {
+fn readers_run_beside(rt: HostRuntime) {
     let took = AtomicU64::new(0);
-    let mut ready = make_ready(rt.alloc())?;
-    let end = run_talk(&rt, rt.alloc(), &mut ready, &took)?;
+    let mut ready = make_ready(rt.alloc()).expect(&rt, "memory for the core");
+    let end = run_talk(&rt, rt.alloc(), &mut ready, &took).expect(&rt, "memory for the channel");
     assert!(rt; end.iface == ReadEnd::Done);
     assert!(rt; end.engine == ReadEnd::Done);
     assert!(rt; took.load(Ordering::SeqCst) == QUIT);
-    Ok(())
 }
 
 // Runs the program for an interface and over an engine that wait for one another.
-fn run_program<R: Threads + Wait + Sync>(
-    rt: &R,
-    alloc: Global,
-    took: &AtomicU64,
-) -> Result<Told, NoMemory> {
-    let words = words_of(alloc, &["toy"])?;
-    let mut output = MemSink::make(alloc, 1_000, &[])?;
-    let mut diag = MemSink::make(alloc, 1_000, &[])?;
+fn run_program<R: Threads + Wait + Sync + Abort>(rt: &R, alloc: Global, took: &AtomicU64) -> Told {
+    let words = words_of(alloc, &["toy"]).expect(rt, "memory for the words");
+    let mut output = MemSink::make(alloc, 1_000, &[]).expect(rt, "memory for the output");
+    let mut diag = MemSink::make(alloc, 1_000, &[]).expect(rt, "memory for the diagnostic");
     let status = bridge_main(
         rt,
         alloc,
@@ -74,19 +70,18 @@ fn run_program<R: Threads + Wait + Sync>(
         &mut WaitingHost::new(took),
         &mut diag,
     );
-    Ok(Told {
+    Told {
         code: status.code,
         output,
         diag,
-    })
+    }
 }
 
 #[test]
-fn bridge_runs_beside(rt: HostRuntime) -> Result<(), NoMemory> {
+fn bridge_runs_beside(rt: HostRuntime) {
     let took = AtomicU64::new(0);
-    let told = run_program(&rt, rt.alloc(), &took)?;
+    let told = run_program(&rt, rt.alloc(), &took);
     assert_eq!(rt; told.code, 0);
     expect_bytes(&rt, told.diag.taken(), b"");
     assert!(rt; took.load(Ordering::SeqCst) == QUIT);
-    Ok(())
 }

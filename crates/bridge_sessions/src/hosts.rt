@@ -8,7 +8,6 @@ use child_engine::{EngineInput, Fails, Host, HostFault, MemHost, RealHost, Stead
 use line_io::{Failed, NoMemory, Sink, Source, write_all};
 use std::alloc::Global;
 use std::process::Abort;
-use std::test::Fail;
 
 fn engine_words(alloc: Global) -> Result<Vec<String>, NoMemory>
     ensures { IfOk result (λ words. 0 < length words.items) }
@@ -18,13 +17,12 @@ fn engine_words(alloc: Global) -> Result<Vec<String>, NoMemory>
     Ok(words)
 }
 
-/// What a run answered: its write, its reads and its end.
-#[derive(Clone, Copy, Debug, PartialEq, Eq)]
-struct Answers {
-    write: Result<usize, Failed>,
-    reads: [Result<usize, Failed>; 2],
-    close: Result<(), Failed>,
-}
+/// What a run answers: its write, its reads and its end.
+type Answers = (
+    Result<usize, Failed>,
+    [Result<usize, Failed>; 2],
+    Result<(), Failed>,
+);
 
 // Starts an engine, writes this to it, reads twice and closes it.
 fn run_once<H: Host>(host: &mut H, alloc: Global, piece: &[u8]) -> Result<Answers, HostFault>
@@ -39,12 +37,7 @@ fn run_once<H: Host>(host: &mut H, alloc: Global, piece: &[u8]) -> Result<Answer
     let mut buf = [0; 8];
     let write = run.snk.write(piece);
     let reads = [run.src.read(&mut buf), run.src.read(&mut buf)];
-    let close = host.close(run);
-    Ok(Answers {
-        write,
-        reads,
-        close,
-    })
+    Ok((write, reads, host.close(run)))
 }
 
 // Opens a log, writes this into it and closes it.
@@ -63,23 +56,13 @@ fn log_once<H: Host>(
     Ok(written)
 }
 
-// Compares what a run answered that ended well.
-fn expect_answers(rt: &impl Abort, found: &Answers, written: usize, read: [usize; 2]) {
-    let wanted = Answers {
-        write: Ok(written),
-        reads: [Ok(read[0]), Ok(read[1])],
-        close: Ok(()),
-    };
-    assert_eq!(rt; *found, wanted);
-}
-
 #[test]
-fn a_host_in_memory_keeps_what_was_written(rt: HostRuntime) -> Result<(), Fail> {
+fn a_host_in_memory_keeps_what_was_written(rt: HostRuntime) -> Result<(), HostFault> {
     let mut host = MemHost::make(rt.alloc(), b"uciok\n", 4, 16, &Fails::default())?;
     let answers = run_once(&mut host, rt.alloc(), b"uci\n")?;
-    expect_answers(&rt, &answers, 4, [4, 2]);
+    assert!(rt; answers == (Ok(4), [Ok(4), Ok(2)], Ok(())));
     expect_bytes(&rt, host.wrote(0), b"uci\n");
-    assert_eq!(rt; log_once(&mut host, rt.alloc(), b"U uci\n")?, Ok(()));
+    assert!(rt; log_once(&mut host, rt.alloc(), b"U uci\n")?.is_ok());
     expect_bytes(&rt, host.logged(0), b"U uci\n");
     Ok(())
 }
@@ -126,11 +109,11 @@ fn a_host_in_memory_refuses_what_it_is_told_to(rt: HostRuntime) -> Result<(), No
 }
 
 #[test]
-fn a_steady_host_says_the_same_bytes(rt: HostRuntime) -> Result<(), Fail> {
+fn a_steady_host_says_the_same_bytes(rt: HostRuntime) -> Result<(), HostFault> {
     let mut host = SteadyHost::make(rt.alloc(), b"uciok\n", 4)?;
     let answers = run_once(&mut host, rt.alloc(), b"uci\n")?;
-    expect_answers(&rt, &answers, 4, [4, 2]);
-    assert_eq!(rt; log_once(&mut host, rt.alloc(), b"U uci\n")?, Ok(()));
+    assert!(rt; answers == (Ok(4), [Ok(4), Ok(2)], Ok(())));
+    assert!(rt; log_once(&mut host, rt.alloc(), b"U uci\n")?.is_ok());
     Ok(())
 }
 
@@ -144,8 +127,8 @@ fn expect_write(
 )
     requires { 0 < length piece.now }
 {
-    assert_eq!(rt; input.write(piece), answer);
-    assert_eq!(rt; input.is_open(), is_open);
+    assert!(rt; input.write(piece) == answer);
+    assert!(rt; input.is_open() == is_open);
 }
 
 #[test]
@@ -166,9 +149,9 @@ fn an_engine_input_ends_behind_quit(rt: HostRuntime) {
 
 // `cat` gives its input back, and ends at the end of it, which comes behind `quit`.
 #[test]
-fn a_real_host_starts_a_program(rt: HostRuntime) -> Result<(), Fail> {
+fn a_real_host_starts_a_program(rt: HostRuntime) -> Result<(), HostFault> {
     let mut host = RealHost::new(&rt);
     let answers = run_once(&mut host, rt.alloc(), b"quit\n")?;
-    expect_answers(&rt, &answers, 5, [5, 0]);
+    assert!(rt; answers == (Ok(5), [Ok(5), Ok(0)], Ok(())));
     Ok(())
 }

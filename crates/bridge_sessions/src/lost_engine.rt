@@ -5,11 +5,12 @@ ghost use Rattle.bridge_sessions.specs.Ready.{IsReady};
 
 use crate::expected::{expect_bytes, expect_log};
 use crate::ready::{Ready, make_ready};
-use event_pipe::{Pipe, PipeSend, PipeTake, ReadEnd, read_pipe};
+use event_pipe::{Pipe, PipeSend, PipeTake, read_pipe};
 use line_io::{MemSink, MemSource, NoMemory};
 use pipe_runner::core_loop;
 use sink_offers::LoopEnd;
 use std::alloc::Global;
+use std::process::Abort;
 use std::sync::Wait;
 
 const LOG: &[u8] = b"\
@@ -45,59 +46,54 @@ fn make_sinks(alloc: Global) -> Result<Sinks, NoMemory> {
 }
 
 // Puts these lines into the channel.
-fn read_lines<R: Wait>(
-    rt: &R,
-    alloc: Global,
-    lines: &[u8],
-    to: &mut PipeSend,
-) -> Result<ReadEnd, NoMemory>
+fn read_lines<R: Wait + Abort>(rt: &R, alloc: Global, lines: &[u8], to: &mut PipeSend)
     requires sender { IsSender to.old }
     requires fresh { sent to.old ≡ [] }
 {
-    let mut source = MemSource::make(alloc, lines, 7, &[])?;
-    Ok(read_pipe(rt, alloc, &mut source, to))
+    let mut source = MemSource::make(alloc, lines, 7, &[]).expect(rt, "memory for the lines");
+    let _end = read_pipe(rt, alloc, &mut source, to);
 }
 
 // Steps the core by what is in the channel.
-fn step_all<R: Wait>(rt: &R, ready: Ready, taker: PipeTake, sinks: &mut Sinks) -> LoopEnd
-    requires ready { IsReady ready.core ready.text }
+fn step_all<R: Wait>(rt: &R, ready: &mut Ready, taker: PipeTake, sinks: &mut Sinks) -> LoopEnd
+    requires ready { IsReady ready.old.core ready.old.text }
     requires taker { IsFreshTaker taker }
 {
-    let Ready { mut core, mut text } = ready;
     let mut taker = taker;
     core_loop(
         rt,
-        &mut core,
+        &mut ready.core,
         &mut taker,
         &mut sinks.output,
         &mut sinks.engine,
         &mut sinks.log,
-        &mut text,
+        &mut ready.text,
     )
 }
 
 // Runs the loop over these lines: those of the engine come first.
-fn run_loop<R: Wait>(
+fn run_loop<R: Wait + Abort>(
     rt: &R,
     alloc: Global,
     lines: (&[u8], &[u8]),
     sinks: &mut Sinks,
-) -> Result<LoopEnd, NoMemory> {
-    let ready = make_ready(alloc)?;
-    let (mut iface, mut child, taker) = Pipe::make(alloc)?;
-    let _engine_end = read_lines(rt, alloc, lines.0, &mut child)?;
-    let _iface_end = read_lines(rt, alloc, lines.1, &mut iface)?;
-    Ok(step_all(rt, ready, taker, sinks))
+) -> LoopEnd {
+    let (mut iface, mut child, taker) = Pipe::make(alloc).expect(rt, "memory for the channel");
+    read_lines(rt, alloc, lines.0, &mut child);
+    read_lines(rt, alloc, lines.1, &mut iface);
+    let mut ready = make_ready(alloc).expect(rt, "memory for the core");
+    let end = step_all(rt, &mut ready, taker, sinks);
+    drop(ready);
+    end
 }
 
 // That the engine is lost is the very next step behind the write that fails.
 #[test]
-fn a_lost_engine_is_logged(rt: HostRuntime) -> Result<(), NoMemory> {
-    let mut sinks = make_sinks(rt.alloc())?;
-    let end = run_loop(&rt, rt.alloc(), (b"uciok\n", b"quit\n"), &mut sinks)?;
+fn a_lost_engine_is_logged(rt: HostRuntime) {
+    let mut sinks = make_sinks(rt.alloc()).expect(&rt, "memory for the sinks");
+    let end = run_loop(&rt, rt.alloc(), (b"uciok\n", b"quit\n"), &mut sinks);
     assert!(rt; end.engine && !end.output && !end.log);
     expect_bytes(&rt, sinks.engine.taken(), b"uci\n");
     expect_bytes(&rt, sinks.output.taken(), b"tellusererror Engine ended\n");
     expect_log(&rt, &sinks.log, LOG);
-    Ok(())
 }

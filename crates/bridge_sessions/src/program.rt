@@ -7,6 +7,7 @@ use bridge_app::bridge_main;
 use child_engine::{Host, SteadyHost};
 use line_io::{MemSink, MemSource, NoMemory};
 use std::alloc::Global;
+use std::process::Abort;
 use std::sync::Wait;
 use std::thread::Threads;
 
@@ -52,19 +53,19 @@ pub fn words_of(alloc: Global, texts: &[&str]) -> Result<Vec<Vec<u8>>, NoMemory>
 
 /// Runs the program with these words over a host, for an interface that asks for an answer and
 /// quits. The writes of the diagnostic with these numbers fail.
-pub fn run_over<H: Host, R: Threads + Wait + Sync>(
+pub fn run_over<H: Host, R: Threads + Wait + Sync + Abort>(
     rt: &R,
     alloc: Global,
     words: &[&str],
     host: &mut H,
     failing: &[u64],
-) -> Result<Told, NoMemory>
+) -> Told
     requires { H.books host.old ≡ unused }
 {
-    let words = words_of(alloc, words)?;
-    let mut input = MemSource::make(alloc, INPUT, 5, &[])?;
-    let mut output = MemSink::make(alloc, 1000, &[])?;
-    let mut diag = MemSink::make(alloc, 1000, failing)?;
+    let words = words_of(alloc, words).expect(rt, "memory for the words");
+    let mut input = MemSource::make(alloc, INPUT, 5, &[]).expect(rt, "memory for the input");
+    let mut output = MemSink::make(alloc, 1000, &[]).expect(rt, "memory for the output");
+    let mut diag = MemSink::make(alloc, 1000, failing).expect(rt, "memory for the diagnostic");
     let status = bridge_main(
         rt,
         alloc,
@@ -74,28 +75,23 @@ pub fn run_over<H: Host, R: Threads + Wait + Sync>(
         host,
         &mut diag,
     );
-    Ok(Told {
+    Told {
         code: status.code,
         output,
         diag,
-    })
+    }
 }
 
 /// The same over a host that never fails.
-pub fn run_steady<R: Threads + Wait + Sync>(
-    rt: &R,
-    alloc: Global,
-    words: &[&str],
-) -> Result<Told, NoMemory> {
-    let mut host = SteadyHost::make(alloc, ENGINE, 5)?;
+pub fn run_steady<R: Threads + Wait + Sync + Abort>(rt: &R, alloc: Global, words: &[&str]) -> Told {
+    let mut host = SteadyHost::make(alloc, ENGINE, 5).expect(rt, "memory for the host");
     run_over(rt, alloc, words, &mut host, &[])
 }
 
 #[test]
-fn a_session_over_a_steady_host(rt: HostRuntime) -> Result<(), NoMemory> {
-    let told = run_steady(&rt, rt.alloc(), &["toy"])?;
+fn a_session_over_a_steady_host(rt: HostRuntime) {
+    let told = run_steady(&rt, rt.alloc(), &["toy"]);
     assert_eq!(rt; told.code, 0);
     assert!(rt; told.is_of_a_ping());
     expect_bytes(&rt, told.diag.taken(), b"");
-    Ok(())
 }

@@ -21,8 +21,8 @@ fn ready_with(alloc: Global, settings: &Settings) -> Result<Ready, NoMemory>
     requires { IsProper settings.now }
     ensures { IfOk result (λ ready. IsReady ready.core ready.text) }
 {
-    let core = Core::make(alloc, settings)?;
     let text = Out::make(alloc, TEXT_ROOM)?;
+    let core = Core::make(alloc, settings)?;
     Ok(Ready { core, text })
 }
 

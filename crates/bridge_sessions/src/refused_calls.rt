@@ -2,7 +2,6 @@
 use crate::program::{ENGINE, Told, run_over};
 use crate::recorder::Recorder;
 use child_engine::Fails;
-use line_io::NoMemory;
 use std::alloc::Global;
 use std::process::Abort;
 use std::sync::Wait;
@@ -23,28 +22,35 @@ struct Kept {
 
 // The call of this name fails; of reads and writes, those with these numbers.
 fn failing<'a>(call: &str, numbers: &'a [u64]) -> Fails<'a> {
-    let mut fails = Fails::default();
+    let none = Fails::default();
     match call {
-        "start" => fails.start = true,
-        "log" => fails.log = true,
-        "wait" => fails.wait = true,
-        "read" => fails.reads = numbers,
-        "write" => fails.writes = numbers,
-        "log write" => fails.logs = numbers,
-        _ => {}
+        "start" => Fails {
+            start: true,
+            ..none
+        },
+        "log" => Fails { log: true, ..none },
+        "wait" => Fails { wait: true, ..none },
+        "read" => Fails {
+            reads: numbers,
+            ..none
+        },
+        "write" => Fails {
+            writes: numbers,
+            ..none
+        },
+        "log write" => Fails {
+            logs: numbers,
+            ..none
+        },
+        _ => none,
     }
-    fails
 }
 
 // The diagnostic fails too, and changes no status.
-fn run_failing<R: Threads + Wait + Sync>(
-    rt: &R,
-    alloc: Global,
-    fails: &Fails,
-) -> Result<Kept, NoMemory> {
-    let mut host = Recorder::make(alloc, ENGINE, fails)?;
-    let told = run_over(rt, alloc, &["toy"], &mut host, &[1])?;
-    Ok(Kept { told, host })
+fn run_failing<R: Threads + Wait + Sync + Abort>(rt: &R, alloc: Global, fails: &Fails) -> Kept {
+    let mut host = Recorder::make(alloc, ENGINE, fails).expect(rt, "memory for the host");
+    let told = run_over(rt, alloc, &["toy"], &mut host, &[1]);
+    Kept { told, host }
 }
 
 /// A call that fails, and the status of the run.
@@ -59,23 +65,19 @@ fn writes_as_after(told: &Told, call: &str) -> bool {
     }
 }
 
-fn expect_once<R: Threads + Wait + Sync + Abort>(
-    rt: &R,
-    alloc: Global,
-    call: &str,
-    code: u8,
-) -> Result<(), NoMemory> {
-    let told = run_failing(rt, alloc, &failing(call, &[]))?.told;
-    assert!(rt; told.code == code && writes_as_after(&told, call), "{call}");
-    Ok(())
+fn expect_once<R: Threads + Wait + Sync + Abort>(rt: &R, alloc: Global, call: &str, code: u8) {
+    let kept = run_failing(rt, alloc, &failing(call, &[]));
+    assert!(rt;
+        kept.told.code == code && writes_as_after(&kept.told, call),
+        "{call}"
+    );
 }
 
 #[test]
-fn calls_that_fail_once(rt: HostRuntime) -> Result<(), NoMemory> {
+fn calls_that_fail_once(rt: HostRuntime) {
     for (call, code) in ONCE {
-        expect_once(&rt, rt.alloc(), call, code)?;
+        expect_once(&rt, rt.alloc(), call, code);
     }
-    Ok(())
 }
 
 // Whether these are the first of the orders that the engine gets in some order of events.
@@ -134,33 +136,31 @@ fn expect_failing<R: Threads + Wait + Sync + Abort>(
     alloc: Global,
     call: &str,
     number: u64,
-) -> Result<(), NoMemory> {
-    let kept = run_failing(rt, alloc, &failing(call, &[number]))?;
-    assert!(rt; kept.told.is_of_a_ping(), "{call} {number}");
-    assert!(rt; fits(&kept, call, number), "{call} {number}");
-    Ok(())
+) {
+    let kept = run_failing(rt, alloc, &failing(call, &[number]));
+    assert!(rt;
+        kept.told.is_of_a_ping() && fits(&kept, call, number),
+        "{call} {number}"
+    );
 }
 
 #[test]
-fn each_read_that_fails(rt: HostRuntime) -> Result<(), NoMemory> {
+fn each_read_that_fails(rt: HostRuntime) {
     for number in 1..=12 {
-        expect_failing(&rt, rt.alloc(), "read", number)?;
+        expect_failing(&rt, rt.alloc(), "read", number);
     }
-    Ok(())
 }
 
 #[test]
-fn each_write_that_fails(rt: HostRuntime) -> Result<(), NoMemory> {
+fn each_write_that_fails(rt: HostRuntime) {
     for number in 1..=12 {
-        expect_failing(&rt, rt.alloc(), "write", number)?;
+        expect_failing(&rt, rt.alloc(), "write", number);
     }
-    Ok(())
 }
 
 #[test]
-fn each_log_write_that_fails(rt: HostRuntime) -> Result<(), NoMemory> {
+fn each_log_write_that_fails(rt: HostRuntime) {
     for number in 1..=12 {
-        expect_failing(&rt, rt.alloc(), "log write", number)?;
+        expect_failing(&rt, rt.alloc(), "log write", number);
     }
-    Ok(())
 }
