@@ -1,6 +1,6 @@
 // Events at a desk, one by one, with what comes of each and what follows.
 ghost use Rattle.std.specs.Prelude.{◌≡◌, ◌≤◌, length, true, Some, IfOk};
-ghost use Rattle.line_io.specs.Event.{event_of, is_line};
+ghost use Rattle.line_io.specs.Event.{event_of};
 ghost use Rattle.line_io.specs.Out.{empty};
 ghost use Rattle.peer_words.specs.declared.kinds.GoKind.{GoKind as AnyKind};
 ghost use Rattle.search_epochs.specs.Tickets.{Serves};
@@ -11,11 +11,12 @@ ghost use Rattle.line_io.specs.declared.limits.TheConstants.{SCRIPT_LINE};
 ghost use Rattle.desk_rules.specs.declared.pings.TheConstants.{MOST_PINGS};
 
 mod calls;
+mod games;
 mod turns;
 
 use crate::rows::{call_in, engine_in, event_in, expect, expect_text};
 use chess_board::Move;
-use desk_rules::{Context, Desk, Effect, Pings, Ruling, is_gone};
+use desk_rules::{Context, Desk, Effect, Mode, Pings, Ruling, is_gone};
 use line_io::{Event, NoMemory, Out, SCRIPT_LINE};
 use option_map::Held;
 use peer_words::GoKind;
@@ -33,6 +34,8 @@ const SIGHT: Context = Context {
     show_ponder: true,
 };
 
+const PONDER_IS_OPTION: &str = "u option name Ponder type check default false";
+
 /// A desk with the orders that wait, and what the interface is told.
 #[derive(Drop)]
 struct Bench {
@@ -41,8 +44,8 @@ struct Bench {
     told: Out,
 }
 
-/// An event, and what comes of it: the state of the engine before it, its mark, the effect, whether the epoch rises, the
-/// call after it, and what the interface is told.
+/// An event, and what comes of it: the state of the engine before it, its mark, the effect,
+/// whether the epoch rises, the call after it, and what the interface is told.
 type Turn = (
     &'static str,
     &'static str,
@@ -234,4 +237,16 @@ fn expect_move(rt: &impl Abort, played: Option<Move>, want: Option<Move>) {
 fn expect_pings(rt: &impl Abort, pings: &Pings, want: &[u32]) {
     expect(rt, pings.len() == want.len(), "the number of pings");
     expect(rt, pings.numbers() == want, "the pings");
+}
+
+fn expect_mode(rt: &impl Abort, desk: &Desk, want: Mode) {
+    expect(rt, desk.mode == want, "the mode");
+}
+
+fn expect_plies(rt: &impl Abort, desk: &Desk, want: u32) {
+    expect(rt, desk.game.plies() == want, "the plies");
+}
+
+fn expect_none_held(rt: &impl Abort, held: &Held) {
+    expect(rt, held.count() == 0, "no orders are held");
 }

@@ -16,8 +16,8 @@ enum Event {
     Line,
 }
 
-/// What comes, what it means if the engine says it, whether it begins an epoch, the call after it, whether settings
-/// wait after it, and the orders.
+/// What comes, what it means if the engine says it, whether it begins an epoch, the call after it,
+/// whether settings wait after it, and the orders.
 type Turn = (
     &'static str,
     &'static str,
@@ -163,7 +163,8 @@ fn event_in(rt: &impl Abort, word: &str) -> Event {
     }
 }
 
-/// What a word means. An answer is named by what its search was for, and by `stale` if that is not current.
+/// What is heard, as a word names it. An answer is named by what its search was for, and by `stale`
+/// if that is not current.
 fn heard_in(rt: &impl Abort, word: &str) -> Heard {
     match word {
         "nothing" => Heard::Nothing,
@@ -204,18 +205,30 @@ fn walk(rt: &impl Abort, name: &str, turns: &[Turn]) {
 }
 
 fn take_turn(rt: &impl Abort, dialogue: &mut Dialogue, turn: &Turn, name: &str, k: usize) {
-    let (event, meaning, begins_epoch, call, unsent, orders) = *turn;
+    let (event, meaning, begins_epoch, call, unsent, want) = *turn;
     let event = event_in(rt, event);
     if let Event::Says(said) = event {
-        let heard = dialogue.heard(said);
-        expect_in_turn(rt, heard == heard_in(rt, meaning), name, k);
+        let holds = dialogue.heard(said) == heard_in(rt, meaning);
+        expect_in_turn(rt, holds, name, "what is heard in", k);
     }
     if begins_epoch {
         dialogue.new_epoch();
     }
+    let orders = settle(rt, dialogue, event, call, unsent);
+    let holds = orders == orders_in(rt, want);
+    expect_in_turn(rt, holds, name, "the orders of", k);
+}
+
+/// Settles a turn, whose call is named by a word.
+fn settle(
+    rt: &impl Abort,
+    dialogue: &mut Dialogue,
+    event: Event,
+    call: &str,
+    unsent: bool,
+) -> Orders {
     let call = call_in(rt, call);
-    let came = dialogue.settle(call, unsent, played(event), hurries(event));
-    expect_in_turn(rt, came == orders_in(rt, orders), name, k);
+    dialogue.settle(call, unsent, played(event), hurries(event))
 }
 
 fn played(event: Event) -> Option<Move> {
@@ -229,8 +242,8 @@ fn hurries(event: Event) -> bool {
     matches!(event, Event::Hurries)
 }
 
-fn expect_in_turn(rt: &impl Abort, holds: bool, name: &str, k: usize) {
-    assert!(rt; holds, "{name}: turn {k}");
+fn expect_in_turn(rt: &impl Abort, holds: bool, name: &str, what: &str, k: usize) {
+    assert!(rt; holds, "{name}: {what} turn {k}");
 }
 
 fn expect_move(rt: &impl Abort, text: &str, want: Move) {

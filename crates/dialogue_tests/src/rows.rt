@@ -37,7 +37,8 @@ pub fn event_in<'a>(rt: &impl Abort, mark: &'a str) -> Event<'a>
     }
 }
 
-/// The state that a word names. An open search is named by its kind, a stale one for a move by `stale`.
+/// The state that a word names. An open search is named by its kind, and by `stale` if it is a
+/// stale one for a move.
 pub fn engine_in(rt: &impl Abort, word: &str) -> EngineState {
     match word {
         "boot" => EngineState::Boot,
