@@ -1,4 +1,5 @@
 //! Engines by their options, and the features that are offered of them.
+use super::expect::{expect_holds, expect_text};
 use feature_talk::{Say, Talk, feature_lists_are_short, shown_name, write_bare_list, write_list};
 use line_io::Out;
 use option_map::{Declared, Options};
@@ -7,16 +8,12 @@ use std::process::Abort;
 use std::test::Fail;
 use uci_lines::{EngineMsg, read_engine};
 
-fn expect_done(rt: &impl Abort, told: Declared, line: &str) {
-    assert_eq!(rt; told, Declared::Done, "{line}");
-}
-
 /// The options of an engine, as it declares them.
 fn declared(rt: &impl Abort, alloc: Global, lines: &[&str]) -> Result<Options, Fail> {
     let mut options = Options::make(alloc)?;
     for line in lines {
         if let EngineMsg::OptionLine(msg) = read_engine(line.as_bytes()) {
-            expect_done(rt, options.declare(&msg), line);
+            expect_holds(rt, options.declare(&msg) == Declared::Done, line);
         }
     }
     Ok(options)
@@ -127,10 +124,6 @@ fn listed(alloc: Global, name: &str, others: &str) -> Result<String, Fail> {
     Ok(format!(in alloc; "feature myname=\"{name}\"\n{USUAL}{others}")?)
 }
 
-fn expect_text(rt: &impl Abort, text: &[u8], want: &str, name: &str) {
-    assert_eq!(rt; text, want.as_bytes(), "{name}");
-}
-
 fn expect_list(rt: &impl Abort, alloc: Global, engine: &Engine, out: &mut Out) -> Result<(), Fail> {
     let (name, lines, shown, others) = engine;
     let options = declared(rt, alloc, lines)?;
@@ -171,61 +164,54 @@ fn writes_the_bare_list(rt: HostRuntime) -> Result<(), Fail> {
 }
 
 /// What is shown of a name that does not fit.
-const USUAL_NAME: &[u8] = b"UCI engine";
+const USUAL_NAME: &str = "UCI engine";
 
 /// The name that an engine tells, and the name that is shown.
-const NAMES: [(&[u8], &[u8]); 5] = [
-    (b"Toy", b"Toy"),
-    (b"Toga II\t3.0 (it's)", b"Toga II\t3.0 (it's)"),
-    (b"", USUAL_NAME),
-    (b"The \"Turk\"", USUAL_NAME),
-    (b"\"", USUAL_NAME),
+const NAMES: [(&str, &str); 5] = [
+    ("Toy", "Toy"),
+    ("Toga II\t3.0 (it's)", "Toga II\t3.0 (it's)"),
+    ("", USUAL_NAME),
+    ("The \"Turk\"", USUAL_NAME),
+    ("\"", USUAL_NAME),
 ];
 
-fn expect_name(rt: &impl Abort, said: &[u8], want: &[u8]) {
-    assert_eq!(rt; shown_name(said), want);
+fn expect_names(rt: &impl Abort, rows: &[(&'static str, &'static str)]) {
+    for (said, want) in rows {
+        expect_text(rt, shown_name(said.as_bytes()), want, said);
+    }
 }
 
-fn expect_names(rt: &impl Abort, rows: &[(&[u8], &[u8])]) {
-    for (said, want) in rows {
-        expect_name(rt, said, want);
-    }
+/// Expects that the longest name is shown, and a longer one is not.
+fn expect_long_names(rt: &impl Abort, longest: &[u8], longer: &[u8]) {
+    expect_holds(rt, shown_name(longest) == longest, "longest");
+    expect_text(rt, shown_name(longer), USUAL_NAME, "longer");
 }
 
 #[test]
 fn shows_names_that_fit(rt: HostRuntime) -> Result<(), Fail> {
     let letters = vec![in rt.alloc(); b'x'; 257]?;
     expect_names(&rt, &NAMES);
-    expect_name(&rt, &letters[..256], &letters[..256]);
-    expect_name(&rt, letters.as_slice(), USUAL_NAME);
+    expect_long_names(&rt, &letters[..256], &letters);
     Ok(())
-}
-
-fn expect_said(rt: &impl Abort, said: Say, want: Say) {
-    assert_eq!(rt; said, want);
-}
-
-fn expect_due(rt: &impl Abort, due: bool, want: bool) {
-    assert_eq!(rt; due, want);
 }
 
 #[test]
 fn tells_the_list_once_the_engine_has_started(rt: HostRuntime) {
     let mut talk = Talk::new();
-    expect_due(&rt, talk.is_due(), false);
+    expect_holds(&rt, !talk.is_due(), "at first");
     // before the options were declared, twice
-    expect_said(&rt, talk.protover(true), Say::Wait);
-    expect_said(&rt, talk.protover(true), Say::Wait);
-    expect_due(&rt, talk.is_due(), true);
-    expect_due(&rt, talk.left_boot(), true);
-    expect_due(&rt, talk.is_due(), false);
+    expect_holds(&rt, talk.protover(true) == Say::Wait, "in the boot");
+    expect_holds(&rt, talk.protover(true) == Say::Wait, "again");
+    expect_holds(&rt, talk.is_due(), "once it was asked for");
+    expect_holds(&rt, talk.left_boot(), "at the end of the boot");
+    expect_holds(&rt, !talk.is_due(), "behind the boot");
     // and after
-    expect_said(&rt, talk.protover(false), Say::List);
-    expect_due(&rt, talk.is_due(), false);
+    expect_holds(&rt, talk.protover(false) == Say::List, "then");
+    expect_holds(&rt, !talk.is_due(), "behind the list");
 
     // an engine that declared its options before `protover` came
     let mut talk = Talk::new();
-    expect_due(&rt, talk.left_boot(), false);
-    expect_said(&rt, talk.protover(false), Say::List);
-    expect_due(&rt, talk.is_due(), false);
+    expect_holds(&rt, !talk.left_boot(), "nothing was asked for");
+    expect_holds(&rt, talk.protover(false) == Say::List, "at once");
+    expect_holds(&rt, !talk.is_due(), "behind the list");
 }

@@ -4,6 +4,8 @@
 #[cfg(test)]
 mod clocks;
 #[cfg(test)]
+mod expect;
+#[cfg(test)]
 mod features;
 #[cfg(test)]
 mod options;

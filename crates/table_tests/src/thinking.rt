@@ -2,6 +2,7 @@
 ghost use Rattle.std.specs.Prelude.{IfSome};
 ghost use Rattle.cecp_lines.specs.Replies.{IsWritable};
 
+use crate::expect::{expect_holds, expect_text};
 use chess_board::{Position, read_move};
 use line_io::Out;
 use std::alloc::Global;
@@ -102,17 +103,14 @@ const SHOWN: [Shown; 11] = [
     ),
 ];
 
-fn expect_told(rt: &impl Abort, told: Option<bool>, want: bool, line: &str) {
-    assert_eq!(rt; told, Some(want), "{line}");
-}
-
-fn expect_text(rt: &impl Abort, text: &[u8], want: &str, line: &str) {
-    assert_eq!(rt; text, want.as_bytes(), "{line}");
+/// Expects whether a line is shown.
+fn expect_shown(rt: &impl Abort, told: Option<bool>, want: bool, line: &str) {
+    expect_holds(rt, told == Some(want), line);
 }
 
 fn expect_all_shown(rt: &impl Abort, rows: &[Shown], out: &mut Out) {
     for (moves, line, want) in rows {
-        expect_told(rt, show(moves, "", line, out), true, line);
+        expect_shown(rt, show(moves, "", line, out), true, line);
         expect_text(rt, out.bytes(), want, line);
     }
 }
@@ -157,18 +155,10 @@ const VARIATIONS: [(&str, &str); 7] = [
     ),
 ];
 
-fn expect_variation(
-    rt: &impl Abort,
-    alloc: Global,
-    pv: &str,
-    want: &str,
-    out: &mut Out,
-) -> Result<(), Fail> {
-    let line = format!(in alloc; "info depth 10 score cp 0 pv {pv}")?;
-    let want = format!(in alloc; "10 0 0 0 {want}")?;
-    expect_told(rt, show(&[], "", line.as_str(), out), true, line.as_str());
-    expect_text(rt, out.bytes(), want.as_str(), line.as_str());
-    Ok(())
+fn expect_variation(rt: &impl Abort, line: &str, want: &str, out: &mut Out) {
+    expect_shown(rt, show(&[], "", line, out), true, line);
+    let moves = out.bytes().strip_prefix(b"10 0 0 0 ").expect(rt, line);
+    expect_text(rt, moves, want, line);
 }
 
 fn expect_variations(
@@ -178,7 +168,8 @@ fn expect_variations(
     out: &mut Out,
 ) -> Result<(), Fail> {
     for (pv, want) in rows {
-        expect_variation(rt, alloc, pv, want, out)?;
+        let line = format!(in alloc; "info depth 10 score cp 0 pv {pv}")?;
+        expect_variation(rt, line.as_str(), want, out);
     }
     Ok(())
 }
@@ -194,7 +185,7 @@ fn shows_the_hint(rt: HostRuntime) -> Result<(), Fail> {
     let mut out = Out::make(rt.alloc(), 928)?;
     let line = "info depth 7 score cp 25 time 99 nodes 4000 pv b8c6 f1b5";
     let moves = ["e2e4", "e7e5", "g1f3"];
-    expect_told(&rt, show(&moves, "g1f3", line, &mut out), true, line);
+    expect_shown(&rt, show(&moves, "g1f3", line, &mut out), true, line);
     expect_text(&rt, out.bytes(), "7 25 9 4000 (g1f3) b8c6 f1b5", line);
     Ok(())
 }
@@ -210,7 +201,7 @@ const UNSHOWN: [&str; 5] = [
 
 fn expect_none_shown(rt: &impl Abort, lines: &[&str], out: &mut Out) {
     for line in lines {
-        expect_told(rt, show(&[], "", line, out), false, line);
+        expect_shown(rt, show(&[], "", line, out), false, line);
         expect_text(rt, out.bytes(), "", line);
     }
 }
@@ -254,151 +245,123 @@ fn keep(moves: &[&str], lines: [&str; 3], out: &mut Out) -> Option<Seen> {
     Some(seen)
 }
 
-/// What is kept, with the move that is searched as text.
-struct Kept {
-    depth: u64,
-    time: u64,
-    nodes: u64,
-    current: &'static str,
-    number: u64,
-    score: Option<i64>,
+/// Expects what is kept of three lines at the start of a game, and the answer to `.`.
+fn expect_kept(rt: &impl Abort, lines: [&str; 3], want: Seen, answer: &str, out: &mut Out) {
+    expect_holds(rt, keep(&[], lines, out) == Some(want), answer);
+    expect_text(rt, out.bytes(), answer, answer);
 }
 
-/// Three lines, what is kept of them at the start of a game, and the answer to `.`.
-const KEPT: [([&str; 3], Kept, &str); 3] = [
-    (
-        [
-            "info depth 12 time 4200 nodes 900000 currmove e2e4 currmovenumber 3",
-            "",
-            "",
-        ],
-        Kept {
-            depth: 12,
-            time: 4_200,
-            nodes: 900_000,
-            current: "e2e4",
-            number: 3,
-            score: None,
-        },
-        "stat01: 420 900000 12 17 20 e2e4",
-    ),
-    (
-        [
-            "info depth 12 time 4200 nodes 900000 currmove e2e4 currmovenumber 3",
-            "info depth 5 score mate 3 pv e2e4 e7e5 a1a8",
-            "info string time 1",
-        ],
-        Kept {
-            depth: 5,
-            time: 4_200,
-            nodes: 900_000,
-            current: "e2e4",
-            number: 3,
-            score: Some(100_003),
-        },
-        "stat01: 420 900000 5 17 20 e2e4",
-    ),
-    // The move is illegal, and its number is more than there are moves.
-    (
-        [
-            "info depth 3 currmove d2d4 currmovenumber 1",
-            "info currmove e7e5 currmovenumber 25",
-            "info time 9",
-        ],
-        Kept {
-            depth: 3,
-            time: 9,
-            nodes: 0,
-            current: "d2d4",
-            number: 25,
-            score: None,
-        },
-        "stat01: 0 0 3 0 20 d2d4",
-    ),
-];
-
-fn seen_as(kept: &Kept) -> Seen {
-    Seen {
-        depth: kept.depth,
-        time: kept.time,
-        nodes: kept.nodes,
-        current: read_move(kept.current.as_bytes()),
-        number: kept.number,
-        score: kept.score,
-    }
+fn expect_none_kept(rt: &impl Abort, out: &mut Out) {
+    let answer = "stat01: 0 0 0 20 20";
+    expect_kept(rt, ["", "", ""], Seen::new(), answer, out);
 }
 
-fn expect_seen(rt: &impl Abort, seen: Option<Seen>, want: Seen, line: &str) {
-    assert_eq!(rt; seen, Some(want), "{line}");
+fn expect_one_kept(rt: &impl Abort, out: &mut Out) {
+    let first = "info depth 12 time 4200 nodes 900000 currmove e2e4 currmovenumber 3";
+    let want = Seen {
+        depth: 12,
+        time: 4_200,
+        nodes: 900_000,
+        current: read_move(b"e2e4"),
+        number: 3,
+        score: None,
+    };
+    let answer = "stat01: 420 900000 12 17 20 e2e4";
+    expect_kept(rt, [first, "", ""], want, answer, out);
 }
 
-fn expect_all_kept(rt: &impl Abort, rows: &[([&str; 3], Kept, &str)], out: &mut Out) {
-    for (lines, kept, answer) in rows {
-        expect_seen(rt, keep(&[], *lines, out), seen_as(kept), answer);
-        expect_text(rt, out.bytes(), answer, answer);
-    }
+fn expect_later_kept(rt: &impl Abort, out: &mut Out) {
+    let lines = [
+        "info depth 12 time 4200 nodes 900000 currmove e2e4 currmovenumber 3",
+        "info depth 5 score mate 3 pv e2e4 e7e5 a1a8",
+        "info string time 1",
+    ];
+    let want = Seen {
+        depth: 5,
+        time: 4_200,
+        nodes: 900_000,
+        current: read_move(b"e2e4"),
+        number: 3,
+        score: Some(100_003),
+    };
+    expect_kept(rt, lines, want, "stat01: 420 900000 5 17 20 e2e4", out);
+}
+
+// The move is illegal, and its number is more than there are moves.
+fn expect_legal_kept(rt: &impl Abort, out: &mut Out) {
+    let lines = [
+        "info depth 3 currmove d2d4 currmovenumber 1",
+        "info currmove e7e5 currmovenumber 25",
+        "info time 9",
+    ];
+    let want = Seen {
+        depth: 3,
+        time: 9,
+        nodes: 0,
+        current: read_move(b"d2d4"),
+        number: 25,
+        score: None,
+    };
+    expect_kept(rt, lines, want, "stat01: 0 0 3 0 20 d2d4", out);
 }
 
 #[test]
 fn keeps_what_was_told_last(rt: HostRuntime) -> Result<(), Fail> {
     let mut out = Out::make(rt.alloc(), 128)?;
-    let answer = "stat01: 0 0 0 20 20";
-    expect_seen(&rt, keep(&[], ["", "", ""], &mut out), Seen::new(), answer);
-    expect_text(&rt, out.bytes(), answer, answer);
-    expect_all_kept(&rt, &KEPT, &mut out);
+    expect_none_kept(&rt, &mut out);
+    expect_one_kept(&rt, &mut out);
+    expect_later_kept(&rt, &mut out);
+    expect_legal_kept(&rt, &mut out);
     Ok(())
 }
 
-/// Three lines, and the score that is kept of them.
-type Scored = ([&'static str; 3], Option<i64>);
-
-const SCORES: [Scored; 8] = [
-    (["info score cp 30", "info score cp -7", ""], Some(-7)),
-    (["info score cp 30", "info depth 9", ""], Some(30)),
-    (["info multipv 1 score cp -5", "", ""], Some(-5)),
-    (["info score mate -2", "", ""], Some(-100_002)),
-    (["info score mate 0", "", ""], Some(-100_000)),
-    // a bound, and other variations
-    (
-        [
-            "info score cp 30",
-            "info score cp 13 lowerbound",
-            "info score mate 2 upperbound",
-        ],
-        Some(30),
-    ),
-    (
-        [
-            "info score cp 30",
-            "info multipv 2 score cp -69",
-            "info multipv 0 score cp 7",
-        ],
-        Some(30),
-    ),
-    (
-        [
-            "info score cp 30 lowerbound",
-            "info multipv 2 score cp -69",
-            "",
-        ],
-        None,
-    ),
-];
-
-fn expect_score(rt: &impl Abort, seen: Option<Seen>, want: Option<i64>) {
-    assert_eq!(rt; seen.map(|seen| seen.score), Some(want));
+/// Expects the score that is kept of three lines.
+fn expect_score(rt: &impl Abort, lines: [&str; 3], want: Option<i64>, out: &mut Out) {
+    let [first, _, _] = lines;
+    let seen = keep(&[], lines, out).expect(rt, first);
+    expect_holds(rt, seen.score == want, first);
 }
 
-fn expect_scores(rt: &impl Abort, rows: &[Scored], out: &mut Out) {
-    for (lines, want) in rows {
-        expect_score(rt, keep(&[], *lines, out), *want);
-    }
+fn expect_scores(rt: &impl Abort, out: &mut Out) {
+    expect_score(
+        rt,
+        ["info score cp 30", "info score cp -7", ""],
+        Some(-7),
+        out,
+    );
+    expect_score(rt, ["info score cp 30", "info depth 9", ""], Some(30), out);
+    expect_score(rt, ["info multipv 1 score cp -5", "", ""], Some(-5), out);
+    expect_score(rt, ["info score mate -2", "", ""], Some(-100_002), out);
+    expect_score(rt, ["info score mate 0", "", ""], Some(-100_000), out);
+}
+
+// A bound, and other variations.
+fn expect_first_scores(rt: &impl Abort, out: &mut Out) {
+    let bounds = [
+        "info score cp 30",
+        "info score cp 13 lowerbound",
+        "info score mate 2 upperbound",
+    ];
+    expect_score(rt, bounds, Some(30), out);
+    let variations = [
+        "info score cp 30",
+        "info multipv 2 score cp -69",
+        "info multipv 0 score cp 7",
+    ];
+    expect_score(rt, variations, Some(30), out);
+    let none = [
+        "info score cp 30 lowerbound",
+        "info multipv 2 score cp -69",
+        "",
+    ];
+    expect_score(rt, none, None, out);
 }
 
 #[test]
 fn keeps_the_score_of_the_first_variation(rt: HostRuntime) -> Result<(), Fail> {
     let mut out = Out::make(rt.alloc(), 128)?;
-    expect_scores(&rt, &SCORES, &mut out);
+    expect_scores(&rt, &mut out);
+    expect_first_scores(&rt, &mut out);
     Ok(())
 }
 
@@ -431,13 +394,9 @@ const COUNTED: [Shown; 4] = [
     ),
 ];
 
-fn expect_some(rt: &impl Abort, seen: Option<Seen>, line: &str) {
-    assert!(rt; seen.is_some(), "{line}");
-}
-
 fn expect_counted(rt: &impl Abort, rows: &[Shown], out: &mut Out) {
     for (moves, line, want) in rows {
-        expect_some(rt, keep(moves, [line, "", ""], out), line);
+        expect_holds(rt, keep(moves, [line, "", ""], out).is_some(), line);
         expect_text(rt, out.bytes(), want, line);
     }
 }
