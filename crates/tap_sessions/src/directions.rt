@@ -1,36 +1,13 @@
 // Both directions and the log, over sources and sinks in memory.
-ghost use Rattle.std.specs.Prelude.{◌≡◌, ◌<◌, [], vec_len, IfOk};
+ghost use Rattle.std.specs.Prelude.{◌≡◌, []};
 ghost use Rattle.event_pipe.specs.Ends.{IsSender, IsFreshTaker, sent};
-ghost use Rattle.tap_runner.specs.Hearing.{fresh};
 
-use crate::expected::{expect_bytes, expect_log};
 use event_pipe::{Peer, Pipe, PipeSend, PipeTake};
-use line_io::{MemSink, MemSource, NoMemory, Out};
+use line_io::{MemSink, MemSource, Out};
 use std::alloc::Global;
-use std::process::Abort;
 use std::sync::Wait;
-use std::thread::Threads;
-use tap_runner::{LOG_ROOM, Part, PassEnd, TapEnd, Way, hand_on, keep_log, run_tap};
-
-/// The sinks of both directions.
-#[derive(Drop)]
-struct Sinks {
-    engine: MemSink,
-    output: MemSink,
-}
-
-// The engine's sink has this much room. The writes of the output with these numbers fail.
-fn make_sinks(alloc: Global, engine_room: usize, failing: &[u64]) -> Result<Sinks, NoMemory> {
-    Ok(Sinks {
-        engine: MemSink::make(alloc, engine_room, &[])?,
-        output: MemSink::make(alloc, 100, failing)?,
-    })
-}
-
-fn expect_taken(rt: &impl Abort, sinks: &Sinks, engine: &[u8], output: &[u8]) {
-    expect_bytes(rt, sinks.engine.taken(), engine);
-    expect_bytes(rt, sinks.output.taken(), output);
-}
+use std::test::Fail;
+use tap_runner::{LOG_ROOM, Part, PassEnd, Way, hand_on, keep_log, run_tap};
 
 // Hands on these bytes in pieces of seven.
 fn pass<R: Wait>(
@@ -40,7 +17,7 @@ fn pass<R: Wait>(
     sink: &mut MemSink,
     peer: Peer,
     to: &mut PipeSend,
-) -> Result<PassEnd, NoMemory>
+) -> Result<PassEnd, Fail>
     requires sender { IsSender to.old }
     requires peer { to.old.peer ≡ peer }
     requires unsent { sent to.old ≡ [] }
@@ -52,7 +29,7 @@ fn pass<R: Wait>(
 }
 
 // Writes what is in the channel into a log.
-fn log_all<R: Wait>(rt: &R, alloc: Global, taker: PipeTake) -> Result<Option<MemSink>, NoMemory>
+fn log_all<R: Wait>(rt: &R, alloc: Global, taker: PipeTake) -> Result<Option<MemSink>, Fail>
     requires { IsFreshTaker taker }
 {
     let mut taker = taker;
@@ -60,43 +37,6 @@ fn log_all<R: Wait>(rt: &R, alloc: Global, taker: PipeTake) -> Result<Option<Mem
     let mut text = Out::make(alloc, LOG_ROOM)?;
     let _failed = keep_log(rt, &mut taker, &mut log, &mut text);
     Ok(log)
-}
-
-/// How both directions ended, and what the log took.
-#[derive(Drop)]
-struct Passed {
-    down: PassEnd,
-    up: PassEnd,
-    log: Option<MemSink>,
-}
-
-// Hands on what the bridge says, and then what the engine says, and keeps the log.
-fn pass_both<R: Wait>(
-    rt: &R,
-    alloc: Global,
-    bridge_says: &[u8],
-    engine_says: &[u8],
-    sinks: &mut Sinks,
-) -> Result<Passed, NoMemory> {
-    let (mut bridge, mut child, taker) = Pipe::make(alloc)?;
-    let down = pass(
-        rt,
-        alloc,
-        bridge_says,
-        &mut sinks.engine,
-        Peer::Iface,
-        &mut bridge,
-    )?;
-    let up = pass(
-        rt,
-        alloc,
-        engine_says,
-        &mut sinks.output,
-        Peer::Engine,
-        &mut child,
-    )?;
-    let log = log_all(rt, alloc, taker)?;
-    Ok(Passed { down, up, log })
 }
 
 const BRIDGE: &[u8] = b"uci\r\n\nquit\nuci";
@@ -113,40 +53,59 @@ const LOG: &[u8] = b"\
     u uciok\n\
     u.\n";
 
-fn is_whole(end: PassEnd) -> bool {
-    !end.read_failed && !end.write_failed && !end.has_lacked_memory
-}
-
 #[test]
-fn bytes_are_handed_on_and_lines_are_logged(rt: HostRuntime) -> Result<(), NoMemory> {
-    let mut sinks = make_sinks(rt.alloc(), 100, &[])?;
-    let passed = pass_both(&rt, rt.alloc(), BRIDGE, ENGINE, &mut sinks)?;
-    assert!(rt; is_whole(passed.down) && is_whole(passed.up));
-    expect_taken(&rt, &sinks, BRIDGE, ENGINE);
-    expect_log(&rt, &passed.log, LOG);
+fn bytes_are_handed_on_and_lines_are_logged(rt: HostRuntime) -> Result<(), Fail> {
+    let alloc = rt.alloc();
+    let (mut bridge, mut child, taker) = Pipe::make(alloc)?;
+    let mut engine = MemSink::make(alloc, 100, &[])?;
+    let mut output = MemSink::make(alloc, 100, &[])?;
+    let down = pass(&rt, alloc, BRIDGE, &mut engine, Peer::Iface, &mut bridge)?;
+    let up = pass(&rt, alloc, ENGINE, &mut output, Peer::Engine, &mut child)?;
+    assert!(rt; !down.read_failed && !down.write_failed && !down.has_lacked_memory);
+    assert!(rt; !up.read_failed && !up.write_failed && !up.has_lacked_memory);
+    assert_eq!(rt; engine.taken(), BRIDGE);
+    assert_eq!(rt; output.taken(), ENGINE);
+    let log = log_all(&rt, alloc, taker)?;
+    assert_eq!(rt; log.as_ref().map_or(b"".as_slice(), |log| log.taken()), LOG);
     Ok(())
 }
 
-// A line of 65,535 bytes, and a short one.
-fn make_long_line(alloc: Global) -> Result<Vec<u8>, NoMemory> {
+// A line of 65,535 bytes.
+#[test]
+fn a_long_line_is_handed_on(rt: HostRuntime) -> Result<(), Fail> {
+    let alloc = rt.alloc();
+    let (mut bridge, mut child, taker) = Pipe::make(alloc)?;
+    let mut engine = MemSink::make(alloc, 70_000, &[])?;
+    let mut output = MemSink::make(alloc, 100, &[1])?;
     let mut bytes = vec![in alloc; b'a'; 65_535]?;
     bytes.extend_from_slice(b"\nuci\n")?;
-    Ok(bytes)
-}
-
-#[test]
-fn a_long_line_is_handed_on(rt: HostRuntime) -> Result<(), NoMemory> {
-    let bytes = make_long_line(rt.alloc())?;
-    let mut sinks = make_sinks(rt.alloc(), 70_000, &[1])?;
-    let passed = pass_both(&rt, rt.alloc(), bytes.as_slice(), b"uciok\n", &mut sinks)?;
-    assert!(rt; !passed.down.write_failed && passed.up.write_failed);
-    expect_taken(&rt, &sinks, bytes.as_slice(), b"");
-    expect_log(&rt, &passed.log, b"x!\nU uci\nx.\nu uciok\nu.\n");
+    let down = pass(
+        &rt,
+        alloc,
+        bytes.as_slice(),
+        &mut engine,
+        Peer::Iface,
+        &mut bridge,
+    )?;
+    let up = pass(
+        &rt,
+        alloc,
+        b"uciok\n",
+        &mut output,
+        Peer::Engine,
+        &mut child,
+    )?;
+    assert!(rt; !down.write_failed && up.write_failed);
+    assert_eq!(rt; engine.taken(), bytes.as_slice());
+    assert_eq!(rt; output.taken(), b"".as_slice());
+    let log = log_all(&rt, alloc, taker)?;
+    let log = log.as_ref().map_or(b"".as_slice(), |log| log.taken());
+    assert_eq!(rt; log, b"x!\nU uci\nx.\nu uciok\nu.\n".as_slice());
     Ok(())
 }
 
 // What a direction needs.
-fn make_way(alloc: Global, peer: Peer, to: PipeSend) -> Result<Way, NoMemory>
+fn make_way(alloc: Global, peer: Peer, to: PipeSend) -> Result<Way, Fail>
     ensures { IfOk result (λ way. (way.to ≡ to) × (way.part ≡ fresh peer) × (0 < vec_len way.buf)) }
 {
     Ok(Way {
@@ -156,52 +115,36 @@ fn make_way(alloc: Global, peer: Peer, to: PipeSend) -> Result<Way, NoMemory>
     })
 }
 
-/// What both sides say. The engine's second read fails.
-#[derive(Drop)]
-struct Sources {
-    input: MemSource,
-    engine: MemSource,
-}
+ghost use Rattle.std.specs.Prelude.{IfOk, ◌<◌, vec_len};
+ghost use Rattle.tap_runner.specs.Hearing.{fresh};
 
-fn make_sources(alloc: Global) -> Result<Sources, NoMemory> {
-    Ok(Sources {
-        input: MemSource::make(alloc, BRIDGE, 3, &[])?,
-        engine: MemSource::make(alloc, ENGINE, 3, &[2])?,
-    })
-}
-
-// Runs both directions beside each other, with no log.
-fn run_both<R: Threads + Wait + Sync>(
-    rt: &R,
-    alloc: Global,
-    sinks: &mut Sinks,
-) -> Result<TapEnd, NoMemory> {
-    let mut sources = make_sources(alloc)?;
-    let mut text = Out::make(alloc, LOG_ROOM)?;
+#[test]
+fn both_directions_run(rt: HostRuntime) -> Result<(), Fail> {
+    let alloc = rt.alloc();
     let (bridge, child, taker) = Pipe::make(alloc)?;
     let down = make_way(alloc, Peer::Iface, bridge)?;
     let up = make_way(alloc, Peer::Engine, child)?;
+    let mut input = MemSource::make(alloc, BRIDGE, 3, &[])?;
+    let mut source = MemSource::make(alloc, ENGINE, 3, &[2])?;
+    let mut output = MemSink::make(alloc, 100, &[])?;
+    let mut engine = MemSink::make(alloc, 100, &[])?;
     let mut log: Option<MemSink> = None;
-    Ok(run_tap(
-        rt,
+    let mut text = Out::make(alloc, LOG_ROOM)?;
+    let end = run_tap(
+        &rt,
         alloc,
         down,
         up,
         taker,
-        &mut sources.input,
-        &mut sources.engine,
-        &mut sinks.output,
-        &mut sinks.engine,
+        &mut input,
+        &mut source,
+        &mut output,
+        &mut engine,
         &mut log,
         &mut text,
-    ))
-}
-
-#[test]
-fn both_directions_run(rt: HostRuntime) -> Result<(), NoMemory> {
-    let mut sinks = make_sinks(rt.alloc(), 100, &[])?;
-    let end = run_both(&rt, rt.alloc(), &mut sinks)?;
+    );
     assert!(rt; !end.bridge.read_failed && end.engine.read_failed && !end.log_failed);
-    expect_taken(&rt, &sinks, BRIDGE, b"id ");
+    assert_eq!(rt; engine.taken(), BRIDGE);
+    assert_eq!(rt; output.taken(), b"id ".as_slice());
     Ok(())
 }

@@ -4,6 +4,4 @@
 #[cfg(test)]
 mod directions;
 #[cfg(test)]
-mod expected;
-#[cfg(test)]
 mod program;

@@ -1,10 +1,10 @@
 // The program over hosts in memory.
-use crate::expected::expect_bytes;
+
 use child_engine::{Fails, LetGo, MemHost};
-use line_io::{MemSink, MemSource, NoMemory, Sink};
+use line_io::{MemSink, MemSource, Sink};
 use std::alloc::Global;
-use std::process::Abort;
 use std::sync::Wait;
+use std::test::Fail;
 use std::thread::Threads;
 use tap_app::{refuse_for_memory, tap_main};
 use tap_runner::Closing;
@@ -28,22 +28,17 @@ impl Told {
     }
 }
 
-fn words_of(alloc: Global, texts: &[&str]) -> Result<Vec<Vec<u8>>, NoMemory> {
-    let mut words: Vec<Vec<u8>> = Vec::new(alloc);
-    for text in texts {
-        words.push(Vec::from_slice(alloc, text.as_bytes())?)?;
-    }
-    Ok(words)
-}
-
 // Runs the program with these words over a host some of whose calls fail.
 fn run<R: Threads + Wait + Sync>(
     rt: &R,
     alloc: Global,
-    texts: &[&str],
+    texts: &[&[u8]],
     fails: &Fails,
-) -> Result<Told, NoMemory> {
-    let words = words_of(alloc, texts)?;
+) -> Result<Told, Fail> {
+    let mut words: Vec<Vec<u8>> = Vec::new(alloc);
+    for text in texts {
+        words.push(Vec::from_slice(alloc, text)?)?;
+    }
     let mut host = MemHost::make(alloc, ENGINE, 5, 1_000, fails)?;
     let mut input = MemSource::make(alloc, INPUT, 5, &[])?;
     let mut output = MemSink::make(alloc, 1_000, &[])?;
@@ -64,106 +59,62 @@ fn run<R: Threads + Wait + Sync>(
     })
 }
 
-const FIRST: [u64; 1] = [1];
-
-// A host in which this call fails: the start, the log, or the first read or write of the engine.
-fn failing(call: &str) -> Fails<'static> {
-    let mut fails = Fails::default();
-    match call {
-        "start" => fails.start = true,
-        "log" => fails.log = true,
-        "read" => fails.reads = &FIRST,
-        "write" => fails.writes = &FIRST,
-        _ => {}
-    }
-    fails
-}
-
-/// The words, the call that fails, and the status, the output and the diagnostic of the run.
-type Row = (
-    &'static [&'static str],
-    &'static str,
-    u8,
-    &'static [u8],
-    &'static str,
-);
-
-const RUNS: [Row; 2] = [
-    (&["t.log", "engine"], "none", 0, ENGINE, ""),
-    (&["t.log"], "none", 2, b"", "tap: usage\n"),
-];
-
-const FAILING_RUNS: [Row; 4] = [
-    (
-        &["t.log", "engine"],
-        "start",
-        8,
-        b"",
-        "tap: engine start failed\n",
-    ),
-    (&["t.log", "engine"], "log", 9, ENGINE, "tap: log failed\n"),
-    (
-        &["t.log", "engine"],
-        "read",
-        6,
-        b"",
-        "tap: engine reading failed\n",
-    ),
-    (
-        &["t.log", "engine"],
-        "write",
-        7,
-        ENGINE,
-        "tap: engine writing failed\n",
-    ),
-];
-
-fn expect_run<R: Threads + Wait + Sync + Abort>(
-    rt: &R,
-    alloc: Global,
-    row: &Row,
-) -> Result<(), NoMemory> {
-    let (words, call, code, output, diag) = *row;
-    let told = run(rt, alloc, words, &failing(call))?;
-    assert!(rt; told.is(code, output, diag.as_bytes()), "{call} {diag}");
+#[test]
+fn bytes_are_handed_on(rt: HostRuntime) -> Result<(), Fail> {
+    let told = run(&rt, rt.alloc(), &[b"t.log", b"engine"], &Fails::default())?;
+    assert!(rt; told.is(0, ENGINE, b""));
+    let told = run(&rt, rt.alloc(), &[b"t.log"], &Fails::default())?;
+    assert!(rt; told.is(2, b"", b"tap: usage\n"));
     Ok(())
 }
 
 #[test]
-fn bytes_are_handed_on(rt: HostRuntime) -> Result<(), NoMemory> {
-    for row in &RUNS {
-        expect_run(&rt, rt.alloc(), row)?;
-    }
+fn calls_that_fail(rt: HostRuntime) -> Result<(), Fail> {
+    let first = [1];
+    let words: [&[u8]; 2] = [b"t.log", b"engine"];
+    let start = Fails {
+        start: true,
+        ..Fails::default()
+    };
+    let told = run(&rt, rt.alloc(), words.as_slice(), &start)?;
+    assert!(rt; told.is(8, b"", b"tap: engine start failed\n"));
+    let log = Fails {
+        log: true,
+        ..Fails::default()
+    };
+    let told = run(&rt, rt.alloc(), words.as_slice(), &log)?;
+    assert!(rt; told.is(9, ENGINE, b"tap: log failed\n"));
+    let reads = Fails {
+        reads: &first,
+        ..Fails::default()
+    };
+    let told = run(&rt, rt.alloc(), words.as_slice(), &reads)?;
+    assert!(rt; told.is(6, b"", b"tap: engine reading failed\n"));
+    let writes = Fails {
+        writes: &first,
+        ..Fails::default()
+    };
+    let told = run(&rt, rt.alloc(), words.as_slice(), &writes)?;
+    assert!(rt; told.is(7, ENGINE, b"tap: engine writing failed\n"));
     Ok(())
 }
 
 #[test]
-fn calls_that_fail(rt: HostRuntime) -> Result<(), NoMemory> {
-    for row in &FAILING_RUNS {
-        expect_run(&rt, rt.alloc(), row)?;
-    }
-    Ok(())
-}
-
-#[test]
-fn no_memory_for_words(rt: HostRuntime) -> Result<(), NoMemory> {
+fn no_memory_for_words(rt: HostRuntime) -> Result<(), Fail> {
     let mut diag = MemSink::make(rt.alloc(), 100, &[])?;
     let status = refuse_for_memory(&mut diag);
     assert_eq!(rt; status.code, 3);
-    expect_bytes(&rt, diag.taken(), b"tap: no memory\n");
+    assert_eq!(rt; diag.taken(), b"tap: no memory\n".as_slice());
     Ok(())
 }
 
-// Whether a writer takes the first of two pieces, and not the second, behind which it was let go.
-fn is_let_go_between(bytes: Vec<u8>) -> bool {
-    let mut sink = Closing::new(bytes);
-    let first = sink.write(b"uci\n");
-    sink.let_go();
-    let second = sink.write(b"quit\n");
-    first.is_ok() && second.is_err() && sink.faults() == 1
-}
-
 #[test]
-fn a_writer_is_let_go(rt: HostRuntime) {
-    assert!(rt; is_let_go_between(Vec::new(rt.alloc())));
+fn a_writer_is_let_go(rt: HostRuntime) -> Result<(), Fail> {
+    let bytes: Vec<u8> = Vec::new(rt.alloc());
+    let mut sink = Closing::new(bytes);
+    assert!(rt; sink.write(b"uci\n").is_ok());
+    sink.let_go();
+    assert!(rt; sink.write(b"quit\n").is_err());
+    assert_eq!(rt; sink.faults(), 1);
+    Ok(())
 }
