@@ -46,14 +46,14 @@ impl Answer {
 // Runs the program on words between bars.
 fn run(
     alloc: Global,
-    words: &str,
+    words: &[u8],
     input: &mut MemSource,
     output: &mut MemSink,
 ) -> Result<Answer, Fail> {
     let mut diag = MemSink::make(alloc, 100, &[])?;
     let mut split = Vec::new(alloc);
-    for word in words.split('|') {
-        split.push(Vec::from_slice(alloc, word.as_bytes())?)?;
+    for word in words.split(|b| *b == b'|') {
+        split.push(Vec::from_slice(alloc, word)?)?;
     }
     let status = replay_main(alloc, split.as_slice(), input, output, &mut diag);
     Ok(Answer {
@@ -69,14 +69,14 @@ fn replayed(alloc: Global, input: &[u8], piece: usize, fails: &[u64]) -> Result<
 {
     let mut source = MemSource::make(alloc, input, piece, fails)?;
     let mut output = MemSink::make(alloc, 200_000, &[])?;
-    run(alloc, "replay", &mut source, &mut output)
+    run(alloc, b"replay", &mut source, &mut output)
 }
 
 // Checks a script that is read byte for byte.
 fn checked(alloc: Global, script: &str) -> Result<Answer, Fail> {
     let mut source = MemSource::make(alloc, script.as_bytes(), 1, &[])?;
     let mut output = MemSink::make(alloc, 100, &[])?;
-    run(alloc, "check", &mut source, &mut output)
+    run(alloc, b"check", &mut source, &mut output)
 }
 
 // An input in pieces of each size below eight gives this script, and the script gives itself and is lawful.
@@ -110,24 +110,19 @@ fn failed_reads_are_told(rt: HostRuntime) -> Result<(), Fail> {
 }
 
 // What these words answer whose first write fails.
-fn expect_no_write(rt: &impl Abort, alloc: Global, words: &str, input: &[u8]) -> Result<(), Fail> {
+fn expect_no_write(rt: &impl Abort, alloc: Global, words: &[u8], input: &[u8]) -> Result<(), Fail> {
     let mut source = MemSource::make(alloc, input, 4096, &[])?;
     let mut output = MemSink::make(alloc, 1_000, &[1])?;
     let answer = run(alloc, words, &mut source, &mut output)?;
-    assert_eq!(rt; answer.status, 5);
-    assert_eq!(rt;
-        answer.told.as_slice(),
-        b"replay: writing failed\n".as_slice()
-    );
-    Ok(())
+    answer.expect(rt, 5, "", "replay: writing failed\n")
 }
 
 #[test]
 fn failed_writes_are_told(rt: HostRuntime) -> Result<(), Fail> {
     let alloc = rt.alloc();
-    expect_no_write(&rt, alloc, "moves|4k3/8/8/8/8/8/8/4K3|w|-|-", b"")?;
-    expect_no_write(&rt, alloc, "drill|1|0", b"")?;
-    expect_no_write(&rt, alloc, "check", b"U uci\nx ping 1\nX pong 1\n")
+    expect_no_write(&rt, alloc, b"moves|4k3/8/8/8/8/8/8/4K3|w|-|-", b"")?;
+    expect_no_write(&rt, alloc, b"drill|1|0", b"")?;
+    expect_no_write(&rt, alloc, b"check", b"U uci\nx ping 1\nX pong 1\n")
 }
 
 #[test]
@@ -143,15 +138,8 @@ fn words_are_bytes(rt: HostRuntime) -> Result<(), Fail> {
     let alloc = rt.alloc();
     let mut source = MemSource::make(alloc, b"", 7, &[])?;
     let mut output = MemSink::make(alloc, 100, &[])?;
-    let mut diag = MemSink::make(alloc, 100, &[])?;
-    let words = vec![in alloc;
-        Vec::from_slice(alloc, b"moves")?,
-        Vec::from_slice(alloc, b"\xff")?,
-    ]?;
-    let status = replay_main(alloc, words.as_slice(), &mut source, &mut output, &mut diag);
-    assert_eq!(rt; status.code, 2);
-    assert_eq!(rt; diag.taken(), b"replay: position: board\n".as_slice());
-    Ok(())
+    let answer = run(alloc, b"moves|\xff", &mut source, &mut output)?;
+    answer.expect(&rt, 2, "", "replay: position: board\n")
 }
 
 // A line of so many letters.
