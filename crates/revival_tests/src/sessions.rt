@@ -8,8 +8,9 @@ use std::alloc::Global;
 use std::process::Abort;
 use std::test::Fail;
 
-/// What comes, the lines up, and the lines to the engine. An order comes behind `x`, a line of the engine behind `u`;
-/// at `u!` the life ends and another one begins, and at `u.` it ends and none follows.
+/// What comes, the lines up, and the lines to the engine. An order comes behind `x`, a line of the
+/// engine behind `u`; at `u!` the life ends and another one begins, and at `u.` it ends and none
+/// follows.
 type Row = (&'static str, &'static str, &'static str);
 
 fn is_line(line: &[u8]) -> bool
