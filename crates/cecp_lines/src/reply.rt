@@ -3,7 +3,7 @@
 use chess_board::Move;
 
 /// Why a line was refused.
-#[derive(Clone, Copy, Debug, PartialEq, Eq)]
+#[derive(Clone, Copy, PartialEq, Eq)]
 pub enum Reason {
     UnknownCommand,
     BadArgument,
@@ -18,7 +18,7 @@ pub enum Reason {
 }
 
 /// An error that the user is to see.
-#[derive(Clone, Copy, Debug, PartialEq, Eq)]
+#[derive(Clone, Copy, PartialEq, Eq)]
 pub enum UserError {
     /// A position that is none.
     Position,
@@ -29,7 +29,7 @@ pub enum UserError {
 }
 
 /// How a game ended.
-#[derive(Clone, Copy, Debug, PartialEq, Eq)]
+#[derive(Clone, Copy, PartialEq, Eq)]
 pub enum Outcome {
     WhiteMates,
     BlackMates,
@@ -42,7 +42,7 @@ pub enum Outcome {
 /// A line for the interface: Chess Engine Communication Protocol, version 2, section "Commands from
 /// the engine to xboard". The thinking line and `stat01` are those of its sections "Thinking
 /// Output" and "Analyze Mode".
-#[derive(Clone, Copy, Debug, PartialEq, Eq)]
+#[derive(Clone, Copy, PartialEq, Eq)]
 pub enum Reply<'a> {
     /// A feature and its value, with the quotes if it has some.
     Feature {

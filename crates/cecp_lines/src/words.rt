@@ -6,7 +6,7 @@ use crate::iface::IfaceMsg;
 use peer_words::named;
 
 /// What a command word stands for.
-#[derive(Clone, Copy, Debug, PartialEq, Eq)]
+#[derive(Clone, Copy)]
 pub(crate) enum Command {
     /// The line asks for nothing.
     Ignored,
@@ -17,7 +17,7 @@ pub(crate) enum Command {
 }
 
 /// A command that takes arguments.
-#[derive(Clone, Copy, Debug, PartialEq, Eq)]
+#[derive(Clone, Copy)]
 pub(crate) enum Verb {
     Protover,
     Ping,

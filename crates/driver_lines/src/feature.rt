@@ -8,7 +8,7 @@ ghost use Rattle.driver_lines.specs.Parts.{ends_name, is_quote, feature_of, cut_
 use peer_words::{is_white, trim_start};
 
 /// A feature: `NAME=VALUE`. The value has its quotes no more (CECP version 2, "feature").
-#[derive(Clone, Copy, Debug, PartialEq, Eq)]
+#[derive(Clone, Copy)]
 pub struct Part<'a> {
     pub name: &'a [u8],
     pub value: &'a [u8],

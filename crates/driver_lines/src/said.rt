@@ -9,7 +9,7 @@ use crate::tokens::next_token;
 use peer_words::{read_number, split_token};
 
 /// What a line of the engine says (CECP version 2, "Commands from the engine to xboard").
-#[derive(Clone, Copy, Debug, PartialEq, Eq)]
+#[derive(Clone, Copy)]
 pub enum Said<'a> {
     /// A line that says nothing to a driver.
     Other,

@@ -6,7 +6,7 @@ ghost use Rattle.driver_lines.specs.Words.{ordered_in};
 use peer_words::split_token;
 
 /// An order by its first token (UCI, "GUI to engine").
-#[derive(Clone, Copy, Debug, PartialEq, Eq)]
+#[derive(Clone, Copy)]
 pub enum Ordered {
     Quit,
     Uci,

@@ -7,7 +7,7 @@ use itoa::Buffer;
 use line_io::Out;
 
 /// An order to an engine (UCI, "GUI to engine").
-#[derive(Clone, Copy, Debug, PartialEq, Eq)]
+#[derive(Clone, Copy, PartialEq, Eq)]
 pub enum Order<'a> {
     Uci,
     IsReady,
@@ -32,7 +32,7 @@ pub enum Order<'a> {
 }
 
 /// How long a search may last. Times are in milliseconds.
-#[derive(Clone, Copy, Debug, PartialEq, Eq)]
+#[derive(Clone, Copy, PartialEq, Eq)]
 pub enum GoControl {
     Infinite,
     MoveTime(u64),
