@@ -135,7 +135,7 @@ fn expect_state(rt: &impl Abort, field: &str, side: Side, want: Result<State, Bu
         Ok(position) => Ok(position.state()),
         Err(fault) => Err(fault),
     };
-    assert_eq!(rt; found, want, "{field}");
+    assert!(rt; found == want, "{field}");
 }
 
 fn expect_states(rt: &impl Abort, rows: &[Stated]) {

@@ -25,7 +25,7 @@ impl From<NoMemory> for HostFault {
 
 /// How often each kind of call failed, or a part that was closed had failed. Each count stays at
 /// the last value of its type.
-#[derive(Clone, Copy, Debug, Default, PartialEq, Eq)]
+#[derive(Clone, Copy, Default)]
 pub struct Faults {
     pub starts: u64,
     pub reads: u64,

@@ -42,15 +42,15 @@ fn same(up: Up, down: Down) -> Deed {
 }
 
 fn expect_deed(rt: &impl Abort, found: Deed, wanted: Deed) {
-    assert_eq!(rt; found, wanted);
+    assert!(rt; found == wanted);
 }
 
 fn expect_up(rt: &impl Abort, found: Up, wanted: Up) {
-    assert_eq!(rt; found, wanted);
+    assert!(rt; found == wanted);
 }
 
 fn expect_down(rt: &impl Abort, found: Down, wanted: Down) {
-    assert_eq!(rt; found, wanted);
+    assert!(rt; found == wanted);
 }
 
 #[test]

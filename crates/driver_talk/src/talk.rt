@@ -11,7 +11,7 @@ use peer_words::GoKind;
 pub(crate) const LAST_PING: u32 = 999_999_999;
 
 /// What the interface has ordered so far.
-#[derive(Clone, Copy, Debug, PartialEq, Eq)]
+#[derive(Clone, Copy)]
 pub enum Stage {
     /// No `uci` yet.
     Fresh,
@@ -21,7 +21,7 @@ pub enum Stage {
 }
 
 /// The talk with both peers.
-#[derive(Clone, Copy, Debug, PartialEq, Eq)]
+#[derive(Clone, Copy)]
 pub struct Talk {
     pub stage: Stage,
     /// The engine ended.
@@ -34,7 +34,7 @@ pub struct Talk {
 }
 
 /// What may be asked of the engine for a `go`.
-#[derive(Clone, Copy, Debug, PartialEq, Eq)]
+#[derive(Clone, Copy)]
 pub enum Reach {
     /// Nothing: no position is ordered, the game is too long, or the engine has not the features.
     Nothing,
@@ -44,7 +44,7 @@ pub enum Reach {
 }
 
 /// What a `go` asks for.
-#[derive(Clone, Copy, Debug, PartialEq, Eq)]
+#[derive(Clone, Copy)]
 pub struct Wanted {
     pub kind: GoKind,
     pub clocks: Clocks,
@@ -54,7 +54,7 @@ pub struct Wanted {
 }
 
 /// What happens.
-#[derive(Clone, Copy, Debug, PartialEq, Eq)]
+#[derive(Clone, Copy)]
 pub enum Call {
     /// An order, or a line of the engine, that changes nothing.
     Other,
@@ -75,7 +75,7 @@ pub enum Call {
 }
 
 /// The talk after a call, and what comes of it.
-#[derive(Clone, Copy, Debug, PartialEq, Eq)]
+#[derive(Clone, Copy)]
 pub struct Turn {
     pub talk: Talk,
     pub deed: Deed,

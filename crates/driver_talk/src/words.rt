@@ -4,7 +4,7 @@ use chess_board::Move;
 use peer_words::GoKind;
 
 /// What a `go` order says of time and depth (UCI, "go"). Times are in milliseconds.
-#[derive(Clone, Copy, Debug, PartialEq, Eq)]
+#[derive(Clone, Copy, PartialEq, Eq)]
 pub struct Clocks {
     pub wtime: u64,
     pub btime: u64,
@@ -20,7 +20,7 @@ pub struct Clocks {
 
 /// What a thinking line reports: depth in plies, score in hundredths of a pawn, time in milliseconds, nodes, and
 /// the first move of the line.
-#[derive(Clone, Copy, Debug, PartialEq, Eq)]
+#[derive(Clone, Copy, PartialEq, Eq)]
 pub struct Thought {
     pub depth: u64,
     pub score: i64,
@@ -30,7 +30,7 @@ pub struct Thought {
 }
 
 /// What follows once an engine that left analysis has answered the `ping` behind `exit`.
-#[derive(Clone, Copy, Debug, PartialEq, Eq)]
+#[derive(Clone, Copy)]
 pub enum Next {
     /// The search is answered.
     Answer,
@@ -39,7 +39,7 @@ pub enum Next {
 }
 
 /// How far a search has come.
-#[derive(Clone, Copy, Debug, PartialEq, Eq)]
+#[derive(Clone, Copy)]
 pub enum Phase {
     /// The engine was told to think on its move, and perhaps to hurry.
     Thinks { hurried: bool },
@@ -56,7 +56,7 @@ pub enum Phase {
 }
 
 /// An open search: a `go` that was not answered.
-#[derive(Clone, Copy, Debug, PartialEq, Eq)]
+#[derive(Clone, Copy)]
 pub struct Search {
     /// What its `go` asked for.
     pub kind: GoKind,
@@ -67,7 +67,7 @@ pub struct Search {
 }
 
 /// What is given up to the interface.
-#[derive(Clone, Copy, Debug, PartialEq, Eq)]
+#[derive(Clone, Copy, PartialEq, Eq)]
 pub enum Up {
     Nothing,
     /// `readyok`
@@ -79,7 +79,7 @@ pub enum Up {
 }
 
 /// What is written to the engine.
-#[derive(Clone, Copy, Debug, PartialEq, Eq)]
+#[derive(Clone, Copy, PartialEq, Eq)]
 pub enum Down {
     Nothing,
     /// `xboard`, `protover 2`
@@ -102,7 +102,7 @@ pub enum Down {
 }
 
 /// What becomes of the game that is known of the engine, besides what is set up.
-#[derive(Clone, Copy, Debug, PartialEq, Eq)]
+#[derive(Clone, Copy, PartialEq, Eq)]
 pub enum Board {
     Same,
     /// The engine played a move.
@@ -112,7 +112,7 @@ pub enum Board {
 }
 
 /// What comes of a call.
-#[derive(Clone, Copy, Debug, PartialEq, Eq)]
+#[derive(Clone, Copy, PartialEq, Eq)]
 pub struct Deed {
     pub up: Up,
     pub down: Down,

@@ -8,7 +8,7 @@ use peer_words::GoKind;
 use uci_lines::{EngineMsg, GoControl, Order, read_engine};
 
 /// The state of a dialogue with an engine, by the orders to it and by what it said (UCI, April 2006).
-#[derive(Clone, Copy, Debug, PartialEq, Eq)]
+#[derive(Clone, Copy)]
 pub enum DialogueState {
     /// No `uci` came yet.
     Before,
@@ -25,7 +25,7 @@ pub enum DialogueState {
 }
 
 /// The state of the present life of the engine, by what was written to it and heard from it.
-#[derive(Clone, Copy, Debug, PartialEq, Eq)]
+#[derive(Clone, Copy)]
 pub enum LifeState {
     /// It was begun and got no `uci` yet.
     Fresh,
@@ -44,7 +44,7 @@ pub enum LifeState {
 }
 
 /// What a line of an engine says, as far as it matters here.
-#[derive(Clone, Copy, Debug, PartialEq, Eq)]
+#[derive(Clone, Copy)]
 pub enum Said {
     /// A name or an option.
     Introduction,
@@ -57,7 +57,7 @@ pub enum Said {
 }
 
 /// What is written to an idle life.
-#[derive(Clone, Copy, Debug, PartialEq, Eq)]
+#[derive(Clone, Copy)]
 pub(crate) enum Due {
     Nothing,
     /// The settings that it did not get, and `isready`.
@@ -67,7 +67,7 @@ pub(crate) enum Due {
 }
 
 /// What stands in for an engine that has no more lives.
-#[derive(Clone, Copy, Debug, PartialEq, Eq)]
+#[derive(Clone, Copy)]
 pub(crate) enum Answer {
     Nothing,
     UciOk,

@@ -25,7 +25,7 @@ pub enum ReadEnd {
 }
 
 // What one turn came to.
-#[derive(Clone, Copy, Debug, PartialEq, Eq)]
+#[derive(Clone, Copy)]
 pub enum Turn {
     More,
     Done,

@@ -7,7 +7,7 @@ use chess_board::{Position, State};
 /// How a game has ended: mate (article 5.1.1), stalemate (5.2.1), a dead position (5.2.2) of two kings with no man
 /// or one bishop or knight alone, the third occurrence of a position (9.2), or 100 moves of both sides
 /// without a pawn's move or a capture (9.3). The last two end a game here without a claim.
-#[derive(Clone, Copy, Debug, PartialEq, Eq)]
+#[derive(Clone, Copy, PartialEq, Eq)]
 pub enum End {
     Mate,
     Stale,

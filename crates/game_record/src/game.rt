@@ -21,7 +21,7 @@ pub const MOST_PLIES: usize = 12_000;
 pub const POSITION_TEXT: usize = 120 + 6 * (MOST_PLIES + 1);
 
 /// Why a move is not taken.
-#[derive(Clone, Copy, Debug, PartialEq, Eq)]
+#[derive(Clone, Copy, PartialEq, Eq)]
 pub enum PushFault {
     /// It is not legal now.
     Illegal,
@@ -30,7 +30,7 @@ pub enum PushFault {
 }
 
 /// Fewer moves stand than were to be taken back.
-#[derive(Clone, Copy, Debug, PartialEq, Eq)]
+#[derive(Clone, Copy, PartialEq, Eq)]
 pub struct NoMove;
 
 /// A game: a start position and the moves from there, each legal in its turn. No call but `make` takes memory.

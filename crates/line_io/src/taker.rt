@@ -37,7 +37,7 @@ pub trait TakesLines<O> {
 ///
 /// `Stopped`: by the taker. `Ended`: at the end of the input. `ReadFailed`: a read failed.
 /// `Endless`: the input gave at least 2^32 bytes.
-#[derive(Clone, Copy, Debug, PartialEq, Eq)]
+#[derive(Clone, Copy, PartialEq, Eq)]
 pub enum LinesEnd<S> {
     Stopped(S),
     Ended,

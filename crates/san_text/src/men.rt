@@ -74,7 +74,7 @@ fn is_rival(at: &Position, m: Move, square: Square) -> bool
 }
 
 /// The squares on which other men are looked for.
-#[derive(Clone, Copy, Debug, PartialEq, Eq)]
+#[derive(Clone, Copy)]
 pub enum Within {
     Board,
     File,

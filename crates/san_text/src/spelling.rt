@@ -5,7 +5,7 @@ ghost use Rattle.san_text.specs.Spelling.{unmarked, is_mark, file_named, rank_na
 use chess_board::{Kind, Square};
 
 /// The square reached, and what a pawn becomes there.
-#[derive(Clone, Copy, Debug, PartialEq, Eq)]
+#[derive(Clone, Copy)]
 pub struct Target {
     pub to: Square,
     pub promo: Option<Kind>,
@@ -13,7 +13,7 @@ pub struct Target {
 
 /// What a text says: castling, or a man's kind, its file and rank, counted from 0, if they are
 /// given, and the square reached.
-#[derive(Clone, Copy, Debug, PartialEq, Eq)]
+#[derive(Clone, Copy)]
 pub enum Spelling {
     Short,
     Long,

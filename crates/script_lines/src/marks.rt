@@ -7,7 +7,7 @@ ghost use Rattle.line_io.specs.Out.{with};
 use line_io::{Event, Out, PEER_LINE, SCRIPT_LINE};
 
 /// A line that spells no mark.
-#[derive(Clone, Copy, Debug, PartialEq, Eq)]
+#[derive(Clone, Copy, Debug)]
 pub struct BadMark;
 
 /// What a line of a script says: what happened, or a line that was written to a peer.
@@ -15,7 +15,7 @@ pub struct BadMark;
 /// A mark is a letter, one blank and a line, or a letter and a sign: `x LINE`, `u LINE` for a line
 /// of the interface, of the engine; `x!`, `u!` for a long one, `x.`, `u.` for the end of its input,
 /// `x?`, `u?` for a write to it that failed; `X LINE`, `U LINE` for a line written to it.
-#[derive(Clone, Copy, Debug, PartialEq, Eq)]
+#[derive(Clone, Copy)]
 pub enum Mark<'a> {
     Event(Event<'a>),
     ToIface(&'a [u8]),

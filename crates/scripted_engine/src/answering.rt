@@ -8,7 +8,7 @@ use line_io::{LinesEnd, Sink, TakesLines, write_all};
 use peer_words::split_token;
 
 /// Why no more lines are answered.
-#[derive(Clone, Copy, Debug, PartialEq, Eq)]
+#[derive(Clone, Copy)]
 pub enum Stop {
     Quit,
     WriteFailed,

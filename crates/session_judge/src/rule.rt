@@ -2,7 +2,7 @@
 
 /// Which rule a mark breaks (UCI, April 2006; and when a bridge shows a move). A mark that breaks several is told the
 /// first.
-#[derive(Clone, Copy, Debug, PartialEq, Eq)]
+#[derive(Clone, Copy, PartialEq, Eq)]
 pub enum Rule {
     /// The first order is not `uci`, or a later one is.
     First,

@@ -5,7 +5,7 @@ use peer_words::GoKind;
 /// A search. They are numbered from 1, and the number stays at the last value of its type. `kind` is that of its `go`,
 /// and Move once `ponderhit` was written in it. `begun` and `ended` are the lines of its `go` and of its `bestmove`.
 /// `shown` is the move that was shown after its `bestmove` and before the next `go`.
-#[derive(Clone, Copy, Debug, PartialEq, Eq)]
+#[derive(Clone, Copy, PartialEq, Eq)]
 pub struct Search {
     pub number: u64,
     pub kind: GoKind,

@@ -16,7 +16,7 @@ use peer_words::GoKind;
 const LAST_NUMBER: u64 = u64::MAX;
 
 /// The state of the engine, by what was written to it and heard from it (UCI, April 2006).
-#[derive(Clone, Copy, Debug, PartialEq, Eq)]
+#[derive(Clone, Copy)]
 pub enum Engine {
     /// From `uci` to `uciok`.
     Boot,
@@ -31,7 +31,7 @@ pub enum Engine {
 }
 
 /// Which orders came so far.
-#[derive(Clone, Copy, Debug, PartialEq, Eq)]
+#[derive(Clone, Copy)]
 pub enum Stage {
     /// None.
     Start,
