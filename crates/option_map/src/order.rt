@@ -20,21 +20,21 @@ const SETTING_BYTES: usize = 22;
 pub const ORDER_BYTES: usize = PEER_LINE + 164;
 
 /// What an option is set to.
-#[derive(Clone, Copy, Debug, PartialEq, Eq)]
+#[derive(Clone, Copy, PartialEq, Eq)]
 pub enum Value<'a> {
     Text(&'a [u8]),
     Number(i64),
 }
 
 /// An order that sets an option, by its declared name. A button is set to no value.
-#[derive(Clone, Copy, Debug, PartialEq, Eq)]
+#[derive(Clone, Copy, PartialEq, Eq)]
 pub struct Asked<'a> {
     pub name: &'a [u8],
     pub value: Option<Value<'a>>,
 }
 
 /// An order that sets up the engine.
-#[derive(Clone, Copy, Debug, PartialEq, Eq)]
+#[derive(Clone, Copy)]
 pub enum Setup<'a> {
     NewGame,
     Set(Asked<'a>),
