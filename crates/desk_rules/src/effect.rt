@@ -29,7 +29,7 @@ pub struct Context {
 }
 
 /// Why a line of the interface is refused.
-#[derive(Clone, Copy, Debug, PartialEq, Eq)]
+#[derive(Clone, Copy)]
 pub enum Refusal {
     /// A reason that is named in `Error (REASON): LINE`.
     Because(Reason),
