@@ -7,7 +7,7 @@ ghost use Rattle.adapter_core.specs.Ends.{may, ends_after};
 use line_io::{Event, PEER_LINE};
 
 /// Which sides have begun and ended.
-#[derive(Clone, Copy, Debug, PartialEq, Eq)]
+#[derive(Clone, Copy, PartialEq, Eq)]
 pub struct Ends {
     pub opened: bool,
     /// The interface sent `quit`, or its input ended.

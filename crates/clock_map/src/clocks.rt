@@ -19,7 +19,7 @@ use uci_lines::{GoControl, Order, write_order};
 const FIVE_MINUTES: i64 = 300_000;
 
 /// How the time of a move is bounded.
-#[derive(Clone, Copy, Debug, PartialEq, Eq)]
+#[derive(Clone, Copy)]
 enum Control {
     /// The clocks run, as `level` set them.
     Session,
@@ -29,7 +29,7 @@ enum Control {
 
 /// The time control of a session, in milliseconds (Chess Engine Communication Protocol, version 2,
 /// commands `level`, `st`, `sd`, `time` and `otim`).
-#[derive(Clone, Copy, Debug, PartialEq, Eq)]
+#[derive(Clone, Copy)]
 pub struct Clocks {
     control: Control,
     // moves from one time control to the next, 0 if the time is for the whole game

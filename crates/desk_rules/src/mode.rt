@@ -2,7 +2,7 @@
 use chess_board::Side;
 
 /// What the interface has the engine do (CECP version 2: `force`, `go`, `playother`, `analyze`, `result`).
-#[derive(Clone, Copy, Debug, PartialEq, Eq)]
+#[derive(Clone, Copy, PartialEq, Eq)]
 pub enum Mode {
     /// Moves are only entered.
     Force,

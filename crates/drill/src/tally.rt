@@ -11,7 +11,7 @@ use line_io::split_line;
 const MOST_STEPS: u64 = 1_000_000;
 
 /// Steps, lines to both peers, and moves that were shown.
-#[derive(Clone, Copy, Debug, PartialEq, Eq)]
+#[derive(Clone, Copy)]
 pub struct Tally {
     pub steps: u64,
     pub to_iface: u64,

@@ -5,7 +5,7 @@ ghost use Rattle.feature_talk.specs.Due.{answer};
 use std::marker::Model;
 
 /// What `protover` is answered by.
-#[derive(Clone, Copy, Debug, PartialEq, Eq)]
+#[derive(Clone, Copy, PartialEq, Eq)]
 pub enum Say {
     /// `feature done=0`: the list comes once the engine has declared its options.
     Wait,

@@ -8,6 +8,7 @@ ghost use Rattle.option_map.specs.KeptOrders.{value_in, order_in, IsValueIn, IsO
 
 use crate::order::{Asked, Setup, Value};
 use crate::setting::Span;
+use crate::stored::text_at;
 use line_io::Out;
 
 #[derive(Clone, Copy)]
@@ -25,20 +26,13 @@ pub(crate) enum KeptOrder {
     Set { name: Span, value: KeptValue },
 }
 
-fn part(texts: &[u8], span: Span) -> &[u8]
-    requires { IsSpanIn (length texts.now) span }
-    ensures { result.now ≡ text_at texts.now span }
-{
-    &texts[span.at..span.at + span.len]
-}
-
 fn value_in(texts: &[u8], value: KeptValue) -> Option<Value<'_>>
     requires { IsValueIn (length texts.now) value }
     ensures { option_map value_seen result ≡ value_in texts.now value }
 {
     match value {
         KeptValue::Nothing => None,
-        KeptValue::Text(span) => Some(Value::Text(part(texts, span))),
+        KeptValue::Text(span) => Some(Value::Text(text_at(texts, span))),
         KeptValue::Number(n) => Some(Value::Number(n)),
     }
 }
@@ -51,7 +45,7 @@ pub(crate) fn setup_in(texts: &[u8], order: KeptOrder) -> Setup<'_>
     match order {
         KeptOrder::NewGame => Setup::NewGame,
         KeptOrder::Set { name, value } => Setup::Set(Asked {
-            name: part(texts, name),
+            name: text_at(texts, name),
             value: value_in(texts, value),
         }),
     }

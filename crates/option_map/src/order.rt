@@ -1,12 +1,13 @@
 // Orders that set up the engine, as data.
-ghost use Rattle.std.specs.Prelude.{◌≡◌, ◌≤◌, ◌+◌, length, nat_le, None, Some};
+ghost use Rattle.std.specs.Prelude.{◌≡◌, ◌≤◌, ◌+◌, length, nat_le, Some};
 ghost use Rattle.std.specs.Fmt.{signed_decimal};
 ghost use Rattle.line_io.specs.Out.{with};
-ghost use Rattle.uci_lines.specs.Orders.{order_text};
+ghost use Rattle.uci_lines.specs.Orders.{order_text, optional_now};
 ghost use Rattle.uci_lines.specs.Orders as orders;
 ghost use Rattle.option_map.specs.Held.{are_for_same, order_line};
 
 use crate::held::MOST_BYTES;
+use crate::measure::number_length;
 use itoa::Buffer;
 use line_io::{Out, PEER_LINE};
 use uci_lines::{Order, write_order};
@@ -20,46 +21,33 @@ const SETTING_BYTES: usize = 22;
 pub const ORDER_BYTES: usize = PEER_LINE + 164;
 
 /// What an option is set to.
-#[derive(Clone, Copy, Debug, PartialEq, Eq)]
+#[derive(Clone, Copy, PartialEq, Eq)]
 pub enum Value<'a> {
     Text(&'a [u8]),
     Number(i64),
 }
 
 /// An order that sets an option, by its declared name. A button is set to no value.
-#[derive(Clone, Copy, Debug, PartialEq, Eq)]
+#[derive(Clone, Copy, PartialEq, Eq)]
 pub struct Asked<'a> {
     pub name: &'a [u8],
     pub value: Option<Value<'a>>,
 }
 
 /// An order that sets up the engine.
-#[derive(Clone, Copy, Debug, PartialEq, Eq)]
+#[derive(Clone, Copy)]
 pub enum Setup<'a> {
     NewGame,
     Set(Asked<'a>),
 }
 
-fn put_setting(name: &[u8], value: &[u8], out: &mut Out)
+fn put_order(name: &[u8], value: Option<&[u8]>, out: &mut Out)
     requires { length out.old.text
-        + length (order_text (orders.SetOption name.now (Some value.now))) ≤ out.old.room }
-    ensures { out.new ≡ with out.old (order_text (orders.SetOption name.now (Some value.now))) }
+        + length (order_text (orders.SetOption name.now (optional_now value))) ≤ out.old.room }
+    ensures { out.new
+        ≡ with out.old (order_text (orders.SetOption name.now (optional_now value.entry))) }
 {
-    write_order(
-        &Order::SetOption {
-            name,
-            value: Some(value),
-        },
-        out,
-    );
-}
-
-fn put_button(name: &[u8], out: &mut Out)
-    requires { length out.old.text + length (order_text (orders.SetOption name.now None))
-        ≤ out.old.room }
-    ensures { out.new ≡ with out.old (order_text (orders.SetOption name.now None)) }
-{
-    write_order(&Order::SetOption { name, value: None }, out);
+    write_order(&Order::SetOption { name, value }, out);
 }
 
 fn put_number(name: &[u8], n: i64, out: &mut Out)
@@ -69,13 +57,7 @@ fn put_number(name: &[u8], n: i64, out: &mut Out)
     ensures { out.new
         ≡ with out.old (order_text (orders.SetOption name.now (Some (signed_decimal n)))) }
 {
-    put_setting(name, Buffer::new().format(n).as_bytes(), out);
-}
-
-fn number_length(n: i64) -> usize
-    ensures { result ≡ length (signed_decimal n) }
-{
-    Buffer::new().format(n).len()
+    put_order(name, Some(Buffer::new().format(n).as_bytes()), out);
 }
 
 // Whether three lengths have a sum within a length.
@@ -95,8 +77,8 @@ impl Asked<'_> {
         ensures { out.new ≡ with out.old (order_text (order_seen self.now)) }
     {
         match self.value {
-            None => put_button(self.name, out),
-            Some(Value::Text(text)) => put_setting(self.name, text, out),
+            None => put_order(self.name, None, out),
+            Some(Value::Text(text)) => put_order(self.name, Some(text), out),
             Some(Value::Number(n)) => put_number(self.name, n, out),
         }
     }

@@ -1,7 +1,8 @@
 // Lines of the interface that set options.
-ghost use Rattle.std.specs.Prelude.{◌≡◌, ◌≤◌, ◌+◌, length, Ok, Some, None};
+ghost use Rattle.std.specs.Prelude.{◌≡◌, ◌≤◌, ◌+◌, ◌||◌, length, Ok, Some, None};
 ghost use Rattle.std.specs.Fmt.{signed_decimal};
 ghost use Rattle.std.specs.Option.{option_map, option_and_then};
+ghost use Rattle.std.specs.Str.{bytes_eq};
 ghost use Rattle.peer_words.specs.Numbers.{signed};
 ghost use Rattle.line_io.specs.Out.{with};
 ghost use Rattle.uci_lines.specs.Orders.{order_of, order_text, optional_now};
@@ -36,12 +37,18 @@ fn chosen<'a>(value: &[u8], choices: &'a [u8]) -> Option<&'a [u8]>
     None
 }
 
+fn is_either(value: &[u8], first: &[u8], second: &[u8]) -> bool
+    ensures { result ≡ (bytes_eq value.now first.now || bytes_eq value.now second.now) }
+{
+    value == first || value == second
+}
+
 fn switch(value: &[u8]) -> Option<&[u8]>
     ensures { optional_now result ≡ switch value.now }
 {
-    if value == b"1".as_slice() || value == b"true".as_slice() {
+    if is_either(value, b"1", b"true") {
         Some(b"true")
-    } else if value == b"0".as_slice() || value == b"false".as_slice() {
+    } else if is_either(value, b"0", b"false") {
         Some(b"false")
     } else {
         None

@@ -11,7 +11,7 @@ use crate::settings::{MOST_MOVES, Settings};
 /// A score is in hundredths of a pawn, as the engine sees it; a move may be shown without one.
 /// The contracts speak of the list of all scores since they were last cleared, the newest first:
 /// `counted settings scores` is what stands for that list.
-#[derive(Clone, Copy, Debug, PartialEq, Eq)]
+#[derive(Clone, Copy)]
 pub struct Scores {
     settings: Settings,
     // how many of the last scores are bad enough to resign, and how many no better than even

@@ -15,7 +15,7 @@ pub const USUAL_MOVES: u32 = 3;
 pub const USUAL_SCORE: u32 = 600;
 
 /// What the words of a program choose.
-#[derive(Clone, Copy, Debug, PartialEq, Eq)]
+#[derive(Clone, Copy, PartialEq, Eq)]
 pub struct Settings {
     /// Whether the adapter resigns for the engine.
     pub resign: bool,

@@ -9,7 +9,7 @@ use line_io::Event;
 use script_lines::{Mark, next_number, read_mark, read_step};
 
 /// What comes next in a script.
-#[derive(Clone, Copy, Debug, PartialEq, Eq)]
+#[derive(Clone, Copy)]
 pub enum Stage {
     /// The first line.
     Start,

@@ -14,7 +14,7 @@ use uci_lines::Info;
 
 /// What the engine reported of its search, each value as it was reported last; else 0 or None. The time is
 /// in milliseconds, the score in hundredths of a pawn.
-#[derive(Clone, Copy, Debug, PartialEq, Eq)]
+#[derive(Clone, Copy, PartialEq, Eq)]
 pub struct Seen {
     pub depth: u64,
     pub time: u64,
