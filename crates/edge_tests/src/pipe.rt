@@ -1,8 +1,10 @@
 // Lines on their way through the channel.
-ghost use Rattle.event_pipe.specs.Ends.{IsTaker, KeepsTaker};
+ghost use Rattle.std.specs.Prelude.{◌≡◌, ◌<◌, []};
+ghost use Rattle.event_pipe.specs.Ends.{IsSender, IsTaker, KeepsSender, KeepsTaker, sent};
 
-use event_pipe::{Pipe, PipeTake, ReadEnd, read_pipe};
+use event_pipe::{Pipe, PipeSend, PipeTake, ReadEnd, read_pipe};
 use line_io::{Event, MemSource, ReadFault};
+use std::alloc::Global;
 use std::process::Abort;
 use std::sync::Wait;
 use std::test::Fail;
@@ -16,14 +18,44 @@ fn expect(rt: &(impl Abort + Wait), taker: &mut PipeTake, want: Event<'_>)
     assert!(rt; sent.event() == want);
 }
 
+/// Bytes that come in pieces, and the numbers of the reads that fail.
+#[derive(Clone, Copy)]
+struct Given<'a> {
+    bytes: &'a [u8],
+    piece: usize,
+    fails: &'a [u64],
+}
+
+/// Sends the lines of these bytes, and tells how that ends.
+fn send(rt: &(impl Abort + Wait), alloc: Global, given: &Given<'_>, to: &mut PipeSend) -> ReadEnd
+    requires piece { 0 < given.now.piece }
+    requires sender { IsSender to.old }
+    requires fresh { sent to.old ≡ [] }
+    ensures { KeepsSender to.old to.new }
+{
+    let mut source = MemSource::make(alloc, given.bytes, given.piece, given.fails).expect(
+        rt,
+        "memory for the lines",
+    );
+    read_pipe(rt, alloc, &mut source, to)
+}
+
 #[test]
 fn lines_arrive_in_order(rt: HostRuntime) -> Result<(), Fail> {
     let alloc = rt.alloc();
-    let mut input = MemSource::make(alloc, b"ping 1\nquit\nping 2\n", 3, &[])?;
-    let mut source = MemSource::make(alloc, b"uciok\nbest", 100, &[])?;
+    let input = Given {
+        bytes: b"ping 1\nquit\nping 2\n",
+        piece: 3,
+        fails: &[],
+    };
+    let source = Given {
+        bytes: b"uciok\nbest",
+        piece: 100,
+        fails: &[],
+    };
     let (mut iface, mut child, mut taker) = Pipe::make(alloc)?;
-    assert!(rt; read_pipe(&rt, alloc, &mut source, &mut child) == ReadEnd::Done);
-    assert!(rt; read_pipe(&rt, alloc, &mut input, &mut iface) == ReadEnd::Done);
+    assert!(rt; send(&rt, alloc, &source, &mut child) == ReadEnd::Done);
+    assert!(rt; send(&rt, alloc, &input, &mut iface) == ReadEnd::Done);
     expect(&rt, &mut taker, Event::Engine(b"uciok"));
     expect(&rt, &mut taker, Event::Engine(b"best"));
     expect(&rt, &mut taker, Event::EngineEnd);
@@ -37,9 +69,13 @@ fn lines_arrive_in_order(rt: HostRuntime) -> Result<(), Fail> {
 #[test]
 fn a_fault_ends_a_side(rt: HostRuntime) -> Result<(), Fail> {
     let alloc = rt.alloc();
-    let mut input = MemSource::make(alloc, b"xboard\nnew\n", 9, &[2])?;
+    let input = Given {
+        bytes: b"xboard\nnew\n",
+        piece: 9,
+        fails: &[2],
+    };
     let (mut iface, child, mut taker) = Pipe::make(alloc)?;
-    assert!(rt; read_pipe(&rt, alloc, &mut input, &mut iface) == ReadEnd::Fault(ReadFault));
+    assert!(rt; send(&rt, alloc, &input, &mut iface) == ReadEnd::Fault(ReadFault));
     expect(&rt, &mut taker, Event::Iface(b"xboard"));
     // the line that was not read to its end is not sent
     expect(&rt, &mut taker, Event::IfaceEnd);
@@ -47,14 +83,26 @@ fn a_fault_ends_a_side(rt: HostRuntime) -> Result<(), Fail> {
     Ok(())
 }
 
+/// A line of 65,537 bytes, and an empty one.
+fn make_long_lines(rt: &impl Abort, alloc: Global) -> Vec<u8> {
+    let mut bytes = vec![in alloc; b'a'; 65_537].expect(rt, "memory for the long line");
+    bytes
+        .extend_from_slice(b"\n\n")
+        .expect(rt, "memory for its end");
+    bytes
+}
+
 #[test]
 fn long_lines_are_told(rt: HostRuntime) -> Result<(), Fail> {
     let alloc = rt.alloc();
-    let mut bytes = vec![in alloc; b'a'; 65_537]?;
-    bytes.extend_from_slice(b"\n\n")?;
-    let mut source = MemSource::make(alloc, bytes.as_slice(), 5_000, &[])?;
     let (iface, mut child, mut taker) = Pipe::make(alloc)?;
-    assert!(rt; read_pipe(&rt, alloc, &mut source, &mut child) == ReadEnd::Done);
+    let bytes = make_long_lines(&rt, alloc);
+    let source = Given {
+        bytes: bytes.as_slice(),
+        piece: 5_000,
+        fails: &[],
+    };
+    assert!(rt; send(&rt, alloc, &source, &mut child) == ReadEnd::Done);
     expect(&rt, &mut taker, Event::EngineLong);
     expect(&rt, &mut taker, Event::Engine(b""));
     expect(&rt, &mut taker, Event::EngineEnd);

@@ -1,4 +1,6 @@
-// What the tests of this crate compare.
+// What the tests of this crate compare, and the room that they write into.
+use line_io::Out;
+use std::alloc::Global;
 use std::process::Abort;
 
 /// Expects what is written after a line, or in the row that is named.
@@ -9,4 +11,9 @@ pub(crate) fn expect_text(rt: &impl Abort, text: &[u8], want: &str, row: &str) {
 /// Expects that something holds after a line, or in the row that is named.
 pub(crate) fn expect_holds(rt: &impl Abort, holds: bool, row: &str) {
     assert!(rt; holds, "{row}");
+}
+
+/// Room for so many bytes.
+pub(crate) fn room(rt: &impl Abort, alloc: Global, bytes: usize) -> Out {
+    Out::make(alloc, bytes).expect(rt, "memory for what is written")
 }

@@ -1,23 +1,12 @@
 //! Engines by their options, and the features that are offered of them.
-use super::expect::{expect_holds, expect_text};
+use super::expect::{expect_holds, expect_text, room};
+use super::options::declared;
 use feature_talk::{Say, Talk, feature_lists_are_short, shown_name, write_bare_list, write_list};
 use line_io::Out;
-use option_map::{Declared, Options};
+use option_map::Options;
 use std::alloc::Global;
 use std::process::Abort;
 use std::test::Fail;
-use uci_lines::{EngineMsg, read_engine};
-
-/// The options of an engine, as it declares them.
-fn declared(rt: &impl Abort, alloc: Global, lines: &[&str]) -> Result<Options, Fail> {
-    let mut options = Options::make(alloc)?;
-    for line in lines {
-        if let EngineMsg::OptionLine(msg) = read_engine(line.as_bytes()) {
-            expect_holds(rt, options.declare(&msg) == Declared::Done, line);
-        }
-    }
-    Ok(options)
-}
 
 /// Writes the list, if there is room enough.
 fn write(options: &Options, name: &str, out: &mut Out) {
@@ -119,36 +108,35 @@ feature done=1
     ),
 ];
 
-/// A list: the name that is shown, the usual lines, and the others.
-fn listed(alloc: Global, name: &str, others: &str) -> Result<String, Fail> {
-    Ok(format!(in alloc; "feature myname=\"{name}\"\n{USUAL}{others}")?)
+/// Expects what a text begins with, and gives what is behind it.
+fn behind<'a>(rt: &impl Abort, text: &'a [u8], want: &str) -> &'a [u8] {
+    text.strip_prefix(want.as_bytes()).expect(rt, want)
 }
 
-fn expect_list(rt: &impl Abort, alloc: Global, engine: &Engine, out: &mut Out) -> Result<(), Fail> {
+/// Expects a list: the name that is shown, the usual lines, and the others.
+fn expect_list(rt: &impl Abort, list: &[u8], shown: &str, others: &str) {
+    let named = behind(rt, list, "feature myname=\"");
+    let usual = behind(rt, behind(rt, named, shown), "\"\n");
+    expect_text(rt, behind(rt, usual, USUAL), others, shown);
+}
+
+fn expect_engine(rt: &impl Abort, alloc: Global, engine: &Engine, out: &mut Out) {
     let (name, lines, shown, others) = engine;
-    let options = declared(rt, alloc, lines)?;
+    let options = declared(rt, alloc, lines);
     write(&options, name, out);
-    let want = listed(alloc, shown, others)?;
-    expect_text(rt, out.bytes(), want.as_str(), name);
-    Ok(())
+    expect_list(rt, out.bytes(), shown, others);
 }
 
-fn expect_lists(
-    rt: &impl Abort,
-    alloc: Global,
-    engines: &[Engine],
-    out: &mut Out,
-) -> Result<(), Fail> {
+fn expect_engines(rt: &impl Abort, alloc: Global, engines: &[Engine], out: &mut Out) {
     for engine in engines {
-        expect_list(rt, alloc, engine, out)?;
+        expect_engine(rt, alloc, engine, out);
     }
-    Ok(())
 }
 
 #[test]
-fn writes_the_list(rt: HostRuntime) -> Result<(), Fail> {
-    let mut out = Out::make(rt.alloc(), 3_000)?;
-    expect_lists(&rt, rt.alloc(), &ENGINES, &mut out)
+fn writes_the_list(rt: HostRuntime) {
+    let mut out = room(&rt, rt.alloc(), 3_000);
+    expect_engines(&rt, rt.alloc(), &ENGINES, &mut out);
 }
 
 #[test]
@@ -158,8 +146,7 @@ fn writes_the_bare_list(rt: HostRuntime) -> Result<(), Fail> {
     feature_lists_are_short();
     write_bare_list(name.as_bytes(), &mut out);
     let others = "feature memory=0\nfeature smp=0\nfeature done=1\n";
-    let want = listed(rt.alloc(), name, others)?;
-    expect_text(&rt, out.bytes(), want.as_str(), name);
+    expect_list(&rt, out.bytes(), name, others);
     Ok(())
 }
 
@@ -195,23 +182,37 @@ fn shows_names_that_fit(rt: HostRuntime) -> Result<(), Fail> {
     Ok(())
 }
 
+/// Expects that each of these holds, in their order.
+fn expect_each(rt: &impl Abort, holds: &[bool], row: &str) {
+    for (k, held) in holds.iter().enumerate() {
+        assert!(rt; *held, "{row}: {k}");
+    }
+}
+
 #[test]
 fn tells_the_list_once_the_engine_has_started(rt: HostRuntime) {
     let mut talk = Talk::new();
-    expect_holds(&rt, !talk.is_due(), "at first");
-    // before the options were declared, twice
-    expect_holds(&rt, talk.protover(true) == Say::Wait, "in the boot");
-    expect_holds(&rt, talk.protover(true) == Say::Wait, "again");
-    expect_holds(&rt, talk.is_due(), "once it was asked for");
-    expect_holds(&rt, talk.left_boot(), "at the end of the boot");
-    expect_holds(&rt, !talk.is_due(), "behind the boot");
-    // and after
-    expect_holds(&rt, talk.protover(false) == Say::List, "then");
-    expect_holds(&rt, !talk.is_due(), "behind the list");
+    let asked = [
+        !talk.is_due(),
+        // before the options were declared, twice
+        talk.protover(true) == Say::Wait,
+        talk.protover(true) == Say::Wait,
+        talk.is_due(),
+        // at the end of the boot, and behind it
+        talk.left_boot(),
+        !talk.is_due(),
+        // and after
+        talk.protover(false) == Say::List,
+        !talk.is_due(),
+    ];
+    expect_each(&rt, &asked, "asked for in the boot");
 
     // an engine that declared its options before `protover` came
     let mut talk = Talk::new();
-    expect_holds(&rt, !talk.left_boot(), "nothing was asked for");
-    expect_holds(&rt, talk.protover(false) == Say::List, "at once");
-    expect_holds(&rt, !talk.is_due(), "behind the list");
+    let unasked = [
+        !talk.left_boot(),
+        talk.protover(false) == Say::List,
+        !talk.is_due(),
+    ];
+    expect_each(&rt, &unasked, "asked for behind the boot");
 }

@@ -2,17 +2,15 @@
 ghost use Rattle.std.specs.Prelude.{IfSome};
 ghost use Rattle.cecp_lines.specs.Replies.{IsWritable};
 
-use crate::expect::{expect_holds, expect_text};
-use chess_board::{Position, read_move};
+use crate::expect::{expect_holds, expect_text, room};
+use chess_board::{Move, Position, Square, read_move};
 use line_io::Out;
-use std::alloc::Global;
 use std::process::Abort;
-use std::test::Fail;
 use think_text::{Seen, current_stays_writable, stat01, thinking, thinking_lines_are_short};
 use uci_lines::{EngineMsg, read_engine};
 
 /// The position after moves from the standard start. None if one is illegal.
-fn after(moves: &[&str]) -> Option<Position> {
+fn after(moves: &[&'static str]) -> Option<Position> {
     let mut at = Position::start();
     for text in moves {
         let m = read_move(text.as_bytes())?;
@@ -25,7 +23,7 @@ fn after(moves: &[&str]) -> Option<Position> {
 }
 
 /// Writes the thinking line of an engine's line, and whether there is one.
-fn show(moves: &[&str], hint: &str, line: &str, out: &mut Out) -> Option<bool> {
+fn show(moves: &[&'static str], hint: &str, line: &str, out: &mut Out) -> Option<bool> {
     out.clear();
     let at = after(moves)?;
     let hint = read_move(hint.as_bytes());
@@ -39,178 +37,181 @@ fn show(moves: &[&str], hint: &str, line: &str, out: &mut Out) -> Option<bool> {
     }
 }
 
-/// Moves, the engine's line, and what is shown of it.
-type Shown = (&'static [&'static str], &'static str, &'static str);
+/// Moves, a hint or none, the engine's line, and what is shown of it: nothing where that is empty.
+type Shown = (
+    &'static [&'static str],
+    &'static str,
+    &'static str,
+    &'static str,
+);
 
-const SHOWN: [Shown; 11] = [
+const SHOWN: [Shown; 12] = [
     (
         &["e2e4"],
+        "",
         "info depth 8 score cp -20 time 350 nodes 51000 pv e7e5 g1f3",
         "8 -20 35 51000 e7e5 g1f3",
     ),
     // a bound is shown as a score, and so is a further variation
     (
         &["e2e4"],
+        "",
         "info depth 8 seldepth 11 multipv 1 score cp 13 upperbound nodes 5100 nps 51000 hashfull 3 tbhits 0 time 100 pv e7e5 g1f3",
         "8 13 10 5100 e7e5 g1f3",
     ),
     (
         &[],
+        "",
         "info depth 4 seldepth 2 multipv 2 score cp 75 nodes 711 nps 355500 hashfull 0 tbhits 0 time 29 pv d2d4",
         "4 75 2 711 d2d4",
     ),
     (
         &[],
+        "",
         "info depth 20 seldepth 26 multipv 1 score cp 36 nodes 575588 nps 388124 hashfull 64 tbhits 0 time 1483 pv d2d4 g8f6 c2c4 c7c6 b1c3 d7d5 g1f3 d5c4 a2a4 c8f5 e2e3 e7e6 f1c4 f8b4 e1g1 e8g8 d1b3 c6c5 a4a5 c5d4",
         "20 36 148 575588 d2d4 g8f6 c2c4 c7c6 b1c3 d7d5 g1f3 d5c4 a2a4 c8f5 e2e3 e7e6 f1c4 f8b4 e1g1 e8g8 d1b3 c6c5 a4a5 c5d4",
     ),
     // mates
     (
         &[],
+        "",
         "info depth 5 score mate 3 pv e2e4 e7e5 a1a8",
         "5 100003 0 0 e2e4 e7e5",
     ),
     (
         &["f2f3", "e7e5", "g2g4"],
+        "",
         "info depth 2 score mate 1 time 9 nodes 31 pv d8h4 e1f2",
         "2 100001 0 31 d8h4",
     ),
     (
         &["f2f3", "e7e5"],
+        "",
         "info depth 3 score mate -1 time 10 pv g2g4 d8h4",
         "3 -100001 1 0 g2g4 d8h4",
     ),
     (
         &[],
+        "",
         "info depth 1 score mate 0 pv e2e4",
         "1 -100000 0 0 e2e4",
     ),
     // the largest numbers
     (
         &[],
+        "",
         "info depth 999999999999999999 score cp -999999999 time 999999999999999999 nodes 999999999999999999 pv g1f3",
         "999999999999999999 -999999999 99999999999999999 999999999999999999 g1f3",
     ),
     (
         &[],
+        "",
         "info depth 1 score mate 999999999 pv g1f3",
         "1 1000099999 0 0 g1f3",
     ),
     (
         &[],
+        "",
         "info depth 1 score mate -999999999 pv g1f3",
         "1 -1000099999 0 0 g1f3",
     ),
+    // a hint
+    (
+        &["e2e4", "e7e5", "g1f3"],
+        "g1f3",
+        "info depth 7 score cp 25 time 99 nodes 4000 pv b8c6 f1b5",
+        "7 25 9 4000 (g1f3) b8c6 f1b5",
+    ),
 ];
 
-/// Expects whether a line is shown.
-fn expect_shown(rt: &impl Abort, told: Option<bool>, want: bool, line: &str) {
-    expect_holds(rt, told == Some(want), line);
-}
+/// The variation that an engine tells is shown as long as its moves are legal.
+const VARIATIONS: [Shown; 7] = [
+    // a blocked pawn
+    (
+        &[],
+        "",
+        "info depth 10 score cp 0 pv e2e4 e7e5 e4e5 g1f3",
+        "10 0 0 0 e2e4 e7e5",
+    ),
+    // en passant, at once and too late
+    (
+        &[],
+        "",
+        "info depth 10 score cp 0 pv e2e4 a7a6 e4e5 d7d5 e5d6 c7d6",
+        "10 0 0 0 e2e4 a7a6 e4e5 d7d5 e5d6 c7d6",
+    ),
+    (
+        &[],
+        "",
+        "info depth 10 score cp 0 pv e2e4 a7a6 e4e5 d7d5 h2h3 h7h6 e5d6 c7d6",
+        "10 0 0 0 e2e4 a7a6 e4e5 d7d5 h2h3 h7h6",
+    ),
+    // a promotion, and a pawn that stays one on the last rank
+    (
+        &[],
+        "",
+        "info depth 10 score cp 0 pv a2a4 b7b5 a4b5 a7a6 b5a6 b8c6 a6a7 a8b8 a7b8Q c6b8",
+        "10 0 0 0 a2a4 b7b5 a4b5 a7a6 b5a6 b8c6 a6a7 a8b8 a7b8q c6b8",
+    ),
+    (
+        &[],
+        "",
+        "info depth 10 score cp 0 pv a2a4 b7b5 a4b5 a7a6 b5a6 b8c6 a6a7 a8b8 a7b8 c6b8",
+        "10 0 0 0 a2a4 b7b5 a4b5 a7a6 b5a6 b8c6 a6a7 a8b8",
+    ),
+    // castling, and castling out of check
+    (
+        &[],
+        "",
+        "info depth 10 score cp 0 pv e2e4 e7e5 g1f3 b8c6 f1c4 f8c5 e1g1",
+        "10 0 0 0 e2e4 e7e5 g1f3 b8c6 f1c4 f8c5 e1g1",
+    ),
+    (
+        &[],
+        "",
+        "info depth 10 score cp 0 pv e2e4 e7e5 g1f3 d8h4 f1c4 h4f2 e1g1",
+        "10 0 0 0 e2e4 e7e5 g1f3 d8h4 f1c4 h4f2",
+    ),
+];
 
-fn expect_all_shown(rt: &impl Abort, rows: &[Shown], out: &mut Out) {
-    for (moves, line, want) in rows {
-        expect_shown(rt, show(moves, "", line, out), true, line);
+/// Lines of which nothing is shown.
+const UNSHOWN: [Shown; 5] = [
+    (
+        &[],
+        "",
+        "info depth 12 time 4200 nodes 900000 currmove e2e4 currmovenumber 3",
+        "",
+    ),
+    (&[], "", "info depth 4 score cp 3 pv e7e5 e2e4", ""),
+    (&[], "", "info score cp 3 nodes 2 pv e2e4", ""),
+    (&[], "", "info depth 4 nodes 2 pv e2e4", ""),
+    (&[], "", "info depth 0 score mate 0", ""),
+];
+
+fn expect_shown(rt: &impl Abort, rows: &[Shown], out: &mut Out) {
+    for (moves, hint, line, want) in rows {
+        let told = show(moves, hint, line, out);
+        expect_holds(rt, told == Some(!want.is_empty()), line);
         expect_text(rt, out.bytes(), want, line);
     }
 }
 
 #[test]
-fn shows_what_engines_tell(rt: HostRuntime) -> Result<(), Fail> {
-    let mut out = Out::make(rt.alloc(), 928)?;
-    expect_all_shown(&rt, &SHOWN, &mut out);
-    Ok(())
-}
-
-/// The variation that an engine tells, and the moves of it that are shown.
-const VARIATIONS: [(&str, &str); 7] = [
-    // a blocked pawn
-    ("e2e4 e7e5 e4e5 g1f3", "e2e4 e7e5"),
-    // en passant, at once and too late
-    (
-        "e2e4 a7a6 e4e5 d7d5 e5d6 c7d6",
-        "e2e4 a7a6 e4e5 d7d5 e5d6 c7d6",
-    ),
-    (
-        "e2e4 a7a6 e4e5 d7d5 h2h3 h7h6 e5d6 c7d6",
-        "e2e4 a7a6 e4e5 d7d5 h2h3 h7h6",
-    ),
-    // a promotion, and a pawn that stays one on the last rank
-    (
-        "a2a4 b7b5 a4b5 a7a6 b5a6 b8c6 a6a7 a8b8 a7b8Q c6b8",
-        "a2a4 b7b5 a4b5 a7a6 b5a6 b8c6 a6a7 a8b8 a7b8q c6b8",
-    ),
-    (
-        "a2a4 b7b5 a4b5 a7a6 b5a6 b8c6 a6a7 a8b8 a7b8 c6b8",
-        "a2a4 b7b5 a4b5 a7a6 b5a6 b8c6 a6a7 a8b8",
-    ),
-    // castling, and castling out of check
-    (
-        "e2e4 e7e5 g1f3 b8c6 f1c4 f8c5 e1g1",
-        "e2e4 e7e5 g1f3 b8c6 f1c4 f8c5 e1g1",
-    ),
-    (
-        "e2e4 e7e5 g1f3 d8h4 f1c4 h4f2 e1g1",
-        "e2e4 e7e5 g1f3 d8h4 f1c4 h4f2",
-    ),
-];
-
-fn expect_variation(rt: &impl Abort, line: &str, want: &str, out: &mut Out) {
-    expect_shown(rt, show(&[], "", line, out), true, line);
-    let moves = out.bytes().strip_prefix(b"10 0 0 0 ").expect(rt, line);
-    expect_text(rt, moves, want, line);
-}
-
-fn expect_variations(
-    rt: &impl Abort,
-    alloc: Global,
-    rows: &[(&str, &str)],
-    out: &mut Out,
-) -> Result<(), Fail> {
-    for (pv, want) in rows {
-        let line = format!(in alloc; "info depth 10 score cp 0 pv {pv}")?;
-        expect_variation(rt, line.as_str(), want, out);
-    }
-    Ok(())
+fn shows_what_engines_tell(rt: HostRuntime) {
+    let mut out = room(&rt, rt.alloc(), 928);
+    expect_shown(&rt, &SHOWN, &mut out);
 }
 
 #[test]
-fn shows_moves_as_long_as_they_are_legal(rt: HostRuntime) -> Result<(), Fail> {
-    let mut out = Out::make(rt.alloc(), 928)?;
-    expect_variations(&rt, rt.alloc(), &VARIATIONS, &mut out)
+fn shows_moves_as_long_as_they_are_legal(rt: HostRuntime) {
+    let mut out = room(&rt, rt.alloc(), 928);
+    expect_shown(&rt, &VARIATIONS, &mut out);
 }
 
 #[test]
-fn shows_the_hint(rt: HostRuntime) -> Result<(), Fail> {
-    let mut out = Out::make(rt.alloc(), 928)?;
-    let line = "info depth 7 score cp 25 time 99 nodes 4000 pv b8c6 f1b5";
-    let moves = ["e2e4", "e7e5", "g1f3"];
-    expect_shown(&rt, show(&moves, "g1f3", line, &mut out), true, line);
-    expect_text(&rt, out.bytes(), "7 25 9 4000 (g1f3) b8c6 f1b5", line);
-    Ok(())
-}
-
-/// Lines of which nothing is shown.
-const UNSHOWN: [&str; 5] = [
-    "info depth 12 time 4200 nodes 900000 currmove e2e4 currmovenumber 3",
-    "info depth 4 score cp 3 pv e7e5 e2e4",
-    "info score cp 3 nodes 2 pv e2e4",
-    "info depth 4 nodes 2 pv e2e4",
-    "info depth 0 score mate 0",
-];
-
-fn expect_none_shown(rt: &impl Abort, lines: &[&str], out: &mut Out) {
-    for line in lines {
-        expect_shown(rt, show(&[], "", line, out), false, line);
-        expect_text(rt, out.bytes(), "", line);
-    }
-}
-
-#[test]
-fn shows_nothing(rt: HostRuntime) -> Result<(), Fail> {
-    let mut out = Out::make(rt.alloc(), 928)?;
-    expect_none_shown(&rt, &UNSHOWN, &mut out);
-    Ok(())
+fn shows_nothing(rt: HostRuntime) {
+    let mut out = room(&rt, rt.alloc(), 928);
+    expect_shown(&rt, &UNSHOWN, &mut out);
 }
 
 fn hear(seen: &mut Seen, line: &str, at: &Position)
@@ -234,7 +235,7 @@ fn answer(seen: Seen, at: &Position, out: &mut Out)
 }
 
 /// What is kept of lines of an engine. It writes the answer to `.` too.
-fn keep(moves: &[&str], lines: [&str; 3], out: &mut Out) -> Option<Seen> {
+fn keep(moves: &[&'static str], lines: [&str; 3], out: &mut Out) -> Option<Seen> {
     let at = after(moves)?;
     let [first, second, third] = lines;
     let mut seen = Seen::new();
@@ -245,128 +246,149 @@ fn keep(moves: &[&str], lines: [&str; 3], out: &mut Out) -> Option<Seen> {
     Some(seen)
 }
 
-/// Expects what is kept of three lines at the start of a game, and the answer to `.`.
-fn expect_kept(rt: &impl Abort, lines: [&str; 3], want: Seen, answer: &str, out: &mut Out) {
-    expect_holds(rt, keep(&[], lines, out) == Some(want), answer);
-    expect_text(rt, out.bytes(), answer, answer);
-}
+const E2E4: Move = Move {
+    from: Square { index: 12 },
+    to: Square { index: 28 },
+    promo: None,
+};
 
-fn expect_none_kept(rt: &impl Abort, out: &mut Out) {
-    let answer = "stat01: 0 0 0 20 20";
-    expect_kept(rt, ["", "", ""], Seen::new(), answer, out);
-}
+const D2D4: Move = Move {
+    from: Square { index: 11 },
+    to: Square { index: 27 },
+    promo: None,
+};
 
-fn expect_one_kept(rt: &impl Abort, out: &mut Out) {
-    let first = "info depth 12 time 4200 nodes 900000 currmove e2e4 currmovenumber 3";
-    let want = Seen {
-        depth: 12,
-        time: 4_200,
-        nodes: 900_000,
-        current: read_move(b"e2e4"),
-        number: 3,
-        score: None,
-    };
-    let answer = "stat01: 420 900000 12 17 20 e2e4";
-    expect_kept(rt, [first, "", ""], want, answer, out);
-}
+const NOTHING_SEEN: Seen = Seen {
+    depth: 0,
+    time: 0,
+    nodes: 0,
+    current: None,
+    number: 0,
+    score: None,
+};
 
-fn expect_later_kept(rt: &impl Abort, out: &mut Out) {
-    let lines = [
-        "info depth 12 time 4200 nodes 900000 currmove e2e4 currmovenumber 3",
-        "info depth 5 score mate 3 pv e2e4 e7e5 a1a8",
-        "info string time 1",
-    ];
-    let want = Seen {
-        depth: 5,
-        time: 4_200,
-        nodes: 900_000,
-        current: read_move(b"e2e4"),
-        number: 3,
-        score: Some(100_003),
-    };
-    expect_kept(rt, lines, want, "stat01: 420 900000 5 17 20 e2e4", out);
-}
+/// Three lines at the start of a game, what is kept of them, and the answer to `.`.
+type Kept = ([&'static str; 3], Seen, &'static str);
 
-// The move is illegal, and its number is more than there are moves.
-fn expect_legal_kept(rt: &impl Abort, out: &mut Out) {
-    let lines = [
-        "info depth 3 currmove d2d4 currmovenumber 1",
-        "info currmove e7e5 currmovenumber 25",
-        "info time 9",
-    ];
-    let want = Seen {
-        depth: 3,
-        time: 9,
-        nodes: 0,
-        current: read_move(b"d2d4"),
-        number: 25,
-        score: None,
-    };
-    expect_kept(rt, lines, want, "stat01: 0 0 3 0 20 d2d4", out);
-}
+const KEPT: [Kept; 4] = [
+    (["", "", ""], NOTHING_SEEN, "stat01: 0 0 0 20 20"),
+    (
+        [
+            "info depth 12 time 4200 nodes 900000 currmove e2e4 currmovenumber 3",
+            "",
+            "",
+        ],
+        Seen {
+            depth: 12,
+            time: 4_200,
+            nodes: 900_000,
+            current: Some(E2E4),
+            number: 3,
+            score: None,
+        },
+        "stat01: 420 900000 12 17 20 e2e4",
+    ),
+    (
+        [
+            "info depth 12 time 4200 nodes 900000 currmove e2e4 currmovenumber 3",
+            "info depth 5 score mate 3 pv e2e4 e7e5 a1a8",
+            "info string time 1",
+        ],
+        Seen {
+            depth: 5,
+            time: 4_200,
+            nodes: 900_000,
+            current: Some(E2E4),
+            number: 3,
+            score: Some(100_003),
+        },
+        "stat01: 420 900000 5 17 20 e2e4",
+    ),
+    // The move is illegal, and its number is more than there are moves.
+    (
+        [
+            "info depth 3 currmove d2d4 currmovenumber 1",
+            "info currmove e7e5 currmovenumber 25",
+            "info time 9",
+        ],
+        Seen {
+            depth: 3,
+            time: 9,
+            nodes: 0,
+            current: Some(D2D4),
+            number: 25,
+            score: None,
+        },
+        "stat01: 0 0 3 0 20 d2d4",
+    ),
+];
 
-#[test]
-fn keeps_what_was_told_last(rt: HostRuntime) -> Result<(), Fail> {
-    let mut out = Out::make(rt.alloc(), 128)?;
-    expect_none_kept(&rt, &mut out);
-    expect_one_kept(&rt, &mut out);
-    expect_later_kept(&rt, &mut out);
-    expect_legal_kept(&rt, &mut out);
-    Ok(())
-}
-
-/// Expects the score that is kept of three lines.
-fn expect_score(rt: &impl Abort, lines: [&str; 3], want: Option<i64>, out: &mut Out) {
-    let [first, _, _] = lines;
-    let seen = keep(&[], lines, out).expect(rt, first);
-    expect_holds(rt, seen.score == want, first);
-}
-
-fn expect_scores(rt: &impl Abort, out: &mut Out) {
-    expect_score(
-        rt,
-        ["info score cp 30", "info score cp -7", ""],
-        Some(-7),
-        out,
-    );
-    expect_score(rt, ["info score cp 30", "info depth 9", ""], Some(30), out);
-    expect_score(rt, ["info multipv 1 score cp -5", "", ""], Some(-5), out);
-    expect_score(rt, ["info score mate -2", "", ""], Some(-100_002), out);
-    expect_score(rt, ["info score mate 0", "", ""], Some(-100_000), out);
-}
-
-// A bound, and other variations.
-fn expect_first_scores(rt: &impl Abort, out: &mut Out) {
-    let bounds = [
-        "info score cp 30",
-        "info score cp 13 lowerbound",
-        "info score mate 2 upperbound",
-    ];
-    expect_score(rt, bounds, Some(30), out);
-    let variations = [
-        "info score cp 30",
-        "info multipv 2 score cp -69",
-        "info multipv 0 score cp 7",
-    ];
-    expect_score(rt, variations, Some(30), out);
-    let none = [
-        "info score cp 30 lowerbound",
-        "info multipv 2 score cp -69",
-        "",
-    ];
-    expect_score(rt, none, None, out);
+fn expect_kept(rt: &impl Abort, rows: &[Kept], out: &mut Out) {
+    for (lines, want, answer) in rows {
+        expect_holds(rt, keep(&[], *lines, out) == Some(*want), answer);
+        expect_text(rt, out.bytes(), answer, answer);
+    }
 }
 
 #[test]
-fn keeps_the_score_of_the_first_variation(rt: HostRuntime) -> Result<(), Fail> {
-    let mut out = Out::make(rt.alloc(), 128)?;
-    expect_scores(&rt, &mut out);
-    expect_first_scores(&rt, &mut out);
-    Ok(())
+fn keeps_what_was_told_last(rt: HostRuntime) {
+    let mut out = room(&rt, rt.alloc(), 128);
+    expect_kept(&rt, &KEPT, &mut out);
+}
+
+/// Three lines, and the score that is kept of them.
+type Scored = ([&'static str; 3], Option<i64>);
+
+const SCORES: [Scored; 8] = [
+    (["info score cp 30", "info score cp -7", ""], Some(-7)),
+    (["info score cp 30", "info depth 9", ""], Some(30)),
+    (["info multipv 1 score cp -5", "", ""], Some(-5)),
+    (["info score mate -2", "", ""], Some(-100_002)),
+    (["info score mate 0", "", ""], Some(-100_000)),
+    // a bound, and other variations
+    (
+        [
+            "info score cp 30",
+            "info score cp 13 lowerbound",
+            "info score mate 2 upperbound",
+        ],
+        Some(30),
+    ),
+    (
+        [
+            "info score cp 30",
+            "info multipv 2 score cp -69",
+            "info multipv 0 score cp 7",
+        ],
+        Some(30),
+    ),
+    (
+        [
+            "info score cp 30 lowerbound",
+            "info multipv 2 score cp -69",
+            "",
+        ],
+        None,
+    ),
+];
+
+fn expect_scores(rt: &impl Abort, rows: &[Scored], out: &mut Out) {
+    for (lines, want) in rows {
+        let seen = keep(&[], *lines, out).expect(rt, lines[0]);
+        expect_holds(rt, seen.score == *want, lines[0]);
+    }
+}
+
+#[test]
+fn keeps_the_score_of_the_first_variation(rt: HostRuntime) {
+    let mut out = room(&rt, rt.alloc(), 128);
+    expect_scores(&rt, &SCORES, &mut out);
 }
 
 /// Moves, the engine's line, and the answer to `.`.
-const COUNTED: [Shown; 4] = [
+type Counted = (&'static [&'static str], &'static str, &'static str);
+
+const COUNTED: [Counted; 4] = [
     (
         &["e2e4", "e7e5"],
         "info currmove e1e2 currmovenumber 29",
@@ -394,7 +416,7 @@ const COUNTED: [Shown; 4] = [
     ),
 ];
 
-fn expect_counted(rt: &impl Abort, rows: &[Shown], out: &mut Out) {
+fn expect_counted(rt: &impl Abort, rows: &[Counted], out: &mut Out) {
     for (moves, line, want) in rows {
         expect_holds(rt, keep(moves, [line, "", ""], out).is_some(), line);
         expect_text(rt, out.bytes(), want, line);
@@ -402,8 +424,7 @@ fn expect_counted(rt: &impl Abort, rows: &[Shown], out: &mut Out) {
 }
 
 #[test]
-fn counts_legal_moves(rt: HostRuntime) -> Result<(), Fail> {
-    let mut out = Out::make(rt.alloc(), 128)?;
+fn counts_legal_moves(rt: HostRuntime) {
+    let mut out = room(&rt, rt.alloc(), 128);
     expect_counted(&rt, &COUNTED, &mut out);
-    Ok(())
 }

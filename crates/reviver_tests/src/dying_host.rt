@@ -2,7 +2,7 @@
 ghost use Rattle.std.specs.Prelude.{◌≡◌};
 ghost use Rattle.child_engine.specs.Hosts.{RisesBy};
 ghost use Rattle.host_run.specs.Outside.{unused};
-ghost use Rattle.reviver_sessions.specs.Waiting.{books_with};
+ghost use Rattle.reviver_tests.specs.Waiting.{books_with};
 
 use crate::talk::{FIRST, SECOND, Telling, Waiting};
 use child_engine::{Faults, Host, HostFault, Started};
@@ -62,7 +62,7 @@ impl<'a> Host for DyingHost<'a> {
     ghost use Rattle.std.specs.Prelude.{◌≡◌, ◌<◌, length};
     ghost use Rattle.child_engine.specs.Hosts.{ClosesBy, with_closed_run};
     ghost use Rattle.child_engine.specs.Real.{untold_runs, untold_source, untold_sink};
-    ghost use Rattle.reviver_sessions.specs.Waiting.{books_with};
+    ghost use Rattle.reviver_tests.specs.Waiting.{books_with};
 
     type Src = Waiting<'a>;
 

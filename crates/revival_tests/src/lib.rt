@@ -1,7 +1,0 @@
-//! Tests of the revival of an engine.
-#![tactic(auto)]
-
-#[cfg(test)]
-mod calls;
-#[cfg(test)]
-mod sessions;
