@@ -8,10 +8,10 @@ ghost use Rattle.bridge_runner.specs.Bridged.{Leaves};
 ghost use Rattle.bridge_runner.specs.Parts.{AreReady};
 
 use crate::parts::{Parts, make_parts};
-use child_engine::{Host, HostFault, Started};
+use child_engine::{Host, Started};
 use host_run::{
-    Failures, Opened, TriedThreads, close_log, has_failed, has_lacked_memory, is_open_failure,
-    is_open_memory, only_memory, only_start, open_log,
+    Failures, Opened, close_log, has_failed, has_lacked_memory, is_open_failure, is_open_memory,
+    only_memory, open_log, start_engine,
 };
 use line_io::{Sink, Source};
 use pipe_runner::run_pipes;
@@ -108,17 +108,9 @@ fn start<H: Host, R: Threads>(
     let Ok(parts) = make_parts(alloc, settings) else {
         return Err(only_memory());
     };
-    let threads = TriedThreads::ask(rt);
-    if !threads.were_given() {
-        threads.join(rt);
-        return Err(only_memory());
-    }
-    let started = host.start(alloc, words);
-    threads.join(rt);
-    match started {
+    match start_engine(rt, alloc, words, host) {
         Ok(run) => Ok(Ready { parts, run }),
-        Err(HostFault::NoMemory) => Err(only_memory()),
-        Err(HostFault::Failed) => Err(only_start()),
+        Err(failures) => Err(failures),
     }
 }
 

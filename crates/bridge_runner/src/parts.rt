@@ -24,9 +24,9 @@ pub(crate) fn make_parts(alloc: Global, settings: &Settings) -> Result<Parts, No
     requires { IsProper settings.now }
     ensures { IfOk result (AreReady settings.now) }
 {
-    let core = Core::make(alloc, settings)?;
-    let text = Out::make(alloc, TEXT_ROOM)?;
     let (iface, child, taker) = Pipe::make(alloc)?;
+    let text = Out::make(alloc, TEXT_ROOM)?;
+    let core = Core::make(alloc, settings)?;
     Ok(Parts {
         core,
         text,

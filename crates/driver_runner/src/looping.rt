@@ -17,7 +17,7 @@ use sink_offers::{LoopEnd, offer, offer_log};
 use std::sync::Wait;
 
 // Which sides have ended.
-#[derive(Clone, Copy, Debug, PartialEq, Eq)]
+#[derive(Clone, Copy)]
 pub struct Sides {
     pub iface_ended: bool,
     pub engine_ended: bool,

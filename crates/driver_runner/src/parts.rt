@@ -21,9 +21,9 @@ pub(crate) struct Parts {
 pub(crate) fn make_parts(alloc: Global) -> Result<Parts, NoMemory>
     ensures { IfOk result AreReady }
 {
-    let driver = Driver::make(alloc)?;
-    let text = Out::make(alloc, EVENT_ROOM)?;
     let (iface, child, taker) = Pipe::make(alloc)?;
+    let text = Out::make(alloc, EVENT_ROOM)?;
+    let driver = Driver::make(alloc)?;
     Ok(Parts {
         driver,
         text,

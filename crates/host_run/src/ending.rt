@@ -7,7 +7,7 @@ use crate::Failures;
 use line_io::{Sink, write_all};
 
 /// How a program ends. If several failures came, the one that stands first here is reported.
-#[derive(Clone, Copy, Debug, PartialEq, Eq)]
+#[derive(Clone, Copy)]
 pub enum Ending {
     Done,
     Usage,

@@ -3,7 +3,7 @@ ghost use Rattle.std.specs.Prelude.{◌≡◌};
 ghost use Rattle.host_run.specs.Early.{only_memory, only_start};
 
 /// What failed in a run of a program over a host.
-#[derive(Clone, Copy, Debug, Default, PartialEq, Eq)]
+#[derive(Clone, Copy, Default)]
 pub struct Failures {
     /// Before the engine was started there was no memory for the run, for a thread of each reader
     /// or for the engine's command; or later none to open the log or for a line in transit.

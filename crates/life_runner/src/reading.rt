@@ -12,7 +12,7 @@ use std::alloc::Global;
 use std::sync::Wait;
 
 // What one turn came to.
-#[derive(Clone, Copy, Debug, PartialEq, Eq)]
+#[derive(Clone, Copy)]
 pub enum Turn {
     More,
     Done,

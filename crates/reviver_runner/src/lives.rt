@@ -14,7 +14,7 @@ pub(crate) struct Run<S, K> {
 }
 
 /// What failed in the lives so far: reading or writing in one of them, or memory for a line.
-#[derive(Clone, Copy, Debug, PartialEq, Eq)]
+#[derive(Clone, Copy)]
 pub(crate) struct Tally {
     pub engine_read: bool,
     pub engine_write: bool,

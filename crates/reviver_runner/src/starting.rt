@@ -1,7 +1,7 @@
 // The start of a run: its memory, and the first engine.
 ghost use Rattle.std.specs.Prelude.{◌≡◌, ◌≤◌, ◌<◌, [], length, IfOk, IfErr, OnOk, OnErr};
 ghost use Rattle.std.specs.VecDeque.{deque_len, deque_capacity};
-ghost use Rattle.child_engine.specs.Hosts.{IsUnread, IsUnwritten, with_run};
+ghost use Rattle.child_engine.specs.Hosts.{with_run};
 ghost use Rattle.event_pipe.specs.Ends.{IsFreshSender, AreOne, sent, taken};
 ghost use Rattle.event_pipe.specs.declared.message.Peer.TheVariants as peers;
 ghost use Rattle.host_run.specs.Early.{AreEarly};
@@ -12,8 +12,8 @@ ghost use Rattle.reviver_runner.specs.Ran.{MayRun};
 use crate::lives::Run;
 use crate::parts::{Made, make_parts};
 use crate::run::Runs;
-use child_engine::{Host, HostFault, LetGo, Started};
-use host_run::{Failures, TriedThreads, only_memory, only_start};
+use child_engine::{Host, LetGo, Started};
+use host_run::{Failures, only_memory, start_engine};
 use line_io::NoMemory;
 use std::alloc::Global;
 use std::collections::VecDeque;
@@ -55,36 +55,6 @@ fn make_room<S: Drop, K: Drop, P: Drop>(
     Ok(Room { made, ended, kids })
 }
 
-// Starts the first engine, if the system gives the threads of a run.
-fn start_first<H: Host, R: Threads>(
-    rt: &R,
-    alloc: Global,
-    words: &[String],
-    host: &mut H,
-) -> Result<Started<H::Src, H::Snk, H::Kid>, Failures>
-    requires words { 0 < length words.now }
-    requires unused { H.books host.old ≡ unused }
-    ensures source { IfOk result (λ run. IsUnread (H.Src.state run.src)) }
-    ensures sink { IfOk result (λ run. IsUnwritten (H.Snk.state run.snk)) }
-    ensures books { OnOk result (H.books host.new ≡ with_run unused) }
-    ensures faults { OnOk result (H.faults host.new ≡ H.faults host.old) }
-    ensures unstarted { OnErr result (H.books host.new ≡ unused) }
-    ensures early { IfErr result (AreEarly (H.faults host.old) (H.faults host.new)) }
-{
-    let threads = TriedThreads::ask(rt);
-    if !threads.were_given() {
-        threads.join(rt);
-        return Err(only_memory());
-    }
-    let started = host.start(alloc, words);
-    threads.join(rt);
-    match started {
-        Ok(run) => Ok(run),
-        Err(HostFault::NoMemory) => Err(only_memory()),
-        Err(HostFault::Failed) => Err(only_start()),
-    }
-}
-
 // Takes the memory of a run, and starts the first engine.
 pub(crate) fn start<H: Host, R: Threads>(
     rt: &R,
@@ -120,7 +90,7 @@ where
         ended,
         mut kids,
     } = room;
-    match start_first(rt, alloc, words.as_slice(), host) {
+    match start_engine(rt, alloc, words.as_slice(), host) {
         Ok(run) => {
             let Started { src, snk, kid } = run;
             kids.push_back_reserved(kid);

@@ -14,7 +14,7 @@ use std::alloc::Global;
 use std::sync::Wait;
 
 /// How one direction ended.
-#[derive(Clone, Copy, Debug, PartialEq, Eq)]
+#[derive(Clone, Copy)]
 pub struct PassEnd {
     pub read_failed: bool,
     pub write_failed: bool,

@@ -1,11 +1,12 @@
 // Both directions beside the log.
-ghost use Rattle.std.specs.Prelude.{◌≡◌, ◌≤◌, is_some, vec_len};
-ghost use Rattle.event_pipe.specs.Ends.{IsFreshTaker, KeepsSender, KeepsTaker, AreOne, sent, taken};
+ghost use Rattle.std.specs.Prelude.{◌≡◌, ◌≤◌, ◌<◌, [], is_some, vec_len};
+ghost use Rattle.event_pipe.specs.Ends.{IsSender, IsFreshTaker, KeepsSender, KeepsTaker, AreOne, sent, taken};
 ghost use Rattle.event_pipe.specs.declared.message.Peer.TheVariants as peers;
 ghost use Rattle.sink_offers.specs.Streams.{sinks, streams, log_state};
+ghost use Rattle.tap_runner.specs.Hearing.{fresh};
 ghost use Rattle.tap_runner.specs.Logging.{Logged};
 ghost use Rattle.tap_runner.specs.Passing.{Passed};
-ghost use Rattle.tap_runner.specs.Ran.{Ran, IsReady, IsReadyWay};
+ghost use Rattle.tap_runner.specs.Ran.{Ran, IsReadyWay};
 ghost use denote.Param.Send.{IsSync};
 ghost use Rattle.tap_runner.specs.declared.logging.TheConstants.{LOG_ROOM};
 
@@ -27,11 +28,39 @@ pub struct Way {
 }
 
 /// How a run of both directions ended.
-#[derive(Clone, Copy, Debug, PartialEq, Eq)]
+#[derive(Clone, Copy)]
 pub struct TapEnd {
     pub bridge: PassEnd,
     pub engine: PassEnd,
     pub log_failed: bool,
+}
+
+// Hands on in one direction.
+fn hand_on_way<S: Source, K: LetGo, R: Wait>(
+    rt: &R,
+    alloc: Global,
+    source: &mut S,
+    sink: &mut K,
+    way: &mut Way,
+) -> PassEnd
+    requires room { 0 < vec_len way.old.buf }
+    requires sender { IsSender way.old.to }
+    requires part { way.old.part ≡ fresh way.old.to.peer }
+    requires unsent { sent way.old.to ≡ [] }
+    ensures keeps { KeepsSender way.old.to way.new.to }
+    ensures passed { Passed way.old.to.peer (S.state source.old) (S.state source.new)
+        (K.state sink.old) (K.state sink.new) (sent way.new.to) result }
+    ensures gone { K.is_let_go sink.new }
+{
+    hand_on(
+        rt,
+        alloc,
+        source,
+        sink,
+        &mut way.buf,
+        &mut way.part,
+        &mut way.to,
+    )
 }
 
 // Hands on what the engine writes, beside the log.
@@ -60,18 +89,8 @@ fn run_engine<S: Source + Send, O: LetGo + Send, L: Sink + Send, R: Threads + Wa
     join_mut(
         rt,
         &mut ||
-            requires { IsReady up.now.to up.now.part (vec_len up.now.buf) peers.Engine }
-        {
-            hand_on(
-                rt,
-                alloc,
-                source,
-                output,
-                &mut up.buf,
-                &mut up.part,
-                &mut up.to,
-            )
-        },
+            requires { IsReadyWay up.now peers.Engine }
+        { hand_on_way(rt, alloc, source, output, up) },
         &mut ||
             requires { IsFreshTaker taker.now × (LOG_ROOM ≤ text.now.room) }
         { keep_log(rt, taker, log, text) },
@@ -119,21 +138,11 @@ fn run_both<
     join_mut(
         rt,
         &mut ||
-            requires { IsReady down.now.to down.now.part (vec_len down.now.buf) peers.Iface }
-        {
-            hand_on(
-                rt,
-                alloc,
-                input,
-                engine,
-                &mut down.buf,
-                &mut down.part,
-                &mut down.to,
-            )
-        },
+            requires { IsReadyWay down.now peers.Iface }
+        { hand_on_way(rt, alloc, input, engine, down) },
         &mut ||
             requires { IsSync R.row × (LOG_ROOM ≤ text.now.room)
-                × IsReady up.now.to up.now.part (vec_len up.now.buf) peers.Engine
+                × IsReadyWay up.now peers.Engine
                 × IsFreshTaker taker.now }
         { run_engine(rt, alloc, up, taker, source, output, log, text) },
     )
