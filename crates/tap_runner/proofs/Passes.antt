@@ -1,10 +1,10 @@
 -- Turns of one direction.
-use Rattle.std.proofs.Common.{◌≡◌, ℕ, List, [], ◌∷◌, ◌++◌, map, Bool, true, false, Option, Some, None, IfSome, refl, sym, ap, subst, ◌∙◌, arith}
+use Rattle.std.proofs.Common.{◌≡◌, ℕ, List, [], ◌∷◌, ◌++◌, Bool, true, false, Option, Some, None, IfSome, refl, sym, ap, subst, ◌∙◌}
 use Rattle.std.proofs.lemmas.List.{map-append}
 use Rattle.std.specs.Io.KnownBytes.{IsAtEnd}
 use Rattle.std.proofs.KnownBytes.{Appends-nil, Appends-trans, Consumes-nil, Consumes-trans}
 use Rattle.line_io.specs.Event.{Event}
-use Rattle.line_io.specs.Lines.{Reads, items}
+use Rattle.line_io.specs.Lines.{Reads}
 use Rattle.line_io.specs.Source.{Supplied, Received}
 use Rattle.event_pipe.specs.declared.message.Peer.{Peer}
 use Rattle.event_pipe.specs.Counts.{Tells}
@@ -14,8 +14,8 @@ use Rattle.tap_runner.specs.declared.passing.Turn.{Turn}
 use Rattle.tap_runner.specs.declared.passing.Turn.TheVariants as turns
 use Rattle.tap_runner.specs.declared.passing.PassEnd.{PassEnd}
 use Rattle.tap_runner.specs.Lines.{pieces_of, line_after, last_pieces}
-use Rattle.tap_runner.specs.Marks.{piece_event, piece_events, end_event, marks_of}
-use Rattle.tap_runner.specs.Hearing.{Open, fresh, Hears, EndsHearing}
+use Rattle.tap_runner.specs.Marks.{piece_event, piece_events, end_event}
+use Rattle.tap_runner.specs.Hearing.{Open, fresh, EndsHearing}
 use Rattle.tap_runner.specs.Passing.{Passed, Passing, Turned, is_last, has_failed_to_read, has_failed_to_write}
 use Rattle.tap_runner.proofs.Splits.{line_append, pieces_append, items_all}
 use Rattle.sink_offers.proofs.Took.{took_nothing, took_then}

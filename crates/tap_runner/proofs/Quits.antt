@@ -1,5 +1,5 @@
 -- A mark is no order to end.
-use Rattle.std.proofs.Common.{◌≡◌, ℕ, List, [], ◌∷◌, Bool, true, false, cond, Ok, Err, refl, ap, ◌∙◌, None}
+use Rattle.std.proofs.Common.{◌≡◌, ℕ, List, [], ◌∷◌, true, false, cond, Err, refl, ap, ◌∙◌, None}
 use Rattle.peer_words.specs.Tokens.{rest, first_token}
 use Rattle.chess_board.specs.Spelling.{move_of}
 use Rattle.cecp_lines.specs.declared.iface.IfaceFault.TheVariants.{UnknownCommand}

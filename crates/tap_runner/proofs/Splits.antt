@@ -1,12 +1,11 @@
 -- The lines of bytes, taken one byte after the other.
-use Rattle.std.proofs.Common.{◌≡◌, ℕ, suc, ◌+◌, ◌<◌, ◌≤◌, List, [], ◌∷◌, ◌++◌, length, map, true, false, cond, ◌||◌, Option, Some, None, refl, sym, ap, subst, ◌∙◌, arith, append_assoc, append-nil, length-append}
-use Rattle.std.specs.Prelude.{nat_le, nat_lt}
+use Rattle.std.proofs.Common.{◌≡◌, ℕ, ◌+◌, List, [], ◌∷◌, ◌++◌, length, map, true, false, cond, ◌||◌, Option, Some, None, refl, sym, ap, ◌∙◌, arith, append_assoc, append-nil, length-append}
+use Rattle.std.specs.Prelude.{nat_le}
 use Rattle.std.specs.List.{onto_first}
 use Rattle.std.proofs.lemmas.Bool.Decides.{nat_tests}
-use Rattle.std.proofs.lemmas.List.{map-append}
 use Rattle.std.proofs.lemmas.Bool.{or_parts}
 use Rattle.line_io.specs.Event.{has_feed}
-use Rattle.line_io.specs.Lines.{Piece, Whole, TooLong, is_feed, parts, piece_of, items}
+use Rattle.line_io.specs.Lines.{Whole, TooLong, is_feed, parts, piece_of, items}
 use Rattle.tap_runner.specs.Lines.{line_limit, with_byte, piece_in, pieces_of, line_after, last_pieces}
 
 pub line_append : (o : Option (List ℕ)) (xs ys : List ℕ) → line_after o (xs ++ ys) ≡ line_after (line_after o xs) ys

@@ -1,5 +1,5 @@
 -- What a run leaves, seen from before the engine was started.
-use Rattle.std.proofs.Common.{◌≡◌, ◌<◌, ◌≤◌, Bool, refl, sym, ap, subst, arith}
+use Rattle.std.proofs.Common.{◌≡◌, refl, sym, ap, subst, arith}
 use Rattle.line_io.specs.Source.{Supplied, Received}
 use Rattle.child_engine.specs.Hosts.{Books}
 use Rattle.child_engine.specs.declared.host.Faults.{Faults}

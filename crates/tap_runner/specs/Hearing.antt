@@ -1,11 +1,11 @@
 -- What was heard of a peer, and what was sent for it.
-use Rattle.std.specs.Prelude.{◌≡◌, ℕ, ◌≤◌, List, [], ◌∷◌, ◌++◌, length, drop, Bool, true, false, if◌then◌else◌, Option, Some, None}
+use Rattle.std.specs.Prelude.{◌≡◌, ℕ, List, [], ◌∷◌, ◌++◌, drop, Bool, true, false, if◌then◌else◌, Option, Some, None}
 use Rattle.line_io.specs.Event.{Event, has_feed}
 use Rattle.line_io.specs.Lines.{Piece}
 use Rattle.line_io.specs.Out.{Text}
 use Rattle.event_pipe.specs.declared.message.Peer.{Peer}
 use Rattle.event_pipe.specs.Rule.{ended}
-use Rattle.tap_runner.specs.Lines.{line_limit, last_pieces}
+use Rattle.tap_runner.specs.Lines.{last_pieces}
 use Rattle.tap_runner.specs.Marks.{mark_of, piece_events, end_event}
 use Rattle.tap_runner.specs.declared.part.TheConstants.{MARK_ROOM}
 

@@ -1,4 +1,4 @@
-use Rattle.std.proofs.Common.{◌≡◌, ◌∙◌, refl, ap, subst, sym, ◌≤◌}
+use Rattle.std.proofs.Common.{◌∙◌, refl, subst, sym, ◌≤◌}
 use Rattle.line_io.specs.Event.{Event}
 use Rattle.tap_runner.specs.Logging.{mark_length}
 use Rattle.tap_runner.proofs.Logs.{short, logging_first, logging_next, logged_all}

@@ -1,4 +1,4 @@
-use Rattle.std.proofs.Common.{◌≡◌, ◌∙◌, refl, sym}
+use Rattle.std.proofs.Common.{◌∙◌, refl, sym}
 use Rattle.tap_runner.proofs.Passes.{passing_first, passing_more, passed_all}
 use Rattle.tap_runner.proofs.passing.hand_on.Goals as goal
 

@@ -1,4 +1,3 @@
-use Rattle.std.proofs.Common.{◌≡◌}
 use Rattle.tap_runner.proofs.Runs.{ran}
 use Rattle.tap_runner.proofs.run.run_tap.Goals as goal
 

@@ -1,4 +1,4 @@
-use Rattle.std.proofs.Common.{◌≡◌, ◌∙◌, ap, refl, sym, ◌||◌, Bool}
+use Rattle.std.proofs.Common.{◌∙◌, ap, refl, ◌||◌, Bool}
 use Rattle.child_engine.specs.Hosts.{Books}
 use Rattle.host_run.proofs.Counts.{retold, told_by, log_told, reads_kept, writes_kept, waits_kept, starts_kept}
 use Rattle.host_run.proofs.Closes.{all_closed, is_closed, few_logs, same_count, length_told, told_or_none, some_run, never, log_opened, left_of, right_of, lacked}
