@@ -1,17 +1,18 @@
 -- The input of an engine.
-use Rattle.std.specs.Prelude.{ℕ, ◌==◌, ◌&&◌, ◌||◌, Bool, List, [], ◌∷◌, ◌++◌, length, None, is_some, codes, nat_eq}
+use Rattle.std.specs.Prelude.{ℕ, ◌==◌, ◌&&◌, ◌||◌, Bool, List, [], ◌∷◌, ◌++◌, length, codes, nat_eq}
 use Rattle.std.specs.List.{ends_with}
 use Rattle.line_io.specs.Source.{Received}
+use Rattle.child_engine.specs.Closing as closing
 use Rattle.child_engine.specs.declared.input.EngineInput.{EngineInput}
 use Rattle.line_io.specs.Lines.{line_feed}
 
 -- it tells nothing of what was taken, since nobody keeps that behind `quit`
 abbrev pub shown_by : {W : Type 0} → EngineInput W → Received
-shown_by input = record { taken = None; faults = input.faults }
+shown_by input = closing.shown_by input.sink
 
 -- the line `quit` was not taken yet
 abbrev pub is_open : {W : Type 0} → EngineInput W → Bool
-is_open input = is_some input.writer
+is_open input = closing.is_open input.sink
 
 abbrev pub quit_line : List ℕ
 quit_line = codes "quit" ++ line_feed ∷ []

@@ -1,3 +1,4 @@
+pub mod Closing
 pub mod Hosts
 pub mod Input
 pub mod Memory

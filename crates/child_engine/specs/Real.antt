@@ -20,7 +20,7 @@ abbrev pub untold_runs : ℕ → List Told
 untold_runs zero = []
 untold_runs (suc n) = untold_runs n ++ untold ∷ []
 
-abbrev pub books_of : {R : Type 0} → RealHost R → Books
+abbrev pub books_of : {R S : Type 0} → RealHost R S → Books
 books_of h =
     record {
       runs_out = h.runs_out;

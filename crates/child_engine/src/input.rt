@@ -1,33 +1,12 @@
 // The input of an engine.
-ghost use Rattle.std.specs.Prelude.{◌≡◌, ◌<◌, ◌≤◌, ⊤, length, take, not, None, IfOk, OnErr, IsErr, false};
+ghost use Rattle.std.specs.Prelude.{◌≡◌, ◌<◌, ◌≤◌, length, take, not, None, IfOk, OnErr, IsErr, true, false};
 ghost use Rattle.std.specs.Io.KnownBytes.{WriteAppends};
 ghost use Rattle.line_io.specs.Causes.{HasCause};
+ghost use Rattle.child_engine.specs.Input.{ends_with_quit, shown_by, is_open};
 
-use line_io::{Failed, MemSink, NullSink, Sink};
+use crate::{Closing, LetGo};
+use line_io::{Failed, Sink};
 use std::io::Write;
-
-/// A sink that can let go of what it writes to, so that an engine that reads there meets the end of
-/// its input. What the sink shows stays as it is. Nothing is to be written to it from then on.
-pub trait LetGo: Sink {
-    /// It let go. This holds of a sink that has nothing to let go of.
-    ghost is_let_go: { Self → Type 0 };
-
-    fn let_go(&mut self)
-        ensures shown { Self.state self.new ≡ Self.state self.old }
-        ensures gone { is_let_go self.new };
-}
-
-impl LetGo for MemSink {
-    ghost is_let_go = { λ _. ⊤ };
-
-    fn let_go(&mut self) {}
-}
-
-impl LetGo for NullSink {
-    ghost is_let_go = { λ _. ⊤ };
-
-    fn let_go(&mut self) {}
-}
 
 /// The input of an engine, over a writer that is let go once it took the line `quit`.
 ///
@@ -36,8 +15,7 @@ impl LetGo for NullSink {
 /// which a pipe takes whole or not at all; where a front of it is taken, the writer stays.
 #[derive(Drop)]
 pub struct EngineInput<W> {
-    writer: Option<W>,
-    faults: u64,
+    sink: Closing<W>,
 }
 
 // Whether the last line is `quit`.
@@ -48,17 +26,13 @@ fn ends_with_quit(lines: &[u8]) -> bool
 }
 
 impl<W> EngineInput<W> {
-    ghost use Rattle.std.specs.Prelude.{true};
-    ghost use Rattle.child_engine.specs.Input.{shown_by, is_open};
-
     /// Over a writer, with no fault counted.
     pub fn new(writer: W) -> EngineInput<W>
         ensures shown { shown_by result ≡ record { taken = None; faults = 0 } }
         ensures open { is_open result ≡ true }
     {
         EngineInput {
-            writer: Some(writer),
-            faults: 0,
+            sink: Closing::new(writer),
         }
     }
 
@@ -67,50 +41,18 @@ impl<W> EngineInput<W> {
     pub fn faults(&self) -> u64
         ensures { result ≡ (shown_by self.now).faults }
     {
-        self.faults
+        self.sink.faults()
     }
 
     /// Whether the line `quit` was not taken yet.
     pub fn is_open(&self) -> bool
         ensures { result ≡ is_open self.now }
     {
-        self.writer.is_some()
+        self.sink.is_open()
     }
 }
-
-impl<W: Write + Drop> EngineInput<W> {
-    ghost use Rattle.child_engine.specs.Input.{is_open};
-
-    // Hands the piece to the writer. One that takes nothing fails.
-    fn hand_over(&mut self, piece: &[u8]) -> Result<usize, Failed>
-        requires { 0 < length piece.now }
-        ensures bound { IfOk result (λ n. (0 < n) × (n ≤ length piece.now)) }
-        ensures faults { self.new.faults ≡ self.old.faults }
-        ensures open { IfOk result (λ n.
-            is_open self.new ≡ not (ends_with_quit (take n piece.now))) }
-        ensures err { OnErr result (is_open self.new ≡ is_open self.old) }
-        ensures shut { is_open self.old ≡ false → IsErr result }
-    {
-        let Some(writer) = &mut self.writer else {
-            return Err(Failed);
-        };
-        match writer.write(piece) {
-            Ok(count) if count > 0 => {
-                if ends_with_quit(&piece[..count]) {
-                    self.writer = None;
-                }
-                Ok(count)
-            }
-            _ => Err(Failed),
-        }
-    }
-}
-
-ghost use Rattle.child_engine.specs.Input.{ends_with_quit};
 
 impl<W: Write + Drop> Sink for EngineInput<W> {
-    ghost use Rattle.child_engine.specs.Input.{shown_by, is_open};
-
     ghost state = { λ s. shown_by s };
 
     fn write(&mut self, piece: &[u8]) -> Result<usize, Failed>
@@ -123,26 +65,21 @@ impl<W: Write + Drop> Sink for EngineInput<W> {
         ensures err { OnErr result (is_open self.new ≡ is_open self.old) }
         ensures shut { is_open self.old ≡ false → IsErr result }
     {
-        match self.hand_over(piece) {
-            Ok(count) => Ok(count),
-            Err(fault) => {
-                self.faults = self.faults.saturating_add(1);
-                Err(fault)
-            }
+        let count = self.sink.write(piece)?;
+        if ends_with_quit(&piece[..count]) {
+            self.sink.let_go();
         }
+        Ok(count)
     }
 }
 
 impl<W: Write + Drop> LetGo for EngineInput<W> {
-    ghost use Rattle.std.specs.Prelude.{◌≡◌};
-    ghost use Rattle.child_engine.specs.Input.{shown_by, is_open};
-
     ghost is_let_go = { λ s. is_open s ≡ false };
 
     fn let_go(&mut self)
         ensures shown { shown_by self.new ≡ shown_by self.old }
         ensures shut { is_open self.new ≡ false }
     {
-        drop(self.writer.take());
+        self.sink.let_go();
     }
 }

@@ -1,14 +1,18 @@
 //! Hosts: where the bridge gets its engine and its log from.
 #![tactic(auto)]
 
+mod closing;
 mod host;
 mod input;
 mod memory;
+mod pipe_sink;
 mod real;
 mod steady;
 
+pub use closing::{Closing, LetGo};
 pub use host::{Faults, Host, HostFault, Started};
-pub use input::{EngineInput, LetGo};
+pub use input::EngineInput;
 pub use memory::{Fails, MemHost};
+pub use pipe_sink::PipeSink;
 pub use real::RealHost;
 pub use steady::SteadyHost;

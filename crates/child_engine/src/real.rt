@@ -4,24 +4,27 @@ ghost use Rattle.child_engine.specs.Hosts.{RisesBy};
 ghost use Rattle.child_engine.specs.declared.host.HostFault.TheVariants as faults;
 
 use crate::host::raised;
-use crate::{EngineInput, Faults, Host, HostFault, Started};
+use crate::{Faults, Host, HostFault, PipeSink, Started};
 use line_io::{Failed, NoMemory, ReadAdapter, WriteAdapter};
 use std::alloc::Global;
 use std::fs::{File, Files};
 use std::io::ErrorKind;
+use std::marker::PhantomData;
 use std::process::{Child, ChildStdin, ChildStdout, Command, Processes, Stdio, SystemProcess};
 use std::{fs, io};
 
-/// A host of real programs and files, over the handle by which it starts and opens them. The
-/// engine's standard error is that of this process.
+/// A host of real programs and files, over the handle `R` by which it starts and opens them. The
+/// engine's standard error is that of this process. The engine's input is an `S`, which decides when
+/// it is let go.
 #[derive(Drop)]
-pub struct RealHost<R> {
+pub struct RealHost<R, S> {
     rt: R,
     faults: Faults,
     runs_out: u8,
     logs_out: u8,
     runs_closed: u8,
     logs_closed: u8,
+    input: PhantomData<S>,
 }
 
 // Why the system did not start a program or open a file.
@@ -61,12 +64,12 @@ fn command_of(alloc: Global, words: &[String]) -> Result<Command, NoMemory>
     Ok(command)
 }
 
-impl<R> RealHost<R> {
+impl<R, S> RealHost<R, S> {
     ghost use Rattle.child_engine.specs.Real.{books_of};
     ghost use Rattle.child_engine.specs.Steady.{no_faults};
 
     /// A host that has handed out nothing.
-    pub fn new(rt: R) -> RealHost<R>
+    pub fn new(rt: R) -> RealHost<R, S>
         ensures books { books_of result
             ≡ record { runs_out = 0; logs_out = 0; runs = []; logs = [] } }
         ensures faults { result.faults ≡ no_faults }
@@ -78,22 +81,25 @@ impl<R> RealHost<R> {
             logs_out: 0,
             runs_closed: 0,
             logs_closed: 0,
+            input: PhantomData,
         }
     }
 }
 
-type Engine = Started<ReadAdapter<ChildStdout>, EngineInput<ChildStdin>, Child<SystemProcess>>;
+type Engine<S> = Started<ReadAdapter<ChildStdout>, S, Child<SystemProcess>>;
 
-impl<R: Processes<Started = SystemProcess> + Files<File = File>> Host for RealHost<R> {
+impl<
+    R: Processes<Started = SystemProcess> + Files<File = File>,
+    S: PipeSink<ChildStdin> + Send + Drop,
+> Host for RealHost<R, S> {
     ghost use Rattle.std.specs.Prelude.{◌≡◌, ◌<◌, length};
     ghost use Rattle.line_io.specs.Adapters.{read_faults};
     ghost use Rattle.child_engine.specs.Hosts.{ClosesBy, with_closed_run};
-    ghost use Rattle.child_engine.specs.Input.{shown_by};
     ghost use Rattle.child_engine.specs.Real.{books_of, untold_source};
 
     type Src = ReadAdapter<ChildStdout>;
 
-    type Snk = EngineInput<ChildStdin>;
+    type Snk = S;
 
     type Log = WriteAdapter<File>;
 
@@ -103,7 +109,7 @@ impl<R: Processes<Started = SystemProcess> + Files<File = File>> Host for RealHo
 
     ghost books = { λ h. books_of h };
 
-    fn start(&mut self, alloc: Global, words: &[String]) -> Result<Engine, HostFault> {
+    fn start(&mut self, alloc: Global, words: &[String]) -> Result<Engine<S>, HostFault> {
         let mut command = command_of(alloc, words)?;
         let mut kid = match command.spawn(&self.rt) {
             Ok(kid) => kid,
@@ -120,7 +126,7 @@ impl<R: Processes<Started = SystemProcess> + Files<File = File>> Host for RealHo
         self.runs_out += 1;
         Ok(Started {
             src: ReadAdapter::new(output),
-            snk: EngineInput::new(input),
+            snk: S::over(input),
             kid,
         })
     }
@@ -139,12 +145,12 @@ impl<R: Processes<Started = SystemProcess> + Files<File = File>> Host for RealHo
     }
 
     #[tactic(auto, using(crate::proofs::Untold::runs_count))]
-    fn close(&mut self, run: Engine) -> Result<(), Failed>
+    fn close(&mut self, run: Engine<S>) -> Result<(), Failed>
         requires { length (books_of self.old).runs < (books_of self.old).runs_out }
         ensures books { books_of self.new
-            ≡ with_closed_run (books_of self.old) (untold_source 0) (shown_by run.snk) }
+            ≡ with_closed_run (books_of self.old) (untold_source 0) (S.state run.snk) }
         ensures cause { ClosesBy self.old.faults self.new.faults
-            (read_faults run.src) (shown_by run.snk).faults result }
+            (read_faults run.src) (S.state run.snk).faults result }
     {
         let Started { src, snk, mut kid } = run;
         self.faults.reads = raised(self.faults.reads, src.faults());

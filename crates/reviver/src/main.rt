@@ -2,18 +2,18 @@
 //! when it dies.
 #![tactic(auto)]
 
-use child_engine::RealHost;
+use child_engine::{EngineInput, RealHost};
 use line_io::{ReadAdapter, WriteAdapter};
 use program_edges::{ClosedStreams, WORDS_ROOM, words_of};
 use reviver_app::{refuse_for_memory, revive_main};
-use std::process::ExitCode;
+use std::process::{ChildStdin, ExitCode};
 
 fn main(rt: HostRuntime) -> ExitCode {
     let closed = ClosedStreams::fill(&rt);
     let mut input = ReadAdapter::new(closed.input(rt.stdin()));
     let mut output = WriteAdapter::new(closed.output(rt.stdout()));
     let mut diag = WriteAdapter::new(closed.diag(rt.stderr()));
-    let mut host = RealHost::new(&rt);
+    let mut host = RealHost::<_, EngineInput<ChildStdin>>::new(&rt);
     let status = match words_of(&rt, rt.alloc(), WORDS_ROOM) {
         Ok(words) => revive_main(
             &rt,

@@ -1,16 +1,13 @@
 //! The program `tap`: between a bridge on standard input and output and its engine.
 #![tactic(auto)]
 
-mod host;
-
-use host::PipeHost;
+use child_engine::{Closing, RealHost};
 use line_io::{ReadAdapter, WriteAdapter};
 use os::FromRawFd;
 use program_edges::{ClosedStreams, WORDS_ROOM, words_of};
 use std::os::fd::OwnedFd;
 use std::process::{ChildStdin, ExitCode};
 use tap_app::{refuse_for_memory, tap_main};
-use tap_runner::Closing;
 
 // Standard output, which is closed where it is dropped.
 fn own_output() -> ChildStdin {
@@ -22,7 +19,7 @@ fn main(rt: HostRuntime) -> ExitCode {
     let mut input = ReadAdapter::new(closed.input(rt.stdin()));
     let mut output = Closing::new(closed.output(own_output()));
     let mut diag = WriteAdapter::new(closed.diag(rt.stderr()));
-    let mut host = PipeHost::new(&rt);
+    let mut host = RealHost::<_, Closing<ChildStdin>>::new(&rt);
     let status = match words_of(&rt, rt.alloc(), WORDS_ROOM) {
         Ok(words) => tap_main(
             &rt,

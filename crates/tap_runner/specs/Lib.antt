@@ -6,4 +6,3 @@ pub mod Logging
 pub mod Ran
 pub mod Parts
 pub mod Tapped
-pub mod Closing

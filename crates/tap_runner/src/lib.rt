@@ -2,7 +2,6 @@
 //! through one channel into a log.
 #![tactic(auto)]
 
-mod closing;
 mod logging;
 mod part;
 mod parts;
@@ -10,7 +9,6 @@ mod passing;
 mod run;
 mod tap;
 
-pub use closing::Closing;
 pub use logging::{LOG_ROOM, keep_log};
 pub use part::Part;
 pub use passing::{PassEnd, hand_on};

@@ -1,13 +1,12 @@
 // The program over hosts in memory.
 
-use child_engine::{Fails, LetGo, MemHost};
-use line_io::{MemSink, MemSource, Sink};
+use child_engine::{Fails, MemHost};
+use line_io::{MemSink, MemSource};
 use std::alloc::Global;
 use std::sync::Wait;
 use std::test::Fail;
 use std::thread::Threads;
 use tap_app::{refuse_for_memory, tap_main};
-use tap_runner::Closing;
 
 const ENGINE: &[u8] = b"id name Toy\nuciok\nready";
 
@@ -105,16 +104,5 @@ fn no_memory_for_words(rt: HostRuntime) -> Result<(), Fail> {
     let status = refuse_for_memory(&mut diag);
     assert_eq!(rt; status.code, 3);
     assert_eq!(rt; diag.taken(), b"tap: no memory\n".as_slice());
-    Ok(())
-}
-
-#[test]
-fn a_writer_is_let_go(rt: HostRuntime) -> Result<(), Fail> {
-    let bytes: Vec<u8> = Vec::new(rt.alloc());
-    let mut sink = Closing::new(bytes);
-    assert!(rt; sink.write(b"uci\n").is_ok());
-    sink.let_go();
-    assert!(rt; sink.write(b"quit\n").is_err());
-    assert_eq!(rt; sink.faults(), 1);
     Ok(())
 }

@@ -1,14 +1,36 @@
-// A writer that can be let go.
-ghost use Rattle.std.specs.Prelude.{◌≡◌, ◌<◌, ◌≤◌, length, None, IfOk, IsErr, true, false};
+// Sinks that let go of what they write to.
+ghost use Rattle.std.specs.Prelude.{◌≡◌, ◌<◌, ◌≤◌, ⊤, length, None, IfOk, IsErr, true, false};
 ghost use Rattle.std.specs.Io.KnownBytes.{WriteAppends};
 ghost use Rattle.line_io.specs.Causes.{HasCause};
-ghost use Rattle.tap_runner.specs.Closing.{shown_by, is_open};
+ghost use Rattle.child_engine.specs.Closing.{shown_by, is_open};
 
-use child_engine::LetGo;
-use line_io::{Failed, Sink};
+use line_io::{Failed, MemSink, NullSink, Sink};
 use std::io::Write;
 
-/// A sink over a writer that it can let go.
+/// A sink that can let go of what it writes to, so that an engine that reads there meets the end of
+/// its input. What the sink shows stays as it is. Nothing is to be written to it from then on.
+pub trait LetGo: Sink {
+    /// It let go. This holds of a sink that has nothing to let go of.
+    ghost is_let_go: { Self → Type 0 };
+
+    fn let_go(&mut self)
+        ensures shown { Self.state self.new ≡ Self.state self.old }
+        ensures gone { is_let_go self.new };
+}
+
+impl LetGo for MemSink {
+    ghost is_let_go = { λ _. ⊤ };
+
+    fn let_go(&mut self) {}
+}
+
+impl LetGo for NullSink {
+    ghost is_let_go = { λ _. ⊤ };
+
+    fn let_go(&mut self) {}
+}
+
+/// A sink over a writer that is let go when it is told so, and not before.
 #[derive(Drop)]
 pub struct Closing<W> {
     writer: Option<W>,
@@ -33,6 +55,13 @@ impl<W> Closing<W> {
         ensures { result ≡ (shown_by self.now).faults }
     {
         self.faults
+    }
+
+    /// Whether the writer was not let go yet.
+    pub fn is_open(&self) -> bool
+        ensures { result ≡ is_open self.now }
+    {
+        self.writer.is_some()
     }
 }
 

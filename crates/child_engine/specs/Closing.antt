@@ -1,7 +1,7 @@
 -- A writer that can be let go.
 use Rattle.std.specs.Prelude.{Bool, None, is_some}
 use Rattle.line_io.specs.Source.{Received}
-use Rattle.tap_runner.specs.declared.closing.Closing.{Closing}
+use Rattle.child_engine.specs.declared.closing.Closing.{Closing}
 
 -- it tells nothing of what was taken, since nobody keeps that once the writer is gone
 abbrev pub shown_by : {W : Type 0} → Closing W → Received
