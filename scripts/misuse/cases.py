@@ -23,6 +23,7 @@ ENDED = "tellusererror Engine ended"
 FLOOD = "info depth 1"
 START = "rnbqkbnr/pppppppp/8/8/8/8/PPPPPPPP/RNBQKBNR w KQkq - 0 1"
 LISTENS = "sh -- -c 'cat >/dev/null'"
+WRITES = "sh -- -c 'echo tellusererror said >&2; cat >/dev/null'"
 
 
 def bridge(name, command, status, **wanted):
@@ -140,6 +141,11 @@ BRIDGE = [
     bridge("closed output", ASKS + LISTENS + " >&-", 5),
     bridge("closed diagnostics", ASKS + LISTENS + " 2>&-", 0, told="", output=SILENT),
     bridge("all streams closed", "bridge --LogFile log %s <&- >&- 2>&-" % LISTENS, 4, told=""),
+    bridge("an engine that writes to standard error", ASKS + WRITES, 0, told="tellusererror said", output=SILENT),
+    bridge("the same where the interface reads standard error", ASKS + WRITES + " 2>&1 | cat", 0, output=SILENT),
+    bridge("the engine's standard error if it was closed", ASKS + "sh -- -c 'read line; "
+           "echo \"id name $(readlink /proc/$$/fd/2)\"; echo uciok; cat >/dev/null' 2>&-", 0, told="",
+           part='feature myname="/dev/null"'),
     bridge("a full disk as output", ASKS + LISTENS + " >/dev/full", 5),
     unlogged("a full disk as log", ASKS.replace("--LogFile log", "--LogFile /dev/full") + LISTENS, 9, output=SILENT),
     unlogged("a full disk as both", ASKS.replace("--LogFile log", "--LogFile /dev/full") + LISTENS + " >/dev/full", 5),

@@ -19,6 +19,9 @@ MOVE = "bestmove e7e5"
 # A reader that begins late.
 LATE = "{ sleep 1; cat >/dev/null; }"
 LISTENS = "sh -c 'cat >/dev/null'"
+WRITES = "sh -c 'echo said >&2; cat >/dev/null'"
+# The tap hands on all that passes, and leaves its own standard error to the engine.
+WRITTEN = {"driver": "", "tap": "said\n", "reviver": ""}
 FLOOD = "info depth 1"
 
 
@@ -72,6 +75,8 @@ class Table:
             self.logged("a reader that is gone", "{ sleep 0.3; %s; } | :" % (plays + engine), 5),
             self.logged("closed input", log + engine + " <&-", 4, output=""),
             self.logged("closed output", plays + engine + " >&-", 5),
+            self.logged("an engine that writes to standard error, where the interface reads it", plays + WRITES + " 2>&1 | cat", 0,
+                        output=WRITTEN[self.program] + MUTE[self.program]),
             self.logged("closed diagnostics", waits + engine + " 2>&-", 0, told="", part=MOVE),
             self.logged("all streams closed", log + engine + " <&- >&- 2>&-", 4, told=""),
             self.logged("a full disk as output", plays + engine + " >/dev/full", 5),

@@ -12,7 +12,7 @@ fn main(rt: HostRuntime) -> ExitCode {
     let mut input = ReadAdapter::new(closed.input(rt.stdin()));
     let mut output = WriteAdapter::new(closed.output(rt.stdout()));
     let mut diag = WriteAdapter::new(closed.diag(rt.stderr()));
-    let mut host = RealHost::<_, EngineInput<ChildStdin>>::new(&rt);
+    let mut host = RealHost::<_, EngineInput<ChildStdin>>::new(&rt, closed.has_own_diag(&rt));
     let status = match words_of(&rt, rt.alloc(), WORDS_ROOM) {
         Ok(words) => bridge_main(
             &rt,

@@ -150,7 +150,7 @@ fn an_engine_input_ends_behind_quit(rt: HostRuntime) {
 // `cat` gives its input back, and ends at the end of it, which comes behind `quit`.
 #[test]
 fn a_real_host_starts_a_program(rt: HostRuntime) -> Result<(), HostFault> {
-    let mut host = RealHost::<_, EngineInput<ChildStdin>>::new(&rt);
+    let mut host = RealHost::<_, EngineInput<ChildStdin>>::new(&rt, true);
     let answers = run_once(&mut host, rt.alloc(), b"quit\n")?;
     assert!(rt; answers == (Ok(5), [Ok(5), Ok(0)], Ok(())));
     Ok(())

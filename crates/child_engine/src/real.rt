@@ -14,11 +14,12 @@ use std::process::{Child, ChildStdin, ChildStdout, Command, Processes, Stdio, Sy
 use std::{fs, io};
 
 /// A host of real programs and files, over the handle `R` by which it starts and opens them. The
-/// engine's standard error is that of this process. The engine's input is an `S`, which decides when
-/// it is let go.
+/// engine's standard error is that of this process or the null device. The engine's input is an `S`,
+/// which decides when it is let go.
 #[derive(Drop)]
 pub struct RealHost<R, S> {
     rt: R,
+    shares_diag: bool,
     faults: Faults,
     runs_out: u8,
     logs_out: u8,
@@ -47,8 +48,10 @@ fn counted(count: u64, fault: HostFault) -> u64
     }
 }
 
-// The command of these words, with pipes for its input and its output.
-fn command_of(alloc: Global, words: &[String]) -> Result<Command, NoMemory>
+// The command of these words, with pipes for its input and its output, and with the standard error
+// of this process or the null device. An engine without one would write into the file that it opens
+// first.
+fn command_of(alloc: Global, words: &[String], shares_diag: bool) -> Result<Command, NoMemory>
     requires { 0 < length words.now }
 {
     let Ok(mut command) = Command::new(alloc, words[0].as_str()) else {
@@ -61,6 +64,9 @@ fn command_of(alloc: Global, words: &[String]) -> Result<Command, NoMemory>
     }
     command.stdin(Stdio::piped());
     command.stdout(Stdio::piped());
+    if !shares_diag {
+        command.stderr(Stdio::null());
+    }
     Ok(command)
 }
 
@@ -68,14 +74,16 @@ impl<R, S> RealHost<R, S> {
     ghost use Rattle.child_engine.specs.Real.{books_of};
     ghost use Rattle.child_engine.specs.Steady.{no_faults};
 
-    /// A host that has handed out nothing.
-    pub fn new(rt: R) -> RealHost<R, S>
+    /// A host that has handed out nothing. Its engines share the standard error of this process, or
+    /// else have the null device.
+    pub fn new(rt: R, shares_diag: bool) -> RealHost<R, S>
         ensures books { books_of result
             ≡ record { runs_out = 0; logs_out = 0; runs = []; logs = [] } }
         ensures faults { result.faults ≡ no_faults }
     {
         RealHost {
             rt,
+            shares_diag,
             faults: Faults::default(),
             runs_out: 0,
             logs_out: 0,
@@ -110,7 +118,7 @@ impl<
     ghost books = { λ h. books_of h };
 
     fn start(&mut self, alloc: Global, words: &[String]) -> Result<Engine<S>, HostFault> {
-        let mut command = command_of(alloc, words)?;
+        let mut command = command_of(alloc, words, self.shares_diag)?;
         let mut kid = match command.spawn(&self.rt) {
             Ok(kid) => kid,
             Err(error) => {

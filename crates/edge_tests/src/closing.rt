@@ -30,7 +30,7 @@ fn cat(alloc: Global) -> Result<Vec<String>, NoMemory>
 // `cat` gives its input back, behind `quit` too, and ends once the input is let go.
 #[test]
 fn an_engine_reads_on_behind_quit(rt: HostRuntime) -> Result<(), HostFault> {
-    let mut host = RealHost::<_, Closing<ChildStdin>>::new(&rt);
+    let mut host = RealHost::<_, Closing<ChildStdin>>::new(&rt, true);
     let words = cat(rt.alloc())?;
     let mut run = host.start(rt.alloc(), words.as_slice())?;
     let mut buf = [0; 8];

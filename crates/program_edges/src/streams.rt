@@ -1,8 +1,9 @@
 // Standard streams that may be closed when the program starts.
 use std::fs::{File, Files, OpenOptions};
-use std::io;
 use std::io::{ErrorKind, Read, Write};
 use std::os::fd::AsRawFd;
+use std::os::unix::fs::{FileTypeExt, MetadataExt};
+use std::{fs, io};
 
 /// Which standard streams were closed when the program started. The null device takes their
 /// places for as long as this value is kept, so that no file or pipe that is opened later does.
@@ -11,6 +12,20 @@ pub struct ClosedStreams {
     input: Option<File>,
     output: Option<File>,
     diag: Option<File>,
+}
+
+// Whether standard error is the pipe or the socket that standard output is, or the system does not
+// say.
+fn is_diag_output<R: Files<File = File>>(rt: &R) -> bool {
+    let (Ok(output), Ok(diag)) = (
+        fs::metadata(rt, "/proc/self/fd/1"),
+        fs::metadata(rt, "/proc/self/fd/2"),
+    ) else {
+        return true;
+    };
+    let kind = diag.file_type();
+    let is_stream = kind.is_fifo() || kind.is_socket();
+    is_stream && output.dev() == diag.dev() && output.ino() == diag.ino()
 }
 
 impl ClosedStreams {
@@ -56,6 +71,24 @@ impl ClosedStreams {
         }
     }
 
+    /// Whether standard error was open.
+    pub fn has_diag(&self) -> bool {
+        self.diag.is_none()
+    }
+
+    /// Whether standard error was open and is not the pipe or the socket that standard output is. Where
+    /// a chess interface reads both from one pipe, it takes what an engine writes to standard error for
+    /// this program's.
+    pub fn has_own_diag<R: Files<File = File>>(&self, rt: &R) -> bool {
+        self.has_diag() && !is_diag_output(rt)
+    }
+
+    /// The null device in the place of standard output, if that was closed. Whoever takes it owns that
+    /// place.
+    pub fn take_output(&mut self) -> Option<File> {
+        self.output.take()
+    }
+
     /// Standard error.
     pub fn diag<T>(&self, stream: T) -> IfOpen<T> {
         IfOpen {
@@ -65,11 +98,21 @@ impl ClosedStreams {
     }
 }
 
-/// A stream each of whose calls fails where it was closed when the program started.
+/// A stream each of whose calls fails if it was closed when the program started.
 #[derive(Drop)]
 pub struct IfOpen<T> {
     stream: T,
     is_open: bool,
+}
+
+impl<T> IfOpen<T> {
+    /// A stream that was closed when the program started.
+    pub fn closed(stream: T) -> IfOpen<T> {
+        IfOpen {
+            stream,
+            is_open: false,
+        }
+    }
 }
 
 impl<T: Read> Read for IfOpen<T> {

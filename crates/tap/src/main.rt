@@ -4,22 +4,29 @@
 use child_engine::{Closing, RealHost};
 use line_io::{ReadAdapter, WriteAdapter};
 use os::FromRawFd;
-use program_edges::{ClosedStreams, WORDS_ROOM, words_of};
+use program_edges::{ClosedStreams, IfOpen, WORDS_ROOM, words_of};
 use std::os::fd::OwnedFd;
 use std::process::{ChildStdin, ExitCode};
 use tap_app::{refuse_for_memory, tap_main};
 
-// Standard output, which is closed where it is dropped.
-fn own_output() -> ChildStdin {
-    ChildStdin::from(unsafe { OwnedFd::from_raw_fd(1) })
+// Standard output as this program's own: it is closed when it is dropped. If it was closed at the
+// start, the null device has its place, and is owned already.
+fn own_output(closed: &mut ClosedStreams) -> IfOpen<ChildStdin> {
+    match closed.take_output() {
+        Some(null) => IfOpen::closed(ChildStdin::from(OwnedFd::from(null))),
+        None => {
+            let output = unsafe { OwnedFd::from_raw_fd(1) };
+            closed.output(ChildStdin::from(output))
+        }
+    }
 }
 
 fn main(rt: HostRuntime) -> ExitCode {
-    let closed = ClosedStreams::fill(&rt);
+    let mut closed = ClosedStreams::fill(&rt);
+    let mut output = Closing::new(own_output(&mut closed));
     let mut input = ReadAdapter::new(closed.input(rt.stdin()));
-    let mut output = Closing::new(closed.output(own_output()));
     let mut diag = WriteAdapter::new(closed.diag(rt.stderr()));
-    let mut host = RealHost::<_, Closing<ChildStdin>>::new(&rt);
+    let mut host = RealHost::<_, Closing<ChildStdin>>::new(&rt, closed.has_diag());
     let status = match words_of(&rt, rt.alloc(), WORDS_ROOM) {
         Ok(words) => tap_main(
             &rt,
