@@ -1,7 +1,7 @@
 //! A driver between a UCI interface and a CECP engine (UCI, April 2006; Chess Engine Communication Protocol,
 //! version 2): it takes the interface's orders and the engine's lines, and gives the lines to both.
 //!
-//! The engine must have the features `ping` and `setboard`.
+//! The engine must send `feature` with `ping=1`, `setboard=1` and at last `done=1`.
 #![tactic(auto)]
 
 mod deeds;

@@ -8,16 +8,15 @@ ghost use Rattle.sink_offers.specs.Streams.{sinks, streams, log_state};
 ghost use Rattle.driver_runner.specs.Looped.{Looped};
 ghost use Rattle.cecp_driver.specs.declared.script.TheConstants.{EVENT_ROOM};
 ghost use Rattle.driver_runner.specs.Ran.{Ran};
-ghost use denote.Param.Send.{IsSync};
 
 use crate::drive_loop;
 use cecp_driver::Driver;
-use event_pipe::{Pipe, PipeSend, PipeTake, ReadEnd, read_pipe};
+use event_pipe::{Pipe, PipeSend, PipeTake, ReadEnd, join_three, read_pipe};
 use line_io::{Out, Sink, Source};
 use sink_offers::LoopEnd;
 use std::alloc::Global;
 use std::sync::Wait;
-use std::thread::{Threads, join_mut};
+use std::thread::Threads;
 
 /// What the two readers and the loop answered.
 #[derive(Clone, Copy, Debug, PartialEq, Eq)]
@@ -27,53 +26,8 @@ pub struct RunEnd {
     pub done: LoopEnd,
 }
 
-// The engine's reader beside the loop.
-fn run_engine<
-    S: Source + Send,
-    O: Sink + Send,
-    E: Sink + Send,
-    L: Sink + Send,
-    R: Threads + Wait + Sync,
->(
-    rt: &R,
-    alloc: Global,
-    driver: &mut Driver,
-    child: &mut PipeSend,
-    taker: &mut PipeTake,
-    source: &mut S,
-    output: &mut O,
-    engine: &mut E,
-    log: &mut Option<L>,
-    text: &mut Out,
-) -> (ReadEnd, LoopEnd)
-    requires driver { driver.old ≡ opening }
-    requires room { EVENT_ROOM ≤ text.old.room }
-    requires child { IsFreshSender child.old peers.Engine }
-    requires taker { IsFreshTaker taker.old }
-    ensures child { KeepsSender child.old child.new }
-    ensures taker { KeepsTaker taker.old taker.new }
-    ensures arrived { Arrived peers.Engine (S.state source.old) (S.state source.new)
-        (sent child.new) result.0 }
-    ensures kept { is_some log.new ≡ is_some log.old }
-    ensures looped { Looped (taken taker.new)
-        (sinks (O.state output.old) (E.state engine.old) (log_state L.state log.old))
-        (sinks (O.state output.new) (E.state engine.new) (log_state L.state log.new))
-        result.1 }
-{
-    join_mut(
-        rt,
-        &mut ||
-            requires { IsFreshSender child.now peers.Engine }
-        { read_pipe(rt, alloc, source, child) },
-        &mut ||
-            requires { (driver.now ≡ opening) × IsFreshTaker taker.now
-                × (EVENT_ROOM ≤ text.now.room) }
-        { drive_loop(rt, driver, taker, output, engine, log, text) },
-    )
-}
-
-// Both readers beside the loop.
-fn run_both<
+// Both readers, each in a thread of its own, beside the loop.
+fn run_beside<
     I: Source + Send,
     S: Source + Send,
     O: Sink + Send,
@@ -93,7 +47,7 @@ fn run_both<
     engine: &mut E,
     log: &mut Option<L>,
     text: &mut Out,
-) -> (ReadEnd, (ReadEnd, LoopEnd))
+) -> (ReadEnd, ReadEnd, LoopEnd)
     requires driver { driver.old ≡ opening }
     requires room { EVENT_ROOM ≤ text.old.room }
     requires iface { IsFreshSender iface.old peers.Iface }
@@ -105,27 +59,25 @@ fn run_both<
     ensures iface_arrived { Arrived peers.Iface (I.state input.old) (I.state input.new)
         (sent iface.new) result.0 }
     ensures arrived { Arrived peers.Engine (S.state source.old) (S.state source.new)
-        (sent child.new) result.1.0 }
+        (sent child.new) result.1 }
     ensures kept { is_some log.new ≡ is_some log.old }
     ensures looped { Looped (taken taker.new)
         (sinks (O.state output.old) (E.state engine.old) (log_state L.state log.old))
         (sinks (O.state output.new) (E.state engine.new) (log_state L.state log.new))
-        result.1.1 }
+        result.2 }
 {
-    join_mut(
+    join_three(
         rt,
         &mut ||
             requires { IsFreshSender iface.now peers.Iface }
         { read_pipe(rt, alloc, input, iface) },
         &mut ||
-            requires { IsSync R.row × (driver.now ≡ opening)
-                × (EVENT_ROOM ≤ text.now.room)
-                × IsFreshSender child.now peers.Engine × IsFreshTaker taker.now }
-        {
-            run_engine(
-                rt, alloc, driver, child, taker, source, output, engine, log, text,
-            )
-        },
+            requires { IsFreshSender child.now peers.Engine }
+        { read_pipe(rt, alloc, source, child) },
+        &mut ||
+            requires { (driver.now ≡ opening) × IsFreshTaker taker.now
+                × (EVENT_ROOM ≤ text.now.room) }
+        { drive_loop(rt, driver, taker, output, engine, log, text) },
     )
 }
 
@@ -168,7 +120,7 @@ pub fn run_driver_pipes<
     let mut iface = iface;
     let mut child = child;
     let mut taker = taker;
-    let (first, (second, done)) = run_both(
+    let (first, second, done) = run_beside(
         rt, alloc, driver, &mut iface, &mut child, &mut taker, input, source, output, engine, log,
         text,
     );

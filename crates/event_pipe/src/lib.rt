@@ -2,10 +2,12 @@
 //! send them, and one taker gets them in the order in which they came.
 #![tactic(auto)]
 
+mod beside;
 mod message;
 mod pipe;
 mod reader;
 
+pub use beside::join_three;
 pub use message::{Bytes, Peer, Sent, What};
 pub use pipe::{
     AllSent, CHANNEL_ROOM, InOrder, JoinEngine, JoinIface, Known, Pipe, PipeSend, PipeTake,

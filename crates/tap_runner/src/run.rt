@@ -7,16 +7,15 @@ ghost use Rattle.tap_runner.specs.Hearing.{fresh};
 ghost use Rattle.tap_runner.specs.Logging.{Logged};
 ghost use Rattle.tap_runner.specs.Passing.{Passed};
 ghost use Rattle.tap_runner.specs.Ran.{Ran, IsReadyWay};
-ghost use denote.Param.Send.{IsSync};
 ghost use Rattle.tap_runner.specs.declared.logging.TheConstants.{LOG_ROOM};
 
 use crate::{Part, PassEnd, hand_on, keep_log};
 use child_engine::LetGo;
-use event_pipe::{Pipe, PipeSend, PipeTake};
+use event_pipe::{Pipe, PipeSend, PipeTake, join_three};
 use line_io::{Out, Sink, Source};
 use std::alloc::Global;
 use std::sync::Wait;
-use std::thread::{Threads, join_mut};
+use std::thread::Threads;
 
 /// What one direction needs: where the marks of its lines go, its open line, and the room for what
 /// is read at a time.
@@ -63,42 +62,8 @@ fn hand_on_way<S: Source, K: LetGo, R: Wait>(
     )
 }
 
-// Hands on what the engine writes, beside the log.
-fn run_engine<S: Source + Send, O: LetGo + Send, L: Sink + Send, R: Threads + Wait + Sync>(
-    rt: &R,
-    alloc: Global,
-    up: &mut Way,
-    taker: &mut PipeTake,
-    source: &mut S,
-    output: &mut O,
-    log: &mut Option<L>,
-    text: &mut Out,
-) -> (PassEnd, bool)
-    requires room { LOG_ROOM ≤ text.old.room }
-    requires up { IsReadyWay up.old peers.Engine }
-    requires taker { IsFreshTaker taker.old }
-    ensures up { KeepsSender up.old.to up.new.to }
-    ensures taker { KeepsTaker taker.old taker.new }
-    ensures passed { Passed peers.Engine (S.state source.old) (S.state source.new)
-        (O.state output.old) (O.state output.new) (sent up.new.to) result.0 }
-    ensures output_gone { O.is_let_go output.new }
-    ensures kept { is_some log.new ≡ is_some log.old }
-    ensures logged { Logged (taken taker.new)
-        (log_state L.state log.old) (log_state L.state log.new) result.1 }
-{
-    join_mut(
-        rt,
-        &mut ||
-            requires { IsReadyWay up.now peers.Engine }
-        { hand_on_way(rt, alloc, source, output, up) },
-        &mut ||
-            requires { IsFreshTaker taker.now × (LOG_ROOM ≤ text.now.room) }
-        { keep_log(rt, taker, log, text) },
-    )
-}
-
-// Hands on what both write, beside the log.
-fn run_both<
+// Hands on what both write, each in a thread of its own, beside the log.
+fn run_beside<
     I: Source + Send,
     S: Source + Send,
     O: LetGo + Send,
@@ -117,7 +82,7 @@ fn run_both<
     engine: &mut E,
     log: &mut Option<L>,
     text: &mut Out,
-) -> (PassEnd, (PassEnd, bool))
+) -> (PassEnd, PassEnd, bool)
     requires room { LOG_ROOM ≤ text.old.room }
     requires down { IsReadyWay down.old peers.Iface }
     requires up { IsReadyWay up.old peers.Engine }
@@ -128,23 +93,24 @@ fn run_both<
     ensures from_bridge { Passed peers.Iface (I.state input.old) (I.state input.new)
         (E.state engine.old) (E.state engine.new) (sent down.new.to) result.0 }
     ensures from_engine { Passed peers.Engine (S.state source.old) (S.state source.new)
-        (O.state output.old) (O.state output.new) (sent up.new.to) result.1.0 }
+        (O.state output.old) (O.state output.new) (sent up.new.to) result.1 }
     ensures output_gone { O.is_let_go output.new }
     ensures engine_gone { E.is_let_go engine.new }
     ensures kept { is_some log.new ≡ is_some log.old }
     ensures logged { Logged (taken taker.new)
-        (log_state L.state log.old) (log_state L.state log.new) result.1.1 }
+        (log_state L.state log.old) (log_state L.state log.new) result.2 }
 {
-    join_mut(
+    join_three(
         rt,
         &mut ||
             requires { IsReadyWay down.now peers.Iface }
         { hand_on_way(rt, alloc, input, engine, down) },
         &mut ||
-            requires { IsSync R.row × (LOG_ROOM ≤ text.now.room)
-                × IsReadyWay up.now peers.Engine
-                × IsFreshTaker taker.now }
-        { run_engine(rt, alloc, up, taker, source, output, log, text) },
+            requires { IsReadyWay up.now peers.Engine }
+        { hand_on_way(rt, alloc, source, output, up) },
+        &mut ||
+            requires { IsFreshTaker taker.now × (LOG_ROOM ≤ text.now.room) }
+        { keep_log(rt, taker, log, text) },
     )
 }
 
@@ -188,7 +154,7 @@ pub fn run_tap<
     let mut down = down;
     let mut up = up;
     let mut taker = taker;
-    let (bridge, (from_engine, log_failed)) = run_both(
+    let (bridge, from_engine, log_failed) = run_beside(
         rt, alloc, &mut down, &mut up, &mut taker, input, source, output, engine, log, text,
     );
     Pipe::finish(down.to, up.to, taker);
