@@ -5,13 +5,9 @@ use Rattle.policy_rules.specs.declared.settings.Settings.{Settings}
 use Rattle.adapter_core.specs.Shown.{MovesAreShownInTime, MovesAreShownOnce}
 use Rattle.session_script.specs.OneWay.{HasOneSession}
 use Rattle.bridge_words.specs.Words.{AreAsked, values_found}
-use Rattle.bridge_words.specs.declared.request.Refusal.{Refusal}
-use Rattle.bridge_words.specs.declared.request.Refusal.TheVariants as refusals
 use Rattle.bridge_runner.specs.Bridged.{Leaves}
 use Rattle.host_run.specs.Outside.{Outside}
 use Rattle.host_run.specs.declared.failures.Failures.{Failures}
-use Rattle.host_run.specs.declared.ending.Ending.{Ending}
-use Rattle.host_run.specs.declared.ending.Ending.TheVariants as endings
 
 -- the name of the program, which stands in a diagnostic
 abbrev pub program : List ℕ
@@ -31,7 +27,3 @@ pub record RunsAsAsked (words : List Text) (before after : Outside) (failures : 
   pub settings : Settings
   pub asked : AreAsked (values_found words) settings
   pub runs : Runs settings before after failures
-
-abbrev pub ending_for : Refusal → Ending
-ending_for refusals.Usage = endings.Usage
-ending_for refusals.NoMemory = endings.NoMemory

@@ -1,16 +1,17 @@
 // The program over any host.
 ghost use Rattle.std.specs.Prelude.{◌≡◌, ◌<◌, length};
 ghost use Rattle.policy_rules.specs.Policy.{IsProper};
-ghost use Rattle.bridge_words.specs.Words.{AreTaken, texts_of};
+ghost use Rattle.program_words.specs.Words.{bytes_of};
+ghost use Rattle.bridge_words.specs.Words.{AreTaken};
 ghost use Rattle.host_run.specs.Endings.{code_of, diagnostic};
 ghost use Rattle.host_run.specs.Outside.{outside, unused};
 ghost use Rattle.host_run.specs.Program.{Answers, Ends, IsToldTo, StatusSays};
 ghost use Rattle.host_run.specs.declared.ending.Ending.TheVariants as endings;
-ghost use Rattle.bridge_app.specs.Program.{Runs, RunsAsAsked, ending_for, program};
+ghost use Rattle.bridge_app.specs.Program.{Runs, RunsAsAsked, program};
 
 use adapter_core::moves_are_shown_in_time;
 use bridge_runner::bridge_run;
-use bridge_words::{Refusal, Request, read_words};
+use bridge_words::{Request, read_words};
 use child_engine::Host;
 use host_run::{Ending, Failures, tell};
 use line_io::{Sink, Source, Status};
@@ -50,15 +51,6 @@ fn run<I: Source + Send, O: Sink + Send, H: Host, R: Threads + Wait + Sync>(
     )
 }
 
-fn refused(refusal: Refusal) -> Ending
-    ensures { result ≡ ending_for refusal }
-{
-    match refusal {
-        Refusal::Usage => Ending::Usage,
-        Refusal::NoMemory => Ending::NoMemory,
-    }
-}
-
 // What the words ask for, and how it ends.
 fn end_of<I: Source + Send, O: Sink + Send, H: Host, R: Threads + Wait + Sync>(
     rt: &R,
@@ -69,7 +61,7 @@ fn end_of<I: Source + Send, O: Sink + Send, H: Host, R: Threads + Wait + Sync>(
     host: &mut H,
 ) -> Ending
     requires { H.books host.old ≡ unused }
-    ensures { Ends (AreTaken (texts_of words.now)) (RunsAsAsked (texts_of words.now)
+    ensures { Ends (AreTaken (bytes_of words.now)) (RunsAsAsked (bytes_of words.now)
         (outside (I.state input.old) (O.state output.old) (H.faults host.old) (H.books host.old))
         (outside (I.state input.new) (O.state output.new) (H.faults host.new) (H.books host.new)))
         (outside (I.state input.old) (O.state output.old) (H.faults host.old) (H.books host.old))
@@ -78,7 +70,7 @@ fn end_of<I: Source + Send, O: Sink + Send, H: Host, R: Threads + Wait + Sync>(
 {
     match read_words(alloc, words) {
         Ok(request) => Ending::of(run(rt, alloc, &request, input, output, host)),
-        Err(refusal) => refused(refusal),
+        Err(refusal) => Ending::from(refusal),
     }
 }
 
@@ -107,13 +99,13 @@ pub fn bridge_main<I: Source + Send, O: Sink + Send, H: Host, D: Sink, R: Thread
     diag: &mut D,
 ) -> Status
     requires { H.books host.old ≡ unused }
-    ensures answers { Answers program (AreTaken (texts_of words.now)) (RunsAsAsked (texts_of words.now)
+    ensures answers { Answers program (AreTaken (bytes_of words.now)) (RunsAsAsked (bytes_of words.now)
         (outside (I.state input.old) (O.state output.old) (H.faults host.old) (H.books host.old))
         (outside (I.state input.new) (O.state output.new) (H.faults host.new) (H.books host.new)))
         (outside (I.state input.old) (O.state output.old) (H.faults host.old) (H.books host.old))
         (outside (I.state input.new) (O.state output.new) (H.faults host.new) (H.books host.new))
         (D.state diag.old) (D.state diag.new) result.code }
-    ensures status { StatusSays (AreTaken (texts_of words.now))
+    ensures status { StatusSays (AreTaken (bytes_of words.now))
         (outside (I.state input.old) (O.state output.old) (H.faults host.old) (H.books host.old))
         (outside (I.state input.new) (O.state output.new) (H.faults host.new) (H.books host.new))
         result.code }

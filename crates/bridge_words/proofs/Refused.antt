@@ -7,8 +7,8 @@ use Rattle.clap.specs.declared.error.kind.ErrorKind.TheVariants as kinds
 use Rattle.clap.proofs.OnLiterals.{clap_on_literals}
 use Rattle.bridge_words.specs.Command.{bridge}
 use Rattle.bridge_words.specs.Words.{faults_found}
-use Rattle.bridge_words.specs.declared.request.Refusal.{Refusal}
-use Rattle.bridge_words.specs.declared.request.Refusal.TheVariants as refusals
+use Rattle.program_words.specs.declared.refusal.Refusal.{Refusal}
+use Rattle.program_words.specs.declared.refusal.Refusal.TheVariants as refusals
 
 pub is_free : is_simple_and_free bridge ≡ true
 unfolding clap_on_literals

@@ -1,15 +1,13 @@
 -- What the words of the bridge ask for.
-use Rattle.std.specs.Prelude.{◌≡◌, ℕ, Bool, false, ⊤, ◌&&◌, nat_le, if◌then◌else◌, IfSome, string_bytes, List, [], ◌∷◌, map, Option, Some, None, codes, Vec, vec_items}
-use Rattle.std.specs.Str.{IsUtf8, bytes_eq}
+use Rattle.std.specs.Prelude.{◌≡◌, ℕ, Bool, false, ◌&&◌, nat_le, if◌then◌else◌, IfSome, string_bytes, List, [], ◌∷◌, map, Option, Some, None, codes}
+use Rattle.std.specs.Str.{bytes_eq}
 use Rattle.clap.specs.Words.{Kinds, Row, Text, fault_of, matches_of, first_of, one_of, all_of, ReadsOne}
 use Rattle.std.specs.Str.Parse.{ParsesUnsigned, ExplainsUnsignedError, HasUnsignedDigitsIfOk}
 use Rattle.policy_rules.specs.declared.settings.Settings.{Settings}
 use Rattle.bridge_words.specs.Command.{bridge}
 use Rattle.bridge_words.specs.declared.request.Request.{Request}
 use Rattle.policy_rules.specs.declared.settings.TheConstants.{MOST_MOVES, USUAL_MOVES, MOST_SCORE, USUAL_SCORE}
-
-abbrev pub texts_of : {Z : Type 0} → List (Vec ℕ Z) → List Text
-texts_of words = map vec_items words
+use Rattle.program_words.specs.Words.{AreUtf8}
 
 -- the faults that the command finds in the words, and the values that it finds for its arguments
 unfoldable pub faults_found : List Text → Kinds
@@ -17,11 +15,6 @@ faults_found words = fault_of bridge words
 
 unfoldable pub values_found : List Text → List Row
 values_found words = matches_of bridge words
-
--- each text is UTF-8
-abbrev pub AreUtf8 : List Text → Type 0
-AreUtf8 [] = ⊤
-AreUtf8 (text ∷ texts) = IsUtf8 text × AreUtf8 texts
 
 -- each word is UTF-8, and the command finds no fault in them
 pub record AreTaken (words : List Text) : Type 0 where

@@ -4,4 +4,4 @@
 mod command;
 mod request;
 
-pub use request::{Refusal, Request, read_words};
+pub use request::{Request, read_words};

@@ -3,13 +3,15 @@ ghost use Rattle.std.specs.Prelude.{◌≡◌, ◌<◌, ◌≤◌, [], ◌++◌,
 ghost use Rattle.clap.specs.Words.{first_of, one_of, all_of, rows_of, found_of};
 ghost use Rattle.clap.specs.declared.error.kind.ErrorKind.TheVariants as kinds;
 ghost use Rattle.policy_rules.specs.Policy.{IsProper};
-ghost use Rattle.bridge_words.specs.Words.{texts_of, faults_found, values_found, AreUtf8, AreTaken, AreAsked, IsAsked, IsNumberOf, engine_words, all_values, is_true, number_within, text_or_empty};
-ghost use Rattle.bridge_words.specs.declared.request.Refusal.TheVariants as refusals;
+ghost use Rattle.program_words.specs.Words.{bytes_of, AreUtf8};
+ghost use Rattle.program_words.specs.declared.refusal.Refusal.TheVariants as refusals;
+ghost use Rattle.bridge_words.specs.Words.{faults_found, values_found, AreTaken, AreAsked, IsAsked, IsNumberOf, engine_words, all_values, is_true, number_within, text_or_empty};
 
 use crate::command::bridge_command;
 use clap::ArgMatches;
 use clap::error::ErrorKind;
 use policy_rules::{MOST_MOVES, MOST_SCORE, Settings, USUAL_MOVES, USUAL_SCORE};
+use program_words::Refusal;
 use std::alloc::{AllocError, Global};
 
 /// What the words ask for.
@@ -21,29 +23,11 @@ pub struct Request {
     pub engine: Vec<String>,
 }
 
-/// Why the words ask for nothing.
-#[derive(Clone, Copy, Debug, PartialEq, Eq)]
-pub enum Refusal {
-    Usage,
-    NoMemory,
-}
-
-impl From<AllocError> for Refusal {
-    ghost use Rattle.std.specs.Prelude.{◌≡◌};
-    ghost use Rattle.bridge_words.specs.declared.request.Refusal.TheVariants as refusals;
-
-    ghost from_gives = { λ e r. r ≡ refusals.NoMemory };
-
-    fn from(_: AllocError) -> Self {
-        Refusal::NoMemory
-    }
-}
-
 // The words as texts. A word that is not UTF-8 is refused.
 fn texts<'a>(alloc: Global, words: &'a [Vec<u8>]) -> Result<Vec<&'a str>, Refusal>
-    ensures texts { IfOk result (λ v. map (λ s. s.now) v.items ≡ texts_of words.now) }
-    ensures utf8 { OnOk result (AreUtf8 (texts_of words.now)) }
-    ensures usage { result ≡ Err refusals.Usage → ¬ (AreUtf8 (texts_of words.now)) }
+    ensures texts { IfOk result (λ v. map (λ s. s.now) v.items ≡ bytes_of words.now) }
+    ensures utf8 { OnOk result (AreUtf8 (bytes_of words.now)) }
+    ensures usage { result ≡ Err refusals.Usage → ¬ (AreUtf8 (bytes_of words.now)) }
 {
     let mut texts: Vec<&'a str> = Vec::new(alloc);
     for word in words {
@@ -212,9 +196,9 @@ fn request_of(alloc: Global, found: &ArgMatches) -> Result<Request, AllocError>
 
 /// Reads the words behind the program's name.
 pub fn read_words(alloc: Global, words: &[Vec<u8>]) -> Result<Request, Refusal>
-    ensures taken { OnOk result (AreTaken (texts_of words.now)) }
-    ensures usage { result ≡ Err refusals.Usage → ¬ (AreTaken (texts_of words.now)) }
-    ensures asked { IfOk result (IsAsked (values_found (texts_of words.now))) }
+    ensures taken { OnOk result (AreTaken (bytes_of words.now)) }
+    ensures usage { result ≡ Err refusals.Usage → ¬ (AreTaken (bytes_of words.now)) }
+    ensures asked { IfOk result (IsAsked (values_found (bytes_of words.now))) }
     ensures proper { IfOk result (λ request. IsProper request.settings) }
     ensures engine { IfOk result (λ request. 0 < length request.engine.items) }
 {

@@ -2,7 +2,5 @@
 #![tactic(auto)]
 
 mod main_call;
-mod words;
 
 pub use main_call::{drive_main, refuse_for_memory};
-pub use words::{Refusal, Request, read_words};

@@ -4,27 +4,18 @@ ghost use Rattle.host_run.specs.Endings.{code_of, diagnostic};
 ghost use Rattle.host_run.specs.Outside.{outside, unused};
 ghost use Rattle.host_run.specs.Program.{Answers, Ends, IsToldTo, StatusSays};
 ghost use Rattle.host_run.specs.declared.ending.Ending.TheVariants as endings;
+ghost use Rattle.program_words.specs.Words.{AreTaken, bytes_of};
 ghost use Rattle.driver_runner.specs.Driven.{Leaves};
 ghost use Rattle.driver_app.specs.Program.{program};
-ghost use Rattle.driver_app.specs.Words.{AreTaken, bytes_of, ending_for};
 
-use crate::{Refusal, read_words};
 use child_engine::Host;
 use driver_runner::drive_run;
 use host_run::{Ending, tell};
 use line_io::{Sink, Source, Status};
+use program_words::read_words;
 use std::alloc::Global;
 use std::sync::Wait;
 use std::thread::Threads;
-
-fn refused(refusal: Refusal) -> Ending
-    ensures { result ≡ ending_for refusal }
-{
-    match refusal {
-        Refusal::Usage => Ending::Usage,
-        Refusal::NoMemory => Ending::NoMemory,
-    }
-}
 
 // What the words ask for, and how it ends.
 fn end_of<I: Source + Send, O: Sink + Send, H: Host, R: Threads + Wait + Sync>(
@@ -53,7 +44,7 @@ fn end_of<I: Source + Send, O: Sink + Send, H: Host, R: Threads + Wait + Sync>(
             output,
             host,
         )),
-        Err(refusal) => refused(refusal),
+        Err(refusal) => Ending::from(refusal),
     }
 }
 

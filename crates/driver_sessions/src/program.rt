@@ -4,8 +4,9 @@ ghost use Rattle.host_run.specs.Outside.{unused};
 
 use crate::expected::{expect_bytes, expect_code};
 use child_engine::{Fails, Host, MemHost, SteadyHost};
-use driver_app::{Refusal, Request, drive_main, read_words, refuse_for_memory};
+use driver_app::{drive_main, refuse_for_memory};
 use line_io::{MemSink, MemSource};
+use program_words::{EngineRequest, Refusal, read_words};
 use std::alloc::Global;
 use std::process::Abort;
 use std::sync::Wait;
@@ -121,7 +122,7 @@ fn words_that_are_taken(rt: HostRuntime) -> Result<(), Fail> {
 }
 
 // Whether this log and an engine of these two words are asked for.
-fn asks_for(request: &Request, log_name: &str, program: &str, argument: &str) -> bool {
+fn asks_for(request: &EngineRequest, log_name: &str, program: &str, argument: &str) -> bool {
     let [first, second] = request.engine.as_slice() else {
         return false;
     };

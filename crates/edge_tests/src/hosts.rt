@@ -7,6 +7,7 @@ use host_run::{
     is_open_failure, is_open_memory, only_memory, only_start, open_log, tell,
 };
 use line_io::{MemSink, ReadFault, Sink};
+use program_words::Refusal;
 use std::process::Abort;
 use std::test::Fail;
 
@@ -26,6 +27,12 @@ fn the_first_failure_is_reported(rt: HostRuntime) -> Result<(), Fail> {
     expect_code(&rt, Ending::of(only_memory()).code(), 3);
     expect_code(&rt, Ending::of(only_start()).code(), 8);
     Ok(())
+}
+
+#[test]
+fn a_refusal_is_reported(rt: HostRuntime) {
+    expect_code(&rt, Ending::from(Refusal::Usage).code(), 2);
+    expect_code(&rt, Ending::from(Refusal::NoMemory).code(), 3);
 }
 
 #[test]

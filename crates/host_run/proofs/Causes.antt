@@ -1,12 +1,13 @@
 -- What each status says.
-use Rattle.std.proofs.Common.{◌≡◌, ◌∙◌, ◌⊎◌, ℕ, Bool, true, false, if◌then◌else◌, nat_eq, refl, sym, ap, subst, inl, inr}
-use Rattle.line_io.specs.Causes.{Rose}
+use Rattle.std.proofs.Common.{◌≡◌, ◌∙◌, ◌⊎◌, ℕ, Bool, true, false, if◌then◌else◌, nat_eq, refl, sym, ap, subst, inl, inr, Result, Err}
 use Rattle.host_run.specs.declared.failures.Failures.{Failures}
 use Rattle.host_run.specs.declared.ending.Ending.{Ending}
 use Rattle.host_run.specs.declared.ending.Ending.TheVariants as endings
-use Rattle.host_run.specs.Endings.{ending_of, code_of}
+use Rattle.host_run.specs.Endings.{ending_of, ending_for, code_of}
 use Rattle.host_run.specs.Outside.{Outside, AreTold, HaveNotRisen, AreAsBefore}
 use Rattle.host_run.specs.Program.{DoesNothing, RunEnds, Ends, StatusSays}
+use Rattle.program_words.specs.declared.refusal.Refusal.{Refusal}
+use Rattle.program_words.specs.declared.refusal.Refusal.TheVariants as refusals
 
 abbrev failures : Bool → Bool → Bool → Bool → Bool → Bool → Bool → Bool → Failures
 failures a b c d e f g h =
@@ -113,6 +114,14 @@ never_usage false false false false false true g h z = cc
 never_usage false false false false false false true h z = cc
 never_usage false false false false false false false true z = cc
 never_usage false false false false false false false false z = cc
+
+-- the words were refused, and nothing was done
+pub refused : {T : Type 0} (Taken : Type 0) (Left : Failures → Type 0) (before : Outside) (r : Refusal) (ending : Ending) → ending ≡ ending_for r
+    → (◌≡◌ {A = Result T Refusal} (Err r) (Err refusals.Usage) → Taken → ⊥) → Ends Taken Left before before ending
+refused Taken Left before refusals.Usage ending e not =
+    record { usage = λ u t. not refl t; refused = λ n. inl e; did = inl (record { same = refl; why = inl e }) }
+refused Taken Left before refusals.NoMemory ending e not =
+    record { usage = λ u t. let z : endings.NoMemory ≡ endings.Usage = sym e ∙ u in cc; refused = λ n. inr e; did = inl (record { same = refl; why = inr e }) }
 
 module _ (Taken : Type 0) (Left : Failures → Type 0) (before after : Outside) (ending : Ending) where
   -- a run was made, of words that were taken

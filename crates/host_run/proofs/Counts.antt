@@ -1,5 +1,5 @@
 -- What a host's counts tell of the parts that it closed.
-use Rattle.std.proofs.Common.{◌≡◌, ◌∙◌, ℕ, ◌+◌, ◌<◌, ◌≤◌, Bool, true, false, refl, sym, ap, subst, ◌||◌, arith, Result, Ok, Err}
+use Rattle.std.proofs.Common.{◌≡◌, ◌∙◌, ℕ, ◌<◌, Bool, true, false, refl, sym, ap, subst, ◌||◌, arith, Result, Ok, Err}
 use Rattle.std.specs.Result.{is_err}
 use Rattle.line_io.specs.Causes.{Rose, HasCause}
 use Rattle.event_pipe.specs.Counts.{Tells}

@@ -4,6 +4,8 @@ use Rattle.host_run.specs.declared.failures.Failures.{Failures}
 use Rattle.host_run.specs.declared.ending.Ending.{Ending}
 use Rattle.host_run.specs.declared.ending.Ending.TheVariants as endings
 use Rattle.line_io.specs.Lines.{line_feed}
+use Rattle.program_words.specs.declared.refusal.Refusal.{Refusal}
+use Rattle.program_words.specs.declared.refusal.Refusal.TheVariants as refusals
 
 -- the first of the failures
 abbrev pub ending_of : Failures → Ending
@@ -16,6 +18,11 @@ ending_of f =
     else (if f.engine_start then endings.EngineStartFailed
     else (if f.log then endings.LogFailed
     else (if f.engine_wait then endings.EngineWaitFailed else endings.Done)))))))
+
+-- the ending of words that are refused
+abbrev pub ending_for : Refusal → Ending
+ending_for refusals.Usage = endings.Usage
+ending_for refusals.NoMemory = endings.NoMemory
 
 abbrev pub code_of : Ending → ℕ
 code_of endings.Done = 0

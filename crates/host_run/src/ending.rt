@@ -5,6 +5,7 @@ ghost use Rattle.host_run.specs.Program.{IsToldTo};
 
 use crate::Failures;
 use line_io::{Sink, write_all};
+use program_words::Refusal;
 
 /// How a program ends. If several failures came, the one that stands first here is reported.
 #[derive(Clone, Copy)]
@@ -80,6 +81,21 @@ impl Ending {
             Ending::EngineStartFailed => b": engine start failed\n",
             Ending::LogFailed => b": log failed\n",
             Ending::EngineWaitFailed => b": engine wait failed\n",
+        }
+    }
+}
+
+// How a program ends whose words are refused.
+impl From<Refusal> for Ending {
+    ghost use Rattle.std.specs.Prelude.{◌≡◌};
+    ghost use Rattle.host_run.specs.Endings.{ending_for};
+
+    ghost from_gives = { λ refusal ending. ending ≡ ending_for refusal };
+
+    fn from(refusal: Refusal) -> Self {
+        match refusal {
+            Refusal::Usage => Ending::Usage,
+            Refusal::NoMemory => Ending::NoMemory,
         }
     }
 }

@@ -4,10 +4,11 @@ ghost use Rattle.host_run.specs.Endings.{code_of, diagnostic};
 ghost use Rattle.host_run.specs.Outside.{outside, unused};
 ghost use Rattle.host_run.specs.Program.{Answers, Ends, IsToldTo, StatusSays};
 ghost use Rattle.host_run.specs.declared.ending.Ending.TheVariants as endings;
+ghost use Rattle.program_words.specs.Words.{bytes_of};
 ghost use Rattle.reviver_app.specs.Program.{program, LeavesFor};
-ghost use Rattle.reviver_app.specs.Words.{AreTaken, bytes_of, ending_for};
+ghost use Rattle.reviver_app.specs.Words.{AreTaken};
 
-use crate::{Refusal, Request, read_words};
+use crate::{Request, read_words};
 use child_engine::{Host, LetGo};
 use host_run::{Ending, tell};
 use line_io::{Sink, Source, Status};
@@ -15,15 +16,6 @@ use reviver_runner::revive_run;
 use std::alloc::Global;
 use std::sync::Wait;
 use std::thread::Threads;
-
-fn refused(refusal: Refusal) -> Ending
-    ensures { result ≡ ending_for refusal }
-{
-    match refusal {
-        Refusal::Usage => Ending::Usage,
-        Refusal::NoMemory => Ending::NoMemory,
-    }
-}
 
 // What the words ask for, and how it ends.
 fn end_of<I: Source + Send, O: Sink + Send, H: Host + Send, R: Threads + Wait + Sync>(
@@ -64,7 +56,7 @@ where
                 host,
             ))
         }
-        Err(refusal) => refused(refusal),
+        Err(refusal) => Ending::from(refusal),
     }
 }
 

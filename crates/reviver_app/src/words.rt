@@ -1,10 +1,11 @@
 // What the words ask for.
-ghost use Rattle.std.specs.Prelude.{◌≡◌, ◌<◌, ◌≤◌, length, map, Err, None, IfOk, OnOk, IfSome, string_bytes, true, false};
-ghost use Rattle.std.specs.Str.{IsUtf8};
-ghost use Rattle.reviver_app.specs.Words.{bytes_of, digit_of, is_digit, AreUtf8, AreTaken, IsAsked};
-ghost use Rattle.reviver_app.specs.declared.words.Refusal.TheVariants as refusals;
+ghost use Rattle.std.specs.Prelude.{◌≡◌, ◌<◌, ◌≤◌, length, Err, None, IfOk, OnOk, IfSome, true, false};
+ghost use Rattle.program_words.specs.Words.{bytes_of};
+ghost use Rattle.program_words.specs.declared.refusal.Refusal.TheVariants as refusals;
+ghost use Rattle.reviver_app.specs.Words.{digit_of, is_digit, AreTaken, IsAsked};
 
-use std::alloc::{AllocError, Global};
+use program_words::{EngineRequest, Refusal};
+use std::alloc::Global;
 
 /// What the words ask for.
 #[derive(Drop)]
@@ -14,52 +15,6 @@ pub struct Request {
     pub log_name: String,
     /// The engine's program and its arguments.
     pub engine: Vec<String>,
-}
-
-/// Why the words ask for nothing.
-#[derive(Clone, Copy, Debug, PartialEq, Eq)]
-pub enum Refusal {
-    Usage,
-    NoMemory,
-}
-
-impl From<AllocError> for Refusal {
-    ghost use Rattle.std.specs.Prelude.{◌≡◌};
-    ghost use Rattle.reviver_app.specs.declared.words.Refusal.TheVariants as refusals;
-
-    ghost from_gives = { λ e r. r ≡ refusals.NoMemory };
-
-    fn from(_: AllocError) -> Self {
-        Refusal::NoMemory
-    }
-}
-
-// A word as a text. One that is not UTF-8 is refused.
-fn text_of(alloc: Global, word: &[u8]) -> Result<String, Refusal>
-    ensures text { IfOk result (λ s. string_bytes s ≡ word.now) }
-    ensures utf8 { OnOk result (IsUtf8 word.now) }
-    ensures usage { result ≡ Err refusals.Usage → ¬ (IsUtf8 word.now) }
-{
-    let Ok(text) = str::from_utf8(word) else {
-        return Err(Refusal::Usage);
-    };
-    Ok(String::from_str(alloc, text)?)
-}
-
-// Words as texts.
-fn texts_of(alloc: Global, words: &[Vec<u8>]) -> Result<Vec<String>, Refusal>
-    ensures texts { IfOk result (λ v. map string_bytes v.items ≡ bytes_of words.now) }
-    ensures utf8 { OnOk result (AreUtf8 (bytes_of words.now)) }
-    ensures usage { result ≡ Err refusals.Usage → ¬ (AreUtf8 (bytes_of words.now)) }
-{
-    let mut texts: Vec<String> = Vec::new(alloc);
-    for word in words {
-        let text = text_of(alloc, word.as_slice())?;
-        if texts.push(text).is_err() {
-            return Err(Refusal::NoMemory);
-        }
-    }
-    Ok(texts)
 }
 
 // One digit from 1 to 9.
@@ -91,17 +46,13 @@ pub fn read_words(alloc: Global, words: &[Vec<u8>]) -> Result<Request, Refusal>
     ensures engine { IfOk result (λ request. 0 < length request.engine.items) }
     ensures usage { result ≡ Err refusals.Usage → ¬ (AreTaken (bytes_of words.now)) }
 {
-    let [digit, log, engine @ ..] = words else {
+    let [digit, rest @ ..] = words else {
         return Err(Refusal::Usage);
     };
-    if engine.is_empty() {
-        return Err(Refusal::Usage);
-    }
     let Some(lives) = digit_in(digit.as_slice()) else {
         return Err(Refusal::Usage);
     };
-    let log_name = text_of(alloc, log.as_slice())?;
-    let engine = texts_of(alloc, engine)?;
+    let EngineRequest { log_name, engine } = program_words::read_words(alloc, rest)?;
     Ok(Request {
         lives,
         log_name,

@@ -1,31 +1,22 @@
 // The program over any host.
 ghost use Rattle.std.specs.Prelude.{◌≡◌};
 ghost use Rattle.child_engine.specs.Hosts.{WasLetGo};
-ghost use Rattle.driver_app.specs.Words.{AreTaken, bytes_of, ending_for};
 ghost use Rattle.host_run.specs.Endings.{code_of, diagnostic};
 ghost use Rattle.host_run.specs.Outside.{outside, unused};
 ghost use Rattle.host_run.specs.Program.{Answers, Ends, IsToldTo, StatusSays};
 ghost use Rattle.host_run.specs.declared.ending.Ending.TheVariants as endings;
+ghost use Rattle.program_words.specs.Words.{AreTaken, bytes_of};
 ghost use Rattle.tap_app.specs.Program.{program};
 ghost use Rattle.tap_runner.specs.Tapped.{Leaves};
 
 use child_engine::{Host, LetGo};
-use driver_app::{Refusal, read_words};
 use host_run::{Ending, tell};
 use line_io::{Sink, Source, Status};
+use program_words::read_words;
 use std::alloc::Global;
 use std::sync::Wait;
 use std::thread::Threads;
 use tap_runner::tap_run;
-
-fn refused(refusal: Refusal) -> Ending
-    ensures { result ≡ ending_for refusal }
-{
-    match refusal {
-        Refusal::Usage => Ending::Usage,
-        Refusal::NoMemory => Ending::NoMemory,
-    }
-}
 
 // What the words ask for, and how it ends.
 fn end_of<I: Source + Send, O: LetGo + Send, H: Host, R: Threads + Wait + Sync>(
@@ -57,7 +48,7 @@ where
             output,
             host,
         )),
-        Err(refusal) => refused(refusal),
+        Err(refusal) => Ending::from(refusal),
     }
 }
 

@@ -1,6 +1,5 @@
 use Rattle.std.proofs.Common.{◌∙◌, sym}
 use Rattle.host_run.proofs.Causes as causes
-use Rattle.driver_app.proofs.Ends.{unstarted}
 use Rattle.driver_app.proofs.main_call.drive_main.Goals as goal
 
 pub returns-clause-answers : goal.returns-clause-answers
@@ -17,4 +16,4 @@ returns-clause-status g c = causes.status_says _ _ _ _ _ _ c.code.ensures c.end_
 
 pub returns-clause-unstarted : goal.returns-clause-unstarted
 returns-clause-unstarted g c z =
-    causes.unstarted _ _ _ _ _ c.end_of-ending.ensures (sym c.code.ensures ∙ z) (λ f left e. unstarted _ _ f left e)
+    causes.unstarted _ _ _ _ _ c.end_of-ending.ensures (sym c.code.ensures ∙ z) (λ f left e. left.nothing (left.unstarted e))

@@ -1,4 +1,4 @@
-use Rattle.std.proofs.Common.{◌≡◌, ◌∙◌, ◌++◌, List, ℕ, sym, ap, subst}
+use Rattle.std.proofs.Common.{◌∙◌, ◌++◌, List, ℕ, sym, ap, subst}
 use Rattle.host_run.specs.Program.{IsToldTo}
 use Rattle.host_run.proofs.Tells.{failing, told_both, told_front}
 use Rattle.host_run.proofs.ending.tell.Goals as goal

@@ -1,7 +1,7 @@
 -- What is left of the words completes the texts.
 use Rattle.std.proofs.Common.{◌≡◌, ◌++◌, drop, map, string_bytes}
-use Rattle.reviver_app.specs.Words.{bytes_of, AreUtf8}
-use Rattle.reviver_app.proofs.words.texts_of.Given as goal
+use Rattle.program_words.specs.Words.{bytes_of, AreUtf8}
+use Rattle.program_words.proofs.request.texts_of.Given as goal
 
 abbrev pub invariant-loop-word : goal.invariant-loop-word
 invariant-loop-word l = record {

@@ -1,11 +1,7 @@
--- What the words of the driver ask for.
-use Rattle.std.specs.Prelude.{◌≡◌, ℕ, Vec, vec_items, string_bytes, ⊤, List, [], ◌∷◌, map, codes}
+-- What words ask for that name a log and an engine.
+use Rattle.std.specs.Prelude.{◌≡◌, ℕ, Vec, vec_items, string_bytes, ⊤, List, [], ◌∷◌, map}
 use Rattle.std.specs.Str.{IsUtf8}
-use Rattle.host_run.specs.declared.ending.Ending.{Ending}
-use Rattle.host_run.specs.declared.ending.Ending.TheVariants as endings
-use Rattle.driver_app.specs.declared.words.Refusal.{Refusal}
-use Rattle.driver_app.specs.declared.words.Refusal.TheVariants as refusals
-use Rattle.driver_app.specs.declared.words.Request.{Request}
+use Rattle.program_words.specs.declared.request.EngineRequest.{EngineRequest}
 
 -- the bytes of the words
 abbrev pub bytes_of : {Z : Type 0} → List (Vec ℕ Z) → List (List ℕ)
@@ -27,9 +23,5 @@ pub record AreTaken (words : List (List ℕ)) : Type 0 where
   pub utf8 : AreUtf8 words
 
 -- the first word is the log's name, and the others are the engine's program and its arguments
-pub record IsAsked (words : List (List ℕ)) (request : Request) : Type 0 where
+pub record IsAsked (words : List (List ℕ)) (request : EngineRequest) : Type 0 where
   pub words_are : words ≡ string_bytes request.log_name ∷ map string_bytes request.engine.items
-
-abbrev pub ending_for : Refusal → Ending
-ending_for refusals.Usage = endings.Usage
-ending_for refusals.NoMemory = endings.NoMemory

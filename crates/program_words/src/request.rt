@@ -1,35 +1,18 @@
-// What the words ask for.
+// The log and the engine that words ask for.
 ghost use Rattle.std.specs.Prelude.{◌≡◌, ◌<◌, length, map, Err, IfOk, OnOk, string_bytes};
 ghost use Rattle.std.specs.Str.{IsUtf8};
-ghost use Rattle.driver_app.specs.Words.{bytes_of, AreUtf8, AreTaken, IsAsked};
-ghost use Rattle.driver_app.specs.declared.words.Refusal.TheVariants as refusals;
+ghost use Rattle.program_words.specs.Words.{bytes_of, AreUtf8, AreTaken, IsAsked};
+ghost use Rattle.program_words.specs.declared.refusal.Refusal.TheVariants as refusals;
 
-use std::alloc::{AllocError, Global};
+use crate::Refusal;
+use std::alloc::Global;
 
-/// What the words ask for.
+/// A log and an engine, as words ask for them.
 #[derive(Drop)]
-pub struct Request {
+pub struct EngineRequest {
     pub log_name: String,
     /// The engine's program and its arguments.
     pub engine: Vec<String>,
-}
-
-/// Why the words ask for nothing.
-#[derive(Clone, Copy, Debug, PartialEq, Eq)]
-pub enum Refusal {
-    Usage,
-    NoMemory,
-}
-
-impl From<AllocError> for Refusal {
-    ghost use Rattle.std.specs.Prelude.{◌≡◌};
-    ghost use Rattle.driver_app.specs.declared.words.Refusal.TheVariants as refusals;
-
-    ghost from_gives = { λ e r. r ≡ refusals.NoMemory };
-
-    fn from(_: AllocError) -> Self {
-        Refusal::NoMemory
-    }
 }
 
 // A word as a text. One that is not UTF-8 is refused.
@@ -62,7 +45,7 @@ fn texts_of(alloc: Global, words: &[Vec<u8>]) -> Result<Vec<String>, Refusal>
 
 /// Reads the words: the name of the log, the engine's program and its arguments. No word is an
 /// option: each may begin with a dash.
-pub fn read_words(alloc: Global, words: &[Vec<u8>]) -> Result<Request, Refusal>
+pub fn read_words(alloc: Global, words: &[Vec<u8>]) -> Result<EngineRequest, Refusal>
     ensures taken { OnOk result (AreTaken (bytes_of words.now)) }
     ensures asked { IfOk result (IsAsked (bytes_of words.now)) }
     ensures engine { IfOk result (λ request. 0 < length request.engine.items) }
@@ -76,5 +59,5 @@ pub fn read_words(alloc: Global, words: &[Vec<u8>]) -> Result<Request, Refusal>
     }
     let log_name = text_of(alloc, log.as_slice())?;
     let engine = texts_of(alloc, engine)?;
-    Ok(Request { log_name, engine })
+    Ok(EngineRequest { log_name, engine })
 }
