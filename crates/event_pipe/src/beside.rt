@@ -14,12 +14,7 @@ pub fn join_three<
     B: Send,
     C,
     R: Threads + Sync,
->(
-    rt: &R,
-    first: &mut F,
-    second: &mut G,
-    last: &mut H,
-) -> (A, B, C)
+>(rt: &R, first: &mut F, second: &mut G, last: &mut H) -> (A, B, C)
     requires { F.pre first.old × G.pre second.old × H.pre last.old }
     ensures first { F.step first.old result.0 first.new }
     ensures second { G.step second.old result.1 second.new }

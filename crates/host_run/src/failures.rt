@@ -1,5 +1,5 @@
 // What failed in a run.
-ghost use Rattle.std.specs.Prelude.{◌≡◌};
+ghost use Rattle.std.specs.Prelude.{◌≡◌, ◌||◌};
 ghost use Rattle.host_run.specs.Early.{only_memory, only_start};
 
 /// What failed in a run of a program over a host.
@@ -15,6 +15,14 @@ pub struct Failures {
     pub engine_start: bool,
     pub log: bool,
     pub engine_wait: bool,
+}
+
+/// Whether one of two calls failed. It stands for `||` where each way through a run would have to be
+/// proved twice.
+pub fn either(one: bool, other: bool) -> bool
+    ensures { result ≡ (one || other) }
+{
+    one || other
 }
 
 /// There was no memory, and nothing else failed.

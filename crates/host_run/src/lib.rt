@@ -10,7 +10,7 @@ mod starting;
 mod threads;
 
 pub use ending::{Ending, tell};
-pub use failures::{Failures, only_memory, only_start};
+pub use failures::{Failures, either, only_memory, only_start};
 pub use log::{Opened, close_log, is_open_failure, is_open_memory, open_log};
 pub use readers::{has_failed, has_lacked_memory};
 pub use starting::start_engine;

@@ -1,5 +1,5 @@
 // One run of all lives over a host.
-ghost use Rattle.std.specs.Prelude.{◌≡◌, ◌≤◌, ◌<◌, ◌||◌, [], length, is_some, false, true};
+ghost use Rattle.std.specs.Prelude.{◌≡◌, ◌≤◌, ◌<◌, [], length, is_some, false, true};
 ghost use Rattle.std.specs.VecDeque.{deque_len, deque_capacity};
 ghost use Rattle.child_engine.specs.Hosts.{with_run};
 ghost use Rattle.engine_revival.specs.declared.words.LifeState.TheVariants as life;
@@ -20,7 +20,8 @@ use crate::turns::{Next, life_turn};
 use child_engine::{Host, HostFault, LetGo};
 use event_pipe::{Pipe, PipeSend, ReadEnd, read_pipe};
 use host_run::{
-    Failures, Opened, has_failed, has_lacked_memory, is_open_failure, is_open_memory, open_log,
+    Failures, Opened, either, has_failed, has_lacked_memory, is_open_failure, is_open_memory,
+    open_log,
 };
 use line_io::{Sink, Source};
 use sink_offers::LoopEnd;
@@ -231,12 +232,6 @@ where
                 (deque_len kids.now) (deque_capacity kids.now) }
         { run_all(rt, host, runs, kids, parts, output, log) },
     )
-}
-
-fn either(a: bool, b: bool) -> bool
-    ensures { result ≡ (a || b) }
-{
-    a || b
 }
 
 // The run of an engine that was started.

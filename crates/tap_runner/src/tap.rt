@@ -1,5 +1,5 @@
 // One run of the tap over a host.
-ghost use Rattle.std.specs.Prelude.{◌≡◌, ◌<◌, ◌||◌, length, IfOk, IfErr, OnOk, OnErr};
+ghost use Rattle.std.specs.Prelude.{◌≡◌, ◌<◌, length, IfOk, IfErr, OnOk, OnErr};
 ghost use Rattle.child_engine.specs.Hosts.{IsUnread, IsUnwritten, WasLetGo, with_run};
 ghost use Rattle.host_run.specs.Early.{AreEarly};
 ghost use Rattle.host_run.specs.Outside.{outside, unused};
@@ -10,19 +10,13 @@ use crate::parts::{Parts, make_parts};
 use crate::run_tap;
 use child_engine::{Host, LetGo, Started};
 use host_run::{
-    Failures, Opened, close_log, is_open_failure, is_open_memory, only_memory, open_log,
+    Failures, Opened, close_log, either, is_open_failure, is_open_memory, only_memory, open_log,
     start_engine,
 };
 use line_io::Source;
 use std::alloc::Global;
 use std::sync::Wait;
 use std::thread::Threads;
-
-fn either(a: bool, b: bool) -> bool
-    ensures { result ≡ (a || b) }
-{
-    a || b
-}
 
 // What a run needs, and the engine that was started.
 struct Ready<S, K, P> {
