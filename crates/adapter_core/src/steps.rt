@@ -21,6 +21,7 @@ use option_map::Held;
 use search_epochs::{Call, Dialogue, Orders};
 use uci_lines::{Order, write_order};
 
+/// Whether the event opens the session.
 pub fn is_open(event: &Event) -> bool
     ensures { result ≡ is_open (event_of event.now) }
 {
@@ -34,12 +35,14 @@ pub fn is_unsent(held: &Held, effect: &Effect) -> bool
     effect.is_boots() || held.count() != 0
 }
 
+/// Whether a move of the engine is asked for.
 pub fn is_move(call: Call) -> bool
     ensures { result ≡ is_move call }
 {
     matches!(call, Call::Move)
 }
 
+/// Whether the orders are `ponderhit` alone.
 pub fn is_hit(orders: Orders) -> bool
     ensures { result ≡ is_hit_order orders }
 {
@@ -55,7 +58,7 @@ pub struct Stage {
     pub gone: bool,
 }
 
-// The orders that are chosen: none at Open and in a closed session.
+/// The orders that are chosen: none at Open and in a closed session.
 pub fn choose(
     dialogue: &mut Dialogue,
     stage: Stage,
@@ -88,7 +91,7 @@ fn put_order(order: &Order, out: &mut Out)
     out.put(b"\n");
 }
 
-// Puts the orders of a step.
+/// Puts the orders of a step, with a line feed each.
 #[tactic(auto, unfolding(uci_lines::specs::Orders::order_text))]
 pub fn put_orders(stage: Stage, held: &Held, desk: &Desk, orders: Orders, out: &mut Out)
     requires empty { out.old ≡ empty ROOM }
@@ -113,7 +116,7 @@ pub fn put_orders(stage: Stage, held: &Held, desk: &Desk, orders: Orders, out: &
     put_chosen(held, desk, orders, out);
 }
 
-// Lets go of the held orders that were written.
+/// Lets go of the held orders that were written.
 pub fn release(held: &mut Held, orders: Orders)
     ensures { held.new ≡ cond (is_batch_order orders) [] held.old }
 {

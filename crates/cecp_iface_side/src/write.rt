@@ -15,6 +15,7 @@ use cecp_lines::IfaceMsg;
 use chess_board::{Move, write_move};
 use itoa::Buffer;
 use line_io::Out;
+use peer_words::{MINUTE, SECOND};
 
 fn put_number(n: u64, out: &mut Out)
     requires { length out.old.text + length (decimal n) ≤ out.old.room }
@@ -65,8 +66,8 @@ fn put_seconds(ms: u64, out: &mut Out)
     requires { length out.old.text + length (seconds_text ms) ≤ out.old.room }
     ensures { out.new ≡ with out.old (seconds_text ms) }
 {
-    put_number(ms / 1000, out);
-    let part = ms % 1000;
+    put_number(ms / SECOND, out);
+    let part = ms % SECOND;
     if part != 0 {
         out.put(&[
             b'.',
@@ -81,8 +82,8 @@ fn put_base(ms: u64, out: &mut Out)
     requires { length out.old.text + length (base_text ms) ≤ out.old.room }
     ensures { out.new ≡ with out.old (base_text ms) }
 {
-    put_number(ms / 60000, out);
-    let seconds = ms / 1000 % 60;
+    put_number(ms / MINUTE, out);
+    let seconds = ms / SECOND % 60;
     if seconds != 0 {
         out.put(&[b':', digit(seconds / 10), digit(seconds % 10)]);
     }

@@ -17,11 +17,7 @@ fn lone_token(text: &[u8]) -> Option<&[u8]>
     ensures { option_map (λ t. t.now) result ≡ only_token text.now }
 {
     let (token, rest) = split_token(text);
-    if rest == b"".as_slice() {
-        Some(token)
-    } else {
-        None
-    }
+    if rest.is_empty() { Some(token) } else { None }
 }
 
 fn read_lone_number(text: &[u8]) -> Option<u32>
@@ -69,7 +65,7 @@ fn read_base(text: &[u8]) -> Option<u64>
                 None
             }
         }
-        None => Some(read_digits(text, 4)? * 60000),
+        None => Some(read_digits(text, 4)? * MINUTE),
     }
 }
 
@@ -101,7 +97,7 @@ fn read_setting(text: &[u8]) -> Option<IfaceMsg<'_>>
         Some(at) => (trim(&text[..at]), Some(&text[at + 1..])),
         None => (text, None),
     };
-    if name == b"".as_slice() {
+    if name.is_empty() {
         None
     } else {
         Some(IfaceMsg::SetOption { name, value })
@@ -112,7 +108,7 @@ fn read_egt_path(text: &[u8]) -> Option<IfaceMsg<'_>>
     ensures { option_map message_of result ≡ egt_path text.now }
 {
     let (kind, path) = split_token(text);
-    if path == b"".as_slice() {
+    if path.is_empty() {
         None
     } else {
         Some(IfaceMsg::EgtPath { kind, path })
@@ -144,10 +140,10 @@ fn read_argument(verb: Verb, text: &[u8]) -> Option<IfaceMsg<'_>>
 fn read_other<'a>(word: &[u8], rest: &[u8]) -> Result<IfaceMsg<'a>, IfaceFault>
     ensures { read_as result ≡ other_line word.now rest.now }
 {
-    if word == b"".as_slice() {
+    if word.is_empty() {
         return Ok(IfaceMsg::Blank);
     }
-    if rest != b"".as_slice() {
+    if !rest.is_empty() {
         return Err(IfaceFault::UnknownCommand);
     }
     match read_move(word) {

@@ -12,11 +12,11 @@ ghost use Rattle.clock_map.specs.Search.{moves_to_go, times_of, time_of, search_
 use cecp_lines::IfaceMsg;
 use chess_board::Side;
 use line_io::Out;
-use peer_words::GoKind;
+use peer_words::{GoKind, MINUTE};
 use uci_lines::{GoControl, Order, write_order};
 
 /// In milliseconds.
-const FIVE_MINUTES: i64 = 300_000;
+const FIVE_MINUTES: i64 = 5 * MINUTE as i64;
 
 /// How the time of a move is bounded.
 #[derive(Clone, Copy)]

@@ -2,6 +2,7 @@
 ghost use Rattle.std.specs.Prelude.{◌≡◌, ◌+◌, ◌≤◌, length};
 ghost use Rattle.line_io.specs.Out.{with};
 ghost use Rattle.command_endings.specs.Diagnostics.{code_of, tail_of, diagnostic, position_fault};
+ghost use Rattle.command_endings.specs.declared.limits.TheConstants.{DIAGNOSTIC_ROOM};
 
 use fen_text::FenFault;
 use itoa::Buffer;
@@ -86,7 +87,7 @@ impl Ending {
 
     /// Puts the diagnostic, which is one line or nothing.
     pub fn put_diagnostic(self, out: &mut Out)
-        requires { length out.old.text + 80 ≤ out.old.room }
+        requires { length out.old.text + DIAGNOSTIC_ROOM ≤ out.old.room }
         ensures { out.new ≡ with out.old (diagnostic self) }
     {
         match self {
@@ -102,7 +103,7 @@ ghost use Rattle.command_endings.specs.Diagnostics.{line_fault};
 
 fn put_line_fault(line: u64, tail: &[u8], out: &mut Out)
     requires tail { length tail.now ≤ 40 }
-    requires room { length out.old.text + 80 ≤ out.old.room }
+    requires room { length out.old.text + DIAGNOSTIC_ROOM ≤ out.old.room }
     ensures { out.new ≡ with out.old (line_fault line tail.now) }
 {
     let mut digits = Buffer::new();
@@ -115,7 +116,7 @@ ghost use Rattle.command_endings.specs.Told.{Told, Writes};
 
 /// Writes the diagnostic of an ending, and gives how the program ends then.
 pub fn tell<D: Sink>(ending: Ending, text: &mut Out, diag: &mut D) -> Ending
-    requires { 80 ≤ text.old.room }
+    requires { DIAGNOSTIC_ROOM ≤ text.old.room }
     ensures { Told (code_of result) (code_of ending) (diagnostic ending)
         (D.state diag.old) (D.state diag.new) }
 {

@@ -5,4 +5,4 @@ mod ending;
 mod limits;
 
 pub use ending::{Ending, tell, tell_short, write_lines};
-pub use limits::{LINE_ROOM, TEXT_ROOM};
+pub use limits::{DIAGNOSTIC_ROOM, LINE_ROOM, TEXT_ROOM};

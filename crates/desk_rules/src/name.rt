@@ -51,6 +51,7 @@ impl EngineName {
         self.text = copied(shown_name(said));
     }
 
+    /// The name as the interface is shown it.
     pub fn text(&self) -> &[u8]
         ensures { result.now ≡ self.now }
     {

@@ -36,12 +36,14 @@ impl Pings {
         })
     }
 
+    /// How many pings are held.
     pub fn len(&self) -> usize
         ensures { result ≡ length self.now }
     {
         self.numbers.len()
     }
 
+    /// The numbers of the pings, the oldest first.
     pub fn numbers(&self) -> &[u32]
         ensures { result.now ≡ self.now }
     {
@@ -56,6 +58,7 @@ impl Pings {
         self.numbers.push_reserved(number);
     }
 
+    /// Takes all pings out.
     pub fn clear(&mut self)
         ensures { self.new ≡ [] }
     {

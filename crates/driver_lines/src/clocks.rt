@@ -15,7 +15,7 @@ use crate::tokens::next_token;
 use chess_board::Side;
 use driver_talk::Clocks;
 use line_io::Out;
-use peer_words::read_signed;
+use peer_words::{SECOND, read_signed};
 
 /// The longest time that is written, in milliseconds.
 const LONGEST: u64 = 599_999_000;
@@ -128,10 +128,10 @@ fn capped(time: u64) -> u64
 fn seconds_up(time: u64) -> u64
     ensures value { result ≡ seconds_up time }
 {
-    if time % 1000 == 0 {
-        time / 1000
+    if time % SECOND == 0 {
+        time / SECOND
     } else {
-        time / 1000 + 1
+        time / SECOND + 1
     }
 }
 
@@ -212,7 +212,7 @@ fn put_times(moves: u64, own: u64, other: u64, increment: u64, out: &mut Out)
         ∷ Time (own / 10) ∷ Otim (other / 10) ∷ [])) }
     ensures short { length out.new.text ≤ length out.old.text + 124 }
 {
-    write_level(moves, own / 1000, increment, out);
+    write_level(moves, own / SECOND, increment, out);
     write_time(own, out);
     write_otim(other, out);
 }
@@ -227,7 +227,7 @@ fn write_times(side: Side, clocks: &Clocks, out: &mut Out)
         clocks.movestogo.min(MOST_MOVES),
         capped(mine(side, clocks)),
         capped(theirs(side, clocks)),
-        (increment(side, clocks) / 1000).min(MOST_SECONDS),
+        (increment(side, clocks) / SECOND).min(MOST_SECONDS),
         out,
     );
 }

@@ -11,12 +11,16 @@ use line_io::{Item, Lines, PEER_LINE, ReadFault, Source, lines_of_all_calls};
 use std::alloc::Global;
 use std::sync::Wait;
 
-// What one turn came to.
+/// What one turn came to.
 #[derive(Clone, Copy)]
 pub enum Turn {
+    /// There may be more lines.
     More,
+    /// The engine's output has ended.
     Done,
+    /// A read failed.
     Fault,
+    /// There was no memory for a line.
     NoMemory,
 }
 

@@ -8,11 +8,11 @@ ghost use Rattle.command_endings.specs.Ran.{Causes, Ran};
 ghost use Rattle.command_endings.specs.Streams.{streams};
 ghost use Rattle.line_scribe.specs.Scribed.{EndsBy, Scribed};
 ghost use Rattle.line_io.specs.declared.limits.TheConstants.{SCRIPT_LINE};
-ghost use Rattle.command_endings.specs.declared.limits.TheConstants.{TEXT_ROOM};
+ghost use Rattle.command_endings.specs.declared.limits.TheConstants.{DIAGNOSTIC_ROOM, TEXT_ROOM};
 
 use crate::scribe::Scribe;
 use crate::writer::Writer;
-use command_endings::{Ending, TEXT_ROOM, tell, tell_short};
+use command_endings::{DIAGNOSTIC_ROOM, Ending, TEXT_ROOM, tell, tell_short};
 use line_io::{Lines, LinesEnd, NoMemory, Out, SCRIPT_LINE, Sink, Source, take_lines};
 use std::alloc::Global;
 
@@ -28,12 +28,12 @@ impl Room {
     fn make(alloc: Global) -> Result<Room, NoMemory>
         ensures lines { IfOk result (λ room. room.lines ≡ unread SCRIPT_LINE) }
         ensures text { IfOk result (λ room. room.text ≡ empty TEXT_ROOM) }
-        ensures told { IfOk result (λ room. room.told ≡ empty 80) }
+        ensures told { IfOk result (λ room. room.told ≡ empty DIAGNOSTIC_ROOM) }
     {
         Ok(Room {
             lines: Lines::make(alloc, SCRIPT_LINE)?,
             text: Out::make(alloc, TEXT_ROOM)?,
-            told: Out::make(alloc, 80)?,
+            told: Out::make(alloc, DIAGNOSTIC_ROOM)?,
         })
     }
 }

@@ -1,4 +1,4 @@
-//! The program `replay`: replays recorded sessions.
+//! The program `replay`: its commands over recorded sessions, positions and drills.
 #![tactic(auto)]
 
 use line_io::{ReadAdapter, WriteAdapter};

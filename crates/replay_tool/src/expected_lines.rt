@@ -45,6 +45,7 @@ impl ExpectedLines {
         })
     }
 
+    /// Whether no lines are due.
     pub fn is_empty(&self) -> bool
         ensures { result ≡ (length self.now == 0) }
     {

@@ -1,4 +1,5 @@
-//! Replays and checks recorded sessions, lists legal moves, and plays drills.
+//! The commands of the program `replay`: it replays, checks, migrates and judges recorded sessions, writes their games,
+//! plays them to a revived engine and to a driver, lists legal moves, and plays drills.
 #![tactic(auto)]
 
 mod check;

@@ -160,15 +160,19 @@ fn run_words<I: Source, O: Sink, D: Sink>(
 /// interface and a CECP engine. Both write the marks of its events and of the lines that come of
 /// them.
 ///
+/// The word `judge` reads the log of any bridge and writes the report of the judge, with status 1 if
+/// a mark breaks a rule.
+///
 /// The word `moves` joins the words behind it by blanks, as the text of a position (PGN standard,
 /// section 16.1), and writes its legal moves, one a line, in the byte order of their texts; it reads
 /// no input. The word `drill` with a number below 2^31 and a count up to 100,000 plays that many
 /// rounds of drawn moves in one session and writes a line with what it counted; it reads no input
 /// either.
 ///
-/// The statuses are 0; 2 if the words are others, if a line of the input has no mark, is out of step
-/// or its event may not come, or if the text spells no position; 3 if there is no memory at the
-/// beginning; 4 and 5 if reading and writing failed; and 6 if the input is too long.
+/// The statuses are 0; 1 if `check` found a difference, or `judge` a mark that breaks a rule; 2 if
+/// the words are others, if a line of the input has no mark, is out of step or its event may not
+/// come, or if the text spells no position; 3 if there is no memory at the beginning; 4 and 5 if
+/// reading and writing failed; and 6 if the input is too long.
 pub fn replay_main<I: Source, O: Sink, D: Sink>(
     alloc: Global,
     words: &[Vec<u8>],

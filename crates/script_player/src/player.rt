@@ -211,6 +211,7 @@ impl Player {
             → Stood o lines self.old before (O.state output.old)
             → Finished o lines ending result before (O.state output.new) }
     {
+        // Each branch ends by itself, so that the proof of each knows whether the session was opened in it.
         if self.is_new() {
             self.open_plain();
             return self.write_last(ending, output);
@@ -220,7 +221,7 @@ impl Player {
 
     /// Writes the diagnostic of an ending, and gives how the program ends then.
     pub fn tell<D: Sink>(&mut self, ending: Ending, diag: &mut D) -> Ending
-        requires { 80 ≤ self.old.text.room }
+        requires { DIAGNOSTIC_ROOM ≤ self.old.text.room }
         ensures { Told (code_of result) (code_of ending) (diagnostic ending)
             (D.state diag.old) (D.state diag.new) }
     {
@@ -233,6 +234,7 @@ ghost use Rattle.std.specs.Io.KnownBytes.{Appends};
 ghost use Rattle.line_io.specs.Causes.{HasCause};
 ghost use Rattle.line_io.specs.Source.{TakesPrefix};
 ghost use Rattle.command_endings.specs.Diagnostics.{code_of, diagnostic};
+ghost use Rattle.command_endings.specs.declared.limits.TheConstants.{DIAGNOSTIC_ROOM};
 ghost use Rattle.script_player.specs.Playing.{Scripted};
 ghost use Rattle.script_player.specs.Replaying.{is_cut, with_text, MayGoOn, Came, Stood, Finished, Halted, Left};
 ghost use Rattle.script_player.specs.Stages.{is_start};
@@ -269,6 +271,7 @@ impl<O: Sink> TakesLines<O> for Player {
     }
 
     fn long(&mut self, number: u64, _output: &mut O) -> Option<Ending> {
+        // Each branch ends by itself, so that the proof of each knows whether the session was opened in it.
         if self.is_new() {
             self.open_plain();
             return Some(Ending::NoMark(number));

@@ -23,12 +23,16 @@ pub enum Stage {
     Numbered(u64),
 }
 
-// A line by itself.
+/// A line by itself, wherever it stands.
 #[derive(Drop)]
 pub enum Kind<'a> {
+    /// The mark of an event.
     Tells(Event<'a>),
+    /// The mark of a line that was written.
     Writes,
+    /// A step line, with its number.
     Numbers(u64),
+    /// Neither a mark nor a step line.
     HasNone,
 }
 

@@ -185,6 +185,7 @@ impl Scribe for GameWriter {
     }
 
     fn long(&mut self, number: u64, text: &mut Out) -> Option<Ending> {
+        // Each branch ends by itself, so that the proof of each knows whether the session was opened in it.
         if self.is_new() {
             self.open_plain(text);
             return Some(Ending::NoMark(number));
@@ -193,6 +194,7 @@ impl Scribe for GameWriter {
     }
 
     fn finish(&mut self, ending: Ending, text: &mut Out) {
+        // Each branch ends by itself, so that the proof of each knows whether the session was opened in it.
         if self.is_new() {
             self.open_plain(text);
             self.put_running(ending, text);

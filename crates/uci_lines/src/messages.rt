@@ -59,6 +59,8 @@ pub struct Info<'a> {
 /// A score in hundredths of a pawn, or in moves to mate, from the engine's point of view.
 #[derive(Clone, Copy, PartialEq, Eq)]
 pub enum Score {
+    /// In hundredths of a pawn: above 0 if the engine is better.
     Cp(i64),
+    /// In moves to mate: 0 or below if the engine is mated.
     Mate(i64),
 }
