@@ -10,8 +10,8 @@ ghost use Rattle.game_record.specs.Game.{begun, now_of};
 ghost use Rattle.cecp_driver.specs.Ordered.{may_push, push_one, pushed, ordered_in};
 
 use chess_board::{Move, Position, read_move};
-use driver_lines::next_token;
 use game_record::{Game, MOST_PLIES};
+use peer_words::next_token;
 use uci_talk::spoken;
 
 fn is_legal(at: &Position, m: Move) -> bool

@@ -11,11 +11,10 @@ ghost use Rattle.peer_words.specs.declared.numbers.TheConstants.{SECOND};
 
 use crate::down::{put_count, write_numbered};
 use crate::numbers::natural;
-use crate::tokens::next_token;
 use chess_board::Side;
 use driver_talk::Clocks;
 use line_io::Out;
-use peer_words::{SECOND, read_signed};
+use peer_words::{SECOND, next_token, read_signed};
 
 /// The longest time that is written, in milliseconds.
 const LONGEST: u64 = 599_999_000;

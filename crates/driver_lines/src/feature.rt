@@ -5,7 +5,7 @@ ghost use Rattle.std.specs.Option.{option_map};
 ghost use Rattle.peer_words.specs.Tokens.{is_white, token_end};
 ghost use Rattle.driver_lines.specs.Parts.{ends_name, is_quote, feature_of, cut_seen, cut_of, value_cut, skipped, parts, onto, FitsIn, IsNamed};
 
-use peer_words::{is_white, trim_start};
+use peer_words::{is_white, split_at_white, trim_start};
 
 /// A feature: `NAME=VALUE`. The value has its quotes no more (CECP version 2, "feature").
 #[derive(Clone, Copy)]
@@ -39,12 +39,6 @@ fn quote_at(text: &[u8]) -> Option<usize>
     text.iter().position(|b| *b == b'"')
 }
 
-fn white_at(text: &[u8]) -> Option<usize>
-    ensures { result ≡ position is_white text.now }
-{
-    text.iter().position(|b| is_white(*b))
-}
-
 /// A name, and what follows it.
 fn split_name(text: &[u8]) -> (&[u8], &[u8])
     ensures name { result.0.now ≡ before_first ends_name text.now }
@@ -67,24 +61,13 @@ fn split_quote(text: &[u8]) -> (&[u8], &[u8])
     }
 }
 
-/// What stands before the first white space, and what begins with it.
-fn split_white(text: &[u8]) -> (&[u8], &[u8])
-    ensures before { result.0.now ≡ before_first is_white text.now }
-    ensures after { result.1.now ≡ drop (token_end text.now) text.now }
-{
-    match white_at(text) {
-        Some(at) => text.split_at(at),
-        None => (text, &[]),
-    }
-}
-
 /// The feature of this name, whose value the text begins with.
 fn cut_value<'a>(name: &'a [u8], text: &'a [u8]) -> Cut<'a>
     ensures { cut_seen result ≡ value_cut name.now text.now }
 {
     let (value, rest) = match text {
         [b'"', inner @ ..] => split_quote(inner),
-        _ => split_white(text),
+        _ => split_at_white(text),
     };
     Cut {
         part: Some(Part { name, value }),
@@ -96,7 +79,7 @@ fn cut_value<'a>(name: &'a [u8], text: &'a [u8]) -> Cut<'a>
 fn skip(text: &[u8]) -> Cut<'_>
     ensures { cut_seen result ≡ skipped text.now }
 {
-    let (_, rest) = split_white(text);
+    let (_, rest) = split_at_white(text);
     Cut { part: None, rest }
 }
 

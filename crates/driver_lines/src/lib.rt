@@ -9,7 +9,6 @@ mod feature;
 mod moves;
 mod numbers;
 mod said;
-mod tokens;
 mod up;
 mod words;
 
@@ -18,6 +17,5 @@ pub use down::{write_answer, write_moved, write_numbered, write_word};
 pub use feature::{Cut, Part, next_cut};
 pub use moves::{first_move, shown_move, thought_move};
 pub use said::{Said, read_said};
-pub use tokens::next_token;
 pub use up::{write_best, write_id, write_info};
 pub use words::{Ordered, read_ordered};

@@ -5,8 +5,8 @@ ghost use Rattle.chess_board.specs.Place.{legal};
 ghost use Rattle.san_text.specs.Spelling.{is_short, is_long};
 ghost use Rattle.driver_lines.specs.Moves.{coordinates, Writes, WritesNone, Names, NamesNone, is_castling, IsShown, IsThought, IsFirstMove};
 
-use crate::tokens::next_token;
 use chess_board::{Move, Position, read_move};
+use peer_words::next_token;
 use san_text::{read_long_form, read_san};
 
 fn is_legal(at: &Position, m: Move) -> bool

@@ -4,8 +4,7 @@ ghost use Rattle.std.specs.Option.{option_map};
 ghost use Rattle.peer_words.specs.Tokens.{tokens};
 ghost use Rattle.driver_lines.specs.Numbers.{plus_signed, next_number, natural, clamped, ten_times};
 
-use crate::tokens::next_token;
-use peer_words::read_signed;
+use peer_words::{next_token, read_signed};
 
 /// Perhaps one plus, then perhaps a minus and 1 to 18 digits.
 fn read_plus_signed(text: &[u8]) -> Option<i64>

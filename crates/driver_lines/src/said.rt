@@ -5,8 +5,7 @@ ghost use Rattle.peer_words.specs.Tokens.{tokens, first_token};
 ghost use Rattle.driver_lines.specs.Says.{engine_message_of, says_in, report_in, pong_in, is_over, word_named};
 
 use crate::numbers::{clamped, natural, next_number, ten_times};
-use crate::tokens::next_token;
-use peer_words::{read_number, split_token};
+use peer_words::{next_token, read_number, split_token};
 
 /// What a line of the engine says (CECP version 2, "Commands from the engine to xboard").
 #[derive(Clone, Copy)]

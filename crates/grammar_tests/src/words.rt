@@ -1,8 +1,8 @@
 // Tokens and numbers as both protocols have them.
 use super::expect::{expect_holds, expect_text};
 use peer_words::{
-    is_white, named, read_centis, read_count, read_digits, read_number, read_seconds, read_signed,
-    split_token, trim, trim_end, trim_start,
+    is_white, named, next_token, read_centis, read_count, read_digits, read_number, read_seconds,
+    read_signed, split_at_white, split_token, trim, trim_end, trim_start,
 };
 use std::process::Abort;
 
@@ -100,6 +100,22 @@ fn lines_are_cut_at_white_space(rt: HostRuntime) {
     let (none, after) = split_token(b" \r");
     expect_text(&rt, none, "");
     expect_text(&rt, after, "");
+    let (front, behind) = split_at_white(b"level\t40 5");
+    expect_text(&rt, front, "level");
+    expect_text(&rt, behind, "\t40 5");
+}
+
+fn expect_next(rt: &impl Abort, text: &'static str, want: Option<(&str, &str)>) {
+    let next = next_token(text.as_bytes());
+    let texts = want.map(|(token, others)| (token.as_bytes(), others.as_bytes()));
+    expect_holds(rt, next == texts, text);
+}
+
+#[test]
+fn tokens_come_one_by_one(rt: HostRuntime) {
+    expect_next(&rt, " \tlevel  40 5\r", Some(("level", "40 5")));
+    expect_next(&rt, "5", Some(("5", "")));
+    expect_next(&rt, " \r", None);
 }
 
 const WORDS: [(&[u8], u32); 3] = [(b"one", 1), (b"two", 2), (b"one", 3)];

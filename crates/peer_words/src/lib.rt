@@ -11,4 +11,4 @@ pub use numbers::{
     MINUTE, SECOND, read_centis, read_count, read_digits, read_number, read_seconds, read_signed,
 };
 pub use tables::named;
-pub use tokens::{is_white, split_token, trim, trim_end, trim_start};
+pub use tokens::{is_white, next_token, split_at_white, split_token, trim, trim_end, trim_start};

@@ -1,7 +1,7 @@
 // White space, tokens and rests.
-ghost use Rattle.std.specs.Prelude.{◌≡◌, ◌≤◌, ◌+◌, ◌<◌, length, drop, position};
+ghost use Rattle.std.specs.Prelude.{◌≡◌, ◌≤◌, ◌+◌, ◌<◌, ◌∷◌, [], length, drop, position, MatchOption, IfSome};
 ghost use Rattle.std.specs.List.{before_first};
-ghost use Rattle.peer_words.specs.Tokens.{is_white, trim_left, trim_right, trimmed, token_end, first_token, rest};
+ghost use Rattle.peer_words.specs.Tokens.{is_white, trim_left, trim_right, trimmed, token_end, first_token, rest, tokens};
 
 /// Blank, tab or CR.
 pub fn is_white(byte: u8) -> bool
@@ -51,8 +51,9 @@ fn white_at(text: &[u8]) -> Option<usize>
     text.iter().position(|b| is_white(*b))
 }
 
-/// What stands before the first white space, and what begins with it.
-fn split_at_white(text: &[u8]) -> (&[u8], &[u8])
+/// What stands before the first white space, and what begins with it; all and nothing if there is
+/// none.
+pub fn split_at_white(text: &[u8]) -> (&[u8], &[u8])
     ensures token { result.0.now ≡ before_first is_white text.now }
     ensures rest { result.1.now ≡ drop (token_end text.now) text.now }
 {
@@ -69,4 +70,18 @@ pub fn split_token(line: &[u8]) -> (&[u8], &[u8])
 {
     let (token, after) = split_at_white(trim_start(line));
     (token, trim(after))
+}
+
+/// The first token of a text, and the trimmed rest after it. None if the text is blank.
+pub fn next_token(text: &[u8]) -> Option<(&[u8], &[u8])>
+    ensures first { MatchOption result (tokens text.now ≡ [])
+        (λ p. tokens text.now ≡ p.0.now ∷ tokens p.1.now) }
+    ensures shorter { IfSome result (λ p. length p.1.now < length text.now) }
+{
+    let (token, others) = split_token(text);
+    if token.is_empty() {
+        None
+    } else {
+        Some((token, others))
+    }
 }

@@ -6,9 +6,8 @@ ghost use Rattle.peer_words.specs.Tokens.{is_white, token_end};
 ghost use Rattle.uci_lines.specs.Orders.{optional_now};
 ghost use Rattle.uci_lines.specs.Behind.{after, exact_count, number_behind, perhaps_number};
 
-use crate::cut::split_at_white;
 use itoa::Buffer;
-use peer_words::read_count;
+use peer_words::{read_count, split_at_white};
 
 /// What stands behind a word at the front.
 pub(crate) fn after<'a>(word: &[u8], text: &'a [u8]) -> Option<&'a [u8]>

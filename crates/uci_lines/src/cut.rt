@@ -1,12 +1,12 @@
 // Lines that are cut at certain tokens.
-ghost use Rattle.std.specs.Prelude.{◌≡◌, true, drop, position};
+ghost use Rattle.std.specs.Prelude.{◌≡◌, true, drop};
 ghost use Rattle.std.specs.List.{before_first};
 ghost use Rattle.peer_words.specs.Tokens.{is_white, token_end};
 ghost use Rattle.std.specs.Option.{option_map};
 ghost use Rattle.uci_lines.specs.Cuts.{cut, stops, found_of};
 
 use chess_board::read_move;
-use peer_words::is_white;
+use peer_words::{is_white, split_at_white};
 
 /// The tokens at which a line is cut.
 #[derive(Clone, Copy)]
@@ -61,23 +61,6 @@ fn is_known(word: &[u8]) -> bool
         || word == b"bestmove".as_slice()
         || word == b"info".as_slice()
         || word == b"option".as_slice()
-}
-
-fn white_at(text: &[u8]) -> Option<usize>
-    ensures { result ≡ position is_white text.now }
-{
-    text.iter().position(|b| is_white(*b))
-}
-
-/// What stands before the first white space, and what begins with it.
-pub(crate) fn split_at_white(text: &[u8]) -> (&[u8], &[u8])
-    ensures token { result.0.now ≡ before_first is_white text.now }
-    ensures rest { result.1.now ≡ drop (token_end text.now) text.now }
-{
-    match white_at(text) {
-        Some(at) => text.split_at(at),
-        None => (text, &[]),
-    }
 }
 
 /// The first token at which the text is to be cut.

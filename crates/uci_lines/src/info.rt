@@ -8,9 +8,8 @@ ghost use Rattle.uci_lines.specs.Info.{info_of};
 
 use crate::messages::{Info, Score};
 use crate::moves::{front_moves, next_move};
-use crate::words::next_token;
 use chess_board::{Move, read_move};
-use peer_words::{read_centis, read_count};
+use peer_words::{next_token, read_centis, read_count};
 
 /// The words of an `info` line.
 #[derive(Clone, Copy)]

@@ -12,7 +12,6 @@ mod option;
 mod order_read;
 mod orders;
 mod range;
-mod words;
 mod written;
 
 pub use engine::read_engine;

@@ -5,9 +5,8 @@ ghost use Rattle.chess_board.specs.Text.{IsOfficer};
 ghost use Rattle.uci_lines.specs.Moves.{run};
 
 use crate::cut::{Delimiter, find_word};
-use crate::words::next_token;
 use chess_board::{Move, read_move};
-use peer_words::trim;
+use peer_words::{next_token, trim};
 
 /// The first move of a text of moves, and the text after it. None if the text begins with no move.
 pub fn next_move(text: &[u8]) -> Option<(Move, &[u8])>

@@ -5,8 +5,7 @@ ghost use Rattle.peer_words.specs.Tokens.{tokens};
 ghost use Rattle.uci_lines.specs.Options.{range_of, limited, first_signed, range_from, no_range};
 
 use crate::messages::OptionKind;
-use crate::words::next_token;
-use peer_words::read_signed;
+use peer_words::{next_token, read_signed};
 
 /// The three numbers, as far as they were read.
 #[derive(Clone, Copy)]

@@ -3,8 +3,7 @@ ghost use Rattle.std.specs.Prelude.{◌≡◌};
 ghost use Rattle.peer_words.specs.Tokens.{tokens};
 ghost use Rattle.uci_talk.specs.Kinds.{has_word, kind_asked};
 
-use crate::words::next_token;
-use peer_words::GoKind;
+use peer_words::{GoKind, next_token};
 
 /// Whether a word is among the tokens of a line.
 fn has_word(word: &[u8], line: &[u8]) -> bool

@@ -5,8 +5,8 @@ ghost use Rattle.chess_board.specs.Place.{legal};
 ghost use Rattle.chess_board.specs.Spelling.{move_of};
 ghost use Rattle.uci_talk.specs.Lines.{led, played, played_if_legal};
 
-use crate::words::next_token;
 use chess_board::{Move, Position, read_move};
+use peer_words::next_token;
 
 fn is_legal(at: &Position, m: Move) -> bool
     ensures { result ≡ legal at.now m }

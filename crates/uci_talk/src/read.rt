@@ -9,9 +9,10 @@ ghost use Rattle.uci_talk.specs.Speaks.{SaysPosition};
 
 use crate::line::Spoken;
 use crate::moves::play_all;
-use crate::words::{behind_first, next_token, split_at_moves};
+use crate::words::{behind_first, split_at_moves};
 use chess_board::Position;
 use fen_text::read_fen;
+use peer_words::next_token;
 
 /// The position of these fields, if they spell one.
 fn read_fields(text: &[u8]) -> Option<Position>

@@ -1,26 +1,12 @@
 // The tokens of a line.
-ghost use Rattle.std.specs.Prelude.{◌≡◌, ◌∷◌, ◌<◌, [], length, drop, position, true, MatchOption, IfSome, codes};
+ghost use Rattle.std.specs.Prelude.{◌≡◌, ◌∷◌, ◌<◌, [], length, drop, true, MatchOption, IfSome, codes};
 ghost use Rattle.std.specs.List.{before_first};
 ghost use Rattle.std.specs.Option.{option_map};
 ghost use Rattle.peer_words.specs.Tokens.{tokens, is_white, token_end};
 ghost use Rattle.uci_lines.specs.Cuts.{cut};
 ghost use Rattle.uci_talk.specs.Lines.{before_moves, behind_moves, is_moves, sides};
 
-use peer_words::{is_white, split_token, trim};
-
-/// The first token of a text, and the trimmed rest after it.
-pub(crate) fn next_token(text: &[u8]) -> Option<(&[u8], &[u8])>
-    ensures first { MatchOption result (tokens text.now ≡ [])
-        (λ p. tokens text.now ≡ p.0.now ∷ tokens p.1.now) }
-    ensures shorter { IfSome result (λ p. length p.1.now < length text.now) }
-{
-    let (token, others) = split_token(text);
-    if token.is_empty() {
-        None
-    } else {
-        Some((token, others))
-    }
-}
+use peer_words::{is_white, next_token, split_at_white, trim};
 
 /// What stands behind the first token.
 pub(crate) fn behind_first(line: &[u8]) -> &[u8]
@@ -29,23 +15,6 @@ pub(crate) fn behind_first(line: &[u8]) -> &[u8]
     match next_token(line) {
         Some((_, others)) => others,
         None => line,
-    }
-}
-
-fn white_at(text: &[u8]) -> Option<usize>
-    ensures { result ≡ position is_white text.now }
-{
-    text.iter().position(|b| is_white(*b))
-}
-
-/// What stands before the first white space, and what begins with it.
-fn split_at_white(text: &[u8]) -> (&[u8], &[u8])
-    ensures token { result.0.now ≡ before_first is_white text.now }
-    ensures rest { result.1.now ≡ drop (token_end text.now) text.now }
-{
-    match white_at(text) {
-        Some(at) => text.split_at(at),
-        None => (text, &[]),
     }
 }
 

@@ -1,6 +1,6 @@
 use Rattle.std.proofs.Common.{◌∙◌, sym}
 use Rattle.peer_words.proofs.Lengths.{none_first, some_first, some_shorter}
-use Rattle.uci_lines.proofs.words.next_token.Goals as goal
+use Rattle.peer_words.proofs.tokens.next_token.Goals as goal
 
 pub returns-then-is_empty-clause-first : goal.returns-then-is_empty-clause-first
 returns-then-is_empty-clause-first c = none_first c.args.text.now c.split_token.result.0.now c.split_token.ensures.token (sym c.is_empty.ensures ∙ c.if-is_empty.true)
