@@ -36,7 +36,7 @@ commanded d = record { game = d.game; mode = d.mode; post = d.post; pondering = 
 
 -- THE INTERFACE ALONE
 
--- what stands where the engine never says anything: no move is shown, so the policy has no scores
+-- what stands if the engine never says anything: no move is shown, so the policy has no scores
 abbrev pub lone : Settings → Bool → Desk → Situation
 lone o closed d = record { closed = closed; engine = states.Idle; spent = false; desk = d; resigns = false; accepts = does_accept o []; show_ponder = false }
 
@@ -103,7 +103,7 @@ pub record IsWithoutSay (o : Settings) (trace : List Step) : Type 0 where
   pub unanswered : IsUnanswered o trace
   pub there : is_gone (situation (state o trace)).engine ≡ false
 
--- the replies to these may tell of the engine's options and of its search
+-- the replies to these may report on the engine's options and of its search
 abbrev pub tells_of_engine : Effect → Bool
 tells_of_engine (Accepts (says.Protover n)) = true
 tells_of_engine (Accepts (says.SetOption name value)) = true
@@ -115,11 +115,11 @@ tells_of_engine (Refuses (refusals.Because reasons.UnknownOption) line) = true
 tells_of_engine (Refuses (refusals.Because reasons.BadValue) line) = true
 tells_of_engine d = false
 
--- Where the engine has no say, the parts that the interface commands are those of the interface alone.
+-- If the engine has no say, the parts that the interface commands are those of the interface alone.
 abbrev pub DeskIsAlone : Settings → Type 0
 DeskIsAlone o = (trace : List Step) → Lawful o trace → IsWithoutSay o trace → commanded (state o trace).desk ≡ commanded (alone o (iface_events trace)).desk
 
--- And so are the replies to its events, but those that tell of the engine.
+-- And so are the replies to its events, except those that report on the engine.
 abbrev pub RepliesAreAlone : Settings → Type 0
 RepliesAreAlone o =
     (step : Step) (trace : List Step) → Lawful o (step ∷ trace) → IsWithoutSay o (step ∷ trace) → is_of_iface step.event ≡ true

@@ -70,7 +70,7 @@ choice opens closed h held d mid =
     if opens || closed then chosen.None
     else settle mid (call_after closed h d) (is_unsent held d) (played_of (what_of d)) (is_hurry (what_of d))
 
--- the orders of a step, where these are held
+-- the orders of a step, if these are held
 abbrev pub orders_of : Bool → Bool → Bool → Bool → List Order → Desk → Orders → List Order
 orders_of opens closed closed_now gone held desk choice =
     if opens then orders.Uci ∷ []
@@ -117,7 +117,7 @@ pub record CanFollow (h : Situation) (d : Effect) : Type 0 where
   pub sound_then : IsSound (desk_after_effect h d)
   pub pings_then : length (desk_after_effect h d).pings ≤ MOST_PINGS + 1
 
--- What the core needs to take an event, where this stands and this comes of it.
+-- What the core needs to take an event, if this stands and this comes of it.
 pub record IsReadyFor (h : Situation) (v : Parts) (d : Effect) : Type 0 where
   pub follow : CanFollow h d
   pub fits : Fits h v.held d

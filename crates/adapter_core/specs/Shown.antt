@@ -27,17 +27,17 @@ pub record Answers (s : State) (e : Event) (m : AnyMove) : Type 0 where
   pub current : s.dialogue.engine ≡ Search kinds.Move s.dialogue.epoch stopped
   pub is_legal : legal (now_of s.desk.game) m ≡ true
 
--- `move m` is told exactly in the step whose event answers with m.
+-- `move m` is written exactly in the step whose event answers with m.
 abbrev pub MovesAreShownInTime : Settings → Type 0
 MovesAreShownInTime o = (step : Step) (t : List Step) → Lawful o (step ∷ t) → (m : AnyMove) → Contains step.replies (Move m) ↔ Answers (state o t) step.event m
 
--- the moves that are told in these lines
+-- the moves that these lines show
 abbrev pub moves_told : List Reply → List AnyMove
 moves_told [] = []
 moves_told (Move m ∷ rest) = m ∷ moves_told rest
 moves_told (line ∷ rest) = moves_told rest
 
--- It is told once.
+-- It is written once.
 abbrev pub MovesAreShownOnce : Settings → Type 0
 MovesAreShownOnce o = (step : Step) (t : List Step) → Lawful o (step ∷ t) → length (moves_told step.replies) ≤ 1
 

@@ -24,7 +24,7 @@ use Rattle.adapter_core.specs.Trace.{State, Step, Lawful, state, event_in, iface
 use Rattle.line_io.specs.Lines.{line_feed}
 use Rattle.desk_rules.specs.declared.pings.TheConstants.{MOST_PINGS}
 
--- what the core keeps of a state, where these are its buffers
+-- what the core keeps of a state, if these are its buffers
 abbrev pub parts_of : State → Text → Text → Parts
 parts_of s to_iface to_engine = record {
   settings = s.settings;

@@ -14,9 +14,9 @@ pub fn moves_are_shown_in_time(settings: Settings)
     let _ = settings;
 }
 
-/// A law: where the engine is there and answers no search, and no line was refused for too many settings, the game, the mode, the flags,
-/// the clocks and the held pings are those that the lines of the interface alone give, and so are the replies to these lines, but for
-/// those that tell of the engine. So they do not depend on when the engine speaks.
+/// A law: if the engine is there and answers no search, and no line was refused for too many settings, the game, the mode, the flags,
+/// the clocks and the held pings are those that the lines of the interface alone give, and so are the replies to these lines, except
+/// those that report on the engine. So they do not depend on when the engine speaks.
 pub fn interface_alone(settings: Settings)
     ensures desk { DeskIsAlone settings }
     ensures apart { IsApartFromEngine settings }

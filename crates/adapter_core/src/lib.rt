@@ -1,4 +1,4 @@
-//! The core of the adapter: one event in, lines to both peers out.
+//! The core of the bridge: one event in, lines to both peers out.
 #![tactic(auto)]
 
 mod ends;

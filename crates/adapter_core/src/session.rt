@@ -201,7 +201,7 @@ impl Core {
         &self.parts.desk.game
     }
 
-    /// The state of the engine: an open search is stale where its ticket is not the epoch.
+    /// The state of the engine: an open search is stale if its ticket is not the epoch.
     pub fn engine(&self) -> EngineState
         ensures { result ≡ self.now.dialogue.state }
     {

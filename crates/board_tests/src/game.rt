@@ -1,4 +1,4 @@
-// Games: repetitions, endings, moves taken back, and the lines that tell them.
+// Games: repetitions, endings, moves taken back, and the lines that give them.
 ghost use Rattle.std.specs.Prelude.{◌≡◌, ◌+◌, ◌≤◌, length, IfSome};
 ghost use Rattle.game_record.specs.Game.{ply_of, IsPlayable, now_of};
 

@@ -1,4 +1,4 @@
--- What the program does, and what its status tells.
+-- What the program does, and what its status says.
 use Rattle.std.specs.Prelude.{ℕ, List, codes}
 use Rattle.clap.specs.Words.{Text}
 use Rattle.policy_rules.specs.declared.settings.Settings.{Settings}
@@ -19,7 +19,7 @@ pub record Runs (settings : Settings) (before after : Outside) (failures : Failu
   -- of each lawful trace, so of the one that the bridge made
   pub shown : MovesAreShownInTime settings
   pub shown_once : MovesAreShownOnce settings
-  -- the script that the log took has this one trace, and tells the settings
+  -- the script that the log took has this one trace, and states the settings
   pub one_session : HasOneSession settings
 
 -- the bridge ran with the settings that the words ask for

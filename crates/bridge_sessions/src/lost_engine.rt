@@ -1,4 +1,4 @@
-// What the log and both sides get where the engine is lost.
+// What the log and both sides get if the engine is lost.
 ghost use Rattle.std.specs.Prelude.{◌≡◌, []};
 ghost use Rattle.event_pipe.specs.Ends.{IsSender, IsFreshTaker, sent};
 ghost use Rattle.bridge_sessions.specs.Ready.{IsReady};

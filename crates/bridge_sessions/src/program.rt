@@ -30,7 +30,7 @@ pub struct Told {
 }
 
 impl Told {
-    /// Whether the ping was answered. The end of the engine is told where it came before `quit`.
+    /// Whether the ping was answered. The end of the engine is reported if it came before `quit`.
     pub fn is_of_a_ping(&self) -> bool {
         let output = self.output.taken();
         output == PONG || output == PONG_AND_END || output == END_AND_PONG

@@ -56,7 +56,7 @@ fn run_failing<R: Threads + Wait + Sync + Abort>(rt: &R, alloc: Global, fails: &
 /// A call that fails, and the status of the run.
 const ONCE: [(&str, u8); 3] = [("start", 8), ("log", 9), ("wait", 10)];
 
-// Where the engine is not started, nothing is written. Otherwise the ping is answered.
+// If the engine is not started, nothing is written. Otherwise the ping is answered.
 fn writes_as_after(told: &Told, call: &str) -> bool {
     if call == "start" {
         told.output.taken().is_empty()
@@ -102,7 +102,7 @@ fn fits_failing_read(kept: &Kept, number: u64) -> bool {
     kept.told.code == code && begins_a_session(kept.host.wrote.as_slice())
 }
 
-// The engine gets `uci`, then `isready` or `quit`, and `quit` behind `isready` where it comes
+// The engine gets `uci`, then `isready` or `quit`, and `quit` behind `isready` if it comes
 // before the engine's end.
 fn fits_failing_write(kept: &Kept, number: u64) -> bool {
     let code = kept.told.code;

@@ -99,7 +99,7 @@ impl<'a> Source for Waiting<'a> {
     }
 }
 
-/// The engine's sink: it tells all threads what it took.
+/// The engine's sink: it shows all threads what it took.
 #[derive(Drop)]
 pub struct Telling<'a> {
     took: &'a AtomicU64,

@@ -7,7 +7,7 @@ use Rattle.clap.specs.declared.builder.action.ArgAction.TheVariants.{Append}
 use Rattle.clap.specs.declared.builder.value_parser.ValueParser.TheVariants as parsers
 use Rattle.policy_rules.specs.declared.settings.TheConstants.{MOST_MOVES, MOST_SCORE}
 
--- an option with one value, and the value that it has where no word gives one
+-- an option with one value, and the value that it has if no word gives one
 abbrev pub option_rule : Text → Text → Rule
 option_rule name usual = record (new_rule name) { long = Some name; defaults = usual ∷ [] }
 

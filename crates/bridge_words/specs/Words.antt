@@ -38,7 +38,7 @@ abbrev pub engine_words : List Row → List Text
 engine_words rows =
     text_or_empty (first_of (codes "ENGINE") rows) ∷ all_values (all_of (codes "ARG") rows)
 
--- the number where it is within the bounds
+-- the number if it is within the bounds
 abbrev pub number_within : ℕ → ℕ → ℕ → Option ℕ → ℕ
 number_within least most usual (Some n) = if nat_le least n && nat_le n most then n else usual
 number_within least most usual None = usual

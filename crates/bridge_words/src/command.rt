@@ -8,7 +8,7 @@ use clap::{Arg, ArgAction, Command};
 use policy_rules::{MOST_MOVES, MOST_SCORE};
 use std::alloc::{AllocError, Global};
 
-// An option with one value, and the value that it has where no word gives one.
+// An option with one value, and the value that it has if no word gives one.
 fn option<'a>(alloc: Global, name: &'a str, usual: &'a str) -> Arg<'a>
     ensures rule { rule_of result ≡ option_rule name.now usual.now }
     ensures local { result.global ≡ false }

@@ -108,7 +108,7 @@ fn put_copies(alloc: Global, texts: &[&str], copies: &mut Vec<String>) -> Result
     Ok(())
 }
 
-// Puts copies of the arguments at the end, where there are any.
+// Puts copies of the arguments at the end, if there are any.
 fn put_args(alloc: Global, args: Option<&[&str]>, words: &mut Vec<String>) -> Result<(), AllocError>
     ensures { OnOk result (map string_bytes words.new.items ≡ map string_bytes words.old.items
         ++ all_values (option_map (λ v. map (λ s. s.now) v.now) args.entry)) }

@@ -1,4 +1,4 @@
--- The lines of a deed, and what the engine is told by it.
+-- The lines of a deed, and what the engine knows by it.
 use Rattle.std.specs.Prelude.{ℕ, ◌≤◌, ◌==◌, Bool, false, true, not, if◌then◌else◌, List, [], ◌∷◌, ◌++◌, length, codes, Option, Some, None, IfSome}
 use Rattle.chess_board.specs.declared.board.Move.{Move}
 use Rattle.chess_board.specs.Text.{IsOfficer}
@@ -50,7 +50,7 @@ play_lines told game has_usermove clocks hurried = setup_lines (continued told g
 abbrev pub analyse_lines : Told → Game → Bool → Clocks → Option ℕ → List Line
 analyse_lines told game has_usermove clocks ping = setup_lines (continued told game (has_depth clocks)) has_usermove game ++ (Analyze ∷ leave_lines ping)
 
--- the lines that are written, by what the engine was told before, and the ordered game
+-- the lines that are written, by what the engine was given before, and the ordered game
 abbrev pub down_lines : Told → Game → Bool → Down → List Line
 down_lines told game has_usermove downs.Nothing = []
 down_lines told game has_usermove downs.Greeting = XBoard ∷ Protover ∷ []
@@ -68,7 +68,7 @@ FitsDown game (downs.Play clocks hurried) = length game.moves ≤ MOST_PLIES
 FitsDown game (downs.Analyse clocks ping) = length game.moves ≤ MOST_PLIES
 FitsDown game down = Unit {0}
 
--- what the engine was told then
+-- what the engine was given then
 abbrev pub down_told : Game → Down → Told → Told
 down_told game (downs.Play clocks hurried) told = limited (set_up told game (has_depth clocks)) (has_depth clocks)
 down_told game (downs.Resume clocks) told = limited told (has_depth clocks)

@@ -41,7 +41,7 @@ use Rattle.cecp_driver.specs.Deeds.{up_text, CanSay, down_lines, FitsDown, down_
 abbrev pub cleared : Parts → Parts
 cleared v = record { talk = v.talk; has = v.has; name = v.name; is_ordered = v.is_ordered; game = v.game; told = v.told; up = empty v.up.room; down = empty v.down.room }
 
--- A turn: its lines are given, and what the engine was told is kept.
+-- A turn: its lines are given, and what the engine was given is kept.
 abbrev pub taken : Parts → Turn → Parts
 taken v r = record {
   talk = r.talk;
@@ -84,7 +84,7 @@ pub record Wants (v : Parts) (line : List ℕ) (w : Wanted) : Type 0 where
   pub first : IsFirstMove (now_of v.game) w.first
   pub reach : w.reach ≡ reach_of v
 
--- a `position`, where no search is open
+-- a `position`, if no search is open
 abbrev pub placed : Parts → List ℕ → Parts
 placed v line =
     if is_free v.talk

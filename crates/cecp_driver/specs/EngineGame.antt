@@ -36,7 +36,7 @@ OwnBy (SaysMove text) true p own = IsShown p text own
 OwnBy (SaysMove text) false p own = own ≡ None
 OwnBy said thinks p own = own ≡ None
 
--- the engine's own move in an event: a legal one behind `move`, where it thinks on its move
+-- the engine's own move in an event: a legal one behind `move`, if it thinks on its move
 abbrev pub IsOwn : Event → Parts → Option Move → Type 0
 IsOwn (Engine line) v own = OwnBy (says_in line) (is_thinking v.talk) (now_of v.game) own
 IsOwn event v own = own ≡ None

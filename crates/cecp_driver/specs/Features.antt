@@ -1,4 +1,4 @@
--- What the features of the engine change, and what both sides are told of them.
+-- What the features of the engine change, and what is written to both sides for them.
 use Rattle.std.specs.Prelude.{ℕ, Bool, ◌&&◌, ◌||◌, not, if◌then◌else◌, List, [], ◌∷◌, ◌++◌, ◌+◌, length, codes, Option, Some, None}
 use Rattle.std.specs.Str.{bytes_eq}
 use Rattle.driver_lines.specs.Parts.{Feature, Cut}

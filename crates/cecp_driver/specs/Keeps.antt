@@ -14,7 +14,7 @@ use Rattle.cecp_driver.specs.SetUp.{Told}
 abbrev pub IsTold : Game → Told → Type 0
 IsTold game told = (told.known ≡ true) × (told.game ≡ game)
 
--- where the engine searches, it was told the ordered game
+-- if the engine searches, it was given the ordered game
 abbrev pub TellsGame : Phase → Game → Told → Type 0
 TellsGame (Thinks hurried) game told = IsTold game told
 TellsGame Analyses game told = IsTold game told

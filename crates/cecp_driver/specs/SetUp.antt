@@ -1,4 +1,4 @@
--- What the engine was told of the game, and how a game is set up.
+-- What was written to the engine of the game, and how a game is set up.
 use Rattle.std.specs.Prelude.{ℕ, ◌==◌, Bool, true, false, not, ◌&&◌, ◌||◌, if◌then◌else◌, List, [], ◌∷◌, ◌++◌, map, is_some, Option, Some, None}
 use Rattle.chess_board.specs.Position.{Position}
 use Rattle.chess_board.specs.Play.{start_position}
@@ -6,7 +6,7 @@ use Rattle.game_record.specs.Game.{Ply, Game, begun, with_ply}
 use Rattle.driver_lines.specs.Lines.{Line, New, Force, Post, SetBoard, Played}
 use Rattle.cecp_driver.specs.Same.{same_position, same_ply}
 
--- Whether the engine's game is known, whether it has a depth limit, and the game that it was told last.
+-- Whether the engine's game is known, whether it has a depth limit, and the game that it was given last.
 pub record Told : Type 0 where
   pub known : Bool
   pub limited : Bool
@@ -15,7 +15,7 @@ pub record Told : Type 0 where
 abbrev pub none_told : Told
 none_told = record { known = false; limited = false; game = begun start_position }
 
--- the moves behind those that are known, where the others begin with these
+-- the moves behind those that are known, if the others begin with these
 abbrev pub further : List Ply → List Ply → Option (List Ply)
 further [] moves = Some moves
 further (k ∷ ks) [] = None

@@ -80,7 +80,7 @@ fn write_greeting(out: &mut Out)
     write_word(b"protover 2", out);
 }
 
-/// The engine is told to think.
+/// Has the engine think.
 fn write_think(clocks: &Clocks, hurried: bool, told: &mut Told, game: &Game, out: &mut Out)
     requires room { length out.old.text + 210 ≤ out.old.room }
     ensures text { out.new ≡ with out.old (lines_text (think_lines game.now clocks.now hurried)) }
@@ -92,7 +92,7 @@ fn write_think(clocks: &Clocks, hurried: bool, told: &mut Told, game: &Game, out
     told.limit(has_depth(clocks));
 }
 
-/// The position is set up, and the engine is told to think.
+/// The position is set up, and the engine is to think.
 fn write_play(
     clocks: &Clocks,
     hurried: bool,
@@ -112,7 +112,7 @@ fn write_play(
     write_think(clocks, hurried, told, game, out);
 }
 
-/// The position is set up, and the engine is told to analyse.
+/// The position is set up, and the engine is to analyse.
 fn write_analyse(
     clocks: &Clocks,
     ping: Option<u32>,

@@ -107,7 +107,7 @@ impl Parts {
         }
     }
 
-    // Takes a position, where one is accepted.
+    // Takes a position, if one is accepted.
     fn place(&mut self, line: &[u8])
         ensures { self.new ≡ placed self.old line.now }
     {

@@ -75,7 +75,7 @@ fn keep_name(part: &Part, name: &mut Out)
     }
 }
 
-/// Tells the interface the engine's name and that it is ready, where the engine has said all its features.
+/// Writes the engine's name and `uciok` to the interface, if the engine has sent all its features.
 fn greet(has: Has, part: &Part, name: &[u8], up: &mut Out)
     requires room { has.done ≡ false → length up.old.text + length name.now + 30 ≤ up.old.room }
     ensures text { up.new ≡ with up.old (greeting has name.now (feature_of part.now)) }
@@ -90,7 +90,7 @@ fn greet(has: Has, part: &Part, name: &[u8], up: &mut Out)
     }
 }
 
-/// What a feature changes, and what both sides are told of it.
+/// What a feature changes, and what is written to both sides for it.
 fn hear_part(has: Has, part: &Part, name: &mut Out, up: &mut Out, down: &mut Out) -> Has
     requires value { length (feature_of part.now).value ≤ name.old.room }
     requires up { has.done ≡ false → length up.old.text + name.old.room + 30 ≤ up.old.room }
@@ -134,7 +134,7 @@ fn hear_cut(has: Has, cut: &Cut, name: &mut Out, up: &mut Out, down: &mut Out) -
     }
 }
 
-/// What the features of a line change, and what both sides are told of them.
+/// What the features of a line change, and what is written to both sides for them.
 pub(crate) fn hear_features(
     text: &[u8],
     before: Has,

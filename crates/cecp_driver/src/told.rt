@@ -1,4 +1,4 @@
-// What the engine was told of the game.
+// What was written to the engine of the game.
 ghost use Rattle.std.specs.Prelude.{◌≡◌, ◌+◌, ◌≤◌, ◌<◌, ◌∷◌, ◌++◌, [], codes, length, IfOk, IfSome, true, false};
 ghost use Rattle.std.specs.Option.{option_map};
 ghost use Rattle.std.specs.List.{AllByRecursion};
@@ -26,13 +26,13 @@ use std::marker::Model;
 /// The longest game that is searched, in moves of both sides.
 pub(crate) const MOST_PLIES: usize = 6_000;
 
-/// The room for the moves that the engine was told: a game, and the engine's move.
+/// The room for the moves that the engine was given: a game, and the engine's move.
 pub(crate) const MOST_TOLD: usize = MOST_PLIES + 1;
 
 /// The most bytes of a set-up.
 pub(crate) const SETUP: usize = 90_200;
 
-/// What the engine was told: a game, and perhaps a depth limit.
+/// What the engine was given: a game, and perhaps a depth limit.
 #[derive(Drop)]
 pub(crate) struct Told {
     is_known: bool,
@@ -115,7 +115,7 @@ fn write_setup(further: Option<&[Move]>, game: &Game, has_usermove: bool, out: &
 }
 
 impl Told {
-    /// Nothing was told.
+    /// Nothing was written yet.
     pub(crate) fn make(alloc: Global) -> Result<Told, NoMemory>
         ensures { IfOk result (λ told. told ≡ none_told) }
     {
@@ -128,7 +128,7 @@ impl Told {
         })
     }
 
-    /// The moves by which a game goes on from what the engine was told. None if it has to be set up anew.
+    /// The moves by which a game goes on from what the engine was given. None if it has to be set up anew.
     fn continued<'g>(&self, game: &'g Game, has_depth: bool) -> Option<&'g [Move]>
         ensures value { option_map (λ r. plies_of r.now) result
             ≡ continued self.now game.now has_depth }
@@ -174,7 +174,7 @@ impl Told {
         self.keep(game, is_limited);
     }
 
-    /// A depth limit was told, or none.
+    /// A depth limit was set, or none.
     pub(crate) fn limit(&mut self, has_depth: bool)
         ensures { self.new ≡ limited self.old has_depth }
     {

@@ -39,7 +39,7 @@ pub record IsLawful (p : Position) : Type 0 where
   pub half : p.half ≤ top_count
   pub full : (1 ≤ p.full) × (p.full ≤ top_count)
 
--- The parts of a position as they were given, but for rights whose king or rook is not at home, a passant square
+-- The parts of a position as they were given, except for rights whose king or rook is not at home, a passant square
 -- on which no legal capture is possible, and counts out of range.
 pub record Settles (given p : Position) : Type 0 where
   pub men : p.men ≡ given.men

@@ -43,7 +43,7 @@ Passes side piece from to over =
     × ((((files_apart from to ≡ 0) × (rank_of from ≡ second_rank side)) × Ahead side (rank_of from) (rank_of to) 2) × (over ≡ on_the_way from to 1))
 
 -- The other side is on move. A castling right is lost when its king or rook moves, or when its rook is
--- captured at home (article 3.8.2). The square that a pawn passed is the passant square, where a
+-- captured at home (article 3.8.2). The square that a pawn passed is the passant square, if a
 -- legal capture on it is possible. The half-move count begins again after a pawn's move or a capture
 -- (article 9.3), and the full-move count grows after Black's move.
 pub record Plays (p : Position) (from to : ℕ) (promo : Option Kind) (q : Position) : Type 0 where

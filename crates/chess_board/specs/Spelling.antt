@@ -6,7 +6,7 @@ use Rattle.chess_board.specs.declared.board.Move.{Move}
 use Rattle.chess_board.specs.declared.board.Kind.{Kind}
 use Rattle.chess_board.specs.Text.{promotion_of, letter_a, letter_h, digit_one, digit_eight}
 
--- the square of a number, where it is on the board
+-- the square of a number, if it is on the board
 abbrev pub square_if : (n : ℕ) (within : Bool) → nat_lt n 64 ≡ within → Option Square
 square_if n true e = Some (record { index = n; on_board = ltb-true n 64 e })
 square_if n false e = None

@@ -518,7 +518,7 @@ pub(crate) fn ways_of(side: Side, kind: Kind, from: Square) -> u64
     }
 }
 
-/// The first square of a set from a number on, or 64 where there is none.
+/// The first square of a set from a number on, or 64 if there is none.
 pub(crate) fn next_in(set: u64, from: u8) -> u8
     requires { from ≤ 64 }
     ensures on { (from ≤ result) × (result ≤ 64) }

@@ -1,4 +1,4 @@
--- What a host counts, and what it tells of the parts that were closed.
+-- What a host counts, and what it reports of the parts that were closed.
 use Rattle.std.specs.Prelude.{◌≡◌, ℕ, ◌+◌, ◌<◌, ◌≤◌, List, [], ◌∷◌, ◌++◌, Option, IfSome, Result, IfErr, OnOk}
 use Rattle.line_io.specs.Causes.{Rose, HasCause}
 use Rattle.line_io.specs.Source.{Supplied, Received}
@@ -37,7 +37,7 @@ with_closed_run books source sink = record books { runs = books.runs ++ told_by 
 abbrev pub with_closed_log : Books → Received → Books
 with_closed_log books log = record books { logs = books.logs ++ log.taken ∷ [] }
 
--- where it tells its bytes, there is none
+-- if it reports its bytes, there is none
 abbrev pub IsFresh : Option (List ℕ) → Type 0
 IsFresh told = IfSome told (λ bytes. bytes ≡ [])
 
@@ -55,7 +55,7 @@ pub record IsUnwritten (sink : Received) : Type 0 where
 abbrev pub WasLetGo : {K : Type 0} → (K → Received) → (K → Type 0) → Received → Type 0
 WasLetGo {K} state is_let_go shown = (sink : K) × (state sink ≡ shown) × is_let_go sink
 
--- The count doesn't fall, rose where the call failed, and is as before where it succeeded or where
+-- The count does not fall, rose if the call failed, and is as before if it succeeded or if
 -- there was no memory.
 pub record FailsBy {T : Type 0} (before now : ℕ) (result : Result T HostFault) : Type 0 where
   pub later : before ≤ now
@@ -63,7 +63,7 @@ pub record FailsBy {T : Type 0} (before now : ℕ) (result : Result T HostFault)
   pub memory : IfErr result (λ e. e ≡ faults.NoMemory → now ≡ before)
   pub same : OnOk result (now ≡ before)
 
--- the count rose exactly where this part had failed
+-- the count rose if and only if this part had failed
 pub record RisesBy (part before now : ℕ) : Type 0 where
   pub later : before ≤ now
   pub same : part ≡ 0 → now ≡ before

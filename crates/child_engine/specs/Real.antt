@@ -1,11 +1,11 @@
--- What the host of real programs keeps: it tells nothing of what its parts gave and took.
+-- What the host of real programs keeps: it reports nothing of what its parts gave and took.
 use Rattle.std.specs.Prelude.{ℕ, zero, suc, List, [], ◌∷◌, ◌++◌, None}
 use Rattle.line_io.specs.Source.{Supplied, Received}
 use Rattle.child_engine.specs.Hosts.{Told, Books, told_by}
 use Rattle.child_engine.specs.Steady.{untold_logs}
 use Rattle.child_engine.specs.declared.real.RealHost.{RealHost}
 
--- a source and a sink that tell nothing, and failed so often
+-- a source and a sink that report nothing, and failed so often
 abbrev pub untold_source : ℕ → Supplied
 untold_source faults = record { given = None; left = None; faults = faults }
 
@@ -15,7 +15,7 @@ untold_sink faults = record { taken = None; faults = faults }
 abbrev pub untold : Told
 untold = told_by (untold_source 0) (untold_sink 0)
 
--- so many runs that tell nothing
+-- so many runs that report nothing
 abbrev pub untold_runs : ℕ → List Told
 untold_runs zero = []
 untold_runs (suc n) = untold_runs n ++ untold ∷ []

@@ -14,11 +14,11 @@ no_faults = record { starts = 0; reads = 0; writes = 0; logs = 0; waits = 0 }
 abbrev pub shown_by_source : SteadySource → Supplied
 shown_by_source s = record { given = Some (steady_of s).given; left = Some (steady_of s).left; faults = (steady_of s).faults }
 
--- a sink that tells nothing and never failed
+-- a sink that reports nothing and never failed
 abbrev pub untold_sink : Received
 untold_sink = record { taken = None; faults = 0 }
 
--- so many logs that tell nothing
+-- so many logs that report nothing
 abbrev pub untold_logs : ℕ → List (Option (List ℕ))
 untold_logs zero = []
 untold_logs (suc n) = untold_logs n ++ None ∷ []

@@ -34,7 +34,7 @@ pub struct Faults {
     pub waits: u64,
 }
 
-// One more, where the part had failed.
+// One more, if the part had failed.
 pub(crate) fn raised(count: u64, part: u64) -> u64
     ensures { RisesBy part count result }
 {

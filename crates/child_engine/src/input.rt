@@ -10,9 +10,9 @@ use std::io::Write;
 
 /// The input of an engine, over a writer that is let go once it took the line `quit`.
 ///
-/// Nothing is ever written behind `quit`, and an engine that passes the order over may still end
+/// Nothing is ever written behind `quit`, and an engine that ignores the order may still end
 /// at the end of its input. The pieces are whole lines, and `quit` comes as a piece of its own,
-/// which a pipe takes whole or not at all; where a front of it is taken, the writer stays.
+/// which a pipe takes whole or not at all; if a front of it is taken, the writer stays.
 #[derive(Drop)]
 pub struct EngineInput<W> {
     sink: Closing<W>,

@@ -37,7 +37,7 @@ fn fault_of(error: io::Error) -> HostFault {
     }
 }
 
-// Want of memory is no failure of a host.
+// Lack of memory is no failure of a host.
 fn counted(count: u64, fault: HostFault) -> u64
     ensures memory { fault ≡ faults.NoMemory → result ≡ count }
     ensures failed { fault ≡ faults.Failed → RisesBy 1 count result }

@@ -139,7 +139,7 @@ pub fn tell_short<D: Sink>(ending: Ending, diag: &mut D) -> Ending
     }
 }
 
-/// Writes lines to the output, and tells where that failed.
+/// Writes lines to the output, and reports whether that failed.
 pub fn write_lines<O: Sink, D: Sink>(lines: &[u8], output: &mut O, diag: &mut D) -> Ending
     ensures { Writes lines.now (diag.new ≡ diag.old) (code_of result)
         (O.state output.old) (O.state output.new) (D.state diag.old) (D.state diag.new) }

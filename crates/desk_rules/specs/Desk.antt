@@ -92,7 +92,7 @@ ponder_name = codes "Ponder"
 abbrev pub analyse_name : List ℕ
 analyse_name = codes "UCI_AnalyseMode"
 
--- the hint is pondered on, where the game after it has not ended
+-- the hint is pondered on, if the game after it has not ended
 abbrev pub call_for_hint : Game → Option Move → Call
 call_for_hint g None = calls.Nothing
 call_for_hint g (Some h) = if has_ended (played g h) then calls.Nothing else calls.Ponder h
@@ -105,13 +105,13 @@ call_in d modes.Analyse = if has_legal (now_of d.game) then calls.Analyse else c
 call_in d (modes.Plays s) = if has_ended d.game then calls.Nothing else (if same_side s (on_move d.game) then calls.Move else call_while_waiting d)
 call_in d m = calls.Nothing
 
--- what the desk calls for, where the session is closed or not and the engine is Gone or not
+-- what the desk calls for, by whether the session is closed and whether the engine is Gone
 unfoldable pub call_of : Bool → Bool → Desk → Call
 call_of closed gone d = if closed || gone || is_full d.game then calls.Nothing else call_in d d.mode
 
 -- HERE
 
--- What stands when an event comes: the desk, the engine (a search is stale where its ticket is not the epoch), whether the call is
+-- What stands when an event comes: the desk, the engine (a search is stale if its ticket is not the epoch), whether the call is
 -- spent, what the policy says of the scores, and whether thinking lines are shown while pondering.
 pub record Situation : Type 0 where
   pub closed : Bool
@@ -139,7 +139,7 @@ abbrev pub is_getting : EngineState → Bool
 is_getting states.Getting = true
 is_getting e = false
 
--- the kind of the open search, where it is current
+-- the kind of the open search, if it is current
 abbrev pub current : EngineState → Option GoKind
 current (states.Search k false stopped) = Some k
 current e = None

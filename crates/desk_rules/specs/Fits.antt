@@ -1,4 +1,4 @@
--- What holds of the desk between steps, and what an effect tells.
+-- What holds of the desk between steps, and what holds of an effect.
 use Rattle.std.specs.Prelude.{◌≡◌, ◌⊎◌, ℕ, List, [], ◌∷◌, ◌*◌, ◌<◌, ◌≤◌, ◌+◌, length, true, false, Some, None, IfSome, Ok}
 use Rattle.line_io.specs.Event.{Event, is_line}
 use Rattle.line_io.specs.Event as events
@@ -104,7 +104,7 @@ abbrev pub IsNoLine : Effect → Type 0
 IsNoLine (Accepts m) = ⊥
 IsNoLine d = Unit {0}
 
--- what an effect tells of what stood when the event came
+-- what an effect says of what stood when the event came
 abbrev pub Fits : Situation → List Order → Effect → Type 0
 Fits h held (Refuses r line) = IsRefused h r line
 Fits h held (Accepts m) = IsAccepted h held m

@@ -41,7 +41,7 @@ switch_text false = codes "false"
 abbrev pub switches : Bool → List ℕ → Order
 switches on name = orders.SetOption name (Some (switch_text on))
 
--- the order that tells a check option, where it is declared
+-- the order that sets a check option, if it is declared
 abbrev pub tells : List Setting → List ℕ → Bool → Option Order
 tells os name on = option_map (switches on) (check_named name os)
 
@@ -159,7 +159,7 @@ verdict h held (Ok m) = judged m (refusal h held m)
 
 -- EPOCH LINES
 
--- where a Move is owed or not before the line, and it asks this
+-- by whether a Move is owed before the line, and what the line asks for
 unfoldable pub is_epoch_line : Bool → Option Order → IfaceMsg → Bool
 is_epoch_line owes asked says.New = true
 is_epoch_line owes asked says.Force = true

@@ -33,7 +33,7 @@ use Rattle.peer_words.specs.Bytes.{blank}
 
 -- WAITING
 
--- what is told when Boot is left: pondering, and the mode where the desk analyses
+-- what is set when Boot is left: pondering, and analysis if the desk analyses
 abbrev pub ponder_at_boot : Desk → Option Order
 ponder_at_boot d = tells d.options ponder_name d.pondering
 

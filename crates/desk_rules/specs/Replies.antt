@@ -57,11 +57,11 @@ abbrev pub result_by : Side → Option End → List Reply
 result_by s None = []
 result_by s (Some end) = told.Result (outcome_of s end) ∷ []
 
--- the result, where the game has ended
+-- the result, if the game has ended
 abbrev pub result_of : Game → List Reply
 result_of g = result_by (on_move g) (ended_of g)
 
--- the result, where the desk plays
+-- the result, if the desk plays
 abbrev pub result_at : Desk → List Reply
 result_at d = if plays d.mode then result_of d.game else []
 
@@ -76,7 +76,7 @@ protover_row say.List d = feature_list (table d) d.name
 abbrev pub offer_where : Bool → List Reply
 offer_where b = if b then told.OfferDraw ∷ [] else []
 
--- a draw is offered back where the desk plays a game that has not ended and the policy accepts
+-- a draw is offered back if the desk plays a game that has not ended and the policy accepts
 abbrev pub draw_row : Situation → List Reply
 draw_row h = offer_where (plays h.desk.mode && not (has_ended h.desk.game) && h.accepts)
 
@@ -138,7 +138,7 @@ shown_row h best = told.Move best ∷ (result_of (played h.desk.game best) ++ re
 abbrev pub end_row : Situation → List Reply
 end_row h = list_where h.desk.due h.desk ++ (told.TellError tell.Ended ∷ resign_where (resigns_at_end h))
 
--- the lines of what comes of an event, but for pongs
+-- the lines of what comes of an event, except pongs
 unfoldable pub row : Situation → Effect → List Reply
 row h (Refuses refusal line) = refused refusal line ∷ []
 row h LongLine = told.Error reasons.LineTooLong dots ∷ []

@@ -75,7 +75,7 @@ abbrev pub line_effect : Verdict → List ℕ → Effect
 line_effect (Refused r) line = Refuses r line
 line_effect (Accepted m) line = Accepts m
 
--- a current search tells of itself
+-- a current search reports on itself
 abbrev pub thinks : Option GoKind → Info → Effect
 thinks (Some k) facts = Thinks k facts
 thinks None facts = Nothing
@@ -144,7 +144,7 @@ begins_epoch h d = false
 
 -- THE DESK AFTER
 
--- the hint of a shown move counts where it is legal after that move
+-- the hint of a shown move counts if it is legal after that move
 abbrev pub hint_after : Game → Option Move → Option Move
 hint_after g None = None
 hint_after g (Some m) = if legal (now_of g) m then Some m else None
@@ -158,7 +158,7 @@ searched_by k g hint = g
 abbrev pub resigns_after : Situation → Move → Bool
 resigns_after h m = h.resigns && not (has_ended (played h.desk.game m))
 
--- `resign` is written where the engine ends
+-- `resign` is written when the engine ends
 abbrev pub resigns_at_end : Situation → Bool
 resigns_at_end h = owes_move h && not h.closed
 
@@ -192,11 +192,11 @@ is_boots d = false
 abbrev pub call_after : Bool → Situation → Effect → Call
 call_after closed h d = call_of closed (is_gone h.engine || is_death d) (desk_after_effect h d)
 
--- pings are answered where no Move is owed and the session is not closed
+-- pings are answered if no Move is owed and the session is not closed
 abbrev pub answers_pings : Bool → Bool → Bool
 answers_pings closed owes = not closed && not owes
 
--- the kept values are cleared where the epoch rises, but not by a step that writes `ponderhit`
+-- the kept values are cleared if the epoch rises, but not by a step that writes `ponderhit`
 abbrev pub clears_seen : Bool → Bool → Bool
 clears_seen rose hits = rose && not hits
 

@@ -34,7 +34,7 @@ use peer_words::GoKind;
 use think_text::Seen;
 use uci_lines::Info;
 
-// The hint of a shown move counts where it is legal after that move.
+// The hint of a shown move counts if it is legal after that move.
 fn hint_after(game: &Game, hint: Option<Move>) -> Option<Move>
     ensures { result ≡ hint_after game.now hint }
 {
@@ -79,7 +79,7 @@ impl Desk {
         }
     }
 
-    // Whether `resign` is written where the engine ends.
+    // Whether `resign` is written when the engine ends.
     pub(crate) fn resigns_at_end(&self, context: Context) -> bool
         requires { IsHintPlayable self.now }
         ensures { result ≡ resigns_at_end (at context self.now) }
@@ -179,7 +179,7 @@ impl Desk {
         leave_boot(&mut self.due, context.closed);
     }
 
-    // Writes the lines of an effect, but for pongs, and changes the desk.
+    // Writes the lines of an effect, except pongs, and changes the desk.
     #[tactic(auto, unfolding(crate::specs::Steps::desk_after_effect, crate::specs::Replies::row))]
     fn follow(&mut self, context: Context, effect: &Effect, out: &mut Out)
         requires sound { IsSound self.old }
@@ -213,7 +213,7 @@ impl Desk {
         }
     }
 
-    /// Writes the lines of an effect, but for pongs, none where the session is closed then, and changes the desk.
+    /// Writes the lines of an effect, except pongs, none if the session is closed then, and changes the desk.
     pub fn commit(&mut self, context: Context, effect: &Effect, closed: bool, out: &mut Out)
         requires sound { IsSound self.old }
         requires fits { IsFit (at context self.old) (effect_of effect.now) }

@@ -223,7 +223,7 @@ impl Desk {
         }
     }
 
-    // Puts the lines of an accepted message that tell of the desk before it.
+    // Puts the lines of an accepted message that report on the desk before it.
     pub(crate) fn put_before(&self, context: Context, message: &IfaceMsg, out: &mut Out)
         requires sound { IsSound self.now }
         requires room { length out.old.text + FEATURE_LIST ≤ out.old.room }
@@ -245,7 +245,7 @@ impl Desk {
         }
     }
 
-    // Puts the lines of an accepted message that tell of the desk after it: the result, if the desk plays.
+    // Puts the lines of an accepted message that report on the desk after it: the result, if the desk plays.
     pub(crate) fn put_after(&self, message: &IfaceMsg, out: &mut Out)
         requires { length out.old.text + SHORT_REPLY ≤ out.old.room }
         ensures lines { out.new

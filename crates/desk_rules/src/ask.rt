@@ -20,7 +20,7 @@ fn switch_text(on: bool) -> &'static [u8]
     if on { b"true" } else { b"false" }
 }
 
-// The order that switches a check option, where there is one.
+// The order that switches a check option, if there is one.
 fn switch(spelled: Option<&[u8]>, on: bool) -> Option<Setup<'_>>
     ensures { option_map setup_seen result ≡ option_map (switches on) (optional_now spelled.entry) }
 {
@@ -33,7 +33,7 @@ fn switch(spelled: Option<&[u8]>, on: bool) -> Option<Setup<'_>>
     }
 }
 
-// What sets an option where none is declared.
+// What sets an option if none is declared.
 fn no_options(message: &IfaceMsg) -> Result<Option<Asked<'static>>, OptFault>
     ensures { answer_seen result ≡ asked [] (message_of message.now) }
 {
@@ -54,7 +54,7 @@ fn set(answer: Result<Option<Asked<'_>>, OptFault>) -> Option<Setup<'_>>
 }
 
 impl Desk {
-    // The order that tells a check option, where that counts as declared.
+    // The order that sets a check option, if that counts as declared.
     fn tells(&self, name: &'static [u8], on: bool) -> Option<Setup<'_>>
         ensures { option_map setup_seen result ≡ tells (table self.now) name.now on }
     {
@@ -114,14 +114,14 @@ impl Desk {
         }
     }
 
-    // The order that tells whether to ponder, when Boot is left.
+    // The order that sets whether to ponder, when Boot is left.
     pub(crate) fn ponder_at_boot(&self) -> Option<Setup<'_>>
         ensures { option_map setup_seen result ≡ ponder_at_boot self.now }
     {
         switch(self.options.check_name(b"Ponder"), self.pondering)
     }
 
-    // The order that tells of analysis, when Boot is left.
+    // The order that sets analysis, when Boot is left.
     pub(crate) fn analysis_at_boot(&self) -> Option<Setup<'_>>
         ensures { option_map setup_seen result ≡ analysis_at_boot self.now }
     {

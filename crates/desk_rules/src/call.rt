@@ -92,7 +92,7 @@ fn is_moveless(end: Option<End>) -> bool
     }
 }
 
-// Whether the side on move has a legal move: the game has not ended for want of one.
+// Whether the side on move has a legal move: the game has not ended for lack of one.
 fn has_legal(game: &Game) -> bool
     ensures { result ≡ has_legal (now_of game.now) }
 {
@@ -100,7 +100,7 @@ fn has_legal(game: &Game) -> bool
 }
 
 impl Desk {
-    // The declared spelling of a check option, where the options count as declared.
+    // The declared spelling of a check option, if the options count as declared.
     pub(crate) fn spelled(&self, name: &[u8]) -> Option<&[u8]>
         ensures { optional_now result ≡ check_named name.now (table self.now) }
     {
@@ -162,7 +162,7 @@ impl Desk {
         }
     }
 
-    /// What the desk calls for, where the session is closed or not and the engine is Gone or not.
+    /// What the desk calls for; `closed` says whether the session is closed, `gone` whether the engine is Gone.
     #[tactic(auto, unfolding(crate::specs::Desk::call_of))]
     pub fn call(&self, closed: bool, gone: bool) -> Call
         requires { IsHintPlayable self.now }

@@ -21,7 +21,7 @@ pub struct Desk {
     pub post: bool,
     pub pondering: bool,
     pub clocks: Clocks,
-    /// The move that the engine expects, where it is legal.
+    /// The move that the engine expects, if it is legal.
     pub hint: Option<Move>,
     pub pings: Pings,
     pub options: Options,
@@ -30,7 +30,7 @@ pub struct Desk {
     pub name: EngineName,
     /// Whether the feature list is due.
     pub due: Talk,
-    /// What the open search told.
+    /// What the open search reported.
     pub seen: Seen,
 }
 

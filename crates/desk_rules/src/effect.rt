@@ -56,7 +56,7 @@ pub enum Effect<'a> {
     /// The engine leaves Boot.
     Boots,
     Readies,
-    /// A current search of this kind tells of itself.
+    /// A current search of this kind reports on itself.
     Thinks { kind: GoKind, info: Info<'a> },
     /// A current search for a move is answered by a legal move, perhaps with a hint.
     Shows { best: Move, hint: Option<Move> },
@@ -73,11 +73,11 @@ pub enum Effect<'a> {
 pub enum Asks<'a> {
     /// What a line asks for, if it asks for anything.
     One(Option<Setup<'a>>),
-    /// What the engine is told when it leaves Boot.
+    /// What is set when the engine leaves Boot.
     Two(Option<Setup<'a>>, Option<Setup<'a>>),
 }
 
-/// What is decided of an event, but for what it asks for.
+/// What is decided of an event, except what it asks for.
 #[derive(Clone, Copy)]
 pub struct Ruling<'a> {
     pub effect: Effect<'a>,

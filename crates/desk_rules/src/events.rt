@@ -34,7 +34,7 @@ fn is_getting(engine: EngineState) -> bool
     matches!(engine, EngineState::Getting)
 }
 
-// The kind of the open search, where it is current.
+// The kind of the open search, if it is current.
 fn current(engine: EngineState) -> Option<GoKind>
     ensures { result ≡ current engine }
 {

@@ -1,4 +1,4 @@
-//! The desk: what comes of an event, what it changes, what it asks of the engine, and what the interface is told.
+//! The desk: what comes of an event, what it changes, what it asks of the engine, and what is written to the interface.
 #![tactic(auto)]
 
 mod after;

@@ -7,7 +7,7 @@ use arrayvec::ArrayVec;
 use feature_talk::shown_name;
 use std::marker::Model;
 
-/// The name that the engine is shown by: the last one it gave, where that can be shown.
+/// The name that the engine is shown by: the last one it gave, if that can be shown.
 #[derive(Drop)]
 pub struct EngineName {
     text: ArrayVec<u8, 256>,

@@ -162,7 +162,7 @@ fn put_batch(held: &Held, out: &mut Out)
     out.put(b"isready\n");
 }
 
-/// Puts the orders that were chosen, where these are held.
+/// Puts the orders that were chosen, if these are held.
 #[tactic(auto, unfolding(uci_lines::specs::Orders::order_text))]
 pub fn put_chosen(held: &Held, desk: &Desk, orders: Orders, out: &mut Out)
     requires sound { IsSound desk.now }

@@ -20,10 +20,10 @@ pub(crate) const SHOWN_MOVE: usize = 400;
 /// The replies to a line that is obeyed.
 pub(crate) const OBEYED: usize = FEATURE_LIST + 200;
 
-/// The replies where the engine ends.
+/// The replies when the engine ends.
 pub(crate) const ENGINE_END: usize = FEATURE_LIST + SHOWN_MOVE;
 
-/// All replies of a step but for pongs.
+/// All replies of a step except pongs.
 pub const STEP_REPLIES: usize = FEATURE_LIST + 3_000;
 
 pub(crate) const POSITION_LINE: usize = POSITION_TEXT + 1;

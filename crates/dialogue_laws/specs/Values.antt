@@ -32,7 +32,7 @@ LastAskedStands o =
     (trace : List Step) (order : Order) → Lawful o trace
     → last_for order (written trace ++ (state o trace).held) ≡ last_for order (asked_for o trace)
 
--- So where a search is begun, the last value that was written for an option is the last one that was asked for.
+-- So if a search is begun, the last value that was written for an option is the last one that was asked for.
 abbrev pub SearchesHaveSettings : Settings → Type 0
 SearchesHaveSettings o =
     (step : Step) (trace : List Step) (order : Order) → Lawful o (step ∷ trace) → begins_search step.orders ≡ true

@@ -4,7 +4,7 @@ ghost use Rattle.dialogue_laws.specs.Pings.{NoneIsHeld, PingsHavePongs, PongsWai
 use policy_rules::Settings;
 
 /// A law: each accepted ping gets one pong, in order, or is still held; no pong is written while a Move is owed, and
-/// no ping is held else in a session that is not closed.
+/// otherwise no ping is held in an open session.
 pub fn pings_get_pongs(settings: Settings)
     ensures pongs { PingsHavePongs settings }
     ensures wait { PongsWait settings }

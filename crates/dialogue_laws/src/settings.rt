@@ -3,7 +3,7 @@ ghost use Rattle.dialogue_laws.specs.Values.{LastAskedStands, SearchesHaveSettin
 
 use policy_rules::Settings;
 
-/// A law: the last value that was asked for an option is the last that was written, or is held; where a search is
+/// A law: the last value that was asked for an option is the last that was written, or is held; if a search is
 /// begun it was written.
 pub fn last_settings_stand(settings: Settings)
     ensures stand { LastAskedStands settings }

@@ -253,7 +253,7 @@ const ENGINE_LOST: Ends = Ends {
     closed: false,
 };
 
-/// A mark, and the sides that have ended after it where both had begun.
+/// A mark, and the sides that have ended after it if both had begun.
 const ENDS_AFTER: [(&'static str, Ends); 10] = [
     ("x quit", QUIT),
     ("x  quit now", QUIT),

@@ -36,7 +36,7 @@ const SIGHT: Context = Context {
 
 const PONDER_IS_OPTION: &str = "u option name Ponder type check default false";
 
-/// A desk with the orders that wait, and what the interface is told.
+/// A desk with the orders that wait, and what is written to the interface.
 #[derive(Drop)]
 struct Bench {
     desk: Desk,
@@ -45,7 +45,7 @@ struct Bench {
 }
 
 /// An event, and what comes of it: the state of the engine before it, its mark, the effect,
-/// whether the epoch rises, the call after it, and what the interface is told.
+/// whether the epoch rises, the call after it, and what is written to the interface.
 type Turn = (
     &'static str,
     &'static str,
@@ -66,7 +66,7 @@ fn is_of_kind(kind: GoKind, call: Call) -> bool
     }
 }
 
-// The kind of the open search, where it is current.
+// The kind of the open search, if it is current.
 fn current(engine: EngineState) -> Option<GoKind>
     ensures { result ≡ current engine }
 {

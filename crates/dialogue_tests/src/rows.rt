@@ -27,7 +27,7 @@ pub fn expect_text(rt: &impl Abort, text: &[u8], want: &str, row: &str) {
     expect(rt, text == want.as_bytes(), row);
 }
 
-/// The event that a mark tells.
+/// The event that a mark stands for.
 pub fn event_in<'a>(rt: &impl Abort, mark: &'a str) -> Event<'a>
     ensures { IsLineEvent (event_of result) }
 {

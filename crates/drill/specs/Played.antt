@@ -9,7 +9,7 @@ use Rattle.session_script.specs.Script.{events}
 use Rattle.drill.specs.Rounds.{Drill, Rounds, starting, greeting, preparation, closing}
 use Rattle.drill.specs.Tally.{tally_of, line_of}
 
--- The line tells the counts of the lawful trace of the drill's events with the usual settings, and the position of its game.
+-- The line gives the counts of the lawful trace of the drill's events with the usual settings, and the position of its game.
 pub record Drills (number count : ℕ) (line : List ℕ) : Type 0 where
   pub rounds : List Event
   pub last : Drill

@@ -55,7 +55,7 @@ lapsed (Some hint) = no_move ∷ []
 abbrev pub new_game : Option Move → List Event
 new_game hint = Iface (codes "new") ∷ (lapsed hint ++ Engine (codes "readyok") ∷ [])
 
--- a new game, where the one that stands is spent
+-- a new game, if the one that stands is spent
 abbrev pub renewal : Drill → List Event
 renewal s = if is_spent s.game then new_game s.hint else []
 
@@ -87,14 +87,14 @@ answer m = thinks m ∷ Engine (codes "bestmove " ++ text_of m) ∷ []
 abbrev pub answer_with : Move → Move → List Event
 answer_with m hint = thinks m ∷ Engine (codes "bestmove " ++ (text_of m ++ (codes " ponder " ++ text_of hint))) ∷ []
 
--- the engine ponders on the hint where the game has not ended, and would not have after the hint
+-- the engine ponders on the hint if the game has not ended, and would not have after the hint
 abbrev pub ponders : Game → Move → Bool
 ponders g hint = not (has_ended g) && not (has_ended (with_ply g (ply_of hint)))
 
 abbrev pub hinted : Drill → Move → Drill
 hinted s hint = record { seed = next s.seed; game = s.game; hint = (if ponders s.game hint then Some hint else None) }
 
--- what the engine answers, where the game has not ended: with a hint, where the side then on move has a legal move
+-- what the engine answers, if the game has not ended: with a hint, if the side then on move has a legal move
 pub data Answers (s : Drill) (es : List Event) (s' : Drill) : Type 0 where
   Nothing : has_ended s.game ≡ true → es ≡ [] → s' ≡ s → Answers s es s'
   Alone : (m : Move) → has_ended s.game ≡ false → Draws s m → ¬ HasLegal (now_of (moved s m).game) → es ≡ answer m → s' ≡ moved s m → Answers s es s'
@@ -102,7 +102,7 @@ pub data Answers (s : Drill) (es : List Event) (s' : Drill) : Type 0 where
 
 -- ROUNDS
 
--- a round: a new game where one is due, a move of the user and one of the engine
+-- a round: a new game if one is due, a move of the user and one of the engine
 pub record Round (s : Drill) (es : List Event) (s' : Drill) : Type 0 where
   pub entered : Move
   pub drawn : Draws (renewed s) entered

@@ -46,7 +46,7 @@ counted_texts t iface engine = record {
   shown = (if shows_move iface then t.shown + 1 else t.shown);
 }
 
--- a step of this event was taken; where it is lawful, it was counted
+-- a step of this event was taken; if it is lawful, it was counted
 pub record Steps (old new : Parts) (e : Event) (tally_old tally_new : Tally) : Type 0 where
   pub step : Step
   pub event : step.event ≡ e

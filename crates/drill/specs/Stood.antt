@@ -25,7 +25,7 @@ pub record HintDrawn (old new : Drill) (m : Move) : Type 0 where
   pub sent : Sent old.session new.session (answer_with m hint)
   pub stand : stand_of new ≡ hinted (stand_of old) hint
 
--- the engine answered, where the game had not ended
+-- the engine answered, if the game had not ended
 pub record EngineMoves (old new : Drill) : Type 0 where
   pub answered : List Event
   pub answers : Answers (stand_of old) answered (stand_of new)

@@ -8,7 +8,7 @@ use Rattle.drill.specs.declared.tally.Tally.{Tally}
 abbrev pub nothing : Tally
 nothing = record { steps = 0; to_iface = 0; to_engine = 0; shown = 0 }
 
--- one step more, with the lines that it wrote to both peers and the moves that it told
+-- one step more, with the lines that it wrote to both peers and the moves that it showed
 abbrev pub counted : Tally → Step → Tally
 counted t step = record {
   steps = t.steps + 1;

@@ -60,7 +60,7 @@ impl Session {
         self.engine(NO_MOVE);
     }
 
-    /// Begins a new game, where the engine may ponder on a hint.
+    /// Begins a new game; the engine may ponder on a hint.
     pub fn begin_game(&mut self, hint: Option<Move>)
         requires talking { self.old.core.ends ≡ talking }
         requires room { HasRoom 3 self.old }
@@ -102,7 +102,7 @@ impl Session {
         self.engine(NO_MOVE);
     }
 
-    // Tells what the engine thinks of.
+    // Reports what the engine thinks of.
     fn think(&mut self, m: Move)
         requires officer { IsOfficer m.promo }
         requires talking { self.old.core.ends ≡ talking }

@@ -71,7 +71,7 @@ impl Drill {
         has_ended(&self.game) || self.game.plies() >= SPENT_PLIES
     }
 
-    // Begins a new game where one is due.
+    // Begins a new game if one is due.
     fn renew(&mut self)
         requires talking { self.old.session.core.ends ≡ talking }
         requires room { HasRoom 3 self.old.session }
@@ -142,7 +142,7 @@ impl Drill {
         self.hint = None;
     }
 
-    // Draws and answers with a move of the engine, where the game has not ended.
+    // Draws and answers with a move of the engine, if the game has not ended.
     fn move_engine(&mut self)
         requires quiet { self.old.hint ≡ None }
         requires plies { length self.old.game.moves < SPENT_PLIES + 1 }
@@ -214,7 +214,7 @@ fn ponders(game: &Game, hint: Move) -> bool
     game.ended().is_none() && game.ended_after(hint).is_none()
 }
 
-// The hint, where the engine ponders on it.
+// The hint, if the engine ponders on it.
 fn kept(game: &Game, hint: Move) -> Option<Move>
     requires { IsLegal (now_of game.now) hint.from.index hint.to.index hint.promo }
     ensures { result ≡ (if ponders game.now hint then Some hint else None) }

@@ -34,7 +34,7 @@ fn count_lines(text: &[u8]) -> u64
     count
 }
 
-// A step that shows a move tells it first.
+// A step that shows a move writes it first.
 fn shows_move(iface: &[u8]) -> bool
     ensures { result ≡ shows_move iface.now }
 {

@@ -15,7 +15,7 @@ pub record Feature : Type 0 where
 abbrev pub feature_of : Part → Feature
 feature_of p = record { name = p.name.now; value = p.value.now }
 
--- a feature, or something else that is passed over; and what follows
+-- a feature, or something else that is ignored; and what follows
 pub record Cut : Type 0 where
   pub part : Option Feature
   pub rest : List ℕ
@@ -45,7 +45,7 @@ value_cut name (b ∷ bs) =
     then found name (before_first is_quote bs) (after_first is_quote bs)
     else found name (before_first is_white (b ∷ bs)) (drop (token_end (b ∷ bs)) (b ∷ bs))
 
--- passed over up to the next white space
+-- ignored up to the next white space
 abbrev pub skipped : List ℕ → Cut
 skipped text = record { part = None; rest = drop (token_end text) text }
 

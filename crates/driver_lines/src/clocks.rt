@@ -94,7 +94,7 @@ fn hear(field: Field, clocks: Clocks, text: &[u8]) -> Clocks
 }
 
 /// The numbers of a `go` order (UCI, "go"): the last one behind each word counts, and a negative one is 0. Other
-/// tokens are passed over.
+/// tokens are ignored.
 #[tactic(auto, unfolding(crate::specs::Clocks::clocks_in))]
 pub fn read_clocks(line: &[u8]) -> Clocks
     ensures { result ≡ clocks_in line.now }

@@ -14,7 +14,7 @@ pub struct Part<'a> {
     pub value: &'a [u8],
 }
 
-/// What stands at the front of a text: a feature, or something else that is passed over; and what follows.
+/// What stands at the front of a text: a feature, or something else that is ignored; and what follows.
 #[derive(Clone, Copy)]
 pub struct Cut<'a> {
     pub part: Option<Part<'a>>,
@@ -75,7 +75,7 @@ fn cut_value<'a>(name: &'a [u8], text: &'a [u8]) -> Cut<'a>
     }
 }
 
-/// Passes over the bytes up to the next white space.
+/// Skips the bytes up to the next white space.
 fn skip(text: &[u8]) -> Cut<'_>
     ensures { cut_seen result ≡ skipped text.now }
 {

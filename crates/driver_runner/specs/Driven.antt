@@ -9,7 +9,7 @@ use Rattle.host_run.specs.Outside.{Outside, AreTold, IsClosed}
 use Rattle.driver_runner.specs.declared.run.RunEnd.{RunEnd}
 use Rattle.driver_runner.specs.Ran.{Ran}
 
--- what the readers and the loop answered is told
+-- what the readers and the loop answered is reported
 pub record TellsRun (run : RunEnd) (failures : Failures) : Type 0 where
   pub iface_read : failures.iface_read ≡ failed run.iface
   pub iface_write : failures.iface_write ≡ run.done.output
@@ -23,7 +23,7 @@ pub record TellsRun (run : RunEnd) (failures : Failures) : Type 0 where
 abbrev pub LogTold : Books → Streams → Type 0
 LogTold books last = (books.logs ≡ last.into.log.taken ∷ []) ⊎ (books.logs ≡ [])
 
--- why a run that was made tells of no memory: a reader had none for a line, or the log was not opened
+-- why a run that was made reports no memory: a reader had none for a line, or the log was not opened
 abbrev pub LackedMemory : Books → RunEnd → Type 0
 LackedMemory books run =
     (lacked_memory run.iface ≡ true) ⊎ ((lacked_memory run.engine ≡ true) ⊎ (books.logs_out ≡ 0))
@@ -49,7 +49,7 @@ pub record Driven (before after : Outside) (failures : Failures) : Type 0 where
 pub record Leaves (before after : Outside) (failures : Failures) : Type 0 where
   pub told : AreTold before after failures
   pub closed : IsClosed after.books failures
-  -- where no engine was started, nothing was read or written
+  -- if no engine was started, nothing was read or written
   pub nothing : after.books.runs_out ≡ 0
       → (after.input ≡ before.input) × (after.output ≡ before.output)
   pub unstarted : failures.engine_start ≡ true → after.books.runs_out ≡ 0

@@ -18,12 +18,12 @@ is_long e = false
 abbrev pub is_told : Event → Bool
 is_told e = not (is_long e)
 
--- long lines are passed over
+-- long lines are ignored
 abbrev pub without_long : List Event → List Event
 without_long events = filter is_told events
 
--- A new driver took the events that were received, in order and but for long lines, until both sides
--- had ended. Each sink took what was given for it, or a front of that where it failed.
+-- A new driver took the events that were received, in order and except long lines, until both sides
+-- had ended. Each sink took what was given for it, or a front of that if it failed.
 pub record Looped (received : List Event) (before after : Sinks) (end : LoopEnd) : Type 0 where
   pub events : List Event
   -- what the driver was after each of them

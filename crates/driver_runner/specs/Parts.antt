@@ -6,7 +6,7 @@ use Rattle.cecp_driver.specs.Driver.{opening}
 use Rattle.cecp_driver.specs.declared.script.TheConstants.{EVENT_ROOM}
 use Rattle.driver_runner.specs.declared.parts.Parts.{Parts}
 
--- nothing was told, sent or taken yet
+-- nothing was written, sent or taken yet
 pub record AreReady (parts : Parts) : Type 0 where
   pub driver : parts.driver ≡ opening
   pub room : EVENT_ROOM ≤ parts.text.room

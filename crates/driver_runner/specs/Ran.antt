@@ -15,14 +15,14 @@ use Rattle.sink_offers.specs.Took.{LogTook}
 use Rattle.driver_runner.specs.declared.run.RunEnd.{RunEnd}
 use Rattle.driver_runner.specs.Looped.{without_long}
 
--- The peer's events among these are all that arrived from it, but for long lines.
+-- The peer's events among these are all that arrived from it, except long lines.
 pub record ComeFrom (p : Peer) (before after : Supplied) (events : List Event) (end : ReadEnd) : Type 0 where
   pub arrived : List Event
   pub did_arrive : Arrived p before after arrived end
   pub are : sent_by p events ≡ without_long arrived
 
 -- A new driver took what arrived from both peers, in the order in which it came. Each sink took what
--- was given for it, or a front of that where it failed.
+-- was given for it, or a front of that if it failed.
 pub record Ran (before after : Streams) (end : RunEnd) : Type 0 where
   pub events : List Event
   -- what the driver was after each of them

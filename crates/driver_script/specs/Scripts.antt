@@ -18,7 +18,7 @@ abbrev pub mark_in : Piece → Option Mark
 mark_in (Whole line) = mark_of line
 mark_in TooLong = None
 
--- The marks of written lines are passed over.
+-- The marks of written lines are ignored.
 abbrev pub event_in : Option Mark → List Event
 event_in (Some (Happens event)) = event ∷ []
 event_in mark = []

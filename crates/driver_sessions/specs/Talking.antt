@@ -1,4 +1,4 @@
--- What a host keeps whose parts tell nothing of what they gave and took.
+-- What a host keeps whose parts report nothing of what they gave and took.
 use Rattle.std.specs.Prelude.{ℕ}
 use Rattle.child_engine.specs.Hosts.{Books}
 use Rattle.child_engine.specs.Real.{untold_runs}

@@ -97,7 +97,7 @@ fn a_position_is_analysed(rt: HostRuntime) -> Result<(), Fail> {
     Ok(())
 }
 
-// Thinking lines with long moves, and two that tell nothing: one of statistics, and one whose move is not legal.
+// Thinking lines with long moves, and two that report nothing: one of statistics, and one whose move is not legal.
 const THINKING_LINES: [Row; 10] = [
     ("x uci", "", GREETING),
     (FEATURES, READY, ANSWERS),

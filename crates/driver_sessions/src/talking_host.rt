@@ -10,7 +10,7 @@ use line_io::{Failed, MemSink, NoMemory, Sink};
 use std::alloc::Global;
 use std::sync::atomic::AtomicU64;
 
-/// A log that tells its host alone what it took.
+/// A log that shows its host alone what it took.
 #[derive(Drop)]
 pub struct Log {
     bytes: MemSink,
@@ -68,7 +68,7 @@ impl<'a> TalkingHost<'a> {
     }
 }
 
-// One more, where the source had failed.
+// One more, if the source had failed.
 fn raised(count: u64, part: u64) -> u64
     ensures { RisesBy part count result }
 {

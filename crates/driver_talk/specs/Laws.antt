@@ -52,7 +52,7 @@ abbrev pub open_count : Option Search → ℕ
 open_count None = 0
 open_count (Some s) = 1
 
--- Each accepted `go` has its one `bestmove`, but for the one that is open. This holds after each call, so no
+-- Each accepted `go` has its one `bestmove`, except the one that is open. This holds after each call, so no
 -- `bestmove` comes before its `go`, and none twice.
 abbrev pub AnsweredOnce : Type 0
 AnsweredOnce = (cs : List Call) → gos cs ≡ answers cs + open_count (run cs).search
@@ -64,7 +64,7 @@ tells_to_think (downs.Play clocks hurried) = true
 tells_to_think (downs.Resume clocks) = true
 tells_to_think down = false
 
--- The engine was told to think since the last `bestmove`.
+-- The engine was set to think since the last `bestmove`.
 abbrev pub thinking : List Call → Bool
 thinking [] = false
 thinking (c ∷ cs) = if is_answer (deed_after cs c).up then false else tells_to_think (deed_after cs c).down || thinking cs
@@ -88,7 +88,7 @@ is_move kinds.Move = true
 is_move kinds.Ponder = false
 is_move kinds.Analyse = false
 
--- An open search is one whose engine was told to think, an analysis that was not stopped, or one that waits for
+-- An open search is one whose engine was set to think, an analysis that was not stopped, or one that waits for
 -- the answer to a ping.
 abbrev pub IsBusy : List Call → Search → Type 0
 IsBusy cs s = (thinking cs ≡ true) ⊎ (((is_move s.kind ≡ false) × (stopped cs ≡ false)) ⊎ IsSome (run cs).awaited)
@@ -142,6 +142,6 @@ IsAnswered None c = Unit {0}
 IsAnswered (Some ping) (calls.Pong n) = ping ≡ n
 IsAnswered (Some ping) c = ⊥
 
--- The engine is told to think or to analyse only if no ping is awaited, or by the pong.
+-- The engine is set to think or to analyse only if no ping is awaited, or by the pong.
 abbrev pub PongsComeFirst : Type 0
 PongsComeFirst = (t : Talk) (c : Call) → begins_search (turn_of t c).deed.down ≡ true → IsAnswered t.awaited c

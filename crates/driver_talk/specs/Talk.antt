@@ -33,7 +33,7 @@ use Rattle.driver_talk.specs.declared.talk.TheConstants.{LAST_PING}
 abbrev pub first_talk : Talk
 first_talk = record { stage = stages.Fresh; gone = false; awaited = None; pings = 0; search = None }
 
--- what is known of the engine's game stays, but for what is set up
+-- what is known of the engine's game stays, except what is set up
 abbrev pub give : Talk → Up → Down → Turn
 give t up down = record { talk = t; deed = record { up = up; down = down; board = boards.Same } }
 
@@ -66,7 +66,7 @@ search_at stages.Over search = None
 abbrev pub open_search : Talk → Option Search
 open_search t = search_at t.stage t.search
 
--- a `go` and a `position` are accepted behind `uci`, before `quit`, where no search is open
+-- a `go` and a `position` are accepted behind `uci`, before `quit`, if no search is open
 abbrev pub is_free_at : Stage → Option Search → Bool
 is_free_at stages.Open None = true
 is_free_at stages.Open (Some s) = false
@@ -113,7 +113,7 @@ after_ready t = ready_at t t.stage
 abbrev pub begun : Wanted → Move → Phase → Search
 begun w kept phase = record { kind = w.kind; clocks = w.clocks; kept = kept; phase = phase }
 
--- The engine is told to think, or will be once it has answered the ping that is awaited.
+-- The engine is set to think, or will be once it has answered the ping that is awaited.
 abbrev pub played_by : Option ℕ → Talk → Search → Clocks → Turn
 played_by None t s clocks = give (at_phase t s (Thinks false)) ups.Nothing (downs.Play clocks false)
 played_by (Some n) t s clocks = quiet (at_phase t s (WaitsToThink false))
@@ -121,7 +121,7 @@ played_by (Some n) t s clocks = quiet (at_phase t s (WaitsToThink false))
 abbrev pub played : Talk → Search → Clocks → Turn
 played t s clocks = played_by t.awaited t s clocks
 
--- The engine is told to analyse, or will be once it has answered the ping that is awaited.
+-- The engine is set to analyse, or will be once it has answered the ping that is awaited.
 abbrev pub opened_by : Option ℕ → Talk → Search → Clocks → Turn
 opened_by None t s clocks = give (at_phase t s Analyses) ups.Nothing (downs.Analyse clocks None)
 opened_by (Some n) t s clocks = quiet (at_phase t s (WaitsToAnalyse None))

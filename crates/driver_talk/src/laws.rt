@@ -19,7 +19,7 @@ pub fn when_nothing_is_given()
     ensures no_move { NoMoveHasCause }
 {}
 
-/// The `ping` that is awaited is the one written last, and before its `pong` the engine is told neither to think nor to
+/// The `ping` that is awaited is the one written last, and before its `pong` the engine is set neither to think nor to
 /// analyse.
 pub fn searches_wait_for_pongs()
     ensures written { AwaitedWasWritten }

@@ -21,7 +21,7 @@ fn begun(wanted: Wanted, kept: Move, phase: Phase) -> Search
 }
 
 impl Talk {
-    /// The engine is told to think, once no `ping` is awaited.
+    /// The engine is set to think, once no `ping` is awaited.
     fn played(self, search: Search, clocks: Clocks) -> Turn
         ensures { result ≡ played self search clocks }
     {
@@ -38,7 +38,7 @@ impl Talk {
         }
     }
 
-    /// The engine is told to analyse, once no `ping` is awaited.
+    /// The engine is set to analyse, once no `ping` is awaited.
     fn opened(self, search: Search, clocks: Clocks) -> Turn
         ensures { result ≡ opened self search clocks }
     {
@@ -72,7 +72,7 @@ impl Talk {
         }
     }
 
-    /// The engine is told to leave analysis.
+    /// The engine is to leave analysis.
     fn left(self, search: Search, next: Next) -> Turn
         ensures { result ≡ left self search next }
     {

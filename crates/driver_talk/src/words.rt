@@ -34,24 +34,24 @@ pub struct Thought {
 pub enum Next {
     /// The search is answered.
     Answer,
-    /// The engine is told to think on its move.
+    /// The engine is set to think on its move.
     Play,
 }
 
 /// How far a search has come.
 #[derive(Clone, Copy)]
 pub enum Phase {
-    /// The engine was told to think on its move, and perhaps to hurry.
+    /// The engine was set to think on its move, and perhaps to hurry.
     Thinks { hurried: bool },
-    /// The engine was told to analyse.
+    /// The engine was set to analyse.
     Analyses,
-    /// An analysis of which the engine, which cannot analyse, was told nothing.
+    /// An analysis of which the engine, which cannot analyse, knows nothing.
     Rests,
-    /// The engine was told to leave analysis, and to answer a `ping` then.
+    /// The engine is to leave analysis, and to answer a `ping` then.
     Leaves(Next),
-    /// The engine is told to think, and perhaps to hurry, once it has answered an earlier `ping`.
+    /// The engine is set to think, and perhaps to hurry, once it has answered an earlier `ping`.
     WaitsToThink { hurried: bool },
-    /// The engine is told to analyse once it has answered an earlier `ping`, and perhaps to leave at once.
+    /// The engine is set to analyse once it has answered an earlier `ping`, and perhaps to leave at once.
     WaitsToAnalyse(Option<Next>),
 }
 
@@ -86,11 +86,11 @@ pub enum Down {
     Greeting,
     /// `quit`
     Quit,
-    /// The position is set up, the clocks are set, and the engine is told to think, and perhaps to hurry.
+    /// The position is set up, the clocks are set, and the engine is set to think, and perhaps to hurry.
     Play { clocks: Clocks, hurried: bool },
-    /// The clocks are set, and the engine is told to think.
+    /// The clocks are set, and the engine is set to think.
     Resume { clocks: Clocks },
-    /// The position is set up for this search, and the engine is told to analyse; and perhaps to leave, with the
+    /// The position is set up for this search, and the engine is set to analyse; and perhaps to leave, with the
     /// `ping` of this number.
     Analyse { clocks: Clocks, ping: Option<u32> },
     /// `?`

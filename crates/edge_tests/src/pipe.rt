@@ -26,7 +26,7 @@ struct Given<'a> {
     fails: &'a [u64],
 }
 
-/// Sends the lines of these bytes, and tells how that ends.
+/// Sends the lines of these bytes, and reports how that ends.
 fn send(rt: &(impl Abort + Wait), alloc: Global, given: &Given<'_>, to: &mut PipeSend) -> ReadEnd
     requires piece { 0 < given.now.piece }
     requires sender { IsSender to.old }

@@ -13,7 +13,7 @@ use Rattle.engine_revival.specs.Lists.{batch_text}
 abbrev pub line_at : List ℕ → Span → List ℕ
 line_at texts s = take s.len (drop s.at texts)
 
--- the order that a line spells, where it spells one
+-- the order that a line spells, if it spells one
 abbrev pub or_uci : Option Order → Order
 or_uci None = Uci
 or_uci (Some order) = order

@@ -21,7 +21,7 @@ use Rattle.engine_revival.specs.Calls.{Call, Order, Heard, Ended, Begin, Over, m
 
 -- CALLS IN A ROW, THE LAST ONE FIRST
 
--- what they leave, where so many lives may be begun
+-- what they leave, if so many lives may be begun
 abbrev pub state_of : ℕ → List Call → State
 state_of lives [] = opening lives
 state_of lives (call ∷ calls) = after (state_of lives calls) call
@@ -33,7 +33,7 @@ MayCome lives (call ∷ calls) = MayCome lives calls × (may (state_of lives cal
 
 -- THE LINES TO A LIFE
 
--- The dialogue of a life: open, closed by `quit`, gone where the life has ended, or broken by an order where it may not stand.
+-- The dialogue of a life: open, closed by `quit`, gone if the life has ended, or broken by an order where it may not stand.
 pub data Wire : Type 0 where
   Open : (state : DialogueState) → Wire
   Closed : Wire
@@ -102,7 +102,7 @@ FitsUp said.Report state = is_search state ≡ true
 FitsUp said.Best state = is_search state ≡ true
 FitsUp said.Nothing state = ⊥
 
--- A line of the engine is given up only where the upper dialogue waits for it. So a search gets one `bestmove` at most.
+-- A line of the engine is given up only if the upper dialogue waits for it. So a search gets one `bestmove` at most.
 abbrev pub GivenFits : Type 0
 GivenFits =
     (lives : ℕ) (calls : List Call) (line : List ℕ) → MayCome lives calls → gives (state_of lives calls) (said_in line) ≡ true
@@ -119,7 +119,7 @@ abbrev pub IsAnswerIn : Answer → State → Type 0
 IsAnswerIn answers.Nothing s = Unit {0}
 IsAnswerIn answer s = (s.life ≡ life.Over) × FitsUp (answer_says answer) s.upper
 
--- Something stands in for the engine only where no life follows, and only where the upper dialogue waits for it.
+-- Something stands in for the engine only if no life follows, and only if the upper dialogue waits for it.
 abbrev pub AnswersFit : Type 0
 AnswersFit = (s : State) → IsAnswerIn (answer_of s) s
 
@@ -163,7 +163,7 @@ abbrev pub accepted_read : State → Option AnyOrder → List AnyOrder
 accepted_read s None = []
 accepted_read s (Some order) = accepted_by (accepted s order) order
 
--- the order that a call brought, where it was accepted; `quit` left out
+-- the order that a call brought, if it was accepted; `quit` left out
 abbrev pub accepted_in : State → Call → List AnyOrder
 accepted_in s (Order line) = if is_quit line then [] else accepted_read s (order_in line)
 accepted_in s call = []
@@ -183,7 +183,7 @@ life_orders lives [] = []
 life_orders lives (call ∷ calls) = carried call (life_orders lives calls) ++ orders_of (state_of lives calls) call
 
 -- Wherever a life is given a search, the orders behind its settings are those of the open upper search: they lead from an idle
--- engine to the state that the search is in. And unless a setting had no room, this life was told of each option the value that it
+-- engine to the state that the search is in. And unless a setting had no room, this life was given of each option the value that it
 -- was set to last, whenever that was.
 pub record IsGiven (lives : ℕ) (call : Call) (calls : List Call) : Type 0 where
   pub orders_are : settled_orders (turned (state_of lives calls) call) ≡ (turned (state_of lives calls) call).unsent ++ (turned (state_of lives calls) call).search

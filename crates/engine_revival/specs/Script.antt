@@ -53,6 +53,6 @@ abbrev pub texts_from : State → List Event → List ℕ
 texts_from s [] = []
 texts_from s (event ∷ events) = event_text s event ++ texts_from (state_after s event) events
 
--- the script of an engine that is started again, where so many lives may be begun
+-- the script of an engine that is started again, if so many lives may be begun
 abbrev pub revival_script : ℕ → List Event → List ℕ
 revival_script lives events = texts_from (opening lives) events

@@ -156,7 +156,7 @@ is_given s state up got_all = false
 abbrev pub gives : State → Said → Bool
 gives s word = is_given word s.life s.upper (is_nil s.unsent)
 
--- the line, where it is given up
+-- the line, if it is given up
 abbrev pub given : State → List ℕ → List ℕ
 given s line = if gives s (said_in line) then line ++ line_feed ∷ [] else []
 

@@ -7,7 +7,7 @@ pub fn lives_are_in_order()
     ensures { LivesAreInOrder }
 {}
 
-/// The lines up stand only where they are waited for, those of the engine and those that stand in for it.
+/// The lines up stand only if they are waited for, those of the engine and those that stand in for it.
 pub fn lines_up_are_waited_for()
     ensures given { GivenFits }
     ensures answers { AnswersFit }

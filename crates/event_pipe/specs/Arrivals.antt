@@ -70,14 +70,14 @@ pub record Arrived (p : Peer) (before after : Supplied) (sent : List Event) (r :
   pub all : r ≡ read_ends.Done → sent ≡ arrivals p (items line_limit got)
   -- no byte is left, but behind `quit`
   pub at_end : r ≡ read_ends.Done → closed sent ≡ true → IfSome before.left (λ _. IsAtEnd after.left)
-  -- where reading failed: of the lines that a line feed ended
+  -- if reading failed: of the lines that a line feed ended
   pub at_fault : (f : ReadFault) → r ≡ read_ends.Fault f → sent ≡ arrivals p (whole line_limit got)
-  -- where there was no memory
+  -- if there was no memory
   pub cut : r ≡ read_ends.NoMemory → CutShort p (items line_limit got) sent
-  -- the source's count of faults rose where reading failed, and is as before else
+  -- the source's count of faults rose if reading failed, and otherwise is as before
   pub count : Tells before.faults after.faults (failed r)
 
--- what a turn has sent, where the call of the reader of lines answered this
+-- what a turn has sent, if the call of the reader of lines answered this
 abbrev pub Sends : Peer → Result Item ReadFault → List Event → List Event → Turn → Type 0
 Sends p r before now turns.More = IsTrue (goes_on r) × (now ≡ before ++ piece_events p (pieces_of (outcome r))) × (ended (piece_events p (pieces_of (outcome r))) ≡ false)
 Sends p r before now turns.Done = IsTrue (is_end_answer r) × (now ≡ before ++ last_event p ∷ [])

@@ -54,7 +54,7 @@ AreOne a b t = (sends_on a.sender ≡ receives_on t.receiver) × (sends_on b.sen
 abbrev pub AreWithinRoom : PipeSend → PipeSend → PipeTake → Type 0
 AreWithinRoom a b t = length (sent a) + length (sent b) ≤ length (taken t) + CHANNEL_ROOM
 
--- Of what a peer's sender sent a front was taken, and all of it where that has the peer's end.
+-- Of what a peer's sender sent a front was taken, and all of it if that has the peer's end.
 pub record Came (peer : Peer) (taken sent : List Event) : Type 0 where
   pub left : List Event
   pub front : sent ≡ sent_by peer taken ++ left

@@ -64,7 +64,7 @@ pub record Fits (seat : ℕ → Option ℕ) (sent : ℕ → List Event) (taken :
   pub first : v.role ≡ 0 → 0 < v.joined → (seat 1 ≡ none) × (v.first ≡ sent 1)
   pub second : v.role ≡ 0 → 1 < v.joined → (seat 2 ≡ none) × (v.second ≡ sent 2)
 
--- The rule, where the channel holds these events and the passes know this.
+-- The rule, if the channel holds these events and the passes know this.
 pub record Delivers (items : List Event) (views : List Known) : Type 0 where
   pub seat : ℕ → Option ℕ
   pub sent : ℕ → List Event

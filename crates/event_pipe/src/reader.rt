@@ -44,7 +44,7 @@ fn is_last(peer: Peer, line: &[u8]) -> bool
     }
 }
 
-// Reads once at most, and sends the next line where there is one.
+// Reads once at most, and sends the next line if there is one.
 fn read_turn<S: Source, R: Wait>(
     rt: &R,
     alloc: Global,

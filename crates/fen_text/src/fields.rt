@@ -1,4 +1,4 @@
-//! The fields of a text but for the board.
+//! The fields of a text except the board.
 ghost use Rattle.std.specs.Prelude.{◌≡◌, ◌==◌, length, Option, map, count_by};
 ghost use Rattle.std.specs.List.{slice_get, list_all};
 ghost use Rattle.std.specs.Option.{option_map, option_and_then};

@@ -100,7 +100,7 @@ fn read_squares(field: &[u8]) -> Option<[Man; 64]>
     squares.into_inner().ok()
 }
 
-/// Whether a position may have these men, but for its kings.
+/// Whether a position may have these men, apart from its kings.
 fn fits(men: &[Man; 64]) -> bool
     ensures { result ≡ fits_board men.now }
 {

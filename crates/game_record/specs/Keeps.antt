@@ -10,7 +10,7 @@ use Rattle.game_record.specs.declared.game.TheConstants.{MOST_PLIES}
 abbrev pub most_plies : ℕ
 most_plies = MOST_PLIES
 
--- how often the position after each move then stood, where these stood before the first
+-- how often the position after each move then stood, if these stood before the first
 abbrev pub times_of : List Position → Position → List Ply → List ℕ
 times_of before p [] = []
 times_of before p (m ∷ moves) = stood_in (played p m) (before ++ played p m ∷ []) ∷ times_of (before ++ played p m ∷ []) (played p m) moves

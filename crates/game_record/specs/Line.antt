@@ -1,4 +1,4 @@
--- The line that tells an engine the position of a game (UCI, April 2006, `position`).
+-- The line that gives an engine the position of a game (UCI, April 2006, `position`).
 use Rattle.std.specs.Prelude.{ℕ, ◌≡◌, ◌≤◌, ◌+◌, ◌*◌, Bool, ◌&&◌, ◌==◌, nat_lt, IsTrue, ◌↔◌, if◌then◌else◌, List, [], ◌∷◌, ◌++◌, length, Option, codes}
 use Rattle.std.specs.Option.{option_to_list}
 use Rattle.chess_board.specs.Board.{file_of, rank_of}

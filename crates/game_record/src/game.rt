@@ -17,7 +17,7 @@ use std::marker::Model;
 /// The most moves, of both sides, that a game has room for.
 pub const MOST_PLIES: usize = 12_000;
 
-/// The longest line that tells a game with a move that may follow, without its line feed.
+/// The longest `position` line of a game with a move that may follow, without its line feed.
 pub const POSITION_TEXT: usize = 120 + 6 * (MOST_PLIES + 1);
 
 /// Why a move is not taken.
@@ -163,7 +163,7 @@ impl Game {
         self.moves.len() as u32
     }
 
-    /// What holds of every game, told to a proof. It does nothing when it runs.
+    /// What holds of every game, for proofs alone. It does nothing when it runs.
     pub fn facts(&self)
         ensures start { IsPosition self.now.start }
         ensures legal { AreLegal self.now.start self.now.moves }
@@ -215,7 +215,7 @@ impl Game {
     }
 }
 
-/// The last of the positions, or the start where no move was played.
+/// The last of the positions, or the start if no move was played.
 fn last_position<'a>(start: &'a Position, positions: &'a [Position]) -> &'a Position
     ensures { (moves : List Ply) → positions.now ≡ later start.now moves
         → result.now ≡ now_after start.now moves }
@@ -226,7 +226,7 @@ fn last_position<'a>(start: &'a Position, positions: &'a [Position]) -> &'a Posi
     }
 }
 
-/// The last of the times, or once where no move was played.
+/// The last of the times, or once if no move was played.
 fn last_times(times: &[u32]) -> u32
     ensures { (g : AnyGame) → times.now ≡ times_of (g.start ∷ []) g.start g.moves
         → result ≡ repeats_of g }

@@ -1,5 +1,5 @@
 //! The record of a game: its start, its moves, repetitions and the end (FIDE Laws of Chess, articles
-//! 5.1, 5.2, 9.2 and 9.3), and the `position` line that tells it to an engine.
+//! 5.1, 5.2, 9.2 and 9.3), and the `position` line that gives it to an engine.
 //!
 //! A game takes all its memory when it is made.
 #![tactic(auto)]

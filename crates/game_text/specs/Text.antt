@@ -1,4 +1,4 @@
--- The text of a game: its start, where that is not the standard one, and a line with its moves and
+-- The text of a game: its start, if that is not the standard one, and a line with its moves and
 -- its result (PGN standard, 8.2 and 9.7.2).
 use Rattle.std.specs.Prelude.{ℕ, List, [], ◌∷◌, ◌++◌, if◌then◌else◌, codes, decimal, Option, Some, None}
 use Rattle.std.specs.List.{join_with_byte}
@@ -46,7 +46,7 @@ parts_of g =
     beginning_by g.start.side g.start.full
     ++ (move_parts g.start g.moves ++ result_of g ∷ [])
 
--- the tag of the start: none, where it is the standard start with its counts 0 and 1
+-- the tag of the start: none, if it is the standard start with its counts 0 and 1
 abbrev pub tag_of : Position → List ℕ
 tag_of p = if is_standard p then [] else codes "[FEN \"" ++ (written p ++ codes "\"]\n")
 

@@ -1,4 +1,4 @@
-//! The text of a game: a tag with its start, where that is not the standard one, and a line with its
+//! The text of a game: a tag with its start, if that is not the standard one, and a line with its
 //! moves in standard algebraic notation, their numbers and the result (PGN standard, sections 8.2
 //! and 9.7.2).
 //!

@@ -80,7 +80,7 @@ pub fn put_moves(start: &Position, moves: &[Move], out: &mut Out)
     }
 }
 
-/// The result of a game that has ended so, or has not, where this side is on move.
+/// The result of a game that has ended so, or has not, if this side is on move.
 pub fn result_text(side: Side, ended: Option<End>) -> &'static [u8]
     ensures text { result.now ≡ result_by side ended }
     ensures short { length result.now ≤ 7 }

@@ -8,7 +8,7 @@ abbrev pub log_count : {L : Type 0} → Option L → ℕ
 log_count None = 0
 log_count (Some log) = 1
 
--- what the host tells of a log that it took back
+-- what the host reports of a log that it took back
 abbrev pub logs_told : {L : Type 0} → (L → Received) → Option L → List (Option (List ℕ))
 logs_told state None = []
 logs_told state (Some log) = (state log).taken ∷ []

@@ -1,4 +1,4 @@
--- What a run sees of the outside, and what its failures tell of it.
+-- What a run sees of the outside, and what its failures say of it.
 use Rattle.std.specs.Prelude.{◌≡◌, ◌≤◌, false, [], length}
 use Rattle.line_io.specs.Causes.{Rose}
 use Rattle.line_io.specs.Source.{Supplied, Received}
@@ -7,7 +7,7 @@ use Rattle.child_engine.specs.Hosts.{Books}
 use Rattle.child_engine.specs.declared.host.Faults.{Faults}
 use Rattle.host_run.specs.declared.failures.Failures.{Failures}
 
--- the interface's streams, and what the host counts and tells
+-- the interface's streams, and what the host counts and reports
 pub record Outside : Type 0 where
   pub input : Supplied
   pub output : Received
@@ -18,7 +18,7 @@ abbrev pub outside : Supplied → Received → Faults → Books → Outside
 outside input output faults books =
     record { input = input; output = output; faults = faults; books = books }
 
--- each count rose where its failure is told, and is as before where it is not
+-- each count rose if its failure is reported, and is as before if it is not
 pub record AreTold (before after : Outside) (failures : Failures) : Type 0 where
   pub iface_read : Tells before.input.faults after.input.faults failures.iface_read
   pub iface_write : Tells before.output.faults after.output.faults failures.iface_write
@@ -52,7 +52,7 @@ pub record AreAsBefore (before after : Outside) : Type 0 where
   pub logs : after.faults.logs ≡ before.faults.logs
   pub waits : after.faults.waits ≡ before.faults.waits
 
--- What was handed out is closed, and it is one run and one log, but where a failure tells of less.
+-- What was handed out is closed, and it is one run and one log, except if a failure reports less.
 pub record IsClosed (books : Books) (failures : Failures) : Type 0 where
   pub runs : length books.runs ≡ books.runs_out
   pub logs : length books.logs ≡ books.logs_out

@@ -10,7 +10,7 @@ pub struct TriedThreads {
     process: Option<JoinHandle<()>>,
 }
 
-// A thread that does nothing, where the system gives one. It keeps its stack until it is joined.
+// A thread that does nothing, if the system gives one. It keeps its stack until it is joined.
 fn try_one<R: Threads>(rt: &R) -> Option<JoinHandle<()>> {
     thread::spawn(rt, || ()).ok()
 }
@@ -37,7 +37,7 @@ impl TriedThreads {
         self.iface.is_some() && self.engine.is_some() && self.process.is_some()
     }
 
-    /// Waits for them, and leaves their stacks to the readers. Where an engine was started, it boots
+    /// Waits for them, and leaves their stacks to the readers. If an engine was started, it boots
     /// meanwhile.
     pub fn join<R: Threads>(self, rt: &R) {
         let TriedThreads {

@@ -16,7 +16,7 @@ use Rattle.judge_report.specs.Reports.{report, last_lines}
 use Rattle.judge_report.specs.Judging.{judges}
 use Rattle.line_io.specs.declared.limits.TheConstants.{SCRIPT_LINE}
 
--- the report on these lines, with what is written last where it ends so
+-- the report on these lines, with what is written last if it ends so
 abbrev pub whole_report : List Piece → Ending → List ℕ
 whole_report lines ending = (report lines).text ++ last_lines (report lines).talk ending
 
@@ -30,7 +30,7 @@ pub record AllJudged (before after : Streams) : Type 0 where
   pub written : Appends before.output.taken after.output.taken (whole_report (items SCRIPT_LINE got) endings.Done)
 
 -- A line has no mark, or has one that breaks a rule. The report on the lines up to it was written, and what it is was
--- told if its status has a diagnostic.
+-- reported if its status has a diagnostic.
 pub record FaultFound (before after : Streams) (code : ℕ) : Type 0 where
   pub fault : Ending
   pub code_is : code ≡ code_of fault
@@ -40,7 +40,7 @@ pub record FaultFound (before after : Streams) (code : ℕ) : Type 0 where
   pub written : Appends before.output.taken after.output.taken (report lines).text
   pub told : Appends before.diag.taken after.diag.taken (diagnostic fault)
 
--- All whole lines that were read are without a fault, and the report on them was written, but for what comes last.
+-- All whole lines that were read are without a fault, and the report on them was written, except what comes last.
 pub record WholeJudged (ending : Ending) (least : ℕ) (before after : Streams) : Type 0 where
   pub got : List ℕ
   pub reads : Got before after got

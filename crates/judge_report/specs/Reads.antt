@@ -19,7 +19,7 @@ pub record Stops (lines : List Piece) (ending : Ending) (text : List ℕ) : Type
   pub ends : (report lines).ending ≡ Some ending
   pub text_is : (report lines).text ≡ text
 
--- All lines were read, and this is the text of the report, where it ends so.
+-- All lines were read, and this is the text of the report, if it ends so.
 pub record Closes (lines : List Piece) (ending : Ending) (text : List ℕ) : Type 0 where
   pub goes_on : (report lines).ending ≡ None
   pub text_is : (report lines).text ++ last_lines (report lines).talk ending ≡ text

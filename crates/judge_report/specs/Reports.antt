@@ -17,13 +17,13 @@ use Rattle.session_judge.specs.Rules.{broken}
 use Rattle.session_judge.specs.Talks.{after, opening}
 use Rattle.judge_report.specs.Texts.{searched, lawful_line, unlawful_line}
 
--- what a line of a log is: a mark, a line that is passed over, or neither
+-- what a line of a log is: a mark, a line that is ignored, or neither
 pub data Kind : Type 0 where
   Marks : (mark : Mark) → Kind
   Passes : Kind
   HasNone : Kind
 
--- step lines are passed over, and a header in line 1
+-- step lines are ignored, and a header in line 1
 abbrev pub is_passed : ℕ → List ℕ → Bool
 is_passed number line = is_some (step_of line) || (number == 1 && is_some (header_of line))
 
@@ -77,7 +77,7 @@ over c number (piece ∷ pieces) = over (read_on c.ending c number piece) (numbe
 abbrev pub report : List Piece → Course
 report lines = over (record { talk = opening; text = []; ending = None }) 1 lines
 
--- what is written at the end of the input; nothing else is where it was not read to its end
+-- what is written at the end of the input; nothing is written if it was not read to its end
 abbrev pub last_lines : Talk → Ending → List ℕ
 last_lines t endings.Done = searched t.search ++ lawful_line
 last_lines t ending = []
@@ -88,7 +88,7 @@ ending_in (endings.Unlawful number) = Some (endings.Unlawful number)
 ending_in (endings.NoMark number) = Some (endings.NoMark number)
 ending_in ending = None
 
--- The text of the report on these lines, where it ends so.
+-- The text of the report on these lines, if it ends so.
 pub record IsReport (lines : List Piece) (ending : Ending) (text : List ℕ) : Type 0 where
   pub ends : (report lines).ending ≡ ending_in ending
   pub text_is : text ≡ (report lines).text ++ last_lines (report lines).talk ending

@@ -45,7 +45,7 @@ fn put_brought_out(before: Option<Search>, deed: &Deed, text: &mut Out)
     }
 }
 
-// Step lines are passed over, and a header in line 1.
+// Step lines are ignored, and a header in line 1.
 fn is_passed(number: u64, line: &[u8]) -> bool
     ensures { result ≡ is_passed number line.now }
 {

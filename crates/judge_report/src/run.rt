@@ -10,7 +10,7 @@ use line_io::{Sink, Source};
 use line_scribe::run_scribe;
 use std::alloc::Global;
 
-/// Judges the log that the input gives, writes the report on it, and tells how that ended: `Done` if the talk with the
+/// Judges the log that the input gives, writes the report on it, and reports how that ended: `Done` if the talk with the
 /// engine is lawful, `Unlawful` with the line of the mark that breaks a rule, `NoMark` with a line that is none of a
 /// log; or what kept it from reading or writing.
 pub fn run_judge<I: Source, O: Sink, D: Sink>(

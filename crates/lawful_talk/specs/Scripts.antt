@@ -10,7 +10,7 @@ use Rattle.session_script.specs.Script.{script1, script2}
 use Rattle.session_judge.specs.Clean.{Entry, IsClean}
 use Rattle.lawful_talk.specs.Logs.{marks_in}
 
--- the marks that the lines of a text spell; step lines, a header and all other lines are passed over
+-- the marks that the lines of a text spell; step lines, a header and all other lines are ignored
 abbrev pub marks_told : List (List ℕ) → List Mark
 marks_told [] = []
 marks_told (line ∷ lines) = option_to_list (mark_of line) ++ marks_told lines

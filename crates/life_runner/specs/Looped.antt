@@ -8,7 +8,7 @@ use Rattle.sink_offers.specs.declared.offering.LoopEnd.{LoopEnd}
 use Rattle.sink_offers.specs.Streams.{Sinks, Offered}
 use Rattle.life_runner.specs.Played.{lines_up, lines_to_child, heard_of, has_close}
 
--- Each sink was offered its text: what it took of it, where it had failed before or not, and has failed now or not.
+-- Each sink was offered its text: what it took of it, by whether it had failed before and has failed now.
 pub record Offers (up child marks : List ℕ) (before after : Sinks) (failed failed' : LoopEnd) : Type 0 where
   pub output : Offered failed.output failed'.output before.output after.output up
   pub engine : Offered failed.engine failed'.engine before.engine after.engine child
@@ -28,7 +28,7 @@ pub record Going (s s' : State) (first now : List Event) (before after : Sinks) 
   pub played : Played s s' (heard_of events) before after failed failed'
 
 -- The loop of a life is over: it took events, and then one Long of the engine, which is the mark of the life's end. The
--- revival heard the events, but for the interface's long lines, in their order, and no others.
+-- revival heard the events, except the interface's long lines, in their order, and no others.
 pub record LoopedLife (s s' : State) (first now : List Event) (before after : Sinks) (failed failed' : LoopEnd) : Type 0 where
   pub events : List Event
   pub taken_is : now ≡ first ++ (events ++ EngineLong ∷ [])

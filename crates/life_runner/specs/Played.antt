@@ -35,7 +35,7 @@ is_order (Iface line) = true
 is_order IfaceEnd = true
 is_order event = false
 
--- the events that the revival hears; long lines of the interface are passed over
+-- the events that the revival hears; long lines of the interface are ignored
 abbrev pub heard_of : List Event → List Event
 heard_of events = filter is_heard events
 

@@ -17,7 +17,7 @@ use Rattle.event_pipe.specs.Rule.{ended}
 use Rattle.life_runner.specs.declared.reading.Turn.{Turn}
 use Rattle.life_runner.specs.declared.reading.Turn.TheVariants as turns
 
--- a long line is passed over
+-- a long line is ignored
 abbrev pub line_event : Piece → List Event
 line_event (Whole line) = Engine line ∷ []
 line_event TooLong = []
@@ -38,11 +38,11 @@ pub record LinesOf (before after : Supplied) (lines : List Event) (r : ReadEnd) 
   -- all lines, and no byte is left
   pub all : r ≡ read_ends.Done → lines ≡ line_events (items line_limit got)
   pub at_end : r ≡ read_ends.Done → IfSome before.left (λ _. IsAtEnd after.left)
-  -- where reading failed: the lines that a line feed ended
+  -- if reading failed: the lines that a line feed ended
   pub at_fault : (f : ReadFault) → r ≡ read_ends.Fault f → lines ≡ line_events (whole line_limit got)
-  -- where there was no memory: a front of the lines
+  -- if there was no memory: a front of the lines
   pub cut : r ≡ read_ends.NoMemory → IsFrontOf lines (line_events (items line_limit got))
-  -- the source's count of faults rose where reading failed, and is as before else
+  -- the source's count of faults rose if reading failed, and otherwise is as before
   pub count : Tells before.faults after.faults (failed r)
 
 -- the lines were sent
@@ -57,7 +57,7 @@ pub record ReadLife (before after : Supplied) (sent now : List Event) (r : ReadE
   pub sent_is : now ≡ sent ++ (lines ++ EngineLong ∷ [])
   pub read : LinesOf before after lines r
 
--- what a turn has sent, where the call of the reader of lines answered this
+-- what a turn has sent, if the call of the reader of lines answered this
 abbrev pub Sends : Result Item ReadFault → List Event → List Event → Turn → Type 0
 Sends r before now turns.More = IsTrue (goes_on r) × (now ≡ before ++ line_events (pieces_of (outcome r))) × (ended now ≡ false)
 Sends r before now turns.Done = IsTrue (is_end_answer r) × (now ≡ before)

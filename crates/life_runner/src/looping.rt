@@ -96,7 +96,7 @@ pub fn hear<K: Sink, O: Sink, L: Sink>(
 }
 
 // The same. Once `quit` was accepted nothing more is written to the life: its input is let go, so
-// that it can end also where it got no order.
+// that it can end also if it got no order.
 fn hear_to_quit<K: LetGo, O: Sink, L: Sink>(
     revival: &mut Revival,
     event: &Event,
@@ -190,7 +190,7 @@ fn hear_next<K: LetGo, O: Sink, L: Sink, R: Wait>(
 }
 
 /// Has the revival hear each event that comes, until a Long of the engine is taken, which is the
-/// mark of the life's end. The interface's long lines are passed over. Where the engine's end is
+/// mark of the life's end. The interface's long lines are ignored. If the engine's end is
 /// taken, which the reader of a life never sends, it does not return.
 pub(crate) fn life_loop<K: LetGo, O: Sink, L: Sink, R: Wait>(
     rt: &R,

@@ -24,7 +24,7 @@ pub enum Turn {
     NoMemory,
 }
 
-// Reads once at most, and sends the next line where there is one.
+// Reads once at most, and sends the next line if there is one.
 fn read_turn<S: Source, R: Wait>(
     rt: &R,
     alloc: Global,
@@ -86,7 +86,7 @@ fn read_lines<S: Source, R: Wait>(
 }
 
 /// Sends each line of a life's source, and a Long as the mark of its end. Lines that are longer
-/// than a line may be are passed over. It sends no End: another life may follow.
+/// than a line may be are ignored. It sends no End: another life may follow.
 pub fn read_life<S: Source, R: Wait>(
     rt: &R,
     alloc: Global,

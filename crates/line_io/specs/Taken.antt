@@ -18,11 +18,11 @@ pub record Place (S O : Type 0) : Type 0 where
 abbrev pub place : {S O : Type 0} → S → O → Supplied → Place S O
 place s o i = record { taker = s; output = o; input = i }
 
--- where the source told its bytes, none is left
+-- if the source reports its bytes, none is left
 abbrev pub IsOver : Supplied → Supplied → Type 0
 IsOver old new = IfSome old.left (λ _. IsAtEnd new.left)
 
--- The input gave these bytes, and these lines were taken. Each read came where all lines were taken that were whole by
+-- The input gave these bytes, and these lines were taken. Each read came when all lines were taken that were whole by
 -- then, and all was written that was due for them.
 pub data InTime (limit : ℕ) (Written : List Piece → Type 0) : List ℕ → List Piece → Type 0 where
   starts : InTime limit Written [] []
@@ -36,7 +36,7 @@ abbrev pub WasWritten : {S O X : Type 0} → Meaning S O X → Place S O → Lis
 WasWritten {S} {O} {X} means old pieces = (s : S) × (o : O) × means.took old.taker old.output pieces s o × means.is_written s
 
 -- The taker stopped. The lines are a front of those of all bytes, whatever is left behind those that were given, and
--- nothing is left where the end was seen.
+-- nothing is left if the end was seen.
 pub record Stops {S O X : Type 0} (means : Meaning S O X) (limit : ℕ) (stop : X) (given : List ℕ) (pieces : List Piece) (old new : Place S O) : Type 0 where
   pub stopped : means.stopped old.taker old.output pieces stop new.taker new.output
   pub ended : Bool

@@ -6,14 +6,14 @@ use Rattle.line_io.specs.Lines.{Piece}
 pub record Meaning (S O X : Type 0) : Type 1 where
   -- after these lines
   pub took : S → O → List Piece → S → O → Type 0
-  -- after these lines, where it stopped at the last of them or behind it
+  -- after these lines, if it stopped at the last of them or behind it
   pub stopped : S → O → List Piece → X → S → O → Type 0
   -- It may take a line. This holds from the first line to a stop.
   pub may : S → Type 0
   -- nothing is left to write
   pub is_written : S → Type 0
 
--- after these lines, and a stop where one came
+-- after these lines, and a stop if one came
 abbrev pub Then : {S O X : Type 0} → Meaning S O X → S → O → List Piece → Option X → S → O → Type 0
 Then means s0 o0 pieces None s o = means.took s0 o0 pieces s o
 Then means s0 o0 pieces (Some stop) s o = means.stopped s0 o0 pieces stop s o

@@ -28,7 +28,7 @@ abbrev pub After : {S O X : Type 0} → Meaning S O X → ℕ → Option (LinesE
 After means limit None first now held calls number = Reached means limit first now held (suc calls) number
 After means limit (Some ending) first now held calls number = Taken means limit ending first now
 
--- what the calls to come have to take away, where nothing more is read
+-- what the calls to come have to take away, if nothing more is read
 abbrev pub work : Held → ℕ
 work held = weight held + flag (not held.ended)
 

@@ -9,7 +9,7 @@ use crate::{Item, Lines, LinesEnd, Source, TakesLines};
 // After so many calls of the reader of lines the input gave at least 2^32 bytes.
 const TURNS: u64 = (1 << 33) + 1;
 
-// Takes the next line, where one came, and counts it. Nothing is left to write where it reads.
+// Takes the next line, if one came, and counts it. Nothing is left to write when it reads.
 fn take_next<I: Source, O, T: TakesLines<O>>(
     lines: &mut Lines,
     input: &mut I,
@@ -77,7 +77,7 @@ fn turn<I: Source, O, T: TakesLines<O>>(
     take_next(lines, input, taker, output, count)
 }
 
-// Takes the lines that are whole, or the last ones where the end was seen. It reads nothing.
+// Takes the lines that are whole, or the last ones if the end was seen. It reads nothing.
 fn take_held<I: Source, O, T: TakesLines<O>>(
     lines: &mut Lines,
     input: &mut I,

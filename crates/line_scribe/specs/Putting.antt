@@ -30,7 +30,7 @@ IsInputEnd endings.ReadingFailed = ⊤
 IsInputEnd endings.TooLong = ⊤
 IsInputEnd ending = ⊥
 
--- after these lines, or where the last of them ended it
+-- after these lines, or if the last of them ended it
 abbrev pub Then : {S : Type 0} → Putting S → S → List Piece → Option Ending → S → List ℕ → Type 0
 Then means s0 lines None s text = means.put s0 lines s text
 Then means s0 lines (Some ending) s text = means.says s0 lines ending text

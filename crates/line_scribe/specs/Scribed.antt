@@ -64,7 +64,7 @@ Scribed means s0 endings.TooLong start now = WroteWhole means s0 endings.TooLong
 Scribed means s0 endings.WritingFailed start now = WroteFront means s0 start now
 Scribed means s0 ending start now = ⊥
 
--- want of memory leaves the input and the output untouched
+-- lack of memory leaves the input and the output untouched
 abbrev pub EndsBy : {S : Type 0} → Putting S → S → Type 0 → Ending → Streams → Streams → Type 0
 EndsBy means s0 untouched endings.NoMemory start now = untouched
 EndsBy means s0 untouched ending start now = Scribed means s0 ending start now

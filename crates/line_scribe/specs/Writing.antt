@@ -30,7 +30,7 @@ pub record Cut (held : List ℕ) (before after : Received) : Type 0 where
 abbrev pub MayTake : {S : Type 0} → Putting S → S → Text → Type 0
 MayTake means s held = means.may s × (held.room ≡ TEXT_ROOM)
 
--- The scribe took these lines, and their text was written but for what is held.
+-- The scribe took these lines, and their text was written except what is held.
 pub record Stood {S : Type 0} (means : Putting S) (s0 : S) (lines : List Piece) (s : S) (held : Text) (before after : Received) : Type 0 where
   pub text : List ℕ
   pub put : means.put s0 lines s text
@@ -40,7 +40,7 @@ pub record Stood {S : Type 0} (means : Putting S) (s0 : S) (lines : List Piece) 
   pub all : written ++ held.text ≡ text
   pub no_failure : after.faults ≡ before.faults
 
--- It takes no line behind these, and their text was written but for what is held.
+-- It takes no line behind these, and their text was written except what is held.
 pub record Said {S : Type 0} (means : Putting S) (s0 : S) (lines : List Piece) (ending : Ending) (held : List ℕ) (before after : Received) : Type 0 where
   pub text : List ℕ
   pub says : means.says s0 lines ending text
@@ -73,13 +73,13 @@ Finished means s0 lines ending answer before after =
     ((answer ≡ ending) × Said means s0 lines ending [] before after)
     ⊎ ((answer ≡ endings.WritingFailed) × Broke means s0 lines before after)
 
--- where a line ended it
+-- if a line ended it
 abbrev pub Left : {S : Type 0} → Putting S → S → List Piece → Ending → Ending → Received → Received → Type 0
 Left means s0 lines ending answer before after =
     ((answer ≡ ending) × IsOfLine ending × Said means s0 lines ending [] before after)
     ⊎ ((answer ≡ endings.WritingFailed) × Broke means s0 lines before after)
 
--- after these lines, or where the last of them ended it
+-- after these lines, or if the last of them ended it
 abbrev pub Came : {S : Type 0} → Putting S → S → List Piece → Option Ending → S → Text → Received → Received → Type 0
 Came means s0 lines None s held before after = Stood means s0 lines s held before after
 Came means s0 lines (Some ending) s held before after = Halted means s0 ending lines held.text before after

@@ -65,7 +65,7 @@ fn write_lines_of<I: Source, O: Sink, S: Scribe>(
 
 /// Gives the lines of an input to a scribe, writes its text, and reports how that ended.
 ///
-/// The text is written before each read, which may wait, and where it grows large. All memory is
+/// The text is written before each read, which may wait, and if it grows large. All memory is
 /// taken at the beginning.
 pub fn run_scribe<I: Source, O: Sink, D: Sink, S: Scribe + Drop>(
     alloc: Global,

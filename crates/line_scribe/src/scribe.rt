@@ -30,8 +30,8 @@ pub trait Scribe {
         ensures of_line { IfSome result (λ ending. IsOfLine ending) }
         ensures puts { Puts means number TooLong result self.old text.old self.new text.new };
 
-    /// Puts what is to be written last where no line is the reason to end: at the end of the input,
-    /// where a read failed, and where the input is too long.
+    /// Puts what is to be written last if no line is the reason to end: at the end of the input,
+    /// if a read failed, and if the input is too long.
     fn finish(&mut self, ending: Ending, text: &mut Out)
         requires ending { IsOfLine ending → ⊥ }
         requires ends { IsInputEnd ending }

@@ -24,7 +24,7 @@ fn write_held<O: Sink>(text: &mut Out, output: &mut O) -> Result<(), Failed>
     }
 }
 
-// Writes what is held, where there is no room for what is put for a line.
+// Writes what is held, if there is no room for what is put for a line.
 fn make_room<O: Sink>(text: &mut Out, output: &mut O) -> Result<(), Failed>
     requires { text.old.room ≡ TEXT_ROOM }
     ensures ok { OnOk result (Moved text.old text.new (O.state output.old) (O.state output.new)
@@ -63,7 +63,7 @@ impl<S: Scribe> Writer<S> {
         ending
     }
 
-    /// Writes what is left where a line, or a write that failed, ended it.
+    /// Writes what is left if a line, or a write that failed, ended it.
     pub fn stop<O: Sink>(&mut self, ending: Ending, output: &mut O) -> Ending
         ensures { (s0 : S) (lines : List Piece) (before : Received)
             → Halted S.means s0 ending lines self.old.text.text before (O.state output.old)

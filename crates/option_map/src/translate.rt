@@ -166,10 +166,10 @@ fn path_for<'a>(found: Option<Setting<'a>>, path: &'a [u8]) -> Option<Asked<'a>>
 impl Options {
     ghost use Rattle.option_map.specs.Asked.{asked, asked_text, is_asked, with_asked};
 
-    /// The order that a line asks for, where it asks for one.
+    /// The order that a line asks for, if it asks for one.
     ///
     /// # Errors
-    /// `UnknownOption` where no option of this name is declared that is not hidden, `BadValue` where the
+    /// `UnknownOption` if no option of this name is declared that is not hidden, `BadValue` if the
     /// option does not take the value.
     pub fn asked<'a>(&'a self, msg: &IfaceMsg<'a>) -> Result<Option<Asked<'a>>, OptFault>
         ensures { answer_seen result ≡ asked self.now (message_of msg.now) }
@@ -188,7 +188,7 @@ impl Options {
         }
     }
 
-    /// Writes the order that a line asks for, with no line feed, and tells whether it asks for one.
+    /// Writes the order that a line asks for, with no line feed, and reports whether it asks for one.
     ///
     /// # Errors
     /// As those of `asked`.

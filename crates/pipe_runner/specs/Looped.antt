@@ -25,7 +25,7 @@ abbrev pub OutputFails : List Step → Option (List ℕ) → Option (List ℕ) �
 OutputFails [] old new = ⊥
 OutputFails (s ∷ t) old new = FailsAt iface_text s t old new
 
--- the engine failed at the newest step, or at the one before it, where the newest is that of IfaceLost
+-- the engine failed at the newest step, or at the one before it, if the newest is that of IfaceLost
 abbrev pub EngineFails : List Step → Option (List ℕ) → Option (List ℕ) → Type 0
 EngineFails [] old new = ⊥
 EngineFails (s ∷ []) old new = FailsAt engine_text s [] old new
@@ -80,7 +80,7 @@ pub record Looped (settings : Settings) (events : List Event) (before after : Si
   pub received_is : received trace ≡ events
   pub iface_ended : (state settings trace).ends.iface ≡ true
   pub engine_ended : (state settings trace).ends.engine ≡ true
-  -- a Lost event stands in it exactly where the sink failed
+  -- a Lost event stands in it if and only if the sink failed
   pub iface_lost : has is_iface_lost trace ≡ end.output
   pub engine_lost : has is_engine_lost trace ≡ end.engine
   pub output : OutputTook trace end.output before.output after.output

@@ -27,7 +27,7 @@ pub record Stepped (old new : Parts) (e : Event) (front : List ℕ) (before afte
   pub log : Offered from.end.log to.end.log before.log after.log (front ++ numbered_marks from.next step.event (iface_text step) (engine_text step))
   pub next : (k : ℕ) → from.next ≡ step_number k → to.next ≡ step_number (suc k)
 
--- what the output took so far, where it failed or not, and the core was told so or not
+-- what the output took so far, by whether it failed, and whether the core has taken that event
 pub record OutputSoFar (trace : List Step) (failed told : Bool) (old new : Received) : Type 0 where
   pub whole : failed ≡ false → (told ≡ false) × Appends old.taken new.taken (texts iface_text trace)
   pub owes : failed ≡ true → told ≡ false → OutputFails trace old.taken new.taken

@@ -79,7 +79,7 @@ fn begin_log(core: &Core, text: &mut Out)
     text.put(b"\n");
 }
 
-// The write to this side failed, and the core was not told yet.
+// The write to this side failed, and the core has not taken that event yet.
 fn owes(failed: bool, core: &Core, event: &Event) -> bool
     ensures { result ≡ (failed && may core.now.ends (event_of event.now)) }
 {

@@ -17,7 +17,7 @@ pub const USUAL_SCORE: u32 = 600;
 /// What the words of a program choose.
 #[derive(Clone, Copy, PartialEq, Eq)]
 pub struct Settings {
-    /// Whether the adapter resigns for the engine.
+    /// Whether the bridge resigns for the engine.
     pub resign: bool,
     /// How many scores in a row decide, 1 to `MOST_MOVES`.
     pub resign_moves: u32,

@@ -15,7 +15,7 @@ pub const WORD_ROOM: usize = 64;
 // Most words fit in so many bytes.
 const USUAL_ROOM: usize = 256;
 
-// The word at this place, where there is one.
+// The word at this place, if there is one.
 fn word_at<R: Env>(rt: &R, alloc: Global, place: usize) -> Result<Option<Vec<u8>>, AllocError> {
     let mut room = USUAL_ROOM;
     for _ in 0..usize::BITS {

@@ -49,7 +49,7 @@ pub record AwaitBy (o : Settings) (version : Version) (lines : List Piece) : Typ
   pub opened : (state (settings_by version o) trace).ends.opened ≡ true
   pub same : lines_before version trace ≡ lines
 
--- the same for the version that the first line tells
+-- the same for the version that the first line states
 abbrev pub AreScript : Settings → List Piece → Type 0
 AreScript o lines = ScriptBy o (version_in lines) lines
 
@@ -88,7 +88,7 @@ pub record PartsUnmarked (o : Settings) (number : ℕ) (start now : Streams) : T
   pub parts : Parts o number start now
   pub unmarked : kind_in (version_in parts.before) parts.line ≡ HasNone
 
--- an event is due where its event may not come
+-- an event is due, and this one may not come
 pub record PartsByEvent (o : Settings) (number : ℕ) (start now : Streams) : Type 0 where
   pub parts : Parts o number start now
   pub event : Event
@@ -96,7 +96,7 @@ pub record PartsByEvent (o : Settings) (number : ℕ) (start now : Streams) : Ty
   pub awaited : AwaitEvent o parts.before
   pub may_not : may (state (settings_by (version_in parts.before) o) awaited.trace).ends event ≡ false
 
--- it is another line than the written line or step line that is due, or such a line where none is due
+-- it is another line than the written line or step line that is due, or such a line if none is due
 pub record PartsByLine (o : Settings) (number : ℕ) (start now : Streams) : Type 0 where
   pub parts : Parts o number start now
   pub is_marked : kind_in (version_in parts.before) parts.line ≢ HasNone
@@ -149,13 +149,13 @@ Finds o endings.ReadingFailed start now = BeginsWhole o start now
 Finds o endings.TooLong start now = BeginsMuch o start now
 Finds o ending start now = ⊥
 
--- what was found could not be written, or not be told
+-- what was found could not be written, or not be reported
 pub record WritesPart (o : Settings) (start now : Streams) : Type 0 where
   pub found : Ending
   pub finds : Finds o found start now
   pub part : TakesPrefix start.output.taken now.output.taken (verdict found)
 
--- how a check ended: where nothing is to be written, the output is untouched
+-- how a check ended: if nothing is to be written, the output is untouched
 abbrev pub ChecksAs : Settings → Type 0 → Type 0 → Ending → Streams → Streams → Type 0
 ChecksAs o unread kept endings.NoMemory start now = unread × kept
 ChecksAs o unread kept endings.WritingFailed start now = WritesPart o start now

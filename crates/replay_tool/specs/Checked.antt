@@ -29,7 +29,7 @@ pub record FoundDifference (o : Settings) (before after : Streams) : Type 0 wher
   pub written : Appends before.output.taken after.output.taken (verdict (endings.Differs number))
   pub no_failure : AreSame before after
 
--- A line that has no mark, or whose event may not come, was found and told. Nothing was written to
+-- A line that has no mark, or whose event may not come, was found and reported. Nothing was written to
 -- the output.
 pub record FoundBadLine (o : Settings) (Kept : Type 0) (before after : Streams) : Type 0 where
   pub fault : Ending
@@ -38,8 +38,8 @@ pub record FoundBadLine (o : Settings) (Kept : Type 0) (before after : Streams) 
   pub told : Appends before.diag.taken after.diag.taken (diagnostic fault)
   pub unwritten : Kept
 
--- A check of an input answers 0 exactly where its lines are the script of a lawful trace, but for
--- want of memory and failures.
+-- A check of an input answers 0 if and only if its lines are the script of a lawful trace, except for
+-- lack of memory and failures.
 abbrev pub IsExactCheck : Settings → Streams → ℕ → Type 0
 IsExactCheck o before code =
     (x : List ℕ) → before.input.left ≡ Some x → code ≢ 3 → code ≢ 4 → code ≢ 5 → code ≢ 6
@@ -51,7 +51,7 @@ CompletesCheck before after code =
     (x : List ℕ) → before.input.left ≡ Some x → length x < 2 ^ 32 → IsSteady before after
     → (code ≡ 0) ⊎ (code ≡ 1) ⊎ (code ≡ 2) ⊎ (code ≡ 3)
 
--- Where moreover each line has a mark, is in step and its event may come, it is lawful or differs.
+-- If moreover each line has a mark, is in step and its event may come, it is lawful or differs.
 abbrev pub CompletesMarked : Streams → Streams → ℕ → Type 0
 CompletesMarked before after code =
     (x : List ℕ) → before.input.left ≡ Some x → length x < 2 ^ 32

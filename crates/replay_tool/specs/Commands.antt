@@ -64,7 +64,7 @@ command_named name words =
     else (if bytes_eq name (codes "moves") && nat_lt 0 (length words) then Some (Moves
     (fen_of words)) else None))))))))
 
--- the command of the words, where they fit one
+-- the command of the words, if they fit one
 abbrev pub command_of : List (List ℕ) → Option Asked
 command_of [] = None
 command_of (name ∷ words) = command_named name words

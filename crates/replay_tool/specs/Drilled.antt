@@ -9,7 +9,7 @@ use Rattle.command_endings.specs.Ran.{WritingBroke}
 use Rattle.command_endings.specs.Streams.{Streams, IsSteady}
 use Rattle.command_endings.specs.Told.{Told, Writes}
 
--- How a drill was played. Nothing is written to the output where there is no memory.
+-- How a drill was played. Nothing is written to the output if there is no memory.
 pub data PlaysDrill (number count : ℕ) (kept silent : Type 0) (code : ℕ)
     (output output_now diag diag_now : Received) : Type 0 where
   WantsMemory : kept → Told code 3 (tail_of endings.NoMemory) diag diag_now

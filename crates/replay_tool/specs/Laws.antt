@@ -18,6 +18,6 @@ pub record HasLaws (o : Settings) : Type 0 where
   pub apart_from_engine : IsApartFromEngine o
   pub replies_alone : RepliesAreAlone o
 
--- It holds of every session of a script, whose settings are those of its header, or of the words where it has none.
+-- It holds of every session of a script, whose settings are those of its header, or of the words if it has none.
 abbrev pub HaveLaws : Settings → Type 0
 HaveLaws o = (version : Version) → HasLaws (settings_by version o)

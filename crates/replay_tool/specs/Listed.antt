@@ -14,7 +14,7 @@ abbrev pub CompletesList : Result Position FenFault → Streams → Streams → 
 CompletesList spelled before after code = IsOk spelled → IsSteady before after → (code ≡ 0)
     ⊎ (code ≡ 3)
 
--- The fault of a text that spells none is told, or there was no memory.
+-- The fault of a text that spells none is reported, or there was no memory.
 abbrev pub TellsPosition : Result Position FenFault → Streams → Streams → ℕ → Type 0
 TellsPosition spelled before after code =
     (fault : FenFault) → spelled ≡ Err fault → IsSteady before after

@@ -33,7 +33,7 @@ pub record WritesMoves (p : Position) (silent : Type 0) (code : ℕ)
   pub legal : AreLegalMoves p moves
   pub writes : Writes (move_lines moves) silent code output output_now diag diag_now
 
--- How the moves of what a text spells were listed. Nothing is written to the output where there is
+-- How the moves of what a text spells were listed. Nothing is written to the output if there is
 -- no memory or no position.
 pub data Lists (spelled : Result Position FenFault) (kept silent : Type 0) (code : ℕ)
     (output output_now diag diag_now : Received) : Type 0 where
@@ -64,7 +64,7 @@ pub record ListsFront (spelled : Result Position FenFault)
   pub legal : AreLegalMoves position moves
   pub written : TakesPrefix output.taken output_now.taken (move_lines moves)
 
--- the text spells no position, and its fault was told
+-- the text spells no position, and its fault was reported
 pub record FindsNoPosition (spelled : Result Position FenFault)
     (diag diag_now : Received) : Type 0 where
   pub fault : FenFault

@@ -25,7 +25,7 @@ pub record NoFaultFound (size : ℕ) (before after : Streams) (code : ℕ) : Typ
   -- it is judged to its end, or there was no memory
   pub complete : size < 2 ^ 32 → IsSteady before after → (code ≡ 0) ⊎ (code ≡ 3)
 
--- No fault is found where the input is the script, of either version, of a lawful trace.
+-- No fault is found if the input is the script, of either version, of a lawful trace.
 abbrev pub JudgesOwnTalk : Streams → Streams → ℕ → Type 0
 JudgesOwnTalk before after code =
     (version : Version) (o : Settings) (trace : List Step) → IsProperIn version
@@ -35,7 +35,7 @@ JudgesOwnTalk before after code =
 
 -- MIGRATING
 
--- Where the input is the script of version 1 of a lawful trace that has its Open step, the command `migrate` wrote the trace's
+-- If the input is the script of version 1 of a lawful trace that has its Open step, the command `migrate` wrote the trace's
 -- script of version 2.
 abbrev pub MigratesOwnScripts : Settings → Streams → Streams → ℕ → Type 0
 MigratesOwnScripts settings before after code =

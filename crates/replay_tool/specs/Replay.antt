@@ -70,7 +70,7 @@ Stopped o endings.TooLong start now = ReplaysMuch o start now
 Stopped o endings.WritingFailed start now = CutShort o start now
 Stopped o ending start now = ⊥
 
--- how a replay ended: want of memory leaves the input and the output untouched
+-- how a replay ended: lack of memory leaves the input and the output untouched
 abbrev pub EndsAs : Settings → Type 0 → Ending → Streams → Streams → Type 0
 EndsAs o untouched endings.NoMemory start now = untouched
 EndsAs o untouched ending start now = Stopped o ending start now

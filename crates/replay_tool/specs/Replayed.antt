@@ -26,7 +26,7 @@ pub record IsTheSession (o : Settings) (happened : List Event) (trace : List Ste
   pub events_are : events trace ≡ happened
   pub only : (other : List Step) → Lawful o other → events other ≡ happened → other ≡ trace
 
--- the session of these lines: its settings are the header's where there is one, its events those of the lines
+-- the session of these lines: its settings are the header's if there is one, its events those of the lines
 abbrev pub IsSessionOf : Settings → List Piece → List Step → Type 0
 IsSessionOf o lines trace = IsTheSession (settings_by (version_in lines) o) (script_events lines) trace
 
@@ -46,7 +46,7 @@ pub record AllReplayed (o : Settings) (before after : Streams) : Type 0 where
   pub script : WritesScript o before after (items SCRIPT_LINE got)
   pub no_failure : AreSame before after
 
--- The first fault of the input was told, and the script of the lines before it was written.
+-- The first fault of the input was reported, and the script of the lines before it was written.
 pub record FaultReported (o : Settings) (before after : Streams) : Type 0 where
   pub fault : Ending
   pub told : Appends before.diag.taken after.diag.taken (diagnostic fault)
@@ -63,7 +63,7 @@ pub record WholeReplayed (o : Settings) (before after : Streams) : Type 0 where
   pub faultless : script_fault (whole SCRIPT_LINE got) ≡ None
   pub script : WritesScript o before after (whole SCRIPT_LINE got)
 
--- so it is where the input gave at least 2^32 bytes, and none of the reads saw its end
+-- so it is if the input gave at least 2^32 bytes, and none of the reads saw its end
 pub record MuchReplayed (o : Settings) (before after : Streams) : Type 0 where
   pub replayed : WholeReplayed o before after
   pub least : 2 ^ 32 ≤ length replayed.got
@@ -84,7 +84,7 @@ CompletesReplay before after code =
     (x : List ℕ) → before.input.left ≡ Some x → length x < 2 ^ 32
     → script_fault (items SCRIPT_LINE x) ≡ None → IsSteady before after → (code ≡ 0) ⊎ (code ≡ 3)
 
--- The first fault of an input of fewer than 2^32 bytes is told, or there was no memory.
+-- The first fault of an input of fewer than 2^32 bytes is reported, or there was no memory.
 abbrev pub TellsFault : Streams → Streams → ℕ → Type 0
 TellsFault before after code =
     (x : List ℕ) (fault : Ending) → before.input.left ≡ Some x → length x < 2 ^ 32
@@ -96,8 +96,8 @@ abbrev pub IsProperIn : Version → Type 0
 IsProperIn First = ⊤
 IsProperIn (Second settings) = IsProper settings
 
--- Where the input is the script, of either version, of a lawful trace that has its Open step, that script was written, but
--- for want of memory and failures.
+-- If the input is the script, of either version, of a lawful trace that has its Open step, that script was written, except
+-- for lack of memory and failures.
 abbrev pub WritesItAgain : Settings → Streams → Streams → ℕ → Type 0
 WritesItAgain o before after code =
     (version : Version) (trace : List Step) → IsProperIn version

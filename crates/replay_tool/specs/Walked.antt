@@ -26,7 +26,7 @@ use Rattle.command_endings.specs.Streams.{Streams}
 use Rattle.command_endings.specs.Reads.{AreRead}
 use Rattle.script_player.specs.Versions.{Said, Comes, Passes, Starts, HasNoMark, IsOutOfStep, Cannot, Version, First, Second, kind_of, kind_says, settings_by, stage_started, stage_told, version_in}
 
--- what a line is: the event that may come where nothing is due, the number of the next step, the line that is due, or another
+-- what a line is: the event that may come if nothing is due, the number of the next step, the line that is due, or another
 pub data Fit : Type 0 where
   TakesEvent : (event : Event) → Fit
   TakesNumber : (number : ℕ) → Fit
@@ -45,7 +45,7 @@ said_undue ends n Cannot = Fails (endings.MayNotCome n)
 said_undue ends n Passes = Fails (endings.Differs n)
 said_undue ends n IsOutOfStep = Fails (endings.Differs n)
 
--- a line where none is due
+-- a line if none is due
 abbrev pub undue : Stage → Ends → ℕ → List ℕ → Fit
 undue stage ends n line = said_undue ends n (kind_says stage ends (kind_of (Whole line)))
 
@@ -61,7 +61,7 @@ said_other n IsOutOfStep = endings.Differs n
 abbrev pub other_than : Stage → Ends → ℕ → List ℕ → Ending
 other_than stage ends n line = said_other n (kind_says stage ends (kind_of (Whole line)))
 
--- a line where the lines of this text are due
+-- a line if the lines of this text are due
 abbrev pub fit : Stage → Ends → List ℕ → ℕ → List ℕ → Fit
 fit stage ends due n line =
     if length due == 0 then undue stage ends n line
@@ -118,7 +118,7 @@ abbrev pub TakesAny : Parts → Stage → List ℕ → ℕ → List ℕ → Opti
 TakesAny old stages.Start due number line answer new stage' due' = TakesFirst (header_of line) old number line answer new stage' due'
 TakesAny old stage due number line answer new stage' due' = TakesLater old stage due number line answer new stage' due'
 
--- what the end of the input shows where these lines are due
+-- what the end of the input shows if these lines are due
 abbrev pub at_end : List ℕ → ℕ → Ending
 at_end due n = if length due == 0 then endings.Done else endings.Differs (n + 1)
 

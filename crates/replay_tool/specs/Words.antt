@@ -56,7 +56,7 @@ with_first None others = None
 with_first (Some setting) None = None
 with_first (Some setting) (Some others) = Some (setting ∷ others)
 
--- what the words set, where each of them sets something
+-- what the words set, if each of them sets something
 abbrev pub all_set : List (List ℕ) → Option (List Setting)
 all_set [] = Some []
 all_set (word ∷ words) = with_first (setting_of word) (all_set words)
@@ -87,7 +87,7 @@ abbrev pub once_each : Option (List Setting) → Option Settings
 once_each None = None
 once_each (Some xs) = if are_different xs then Some (with_all usual xs) else None
 
--- the settings that the words give, where each sets something and no name stands twice: a name
+-- the settings that the words give, if each sets something and no name stands twice: a name
 -- that is not given has its usual value
 abbrev pub settings_of : List (List ℕ) → Option Settings
 settings_of words = once_each (all_set words)

@@ -53,7 +53,7 @@ fn open_numbered(core: &mut Core, settings: &Settings, due: &mut ExpectedLines)
     due.fill_first(lines.iface, lines.engine);
 }
 
-// Takes a line where none is due.
+// Takes a line if none is due.
 fn take_undue(
     core: &mut Core,
     stage: &mut Stage,

@@ -104,7 +104,7 @@ impl Listing {
         write_lines(self.lines.bytes(), output, diag)
     }
 
-    // Writes the legal moves of the position that the text spells, or tells its fault.
+    // Writes the legal moves of the position that the text spells, or reports its fault.
     fn list<O: Sink, D: Sink>(&mut self, output: &mut O, diag: &mut D) -> Ending
         requires { self.old.lines ≡ empty LINES_ROOM }
         ensures { Lists (position_of self.old.fen.items)

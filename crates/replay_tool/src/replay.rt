@@ -139,7 +139,7 @@ fn run_words<I: Source, O: Sink, D: Sink>(
 
 /// Runs the program `replay` on its words, which do not include its name.
 ///
-/// The word `replay` reads a script from the input, passes over its header, its step lines and the
+/// The word `replay` reads a script from the input, ignores its header, its step lines and the
 /// lines that were written, and writes the script of the session in the same version, with the
 /// settings of the header, or of the words behind it if there is no header: `Resign` and
 /// `ShowPonder` are `true` or `false`, `ResignMoves` is 1 to 1,000, `ResignScore` 0 to 100,000.
@@ -152,7 +152,7 @@ fn run_words<I: Source, O: Sink, D: Sink>(
 /// one of version 2 with the settings of the words. No core runs: the script need not be lawful.
 ///
 /// The word `games`, with the same words behind it, reads a script as `replay` does and writes the
-/// games of the session, one a line, each where the interface begins another or the session ends: its
+/// games of the session, one a line, each when the interface begins another or the session ends: its
 /// movetext (PGN standard, section 8.2), and before it the `FEN` tag, if it has another beginning.
 ///
 /// The word `revive` with one digit from 1 to 9 reads a script of version 1 and plays it to an
@@ -243,7 +243,7 @@ pub fn replay_main<I: Source, O: Sink, D: Sink>(
     }
 }
 
-/// Tells that there was no memory for the words.
+/// Reports that there was no memory for the words.
 pub fn refuse_for_memory<D: Sink>(diag: &mut D) -> Status
     ensures { Told result.code 3 (tail_of endings.NoMemory) (D.state diag.old) (D.state diag.new) }
 {

@@ -72,7 +72,7 @@ PlaysAll lives before after code =
     (x : List ℕ) → before.input.left ≡ Some x → length x < 2 ^ 32
     → ArePlayed lives (items SCRIPT_LINE x) → IsSteady before after → (code ≡ 0) ⊎ (code ≡ 3)
 
--- The script that is written for events is written for it again: its lines that were written are passed over.
+-- The script that is written for events is written for it again: its lines that were written are ignored.
 abbrev pub RevivesAgain : ℕ → Streams → Streams → ℕ → Type 0
 RevivesAgain lives before after code =
     (events : List Event) → AreSpelled (map Happens events) → AllMayHappen (opening lives) events

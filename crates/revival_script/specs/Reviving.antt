@@ -30,7 +30,7 @@ pub record IsRefused (fault ending : Ending) (s : State) (held : Text) (s' : Sta
   pub ending_is : ending ≡ fault
   pub same : IsSame s held s' held'
 
--- An event was played where it may come, and else it is a fault.
+-- An event was played if it may come, and else it is a fault.
 abbrev pub IsPlayedAs : ℕ → Event → Option Ending → State → Text → State → Text → Type 0
 IsPlayedAs number event None s held s' held' = IsPlayed event s held s' held'
 IsPlayedAs number event (Some ending) s held s' held' =

@@ -13,7 +13,7 @@ use std::alloc::Global;
 /// Plays the script of version 1 in the input to an engine of which up to so many lives are begun,
 /// writes the marks of its events with those of the lines that they bring, and reports how that ended.
 ///
-/// Lines that the input has for written ones are passed over, so what is written may be played again.
+/// Lines that the input has for written ones are ignored, so what is written may be played again.
 pub fn run_revive<I: Source, O: Sink, D: Sink>(
     alloc: Global,
     lives: u32,

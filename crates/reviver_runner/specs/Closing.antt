@@ -15,7 +15,7 @@ abbrev pub write_faults : {S K : Type 0} → (K → Received) → List (Run S K)
 write_faults sink [] = 0
 write_faults sink (run ∷ runs) = (sink run.snk).faults + write_faults sink runs
 
--- what the host is told of the runs
+-- what the host is shown of the runs
 abbrev pub told_of_runs : {S K : Type 0} → (S → Supplied) → (K → Received) → List (Run S K) → List Told
 told_of_runs source sink runs = map (λ run. told_by (source run.src) (sink run.snk)) runs
 

@@ -44,7 +44,7 @@ pub record AreReady (parts : Parts) : Type 0 where
 abbrev pub begins : ℕ → State → Type 0
 begins lives s = s ≡ opening lives
 
--- A life goes on where so many have ended: it is one more, and one of those that may be begun.
+-- A life goes on after so many have ended: it is one more, and one of those that may be begun.
 pub record Goes (s : State) (ended : ℕ) : Type 0 where
   pub alive : is_alive s.life ≡ true
   pub begun : s.begun ≡ suc ended
@@ -57,7 +57,7 @@ pub record IsBegun (source : Supplied) (sink : Received) (failed : Bool) (text :
   pub unwritten : IsUnwritten fresh
   pub offered : Offered false failed fresh sink text
 
--- whether reading or writing failed in a life that has ended is what the runs' counts tell
+-- whether reading or writing failed in a life that has ended is what the runs' counts say
 pub record AreTallied {S K : Type 0} (source : S → Supplied) (sink : K → Received) (runs : List (Run S K)) (tally : Tally) : Type 0 where
   pub reads : Tells 0 (read_faults source runs) tally.engine_read
   pub writes : Tells 0 (write_faults sink runs) tally.engine_write
@@ -77,7 +77,7 @@ pub record Life : Type 0 where
   pub broken : Bool
 
 -- Nothing was read of it or written to it before. Its lines are those that its source gave, and its sink took its text, or a
--- front of it, where a write failed.
+-- front of it, if a write failed.
 pub record IsLife (l : Life) : Type 0 where
   pub unread : IsUnread l.source
   pub unwritten : IsUnwritten l.sink
@@ -91,7 +91,7 @@ AreLives lives = AllByRecursion IsLife lives
 abbrev pub life_events : List Life → List Event
 life_events lives = flat_map (λ l. l.lines ++ EngineLong ∷ []) lives
 
--- what the host is told of them
+-- what the host is shown of them
 abbrev pub told_of_lives : List Life → List Told
 told_of_lives lives = map (λ l. told_by l.read l.written) lives
 
@@ -146,7 +146,7 @@ pub record HasLived {S K : Type 0} (source : S → Supplied) (sink : K → Recei
   pub tallies : Tallies lives tally
   pub so_far : Lived s0 s sent taken lives text refused output output' log log' failed failed'
 
--- the same, where another life goes on
+-- the same, if another life goes on
 pub record GoesOn {S K : Type 0} (source : S → Supplied) (sink : K → Received) (s0 s : State) (sent taken : List Event)
     (runs : List (Run S K)) (run : Run S K) (tally : Tally)
     (output output' log log' : Received) (failed failed' : LoopEnd) : Type 0 where
@@ -156,7 +156,7 @@ pub record GoesOn {S K : Type 0} (source : S → Supplied) (sink : K → Receive
 
 -- FROM ONE LIFE TO THE NEXT
 
--- Another life begins only where one may, and else orders may still come.
+-- Another life begins only if one may, and else orders may still come.
 abbrev pub Follows : {S K : Type 0} → State → State → Next S K → Type 0
 Follows s s' (nexts.Life run) = (may_begin s ≡ true) × (s'.begun ≡ s.begun + 1) × (s'.lives ≡ s.lives) × (is_alive s'.life ≡ true)
 Follows s s' next = (s'.lives ≡ s.lives) × (s'.begun ≡ s.begun) × (s'.life ≡ life.Over)

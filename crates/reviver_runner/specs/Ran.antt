@@ -105,7 +105,7 @@ pub record Revived (lives : ℕ) (before after : Outside) (failures : Failures) 
   pub runs_told : after.books.runs ≡ told_of_lives runs
   pub runs_out : after.books.runs_out ≡ length runs
 
--- What a run leaves, whether an engine was started or not: each count of faults rose where its failure is told, and is as
+-- What a run leaves, whether an engine was started or not: each count of faults rose if its failure is reported, and is as
 -- before else; each run that was handed out is closed, of so many lives at most, and the log if one was.
 pub record Leaves (lives : ℕ) (before after : Outside) (failures : Failures) : Type 0 where
   pub told : AreTold before after failures
@@ -115,7 +115,7 @@ pub record Leaves (lives : ℕ) (before after : Outside) (failures : Failures) :
   pub few_logs : after.books.logs_out ≤ 1
   pub some_run : failures.memory ≡ false → failures.engine_start ≡ false → 0 < after.books.runs_out
   pub some_log : failures.memory ≡ false → failures.log ≡ false → 0 < after.books.runs_out → after.books.logs_out ≡ 1
-  -- where no engine was started, nothing was read or written
+  -- if no engine was started, nothing was read or written
   pub nothing : after.books.runs_out ≡ 0
       → (after.input ≡ before.input) × (after.output ≡ before.output)
   pub revived : 0 < after.books.runs_out → Revived lives before after failures

@@ -301,7 +301,7 @@ where
 
 /// Starts an engine and opens the log, runs the engine's lives beside the interface, at most this
 /// many, and closes the runs, in their order, and the log. Of each life the clauses of `one_life`
-/// hold. A log that cannot be opened is left out. Where the host does not start an engine again,
+/// hold. A log that cannot be opened is left out. If the host does not start an engine again,
 /// there is no life more, and what stands in for it answers the interface until that has ended.
 pub fn revive_run<I: Source + Send, O: Sink + Send, H: Host + Send, R: Threads + Wait + Sync>(
     rt: &R,

@@ -47,7 +47,7 @@ impl<'a> DyingHost<'a> {
     }
 }
 
-// One more, where the source had failed.
+// One more, if the source had failed.
 fn raised(count: u64, part: u64) -> u64
     ensures { RisesBy part count result }
 {

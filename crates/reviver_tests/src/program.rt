@@ -26,7 +26,7 @@ pub fn words_of(alloc: Global, texts: &[&str]) -> Result<Vec<Vec<u8>>, Fail> {
     Ok(words)
 }
 
-// The status of the program with these words, where the diagnostic is this one.
+// The status of the program with these words, if the diagnostic is this one.
 fn status_of<R: Threads + Wait + Sync>(
     rt: &R,
     alloc: Global,

@@ -20,7 +20,7 @@ fn is_line(line: &[u8]) -> bool
     line.len() <= MOST_LINE && !line.contains(&b'\n')
 }
 
-// What an order gives, where it may come.
+// What an order gives, if it may come.
 fn order<'a>(revival: &'a mut Revival, line: &[u8]) -> Option<Both<'a>> {
     if revival.awaits_next() || !is_line(line) {
         return None;
@@ -35,7 +35,7 @@ fn heard<'a>(revival: &'a mut Revival, line: &[u8]) -> Option<Both<'a>> {
     Some(revival.heard(line))
 }
 
-// What the end of the life gives, where another one follows just if one is wanted.
+// What the end of the life gives, if another one follows just if one is wanted.
 fn ended(revival: &mut Revival, next: bool) -> Option<Both<'_>> {
     if !revival.is_alive() {
         return None;
@@ -47,7 +47,7 @@ fn ended(revival: &mut Revival, next: bool) -> Option<Both<'_>> {
     }
 }
 
-// What this gives, where it may come.
+// What this gives, if it may come.
 fn answer<'a>(revival: &'a mut Revival, comes: &[u8]) -> Option<Both<'a>> {
     match comes {
         [b'x', b' ', line @ ..] => order(revival, line),

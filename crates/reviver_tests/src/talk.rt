@@ -139,7 +139,7 @@ impl<'a> Source for Waiting<'a> {
     }
 }
 
-/// A sink that keeps what it took, as far as there is memory, and tells all threads that it took a
+/// A sink that keeps what it took, as far as there is memory, and shows all threads that it took a
 /// piece that ends so.
 #[derive(Drop)]
 pub struct Telling<'a> {

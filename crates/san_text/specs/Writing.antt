@@ -51,7 +51,7 @@ file_letter s = letter_a + file_of s
 abbrev pub rank_digit : ℕ → ℕ
 rank_digit s = digit_one + rank_of s
 
--- nothing, else the file, else the rank, else both: the first that tells the man from the others
+-- nothing, else the file, else the rank, else both: the first that distinguishes the man from the others
 abbrev pub distinction : Position → Move → List ℕ
 distinction p m =
     if not (has_rival p m Board) then []

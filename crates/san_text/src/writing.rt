@@ -37,7 +37,7 @@ fn promotion(promo: Option<Kind>) -> &'static [u8]
     }
 }
 
-// What tells the man from others of its kind that may go there: nothing, a file, a rank, or both.
+// What distinguishes the man from others of its kind that may go there: nothing, a file, a rank, or both.
 fn distinction(at: &Position, m: Move) -> ArrayVec<u8, 2>
     ensures { result.items ≡ distinction at.now m }
 {

@@ -69,7 +69,7 @@ words_from (suc n) text = words_from n (behind blank text)
 abbrev pub word_at : ℕ → List ℕ → List ℕ
 word_at n text = before blank (words_from n text)
 
--- the settings that four words with one blank between tell
+-- the settings that four words with one blank between state
 unfoldable pub settings_in : List ℕ → Option Settings
 settings_in words = with_all
     (truth_of (value_of (codes "Resign") (word_at 0 words)))
@@ -77,7 +77,7 @@ settings_in words = with_all
     (number_of 0 MOST_SCORE (value_of (codes "ResignScore") (word_at 2 words)))
     (truth_of (value_of (codes "ShowPonder") (words_from 3 words)))
 
--- the settings that a line tells as a header
+-- the settings that a line states as a header
 abbrev pub header_of : List ℕ → Option Settings
 header_of line =
     if bytes_eq (word_at 0 line) (codes "#2") then settings_in (words_from 1 line) else None

@@ -69,7 +69,7 @@ SpellsNone line = (mark : Mark) → SpellsMark line mark → ⊥
 abbrev pub is_empty : List ℕ → Bool
 is_empty bytes = length bytes == 0
 
--- the event of the interface that a sign and what follows it tell
+-- the event of the interface that a sign and what follows it stand for
 abbrev pub iface_event : ℕ → List ℕ → Option Event
 iface_event sign rest =
     if sign == blank && is_line rest then Some (Iface rest)

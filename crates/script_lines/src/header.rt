@@ -75,7 +75,7 @@ fn read_settings(words: &[u8]) -> Option<Settings>
     })
 }
 
-/// The settings that a header tells, if the line is one.
+/// The settings that a header states, if the line is one.
 pub fn read_header(line: &[u8]) -> Option<Settings>
     ensures value { result ≡ header_of line.now }
     ensures exact { (settings : SomeSettings) → (result ≡ Some settings)

@@ -11,7 +11,7 @@ use Rattle.line_scribe.specs.Putting.{Putting}
 use Rattle.script_migration.specs.declared.migration.Migration.{Migration}
 use Rattle.script_migration.specs.Migration.{AreMarked, IsUnmarked, beginning, migrated, steps_over}
 
--- what stands before the first mark, where it was not put
+-- what stands before the first mark, if it was not put
 abbrev pub beginning_by : Option ℕ → Settings → List ℕ
 beginning_by None settings = beginning settings
 beginning_by (Some number) settings = []
@@ -39,7 +39,7 @@ pub record IsSound (migration : Migration) : Type 0 where
   pub proper : IsProper migration.settings
   pub number : IsNumber migration.last
 
--- this was put for the lines: nothing where there is none
+-- this was put for the lines: nothing if there is none
 abbrev pub PutFor : Settings → List Piece → Option ℕ → List ℕ → Type 0
 PutFor settings [] last text = (last ≡ None) × (text ≡ [])
 PutFor settings (line ∷ lines) last text =

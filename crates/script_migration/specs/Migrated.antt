@@ -44,7 +44,7 @@ pub record WholeMigrated (settings : Settings) (before after : Streams) : Type 0
   pub marked : AreMarked (whole SCRIPT_LINE got)
   pub written : Appends before.output.taken after.output.taken (migrated settings (whole SCRIPT_LINE got))
 
--- so it is where the input gave at least 2^32 bytes
+-- so it is if the input gave at least 2^32 bytes
 pub record MuchMigrated (settings : Settings) (before after : Streams) : Type 0 where
   pub whole_lines : WholeMigrated settings before after
   pub least : 2 ^ 32 ≤ length whole_lines.got
@@ -69,7 +69,7 @@ ReportsUnmarked before after code =
     → items SCRIPT_LINE x ≡ lines ++ more → IsUnmarked number lines → IsSteady before after
     → ((code ≡ 2) × Appends before.diag.taken after.diag.taken (diagnostic (endings.NoMark number))) ⊎ (code ≡ 3)
 
--- Where the input is the script of version 1 of a trace, its script of version 2 was written. The trace need not be lawful.
+-- If the input is the script of version 1 of a trace, its script of version 2 was written. The trace need not be lawful.
 abbrev pub MigratesScripts : Settings → Streams → Streams → ℕ → Type 0
 MigratesScripts settings before after code =
     (trace : List Step) → IsMarked trace → before.input.left ≡ Some (script1 trace) → code ≡ 0

@@ -17,7 +17,7 @@ pub record IsWrittenMarked (step : Step) : Type 0 where
   pub iface : AllByRecursion (λ line. IsSpelled (ToIface line)) (parts (iface_text step))
   pub engine : AllByRecursion (λ line. IsSpelled (ToEngine line)) (parts (engine_text step))
 
--- Lawful or not, its events and its written lines have marks, but for Open, which begins it.
+-- Lawful or not, its events and its written lines have marks, except Open, which begins it.
 pub record IsMarked (trace : List Step) : Type 0 where
   pub events : AreEventsMarked trace
   pub written : AllByRecursion IsWrittenMarked trace

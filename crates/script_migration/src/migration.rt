@@ -14,7 +14,7 @@ use script_lines::{Mark, next_number, read_mark, write_header, write_step};
 #[derive(Drop)]
 pub struct Migration {
     settings: Settings,
-    /// The number of the step that was put last; `None` where not even the header was put.
+    /// The number of the step that was put last; `None` if not even the header was put.
     last: Option<u64>,
 }
 
@@ -64,7 +64,7 @@ impl Migration {
         }
     }
 
-    // Puts what stands before the first mark, where it was not put. It gives the last step's number.
+    // Puts what stands before the first mark, if it was not put. It gives the last step's number.
     fn begin(&mut self, text: &mut Out) -> u64
         requires may { IsSound self.old }
         requires room { length text.old.text + 90 ≤ text.old.room }

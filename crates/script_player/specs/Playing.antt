@@ -25,7 +25,7 @@ pub record Adds (old new : Parts) (e : Event) (step : Step) : Type 0 where
   pub event : step.event ≡ e
   pub extends : (o : Settings) (t : List Step) → Lawful o t → Stands o old t → Lawful o (step ∷ t) × Stands o new (step ∷ t)
 
--- the text of a step, behind its number where it has one
+-- the text of a step, behind its number if it has one
 abbrev pub text_by : Option ℕ → Step → List ℕ
 text_by (Some number) step = numbered_marks number step.event (iface_text step) (engine_text step)
 text_by None step = step_text step
@@ -46,7 +46,7 @@ Takes core stage text (Comes e) core' stage' text' = Steps stage core core' e te
 Takes core stage text (Starts number) core' stage' text' = (core' ≡ core) × (stage' ≡ stage_started stage number) × (text' ≡ text)
 Takes core stage text said core' stage' text' = (core' ≡ core) × (stage' ≡ stage) × (text' ≡ text)
 
--- so many steps were taken where the reading is at this stage
+-- so many steps were taken if the reading is at this stage
 abbrev pub CountIs : Version → Stage → ℕ → Type 0
 CountIs First stages.Plain count = ⊤
 CountIs (Second settings) stages.Headed count = count ≡ 1
@@ -86,7 +86,7 @@ HasBegun (Some settings) core text core' stage' text' =
     (set : Parts) × Stands settings set []
     × Steps (stages.Numbered 0) set core' Open (with (with text (header_text settings)) (line_feed ∷ [])) text' × (stage' ≡ stages.Headed)
 
--- The output got the script of a lawful trace, but for what is not written yet. Its events are those of the lines.
+-- The output got the script of a lawful trace, except what is not written yet. Its events are those of the lines.
 pub record Scripted (o : Settings) (lines : List Piece) (unwritten : List ℕ) (before after : Received) : Type 0 where
   pub trace : List Step
   pub lawful : Lawful (settings_by (version_in lines) o) trace

@@ -45,7 +45,7 @@ abbrev pub version_by : Option Settings → Version
 version_by None = First
 version_by (Some settings) = Second settings
 
--- it is of version 2 where its first line is a header
+-- it is of version 2 if its first line is a header
 abbrev pub version_in : List Piece → Version
 version_in (Whole line ∷ lines) = version_by (header_of line)
 version_in lines = First
@@ -142,7 +142,7 @@ abbrev pub or_later : Option Ending → Option Ending → Option Ending
 or_later None later = later
 or_later (Some e) later = Some e
 
--- the first line that has no mark, is out of step or whose event may not come, where the first line has this number
+-- the first line that has no mark, is out of step or whose event may not come, if the first line has this number
 abbrev pub first_fault : ℕ → Place → List Piece → Option Ending
 first_fault n place [] = None
 first_fault n place (l ∷ ls) =

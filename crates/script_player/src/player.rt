@@ -32,7 +32,7 @@ pub struct Player {
     text: Out,
 }
 
-// One step of the core, and its marks, behind its number where steps are numbered.
+// One step of the core, and its marks, behind its number if steps are numbered.
 fn step(core: &mut Core, stage: Stage, event: &Event, text: &mut Out)
     requires may { may core.old.ends (event_of event.now) ≡ true }
     requires stage { IsNumbered stage }
@@ -130,7 +130,7 @@ impl Player {
         matches!(self.stage, Stage::Start)
     }
 
-    // Where another line is taken, the text is to be written first.
+    // If another line is taken, the text is to be written first.
     fn is_full(&self) -> bool
         ensures { result ≡ false → length self.now.text.text + STEP_ROOM ≤ self.now.text.room }
     {
@@ -155,7 +155,7 @@ impl Player {
         written
     }
 
-    // Takes a line of a session that was opened, and first writes where room is short.
+    // Takes a line of a session that was opened, and first writes if room is short.
     fn take_on<O: Sink>(&mut self, number: u64, line: &[u8], output: &mut O) -> Option<Ending>
         requires may { MayGoOn self.old }
         requires opened { is_start self.old.stage ≡ false }
@@ -190,7 +190,7 @@ impl Player {
         ending
     }
 
-    /// Writes what is left where no more lines are taken.
+    /// Writes what is left if no more lines are taken.
     pub fn stop<O: Sink>(&mut self, ending: Ending, output: &mut O) -> Ending
         ensures room { self.new.text.room ≡ self.old.text.room }
         ensures left { (o : AnySettings) (lines : List Piece) (before : Received)
@@ -203,7 +203,7 @@ impl Player {
         self.write_last(ending, output)
     }
 
-    /// Opens the session where no line did, and writes what is left.
+    /// Opens the session if no line did, and writes what is left.
     pub fn end<O: Sink>(&mut self, ending: Ending, output: &mut O) -> Ending
         requires { MayGoOn self.old }
         ensures room { self.new.text.room ≡ self.old.text.room }

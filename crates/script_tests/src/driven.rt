@@ -20,7 +20,7 @@ const ROWS: [Row; 7] = [
         b"x uci\nU xboard\nU protover 2\nu feature ping=1 setboard=1 usermove=1 analyze=1 myname=\"Old\" done=1\nX id name Old\nX uciok\nU accepted ping\nU accepted setboard\nU accepted usermove\nU accepted analyze\nU accepted myname\nU accepted done\nx position startpos\nx go infinite\nU new\nU force\nU post\nU analyze\nu 9 25 100 5000 e4 e5\nX info depth 9 score cp 25 time 1000 nodes 5000 pv e2e4\nx stop\nU exit\nU ping 1\nu pong 1\nX bestmove e2e4\n",
         Ending::Done,
     ),
-    // What was written is passed over; an order may come behind `quit`, and nothing is written for it.
+    // What was written is ignored; an order may come behind `quit`, and nothing is written for it.
     (
         b"x uci\nU hello\nX hello\nx quit\nx isready\nx.\nx isready\nu.\n",
         b"x uci\nU xboard\nU protover 2\nx quit\nU quit\nx isready\nx.\nx isready\nu.\n",

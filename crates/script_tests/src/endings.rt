@@ -6,7 +6,7 @@ use std::alloc::Global;
 use std::process::Abort;
 use std::test::Fail;
 
-// An ending, its status, and what is told of it.
+// An ending, its status, and its diagnostic.
 type Row = (Ending, u8, &'static [u8]);
 
 const ROWS: [Row; 6] = [
@@ -18,7 +18,7 @@ const ROWS: [Row; 6] = [
     (Ending::TooLong, 6, b"replay: input too long\n"),
 ];
 
-/// Tells an ending, and compares its status and the diagnostic.
+/// Reports an ending, and compares its status and the diagnostic.
 fn expect_told(
     rt: &impl Abort,
     alloc: Global,

@@ -5,7 +5,7 @@ use std::alloc::Global;
 use std::process::Abort;
 use std::test::Fail;
 
-// The lines of a session, its games, and what is told.
+// The lines of a session, its games, and the diagnostic.
 type Row = (&'static [u8], &'static [u8], &'static [u8]);
 
 // A game that Black mates; a game behind one that began with a position, and a fault; a game in which a position was
@@ -28,7 +28,7 @@ const ROWS: [Row; 3] = [
     ),
 ];
 
-/// Writes the games of a session, and compares them and what is told.
+/// Writes the games of a session, and compares them and the diagnostic.
 fn expect_games(
     rt: &impl Abort,
     alloc: Global,

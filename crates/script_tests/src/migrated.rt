@@ -6,7 +6,7 @@ use std::alloc::Global;
 use std::process::Abort;
 use std::test::Fail;
 
-// A script, what it becomes, and what is told.
+// A script, what it becomes, and the diagnostic.
 type Row = (&'static [u8], &'static [u8], &'static [u8]);
 
 // A script of a session, and of the beginning of one that no bridge would write.
@@ -28,7 +28,7 @@ const ROWS: [Row; 3] = [
     ),
 ];
 
-/// Migrates a script, and compares what it becomes and what is told.
+/// Migrates a script, and compares what it becomes and the diagnostic.
 fn expect_migrated(
     rt: &impl Abort,
     alloc: Global,

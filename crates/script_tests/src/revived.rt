@@ -67,7 +67,7 @@ const ENDS: [Row; 7] = [
     ),
 ];
 
-/// Plays a script in pieces to the lives of a row, and compares what is written and told.
+/// Plays a script in pieces to the lives of a row, and compares what is written, and the diagnostic.
 fn revive(rt: &impl Abort, alloc: Global, row: Row, script: &[u8], piece: usize) -> Result<(), Fail>
     requires { 0 < piece }
 {

@@ -1,4 +1,4 @@
-// What a command reads, writes and tells, in memory.
+// What a command reads and writes, and its diagnostic, in memory.
 ghost use Rattle.std.specs.Prelude.{◌<◌};
 
 use command_endings::Ending;
@@ -7,7 +7,7 @@ use std::alloc::Global;
 use std::process::Abort;
 use std::test::Fail;
 
-/// An input in pieces, an output, and what is told beside it.
+/// An input in pieces, an output, and the diagnostic beside it.
 #[derive(Drop)]
 pub struct Streams {
     pub input: MemSource,

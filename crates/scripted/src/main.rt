@@ -35,7 +35,7 @@ impl Read for OpenedLate<'_> {
     }
 }
 
-/// The name of the script, where there are words.
+/// The name of the script, if there are words.
 fn name_in(words: &[Vec<u8>]) -> &[u8] {
     match words.first() {
         Some(word) => word.as_slice(),

@@ -72,7 +72,7 @@ NoScript old new script TooLarge = SCRIPT_LIMIT < length script
 NoScript old new script Endless = ⊥
 
 -- All lines were answered, up to the first `quit` or to the end: whatever is left behind them, and
--- nothing is where the end was seen.
+-- nothing is left if the end was seen.
 pub record AnswersAll (blocks : List Block) (old new : Supplied) (heard told : List ℕ) : Type 0 where
   pub ended : Bool
   pub all : (left : List ℕ) → (ended ≡ true → left ≡ [])
@@ -80,7 +80,7 @@ pub record AnswersAll (blocks : List Block) (old new : Supplied) (heard told : L
   pub at_end : ended ≡ true → IsOver old new
   pub at_quit : ended ≡ false → has_quit (until_quit (items PEER_LINE heard)) ≡ true
 
--- what is told is a front of all answers, whatever is left behind them, and nothing is where the end
+-- what is written is a front of all answers, whatever is left after them, and nothing is left if the end
 -- was seen
 pub record AnswersFront (blocks : List Block) (old new : Supplied) (heard told : List ℕ) : Type 0 where
   pub ended : Bool
@@ -120,7 +120,7 @@ abbrev pub HasAnswers : List Block → Received → List Piece → Type 0
 HasAnswers blocks output pieces =
     (now : Received) × Appends output.taken now.taken (replies blocks pieces)
 
--- Each read came where the answers to all lines that were whole by then were written.
+-- Each read came when the answers to all lines that were whole by then were written.
 abbrev pub AnswersInTime : List Block → Received → List ℕ → Type 0
 AnswersInTime blocks output heard =
     (pieces : List Piece) × InTime PEER_LINE (HasAnswers blocks output) heard pieces
@@ -158,7 +158,7 @@ pub record Session (ending : Ending) (old new : Streams) : Type 0 where
   pub in_time : AnswersInTime (blocks_of script) old.output heard
   pub ends : HasNoScript ending script heard told old new ⊎ HasScript ending script heard told old new
 
--- The file told a good script within the limit, the input told fewer than 2^32 bytes, and no count
+-- The file gave a good script within the limit, the input gave fewer than 2^32 bytes, and no count
 -- rose.
 pub record GoesWell (script heard : List ℕ) (old new : Streams) : Type 0 where
   pub script_told : old.file.left ≡ Some script
@@ -174,7 +174,7 @@ pub record GoesWell (script heard : List ℕ) (old new : Streams) : Type 0 where
 abbrev pub Completes : ℕ → Streams → Streams → Type 0
 Completes code old new = (script heard : List ℕ) → GoesWell script heard old new → (code ≡ 0) ⊎ (code ≡ 3)
 
--- Where both told their bytes and the run is done, the output took the answers to all lines of the
+-- If both report their bytes and the run is done, the output took the answers to all lines of the
 -- input, up to `quit`.
 abbrev pub AnswersInput : ℕ → Streams → Streams → Type 0
 AnswersInput code old new =

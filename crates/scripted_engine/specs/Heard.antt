@@ -32,7 +32,7 @@ pub record Heard (blocks : List Block) (pieces : List Piece) (table : Scripted) 
   pub answered : told ≡ replies blocks pieces
   pub no_quit : has_quit (until_quit pieces) ≡ false
 
--- the answers to these lines were told, or a front where a write failed
+-- the answers to these lines were written, or a front if a write failed
 abbrev pub StopsBy : Stop → List Block → List Piece → List ℕ → Received → Received → Type 0
 StopsBy stops.Quit blocks pieces told output0 output = (told ≡ replies blocks pieces) × (has_quit (until_quit pieces) ≡ true)
 StopsBy stops.WriteFailed blocks pieces told output0 output = Rose output0.faults output.faults × ((more : List ℕ) × (told ++ more ≡ replies blocks pieces))

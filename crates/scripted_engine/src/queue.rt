@@ -55,7 +55,7 @@ impl Queue {
         at
     }
 
-    /// The answer at a place, and nothing where there is none.
+    /// The answer at a place, and nothing if there is none.
     pub fn answer(&self, at: usize) -> &[u8]
         ensures { result.now ≡ text_at self.now at }
     {

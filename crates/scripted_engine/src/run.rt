@@ -97,7 +97,7 @@ fn run<F: Source, I: Source, O: Sink>(
 /// The program `scripted FILE`: answers the lines of the input by the script in the file.
 ///
 /// The word is the file's name; the file itself is a source, whose first read opens it. A line of
-/// more than 65,536 bytes is passed over. It stops after the answer to a line whose first token is
+/// more than 65,536 bytes is ignored. It stops after the answer to a line whose first token is
 /// `quit`, or at the end of the input. The exit statuses are those of [`Ending`].
 pub fn scripted_main<F: Source, I: Source, O: Sink>(
     alloc: Global,

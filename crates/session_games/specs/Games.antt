@@ -25,7 +25,7 @@ abbrev pub asks_anew : Event → Bool
 asks_anew (events.Iface line) = begins_game (reading line)
 asks_anew event = false
 
--- A game is over where a line that begins a game leaves one without moves in place of one with moves.
+-- A game is over if a line that begins a game leaves one without moves in place of one with moves.
 abbrev pub is_over : Game → Event → Game → Bool
 is_over before event after = asks_anew event && (has_moves before && not (has_moves after))
 

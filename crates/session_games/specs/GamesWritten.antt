@@ -45,7 +45,7 @@ pub record AllWritten (o : Settings) (before after : Streams) : Type 0 where
   pub games : WritesGames text_all o before after (items SCRIPT_LINE got)
   pub no_failure : AreSame before after
 
--- The first fault of the input was told, and the games that were over before it were written.
+-- The first fault of the input was reported, and the games that were over before it were written.
 pub record FaultReported (o : Settings) (before after : Streams) : Type 0 where
   pub fault : Ending
   pub told : Appends before.diag.taken after.diag.taken (diagnostic fault)
@@ -62,7 +62,7 @@ pub record WholeWritten (o : Settings) (before after : Streams) : Type 0 where
   pub faultless : script_fault (whole SCRIPT_LINE got) ≡ None
   pub games : WritesGames text_over o before after (whole SCRIPT_LINE got)
 
--- so it is where the input gave at least 2^32 bytes
+-- so it is if the input gave at least 2^32 bytes
 pub record MuchWritten (o : Settings) (before after : Streams) : Type 0 where
   pub games : WholeWritten o before after
   pub least : 2 ^ 32 ≤ length games.got
@@ -83,7 +83,7 @@ CompletesGames before after code =
     (x : List ℕ) → before.input.left ≡ Some x → length x < 2 ^ 32
     → script_fault (items SCRIPT_LINE x) ≡ None → IsSteady before after → (code ≡ 0) ⊎ (code ≡ 3)
 
--- The first fault of an input of fewer than 2^32 bytes is told, or there was no memory.
+-- The first fault of an input of fewer than 2^32 bytes is reported, or there was no memory.
 abbrev pub TellsFault : Streams → Streams → ℕ → Type 0
 TellsFault before after code =
     (x : List ℕ) (fault : Ending) → before.input.left ≡ Some x → length x < 2 ^ 32

@@ -113,7 +113,7 @@ Faulted o lines fault text = (script_fault lines ≡ Some fault) × HasSession t
 abbrev pub Finished : (Settings → List Step → List ℕ) → Settings → List Piece → List ℕ → Type 0
 Finished text_of o lines text = (script_fault lines ≡ None) × HasSession text_of o lines text
 
--- Behind these lines there are no more: all games stand in the text where the input has ended, and else
+-- Behind these lines there are no more: all games stand in the text if the input has ended, and else
 -- those that are over.
 abbrev pub Says : Settings → List Piece → Ending → List ℕ → Type 0
 Says o lines endings.Done text = Finished text_all o lines text
@@ -124,7 +124,7 @@ Says o lines (endings.OutOfStep n) text = Faulted o lines (endings.OutOfStep n) 
 Says o lines (endings.MayNotCome n) text = Faulted o lines (endings.MayNotCome n) text
 Says o lines ending text = ⊥
 
--- what is put at an end: the running game, where the input has ended
+-- what is put at an end: the running game, if the input has ended
 abbrev pub last_by : Ending → Game → List Game
 last_by endings.Done g = running g
 last_by ending g = []

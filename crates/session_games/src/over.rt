@@ -27,7 +27,7 @@ fn asks_anew(event: &Event) -> bool
     }
 }
 
-/// Whether a game is over where this event leaves another.
+/// Whether a game is over if this event leaves another.
 pub fn is_over(before: &Game, event: &Event, after: &Game) -> bool
     ensures { result ≡ is_over before.now (event_of event.now) after.now }
 {

@@ -41,7 +41,7 @@ abbrev pub events : List Step → List Event
 events [] = []
 events (s ∷ t) = events t ++ s.event ∷ []
 
--- the events that lines tell by their marks
+-- the events that lines stand for by their marks
 abbrev pub event_told : Option Mark → List Event
 event_told (Some (Happens e)) = e ∷ []
 event_told m = []

@@ -34,8 +34,8 @@ pub record TookFront (text : List ℕ) (old new : Option (List ℕ)) : Type 0 wh
   pub is : text ≡ front ++ rest
   pub took : Appends old new front
 
--- What a sink took of a piece, where it had failed before or not, and has failed now or not: all of it; or a front,
--- where it failed now; or nothing, where it had failed.
+-- What a sink took of a piece, by whether it had failed before and has failed now: all of it; or a front,
+-- if it failed now; or nothing, if it had failed.
 pub record Offered (failed failed' : Bool) (old new : Received) (piece : List ℕ) : Type 0 where
   pub stays : failed ≡ true → (failed' ≡ true) × (new ≡ old)
   pub whole : failed' ≡ false → Appends old.taken new.taken piece

@@ -5,7 +5,7 @@ use Rattle.line_io.specs.Source.{Received}
 use Rattle.event_pipe.specs.Counts.{Tells}
 use Rattle.sink_offers.specs.Streams.{TookFront}
 
--- the log took the whole script, or a front of it where it failed
+-- the log took the whole script, or a front of it if it failed
 pub record LogTook (whole_script : List ℕ) (failed : Bool) (old new : Received) : Type 0 where
   pub whole : failed ≡ false → Appends old.taken new.taken whole_script
   pub front : failed ≡ true → TookFront whole_script old.taken new.taken

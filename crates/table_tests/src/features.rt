@@ -153,7 +153,7 @@ fn writes_the_bare_list(rt: HostRuntime) -> Result<(), Fail> {
 /// What is shown of a name that does not fit.
 const USUAL_NAME: &str = "UCI engine";
 
-/// The name that an engine tells, and the name that is shown.
+/// The name that an engine gives, and the name that is shown.
 const NAMES: [(&str, &str); 5] = [
     ("Toy", "Toy"),
     ("Toga II\t3.0 (it's)", "Toga II\t3.0 (it's)"),

@@ -37,7 +37,7 @@ fn show(moves: &[&'static str], hint: &str, line: &str, out: &mut Out) -> Option
     }
 }
 
-/// Moves, a hint or none, the engine's line, and what is shown of it: nothing where that is empty.
+/// Moves, a hint or none, the engine's line, and what is shown of it: nothing if that is empty.
 type Shown = (
     &'static [&'static str],
     &'static str,
@@ -124,7 +124,7 @@ const SHOWN: [Shown; 12] = [
     ),
 ];
 
-/// The variation that an engine tells is shown as long as its moves are legal.
+/// The variation that an engine reports is shown as long as its moves are legal.
 const VARIATIONS: [Shown; 7] = [
     // a blocked pawn
     (

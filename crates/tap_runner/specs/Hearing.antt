@@ -9,7 +9,7 @@ use Rattle.tap_runner.specs.Lines.{last_pieces}
 use Rattle.tap_runner.specs.Marks.{mark_of, piece_events, end_event}
 use Rattle.tap_runner.specs.declared.part.TheConstants.{MARK_ROOM}
 
--- the open line of a peer, where it is not too long, and whether there was no memory for a mark
+-- the open line of a peer, if it is not too long, and whether there was no memory for a mark
 pub record Open : Type 0 where
   pub peer : Peer
   pub line : Option (List ℕ)
@@ -37,7 +37,7 @@ pub record Hears (old new : Open) (before now : List Event) (pieces : List Piece
   pub sends : new.has_lacked ≡ false → now ≡ before ++ piece_events old.peer pieces
   pub going : ended now ≡ false
 
--- the last line was told, and the peer's end
+-- the last line was sent, and the peer's end
 pub record EndsHearing (old new : Open) (before now : List Event) : Type 0 where
   pub lacked : old.has_lacked ≡ true → new.has_lacked ≡ true
   pub sends : new.has_lacked ≡ false

@@ -29,7 +29,7 @@ line_after line [] = line
 line_after line (b ∷ bs) =
     if is_feed b then line_after (Some []) bs else line_after (with_byte line b) bs
 
--- a last line that no line feed ends, where there is one
+-- a last line that no line feed ends, if there is one
 abbrev pub last_pieces : Option (List ℕ) → List Piece
 last_pieces (Some []) = []
 last_pieces line = piece_in line ∷ []

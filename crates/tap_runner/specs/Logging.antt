@@ -19,7 +19,7 @@ ends_after ends IfaceEnd = record { bridge = true; engine = ends.engine }
 ends_after ends EngineEnd = record { bridge = ends.bridge; engine = true }
 ends_after ends event = ends
 
--- The log took what was received, in order, each mark on a line, or a front of that text where it failed.
+-- The log took what was received, in order, each mark on a line, or a front of that text if it failed.
 pub record Logged (received : List Event) (log log' : Received) (failed : Bool) : Type 0 where
   pub text : LogTook (log_text received) failed log log'
   pub bridge_ended : ended (sent_by peers.Iface received) ≡ true

@@ -20,9 +20,9 @@ pub record Passed (peer : Peer) (source source' : Supplied) (sink sink' : Receiv
   -- these bytes were read
   pub got : List ℕ
   pub reads : Reads source source' got
-  -- they were handed on, unchanged and in order: all of them, or a front of them where a write failed
+  -- they were handed on, unchanged and in order: all of them, or a front of them if a write failed
   pub handed : LogTook got end.write_failed sink sink'
-  -- nothing is left, where nothing failed
+  -- nothing is left, if nothing failed
   pub all : end.read_failed ≡ false → end.write_failed ≡ false → IfSome source.left (λ _. IsAtEnd source'.left)
   pub read_count : Tells source.faults source'.faults end.read_failed
   -- the marks of their lines were sent to the log, and the end

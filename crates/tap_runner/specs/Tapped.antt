@@ -8,7 +8,7 @@ use Rattle.host_run.specs.Outside.{Outside, AreTold, IsClosed}
 use Rattle.tap_runner.specs.declared.run.TapEnd.{TapEnd}
 use Rattle.tap_runner.specs.Ran.{Ran}
 
--- what a run answered is told
+-- what a run answered is reported
 pub record TellsRun (end : TapEnd) (failures : Failures) : Type 0 where
   pub iface_read : failures.iface_read ≡ end.bridge.read_failed
   pub iface_write : failures.iface_write ≡ end.engine.write_failed
@@ -22,7 +22,7 @@ pub record TellsRun (end : TapEnd) (failures : Failures) : Type 0 where
 abbrev pub LogTold : Books → Streams → Type 0
 LogTold books last = (books.logs ≡ last.into.log.taken ∷ []) ⊎ (books.logs ≡ [])
 
--- why a run that was made tells of no memory: there was none for a mark, or the log was not opened
+-- why a run that was made reports no memory: there was none for a mark, or the log was not opened
 abbrev pub LackedMemory : Books → TapEnd → Type 0
 LackedMemory books end =
     (end.bridge.has_lacked_memory ≡ true)
@@ -55,7 +55,7 @@ pub record Leaves (OutputGone : Type 0) (EngineGone : Received → Type 0) (befo
     (failures : Failures) : Type 0 where
   pub told : AreTold before after failures
   pub closed : IsClosed after.books failures
-  -- where no engine was started, nothing was read or written
+  -- if no engine was started, nothing was read or written
   pub nothing : after.books.runs_out ≡ 0
       → (after.input ≡ before.input) × (after.output ≡ before.output)
   pub unstarted : failures.engine_start ≡ true → after.books.runs_out ≡ 0

@@ -19,7 +19,7 @@ const MARK_ROOM: usize = PEER_LINE;
 #[derive(Drop)]
 pub struct Part {
     peer: Peer,
-    // its mark, of which the end is missing where it is long
+    // its mark, of which the end is missing if it is long
     mark: Out,
     is_long: bool,
     // there was no memory for a mark
@@ -91,7 +91,7 @@ impl Part {
         }
     }
 
-    // Sends its mark. One that is too long, or for which there is no memory, is told as long.
+    // Sends its mark. One that is too long, or for which there is no memory, is sent as long.
     fn send<R: Wait>(&mut self, rt: &R, alloc: Global, to: &mut PipeSend)
         requires sender { IsSender to.old }
         requires peer { to.old.peer ≡ self.old.peer }
