@@ -89,7 +89,7 @@ fn expect_start(rt: &impl Abort, start: &Position) {
     assert!(rt; start.rights().wk && start.rights().bq);
     assert!(rt; start.attacked(f3, Side::White) && !start.attacked(f3, Side::Black));
     assert!(rt; !start.in_check());
-    assert!(rt; equal_positions(start, &Position::start()));
+    assert!(rt; equal_positions(start, &Position::start()) && start.is_standard());
     start.facts();
 }
 
@@ -102,7 +102,7 @@ fn plays_moves(rt: HostRuntime) -> Result<(), Fail> {
     let start = Position::start();
     expect_start(&rt, &start);
     let knights = after(&rt, start, "g1f3 g8f6 f3g1 f6g8");
-    assert!(rt; knights.same(&start) && knights != start);
+    assert!(rt; knights.same(&start) && knights != start && !knights.is_standard());
     expect_counters(&rt, &knights, 4, 3);
     let d6 = Square::at(3, 5).expect(&rt, "d6");
     let opened = after(&rt, start, "e2e4");

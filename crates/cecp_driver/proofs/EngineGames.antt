@@ -11,7 +11,9 @@ use Rattle.chess_board.specs.Position.{Position}
 use Rattle.chess_board.specs.Play.{start_position}
 use Rattle.game_record.specs.Game.{Ply, Game, begun, now_of, ply_of, with_ply}
 use Rattle.game_record.specs.Ending.{is_same}
+use Rattle.game_record.specs.Line.{is_standard}
 use Rattle.game_record.proofs.Sames.{same-law}
+use Rattle.game_record.proofs.Lines.{standard-law}
 use Rattle.san_text.specs.Writing.{same_kind}
 use Rattle.san_text.proofs.Alone.{promos-Decides}
 use Rattle.driver_talk.specs.declared.words.Clocks.{Clocks}
@@ -118,8 +120,8 @@ start_quiet : (standard : Bool) (p : Position) → AreQuiet (cond standard [] (S
 start_quiet true p = tt
 start_quiet false p = (tt, tt)
 
-start_sets : (standard : Bool) (p : Position) → same_position p start_position ≡ standard → set_by_all (begun start_position) (cond standard [] (SetBoard p ∷ [])) ≡ begun p
-start_sets true p e = ap begun (sym (same_positions p start_position e))
+start_sets : (standard : Bool) (p : Position) → is_standard p ≡ standard → set_by_all (begun start_position) (cond standard [] (SetBoard p ∷ [])) ≡ begun p
+start_sets true p e = ap begun (sym ((standard-law p).0 e))
 start_sets false p e = refl
 
 -- the further moves lead from the engine's game to the ordered one
@@ -130,7 +132,7 @@ IsRest eg g (Some rest) = (eg.start ≡ g.start) × (g.moves ≡ eg.moves ++ res
 setup_quiet : (o : Option (List Ply)) (has_usermove : Bool) (g : Game) → AreQuiet (setup_lines o has_usermove g)
 setup_quiet (Some rest) has_usermove g = (tt, played_quiet has_usermove rest)
 setup_quiet None has_usermove g =
-    (tt, (tt, (tt, quiet_then (start_lines g.start) (played has_usermove g.moves) (start_quiet (same_position g.start start_position) g.start) (played_quiet has_usermove g.moves))))
+    (tt, (tt, (tt, quiet_then (start_lines g.start) (played has_usermove g.moves) (start_quiet (is_standard g.start) g.start) (played_quiet has_usermove g.moves))))
 
 setup_sets : (o : Option (List Ply)) (has_usermove : Bool) (eg g : Game) → IsRest eg g o → set_by_all eg (setup_lines o has_usermove g) ≡ g
 setup_sets (Some rest) has_usermove eg g r =
@@ -139,7 +141,7 @@ setup_sets (Some rest) has_usermove eg g r =
     ∙ ap (λ (x : List Ply). game g.start x) (sym r.1)
 setup_sets None has_usermove eg g r =
     sets_then (begun start_position) (start_lines g.start) (played has_usermove g.moves)
-    ∙ ap (λ (x : Game). set_by_all x (played has_usermove g.moves)) (start_sets (same_position g.start start_position) g.start refl)
+    ∙ ap (λ (x : Game). set_by_all x (played has_usermove g.moves)) (start_sets (is_standard g.start) g.start refl)
     ∙ played_sets has_usermove g.moves (begun g.start)
 
 rest_from : (told : Told) (eg g : Game) (o : Option (List Ply)) → eg ≡ told.game → same_position told.game.start g.start ≡ true → further told.game.moves g.moves ≡ o → IsRest eg g o

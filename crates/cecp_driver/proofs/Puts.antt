@@ -1,13 +1,14 @@
 -- Lines that are put one after the other.
-use Rattle.std.proofs.Common.{◌≡◌, ℕ, List, [], ◌∷◌, ◌++◌, Bool, false, None, refl, sym, ap, ◌∙◌, append_assoc, append-nil}
+use Rattle.std.proofs.Common.{◌≡◌, ℕ, List, [], ◌∷◌, ◌++◌, Bool, true, false, None, refl, sym, ap, ◌∙◌, append_assoc, append-nil}
+use Rattle.std.specs.Bool.{Decides}
 use Rattle.std.specs.Prelude.{codes}
 use Rattle.line_io.specs.Out.{Text, with}
-use Rattle.line_io.proofs.Puts.{put_two}
+use Rattle.line_io.proofs.Puts.{put_none, put_two}
 use Rattle.chess_board.specs.Position.{Position}
 use Rattle.chess_board.specs.Play.{start_position}
 use Rattle.game_record.specs.Game.{Ply, Game}
+use Rattle.game_record.proofs.Lines.{standard_test}
 use Rattle.driver_lines.specs.Lines.{Line, New, Force, Post, SetBoard, line_text, lines_text}
-use Rattle.cecp_driver.specs.Same.{same_position}
 use Rattle.cecp_driver.specs.SetUp.{Told, continued, played, start_lines, setup_lines}
 
 pub two_lines : (o a b : Text) (x y : List ℕ) → a ≡ with o x → b ≡ with a y → b ≡ with o (x ++ (y ++ []))
@@ -19,8 +20,12 @@ one_line o a x e = e ∙ ap (with o) (sym (append-nil x))
 pub set_line : (o a b c : Text) (t items w : List ℕ) → t ≡ items → items ≡ w → a ≡ with o (codes "setboard ") → b ≡ with a t → c ≡ with b (10 ∷ []) → c ≡ with o ((codes "setboard " ++ w) ++ 10 ∷ [])
 set_line o a b c t items w e f p q r = put_two o b c (codes "setboard " ++ t) (10 ∷ []) (put_two o a b (codes "setboard ") t p q) r ∙ ap (λ (x : List ℕ). with o ((codes "setboard " ++ x) ++ 10 ∷ [])) (e ∙ f)
 
-pub start_line : (o a : Text) (p : Position) → same_position p start_position ≡ false → a ≡ with o (line_text (SetBoard p)) → a ≡ with o (lines_text (start_lines p))
-start_line o a p e f = rw e (one_line o a (line_text (SetBoard p)) f)
+-- nothing is put for the standard start
+pub start_none : (o : Text) (b : Bool) (p : Position) → Decides b (p ≡ start_position) → b ≡ true → o ≡ with o (lines_text (start_lines p))
+start_none o b p d e = rw (standard_test b p d ∙ e) (put_none o)
+
+pub start_line : (o a : Text) (b : Bool) (p : Position) → Decides b (p ≡ start_position) → b ≡ false → a ≡ with o (line_text (SetBoard p)) → a ≡ with o (lines_text (start_lines p))
+start_line o a b p d e f = rw (standard_test b p d ∙ e) (one_line o a (line_text (SetBoard p)) f)
 
 pub lines_append : (a b : List Line) → lines_text (a ++ b) ≡ lines_text a ++ lines_text b
 lines_append [] b = refl

@@ -3,6 +3,7 @@ use Rattle.std.specs.Prelude.{ℕ, ◌==◌, Bool, true, false, not, ◌&&◌, �
 use Rattle.chess_board.specs.Position.{Position}
 use Rattle.chess_board.specs.Play.{start_position}
 use Rattle.game_record.specs.Game.{Ply, Game, begun, with_ply}
+use Rattle.game_record.specs.Line.{is_standard}
 use Rattle.driver_lines.specs.Lines.{Line, New, Force, Post, SetBoard, Played}
 use Rattle.cecp_driver.specs.Same.{same_position, same_ply}
 
@@ -34,7 +35,7 @@ played has_usermove [] = []
 played has_usermove (m ∷ moves) = Played has_usermove m ∷ played has_usermove moves
 
 abbrev pub start_lines : Position → List Line
-start_lines start = if same_position start start_position then [] else SetBoard start ∷ []
+start_lines start = if is_standard start then [] else SetBoard start ∷ []
 
 -- the further moves alone, or all of the game
 abbrev pub setup_lines : Option (List Ply) → Bool → Game → List Line

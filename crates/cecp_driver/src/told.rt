@@ -7,8 +7,6 @@ ghost use Rattle.chess_board.specs.Text.{IsOfficer};
 ghost use Rattle.chess_board.specs.Place.{legal};
 ghost use Rattle.game_record.specs.Game.{begun, ply_of, plies_of, with_ply};
 ghost use Rattle.driver_lines.specs.Lines.{SetBoard, line_text, lines_text};
-ghost use Rattle.chess_board.specs.Play.{start_position};
-ghost use Rattle.cecp_driver.specs.Same.{same_position};
 ghost use Rattle.cecp_driver.specs.SetUp.{continued, start_lines, setup_lines, set_up, limited, moved, lost, none_told};
 ghost use Rattle.cecp_driver.specs.declared.told.TheConstants.{SETUP, MOST_TOLD, MOST_PLIES};
 
@@ -58,13 +56,6 @@ impl Model for Told {
     ghost invariant = { λ t. MOST_TOLD ≤ vec_capacity t.moves };
 }
 
-/// Whether a position is that of the beginning of a game.
-fn is_standard(p: &Position) -> bool
-    ensures { result ≡ same_position p.now start_position }
-{
-    is_same_position(p, &Position::start())
-}
-
 /// Writes a position that is set up.
 fn write_position(p: &Position, out: &mut Out)
     requires room { length out.old.text + 106 ≤ out.old.room }
@@ -82,7 +73,7 @@ fn write_start(start: &Position, out: &mut Out)
     ensures text { out.new ≡ with out.old (lines_text (start_lines start.now)) }
     ensures short { length out.new.text ≤ length out.old.text + 106 }
 {
-    if is_standard(start) {
+    if start.is_standard() {
         return;
     }
     write_position(start, out);

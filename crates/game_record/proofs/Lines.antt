@@ -1,5 +1,5 @@
 -- The standard start, and how long a line may be.
-use Rattle.std.proofs.Common.{◌≡◌, ℕ, zero, suc, ◌+◌, ◌*◌, ◌<◌, ◌≤◌, ltb, get_or, subst, append_assoc, append-nil, List, [], ◌∷◌, ◌++◌, true, false, ◌&&◌, cond, eqb, length, Option, Some, None, refl, sym, ap, ◌∙◌, arith, length-append}
+use Rattle.std.proofs.Common.{◌≡◌, ℕ, Bool, zero, suc, ◌+◌, ◌*◌, ◌<◌, ◌≤◌, ltb, get_or, subst, append_assoc, append-nil, List, [], ◌∷◌, ◌++◌, true, false, ◌&&◌, cond, eqb, length, Option, Some, None, refl, sym, ap, ◌∙◌, arith, length-append}
 use Rattle.std.specs.Bool.{Decides}
 use Rattle.std.specs.Option.{option_to_list}
 use Rattle.std.specs.Prelude.{codes}
@@ -46,6 +46,21 @@ equal_by p q =
 pub standard-law : StandardLaw
 unfolding is_standard
 standard-law p = equal_by p start_position
+
+-- two tests for one thing
+one_test : {P : Type 0} → (a b : Bool) → Decides a P → Decides b P → a ≡ b
+one_test true true d e = refl
+one_test true false d e = sym (e.1 (d.0 refl))
+one_test false true d e = d.1 (e.0 refl)
+one_test false false d e = refl
+
+-- every test for the standard start
+pub standard_test : (b : Bool) (p : Position) → Decides b (p ≡ start_position) → is_standard p ≡ b
+standard_test b p d = one_test (is_standard p) b (standard-law p) d
+
+-- the text of the start, by such a test
+pub start_by : (b c : Bool) (p : Position) → Decides b (p ≡ start_position) → b ≡ c → start_text p ≡ cond c (codes "startpos") (codes "fen " ++ written p)
+start_by b c p d e = ap (λ (v : Bool). cond v (codes "startpos") (codes "fen " ++ written p)) (standard_test b p d ∙ e)
 
 length-spaced : (moves : List Ply) → length (spaced moves) ≤ 6 * length moves
 length-spaced [] = omega arith

@@ -5,28 +5,19 @@ ghost use Rattle.std.specs.List.{AllByRecursion};
 ghost use Rattle.chess_board.specs.Text.{IsOfficer, text_of};
 ghost use Rattle.line_io.specs.Out.{with};
 ghost use Rattle.game_record.specs.Game.{ply_of, plies_of, IsPlayable, now_of};
-ghost use Rattle.game_record.specs.Line.{is_standard, start_text, spaced, told, moves_text, position_text};
+ghost use Rattle.game_record.specs.Line.{start_text, spaced, told, moves_text, position_text};
 ghost use Rattle.peer_words.specs.Bytes.{blank};
 
-use crate::ending::is_same;
 use crate::game::Game;
 use chess_board::{Move, Position, write_move};
 use fen_text::write_fen;
 use line_io::Out;
 
-/// Whether a position is the standard start, with its counts 0 and 1.
-#[tactic(auto, unfolding(crate::specs::Line::is_standard))]
-fn is_standard(p: &Position) -> bool
-    ensures { result ≡ is_standard p.now }
-{
-    is_same(p, &Position::start()) && (p.half() == 0 && p.full() == 1)
-}
-
 fn write_start(p: &Position, out: &mut Out)
     requires { length out.old.text + length (start_text p.now) ≤ out.old.room }
     ensures { out.new ≡ with out.old (start_text p.now) }
 {
-    if is_standard(p) {
+    if p.is_standard() {
         out.put(b"startpos");
     } else {
         out.put(b"fen ");

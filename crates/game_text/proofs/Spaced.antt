@@ -1,14 +1,18 @@
 -- The parts of the line of a game.
-use Rattle.std.proofs.Common.{◌≡◌, ℕ, ◌≤◌, List, [], ◌∷◌, ◌++◌, Bool, true, false, decimal, length, refl, sym, ap, ◌∙◌, arith, lit<, append_assoc}
+use Rattle.std.proofs.Common.{◌≡◌, ℕ, ◌≤◌, List, [], ◌∷◌, ◌++◌, Bool, cond, decimal, length, refl, sym, ap, ◌∙◌, arith, lit<, append_assoc}
 use Rattle.std.specs.Bool.{Decides}
+use Rattle.std.specs.Prelude.{codes}
 use Rattle.std.proofs.lemmas.Fmt.{length-decimal-le}
 use Rattle.line_io.specs.Out.{Text, with}
 use Rattle.line_io.proofs.Puts.{put_three}
 use Rattle.std.specs.List.{join_with_byte}
 use Rattle.chess_board.specs.Position.{Position}
+use Rattle.chess_board.specs.Play.{start_position}
+use Rattle.fen_text.specs.Written.{written}
 use Rattle.game_record.specs.Game.{Ply, played}
+use Rattle.game_record.proofs.Lines.{standard_test}
 use Rattle.game_text.specs.San.{san}
-use Rattle.game_text.specs.Text.{number_by, move_parts, spaced}
+use Rattle.game_text.specs.Text.{number_by, move_parts, spaced, tag_of}
 
 pub spaced-append : (a b : List (List ℕ)) → spaced (a ++ b) ≡ spaced a ++ spaced b
 spaced-append [] b = refl
@@ -54,9 +58,6 @@ whole_text tag beginning moves result =
     ∙ append_assoc (spaced beginning) (spaced moves) (result ++ 10 ∷ []) in
     ap (λ (t : List ℕ). tag ++ (t ++ 10 ∷ [])) parts ∙ ap (λ (t : List ℕ). tag ++ t) line
 
--- two tests for one thing
-pub one_test : {P : Type 0} → (a b : Bool) → Decides a P → Decides b P → a ≡ b
-one_test true true d e = refl
-one_test true false d e = sym (e.1 (d.0 refl))
-one_test false true d e = d.1 (e.0 refl)
-one_test false false d e = refl
+-- the tag, by a test for the standard start
+pub tag_by : (b c : Bool) (p : Position) → Decides b (p ≡ start_position) → b ≡ c → tag_of p ≡ cond c [] (codes "[FEN \"" ++ (written p ++ codes "\"]\n"))
+tag_by b c p d e = ap (λ (v : Bool). cond v [] (codes "[FEN \"" ++ (written p ++ codes "\"]\n"))) (standard_test b p d ∙ e)

@@ -1,12 +1,11 @@
 // Writing a game.
 ghost use Rattle.std.specs.Prelude.{◌≡◌, ◌+◌, ◌≤◌, length};
 ghost use Rattle.line_io.specs.Out.{with};
-ghost use Rattle.game_record.specs.Line.{is_standard};
 ghost use Rattle.game_text.specs.Text.{tag_of, game_text};
 ghost use Rattle.game_text.specs.declared.write.TheConstants.{GAME_ROOM};
 
 use crate::parts::{put_beginning, put_moves, result_text};
-use chess_board::{Position, equal_positions};
+use chess_board::Position;
 use fen_text::write_fen;
 use game_record::{Game, MOST_PLIES};
 use line_io::Out;
@@ -14,19 +13,12 @@ use line_io::Out;
 /// No text of a game is longer: 15 bytes for each of at most 12,000 moves, and 120 for the rest.
 pub const GAME_ROOM: usize = 15 * MOST_PLIES + 120;
 
-// Whether a position is the standard start, with its counts 0 and 1.
-fn is_standard(p: &Position) -> bool
-    ensures { result ≡ is_standard p.now }
-{
-    equal_positions(p, &Position::start())
-}
-
 fn put_tag(start: &Position, out: &mut Out)
     requires { length out.old.text + 102 ≤ out.old.room }
     ensures text { out.new ≡ with out.old (tag_of start.now) }
     ensures few { length out.new.text ≤ length out.old.text + 102 }
 {
-    if is_standard(start) {
+    if start.is_standard() {
         return;
     }
     start.facts();
