@@ -80,6 +80,7 @@ impl<R, S> RealHost<R, S> {
         ensures books { books_of result
             ≡ record { runs_out = 0; logs_out = 0; runs = []; logs = [] } }
         ensures faults { result.faults ≡ no_faults }
+        ensures diag { result.shares_diag ≡ shares_diag }
     {
         RealHost {
             rt,

@@ -3,7 +3,7 @@ use crate::expected::{expect_bytes, expect_code, expect_same};
 use child_engine::{Fails, MemHost};
 use event_pipe::ReadEnd;
 use host_run::{
-    Ending, Failures, Opened, TriedThreads, close_log, has_failed, has_lacked_memory,
+    Ending, Failures, Opened, TriedThreads, close_log, either, has_failed, has_lacked_memory,
     is_open_failure, is_open_memory, only_memory, only_start, open_log, tell,
 };
 use line_io::{MemSink, ReadFault, Sink};
@@ -26,6 +26,8 @@ fn the_first_failure_is_reported(rt: HostRuntime) -> Result<(), Fail> {
     expect_bytes(&rt, diag.taken(), b"driver: engine writing failed\n");
     expect_code(&rt, Ending::of(only_memory()).code(), 3);
     expect_code(&rt, Ending::of(only_start()).code(), 8);
+    expect_same(&rt, either(false, true), true);
+    expect_same(&rt, either(false, false), false);
     Ok(())
 }
 

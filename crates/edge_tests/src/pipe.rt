@@ -2,7 +2,8 @@
 ghost use Rattle.std.specs.Prelude.{◌≡◌, ◌<◌, []};
 ghost use Rattle.event_pipe.specs.Ends.{IsSender, IsTaker, KeepsSender, KeepsTaker, sent};
 
-use event_pipe::{Pipe, PipeSend, PipeTake, ReadEnd, read_pipe};
+use crate::expected::expect_same;
+use event_pipe::{Pipe, PipeSend, PipeTake, ReadEnd, join_three, read_pipe};
 use line_io::{Event, MemSource, ReadFault};
 use std::alloc::Global;
 use std::process::Abort;
@@ -108,4 +109,11 @@ fn long_lines_are_told(rt: HostRuntime) -> Result<(), Fail> {
     expect(&rt, &mut taker, Event::EngineEnd);
     Pipe::finish(iface, child, taker);
     Ok(())
+}
+
+// Each of the three is called once, and its answer stands in its place.
+#[test]
+fn three_are_called_side_by_side(rt: HostRuntime) {
+    let answers = join_three(&rt, &mut || 1u8, &mut || 2u8, &mut || 3u8);
+    expect_same(&rt, answers == (1, 2, 3), true);
 }

@@ -76,7 +76,7 @@ impl ClosedStreams {
         self.diag.is_none()
     }
 
-    /// Whether standard error was open and is not the pipe or the socket that standard output is. Where
+    /// Whether standard error was open and is not the pipe or the socket that standard output is. If
     /// a chess interface reads both from one pipe, it takes what an engine writes to standard error for
     /// this program's.
     pub fn has_own_diag<R: Files<File = File>>(&self, rt: &R) -> bool {
