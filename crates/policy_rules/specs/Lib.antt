@@ -1,2 +1,4 @@
 pub mod Policy
 pub mod Scores
+pub mod Table
+pub mod Words

@@ -4,7 +4,17 @@ use Rattle.policy_rules.specs.declared.settings.Settings.{Settings}
 use Rattle.policy_rules.specs.declared.settings.TheConstants.{MOST_MOVES, MOST_SCORE, USUAL_MOVES, USUAL_SCORE}
 
 abbrev pub usual : Settings
-usual = record { resign = false; resign_moves = USUAL_MOVES; resign_score = USUAL_SCORE; show_ponder = true }
+usual = record {
+  resign = false;
+  resign_moves = USUAL_MOVES;
+  resign_score = USUAL_SCORE;
+  show_ponder = true;
+  early_settings = false;
+  resign_when_gone = false;
+  handle_draws = true;
+  show_san = false;
+  strength_options = false;
+}
 
 -- the numbers are within their ranges
 pub record IsProper (s : Settings) : Type 0 where

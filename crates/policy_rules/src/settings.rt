@@ -14,7 +14,7 @@ pub const USUAL_MOVES: u32 = 3;
 /// How bad each of them usually is at least.
 pub const USUAL_SCORE: u32 = 600;
 
-/// What the words of a program choose.
+/// What the words of a program choose. A field has a row in the table of `table.rt`.
 #[derive(Clone, Copy, PartialEq, Eq)]
 pub struct Settings {
     /// Whether the bridge resigns for the engine.
@@ -25,6 +25,16 @@ pub struct Settings {
     pub resign_score: u32,
     /// Whether thinking is shown while the engine ponders.
     pub show_ponder: bool,
+    /// Whether settings that come before the engine's options are known wait for them.
+    pub early_settings: bool,
+    /// Whether an engine that is gone resigns the game in which it owes a move.
+    pub resign_when_gone: bool,
+    /// Whether the policy answers an offer of a draw; else it gets silence.
+    pub handle_draws: bool,
+    /// Whether the moves of thinking lines are in standard algebraic notation.
+    pub show_san: bool,
+    /// Whether the options that limit the engine's strength are shown.
+    pub strength_options: bool,
 }
 
 impl Settings {
@@ -38,6 +48,11 @@ impl Settings {
             resign_moves: USUAL_MOVES,
             resign_score: USUAL_SCORE,
             show_ponder: true,
+            early_settings: false,
+            resign_when_gone: false,
+            handle_draws: true,
+            show_san: false,
+            strength_options: false,
         }
     }
 }
