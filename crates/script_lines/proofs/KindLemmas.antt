@@ -10,25 +10,37 @@ use Rattle.line_io.specs.Event.{has_feed}
 use Rattle.policy_rules.specs.declared.settings.Settings.{Settings}
 use Rattle.policy_rules.specs.Policy.{IsProper}
 use Rattle.script_lines.specs.Marks.{SpellsNone, mark_of}
-use Rattle.script_lines.specs.Header.{header_text, truth_text}
+use Rattle.policy_rules.specs.declared.table.Setting.{Setting}
+use Rattle.policy_rules.specs.declared.table.Setting.TheVariants as names
+use Rattle.policy_rules.specs.declared.table.Value.{Value}
+use Rattle.policy_rules.specs.declared.table.Value.TheVariants.{Truth, Number}
+use Rattle.policy_rules.specs.Table.{first_settings, has_usual_rest, name_of, settings, truth_text, value_of, value_text}
+use Rattle.script_lines.specs.Header.{header_text, word_of, words_text}
 use Rattle.script_lines.specs.StepLine.{step_line}
 use Rattle.script_lines.specs.Kinds.{LinesAreOfOneKind, HeadersAreLines, StepLinesAreLines}
 use Rattle.script_lines.proofs.Spelled.{read_of, none_some}
 use Rattle.script_lines.proofs.Numerals.{step_length}
-use Rattle.script_lines.proofs.Headers.{header_words, header_pieces, header_length, words_of}
+use Rattle.script_lines.proofs.Headers.{IsSmall, is_small, header_by, header_length, header_words, sign_of}
 
 -- a line that begins so has no mark
 no_mark : (line rest : List ℕ) (sign : ℕ) → line ≡ 35 ∷ sign ∷ rest → SpellsNone line
 no_mark line rest sign e = λ mark s. none_some (sym (ap mark_of e) ∙ read_of line mark s)
 
-signs_differ : (a b : List ℕ) → 35 ∷ 50 ∷ a ≡ 35 ∷ 32 ∷ b → ⊥
-signs_differ a b e = absurd (cc)
+no_second : (a b : List ℕ) → 35 ∷ 50 ∷ a ≡ 35 ∷ 32 ∷ b → ⊥
+no_second a b e = absurd (cc)
+
+no_third : (a b : List ℕ) → 35 ∷ 51 ∷ a ≡ 35 ∷ 32 ∷ b → ⊥
+no_third a b e = absurd (cc)
+
+signs_differ : (usual : Bool) (a b : List ℕ) → 35 ∷ sign_of usual ∷ a ≡ 35 ∷ 32 ∷ b → ⊥
+signs_differ true a b e = no_second a b e
+signs_differ false a b e = no_third a b e
 
 pub one_kind : LinesAreOfOneKind
 one_kind line = record {
-  header_is_no_mark = λ s h. no_mark line (32 ∷ words_of s) 50 (h.text ∙ header_words s);
+  header_is_no_mark = λ s h. no_mark line _ (sign_of (has_usual_rest s)) (h.text ∙ header_words s);
   step_line_is_no_mark = λ n h. no_mark line (decimal n) 32 h.text;
-  header_is_no_step_line = λ s n h k. signs_differ (32 ∷ words_of s) (decimal n) (sym (h.text ∙ header_words s) ∙ k.text);
+  header_is_no_step_line = λ s n h k. signs_differ (has_usual_rest s) _ (decimal n) (sym (h.text ∙ header_words s) ∙ k.text);
 }
 
 digit_feed : (c : ℕ) → is_ascii_digit c ≡ true → (c == 10) ≡ false
@@ -56,13 +68,27 @@ both_fed (x ∷ xs) b e f = by (x == 10) (has_feed xs) e (λ h. both_fed xs b h 
 pub step_fed : (n : ℕ) → n < 10 ^ 18 → has_feed (step_line n) ≡ false
 step_fed n h = number_fed n (omega arith)
 
+name_fed : (r : Setting) (text : List ℕ) → has_feed (name_of r ++ 61 ∷ text) ≡ has_feed text
+name_fed names.Resign text = refl
+name_fed r text = refl
+
+value_fed : (v : Value) → IsSmall v → has_feed (value_text v) ≡ false
+value_fed (Truth b) k = truth_fed b
+value_fed (Number n) k = number_fed n (omega arith)
+
+words_fed : (s : Settings) → IsProper s → (list : List Setting) → has_feed (words_text s list) ≡ false
+words_fed s p [] = refl
+words_fed s p (r ∷ rs) =
+    both_fed (word_of s r) (words_text s rs)
+    (name_fed r (value_text (value_of s r)) ∙ value_fed (value_of s r) (is_small s p r))
+    (words_fed s p rs)
+
+fed_by : (usual : Bool) (s : Settings) → IsProper s → has_feed (header_by usual s) ≡ false
+fed_by true s p = words_fed s p first_settings
+fed_by false s p = words_fed s p settings
+
 pub header_fed : (s : Settings) → IsProper s → has_feed (header_text s) ≡ false
-header_fed s p =
-    let moves = number_fed s.resign_moves (let m = p.few_moves in omega arith) in
-    let score = number_fed s.resign_score (let m = p.low_score in omega arith) in
-    ap has_feed (header_pieces s)
-    ∙ both_fed (truth_text s.resign) _ (truth_fed s.resign)
-    (both_fed (decimal s.resign_moves) _ moves (both_fed (decimal s.resign_score) _ score (truth_fed s.show_ponder)))
+header_fed s p = ap has_feed (header_words s) ∙ fed_by (has_usual_rest s) s p
 
 pub headers_are_lines : HeadersAreLines
 headers_are_lines s p = record { one_line = header_fed s p; short = (let l = header_length s p in omega arith) }

@@ -1,4 +1,4 @@
--- Step lines: the lines that number the steps of a script of version 2.
+-- Step lines: the lines that number the steps of a script with a header.
 use Rattle.std.specs.Prelude.{◌≡◌, ℕ, ◌%◌, ◌^◌, ◌<◌, List, ◌∷◌, ◌++◌, ◌==◌, ◌&&◌, codes, decimal, if◌then◌else◌, Option, Some, None}
 use Rattle.std.specs.Str.{bytes_eq}
 use Rattle.peer_words.specs.Bytes.{blank}

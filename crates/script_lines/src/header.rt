@@ -1,78 +1,106 @@
-// The header of a script of version 2.
-ghost use Rattle.std.specs.Prelude.{◌≡◌, ◌≤◌, ◌+◌, ◌↔◌, ◌==◌, ◌++◌, length, decimal, position, Some};
-ghost use Rattle.std.specs.Option.{option_map};
+// The header of a script of version 2 or 3.
+ghost use Rattle.std.specs.Prelude.{◌≡◌, ◌≤◌, ◌+◌, ◌↔◌, ◌∷◌, ◌++◌, length, Some, IfSome};
 ghost use Rattle.line_io.specs.Out.{with};
+ghost use Rattle.peer_words.specs.Bytes.{blank};
+ghost use Rattle.peer_words.specs.Tokens.{tokens};
 ghost use Rattle.policy_rules.specs.declared.settings.Settings.{Settings as SomeSettings};
 ghost use Rattle.policy_rules.specs.Policy.{IsProper};
-ghost use Rattle.script_lines.specs.Header.{SpellsHeader, before, behind, header_of, header_text, number_of, settings_in, truth_of, truth_text, value_of};
+ghost use Rattle.policy_rules.specs.Table.{truth_text, value_text};
+ghost use Rattle.script_lines.specs.Header.{SpellsHeader, header_of, header_text, header_with, settings_in, word_of, words_text};
+ghost use Rattle.script_lines.specs.declared.header.TheConstants.{HEADER_ROOM};
 
-use crate::step_line::read_numeral;
+use arrayvec::ArrayVec;
 use itoa::Buffer;
 use line_io::Out;
-use policy_rules::{MOST_MOVES, MOST_SCORE, Settings};
+use peer_words::{next_token, split_token};
+use policy_rules::{FIRST_SETTINGS, SETTINGS, Setting, Settings, Value, read_choice};
 
-fn byte_at(byte: u8, text: &[u8]) -> Option<usize>
-    ensures { result ≡ position (λ b. b == byte) text.now }
+/// Room for any header.
+pub const HEADER_ROOM: usize = 163;
+
+/// The text of a header, or a part of it.
+type HeaderText = ArrayVec<u8, HEADER_ROOM>;
+
+fn put(piece: &[u8], text: &mut HeaderText)
+    requires { length text.old.items + length piece.now ≤ HEADER_ROOM }
+    ensures { text.new.items ≡ text.old.items ++ piece.now }
 {
-    text.iter().position(|b| *b == byte)
+    let _ = text.try_extend_from_slice(piece);
 }
 
-/// What stands before the first of these bytes, and what stands behind it.
-fn split_at_byte(text: &[u8], byte: u8) -> (&[u8], &[u8])
-    ensures before { result.0.now ≡ before byte text.now }
-    ensures behind { result.1.now ≡ behind byte text.now }
+fn truth_text(value: bool) -> &'static [u8]
+    ensures { result.now ≡ truth_text value }
 {
-    match byte_at(byte, text) {
-        Some(at) => (&text[..at], &text[at + 1..]),
-        None => (text, &[]),
+    if value { b"true" } else { b"false" }
+}
+
+fn put_value(value: Value, text: &mut HeaderText)
+    requires { length text.old.items + length (value_text value) ≤ HEADER_ROOM }
+    ensures { text.new.items ≡ text.old.items ++ value_text value }
+{
+    match value {
+        Value::Truth(value) => put(truth_text(value), text),
+        Value::Number(value) => put(Buffer::new().format(value).as_bytes(), text),
     }
 }
 
-/// The value of a word NAME=VALUE.
-fn value_of<'a>(name: &[u8], word: &'a [u8]) -> Option<&'a [u8]>
-    ensures { option_map (λ v. v.now) result ≡ value_of name.now word.now }
+// Puts a blank and the word of a setting.
+fn put_word(settings: &Settings, setting: Setting, text: &mut HeaderText)
+    requires { length text.old.items + (length (word_of settings.now setting) + 1) ≤ HEADER_ROOM }
+    ensures { text.new.items ≡ text.old.items ++ blank ∷ word_of settings.now setting }
 {
-    let (found, value) = split_at_byte(word, b'=');
-    if found == name { Some(value) } else { None }
+    put(b" ", text);
+    put(setting.row().name.as_bytes(), text);
+    put(b"=", text);
+    put_value(settings.value(setting), text);
 }
 
-fn read_truth(name: &[u8], word: &[u8]) -> Option<bool>
-    ensures { result ≡ truth_of (value_of name.now word.now) }
+// Puts the words of these settings, with a blank before each.
+fn put_words(settings: &Settings, list: &[Setting], text: &mut HeaderText)
+    requires { length text.old.items + length (words_text settings.now list.now) ≤ HEADER_ROOM }
+    ensures { text.new.items ≡ text.old.items ++ words_text settings.now list.now }
 {
-    let value = value_of(name, word)?;
-    if value == b"true".as_slice() {
-        Some(true)
-    } else if value == b"false".as_slice() {
-        Some(false)
+    let mut rest = list;
+    while let [setting, others @ ..] = rest {
+        put_word(settings, *setting, text);
+        rest = others;
+    }
+}
+
+fn header_with(version: &[u8], list: &[Setting], settings: &Settings) -> HeaderText
+    requires { length (header_with version.now list.now settings.now) ≤ HEADER_ROOM }
+    ensures { result.items ≡ header_with version.now list.now settings.now }
+{
+    let mut text = ArrayVec::new();
+    put(version, &mut text);
+    put_words(settings, list, &mut text);
+    text
+}
+
+#[tactic(auto, unfolding(crate::specs::Header::header_text))]
+fn header_text(settings: &Settings) -> HeaderText
+    requires { length (header_text settings.now) ≤ HEADER_ROOM }
+    ensures { result.items ≡ header_text settings.now }
+{
+    if settings.has_usual_rest() {
+        header_with(b"#2", &SETTINGS[..FIRST_SETTINGS], settings)
     } else {
-        None
+        header_with(b"#3", &SETTINGS, settings)
     }
 }
 
-fn read_number(name: &[u8], word: &[u8], low: u32, high: u32) -> Option<u32>
-    ensures { result ≡ number_of low high (value_of name.now word.now) }
-{
-    let number = read_numeral(value_of(name, word)?, 6)?;
-    if u64::from(low) <= number && number <= u64::from(high) {
-        Some(number as u32)
-    } else {
-        None
-    }
-}
-
-#[tactic(auto, unfolding(crate::specs::Header::settings_in))]
+// The settings that words choose, beginning with the usual ones.
 fn read_settings(words: &[u8]) -> Option<Settings>
-    ensures { result ≡ settings_in words.now }
+    ensures value { result ≡ settings_in (tokens words.now) }
+    ensures proper { IfSome result (λ settings. IsProper settings) }
 {
-    let (resign, words) = split_at_byte(words, b' ');
-    let (moves, words) = split_at_byte(words, b' ');
-    let (score, ponder) = split_at_byte(words, b' ');
-    Some(Settings {
-        resign: read_truth(b"Resign", resign)?,
-        resign_moves: read_number(b"ResignMoves", moves, 1, MOST_MOVES)?,
-        resign_score: read_number(b"ResignScore", score, 0, MOST_SCORE)?,
-        show_ponder: read_truth(b"ShowPonder", ponder)?,
-    })
+    let mut settings = Settings::usual();
+    let mut rest = words;
+    while let Some((word, others)) = next_token(rest) {
+        settings = settings.with(read_choice(word)?);
+        rest = others;
+    }
+    Some(settings)
 }
 
 /// The settings that a header states, if the line is one.
@@ -84,51 +112,28 @@ pub fn read_header(line: &[u8]) -> Option<Settings>
     header_in(line)
 }
 
+// The settings that the words choose, if the line is what is written of them.
 fn header_in(line: &[u8]) -> Option<Settings>
-    ensures { result ≡ header_of line.now }
+    ensures value { result ≡ header_of line.now }
+    ensures proper { IfSome result (λ settings. IsProper settings) }
 {
-    let (version, words) = split_at_byte(line, b' ');
-    if version == b"#2".as_slice() {
-        read_settings(words)
+    let (_, words) = split_token(line);
+    let settings = read_settings(words)?;
+    if header_text(&settings).as_slice() == line {
+        Some(settings)
     } else {
         None
     }
 }
 
-fn truth_text(value: bool) -> &'static [u8]
-    ensures { result.now ≡ truth_text value }
-{
-    if value { b"true" } else { b"false" }
-}
-
-// Puts a name and the value behind it.
-fn put_truth(name: &[u8], value: bool, out: &mut Out)
-    requires { length out.old.text + length name.now + length (truth_text value) ≤ out.old.room }
-    ensures { out.new ≡ with out.old (name.now ++ truth_text value) }
-{
-    out.put(name);
-    out.put(truth_text(value));
-}
-
-fn put_number(name: &[u8], value: u32, out: &mut Out)
-    requires { length out.old.text + length name.now + length (decimal value) ≤ out.old.room }
-    ensures { out.new ≡ with out.old (name.now ++ decimal value) }
-{
-    out.put(name);
-    out.put(Buffer::new().format(value).as_bytes());
-}
-
 /// Writes the header of these settings, without a line feed.
 pub fn write_header(settings: &Settings, out: &mut Out)
     requires proper { IsProper settings.now }
-    requires room { length out.old.text + 68 ≤ out.old.room }
+    requires room { length out.old.text + HEADER_ROOM ≤ out.old.room }
     ensures written { out.new ≡ with out.old (header_text settings.now) }
-    ensures short { length (header_text settings.now) ≤ 68 }
+    ensures short { length (header_text settings.now) ≤ HEADER_ROOM }
     // What is written is read again.
     ensures again { header_of (header_text settings.now) ≡ Some settings.now }
 {
-    put_truth(b"#2 Resign=", settings.resign, out);
-    put_number(b" ResignMoves=", settings.resign_moves, out);
-    put_number(b" ResignScore=", settings.resign_score, out);
-    put_truth(b" ShowPonder=", settings.show_ponder, out);
+    out.put(header_text(settings).as_slice());
 }

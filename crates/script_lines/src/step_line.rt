@@ -24,7 +24,7 @@ pub(crate) fn read_numeral(text: &[u8], most: usize) -> Option<u64>
     }
 }
 
-/// The number in a step line, which numbers a step of a script of version 2.
+/// The number in a step line, which numbers a step of a script with a header.
 pub fn read_step(line: &[u8]) -> Option<u64>
     ensures value { result ≡ step_of line.now }
     ensures exact { (n : ℕ) → (result ≡ Some n) ↔ SpellsStep line.now n }

@@ -81,7 +81,7 @@ pub fn put_step(event: &Event, iface: &[u8], engine: &[u8], out: &mut Out)
     put_marks(event, iface, engine, out);
 }
 
-/// Puts a step of a script of version 2: the line with its number, and its marks.
+/// Puts a step of a script with a header: the line with its number, and its marks.
 pub fn put_numbered_step(number: u64, event: &Event, iface: &[u8], engine: &[u8], out: &mut Out)
     requires number { number < 10 ^ 18 }
     requires mark { length (event_marked (event_of event.now)) ≤ PEER_LINE + 3 }

@@ -1,4 +1,4 @@
--- What was put of a script of version 2.
+-- What was put of a script with a header.
 use Rattle.std.specs.Prelude.{◌≡◌, ⊤, ℕ, ◌<◌, ◌^◌, suc, List, [], ◌∷◌, ◌++◌, Option, Some, None}
 use Rattle.line_io.specs.Lines.{Piece}
 use Rattle.line_io.specs.Out.{Text, with}

@@ -18,7 +18,7 @@ use Rattle.script_migration.specs.Migration.{AreMarked, IsUnmarked, migrated}
 use Rattle.script_migration.specs.Traces.{IsMarked}
 use Rattle.line_io.specs.declared.limits.TheConstants.{SCRIPT_LINE}
 
--- All of the input was read, each line has a mark, the script of version 2 was written, and no stream failed.
+-- All of the input was read, each line has a mark, the script of version 2 or 3 was written, and no stream failed.
 pub record AllMigrated (settings : Settings) (before after : Streams) : Type 0 where
   pub got : List ℕ
   pub reads : Got before after got
@@ -69,7 +69,7 @@ ReportsUnmarked before after code =
     → items SCRIPT_LINE x ≡ lines ++ more → IsUnmarked number lines → IsSteady before after
     → ((code ≡ 2) × Appends before.diag.taken after.diag.taken (diagnostic (endings.NoMark number))) ⊎ (code ≡ 3)
 
--- If the input is the script of version 1 of a trace, its script of version 2 was written. The trace need not be lawful.
+-- If the input is the script of version 1 of a trace, its script of version 2 or 3 was written. The trace need not be lawful.
 abbrev pub MigratesScripts : Settings → Streams → Streams → ℕ → Type 0
 MigratesScripts settings before after code =
     (trace : List Step) → IsMarked trace → before.input.left ≡ Some (script1 trace) → code ≡ 0

@@ -1,4 +1,4 @@
--- A script of version 1 as one of version 2.
+-- A script of version 1 as one with a header.
 use Rattle.std.specs.Prelude.{◌≡◌, ℕ, suc, ◌+◌, List, [], ◌∷◌, ◌++◌, length, true, Option, Some, None, is_some}
 use Rattle.std.specs.List.{AllByRecursion}
 use Rattle.line_io.specs.Lines.{Piece, Whole, TooLong, line_feed}
@@ -39,7 +39,7 @@ lines_migrated steps (line ∷ lines) =
 abbrev pub beginning : Settings → List ℕ
 beginning settings = line_text (header_text settings) ++ line_text (step_line 0)
 
--- the script of version 2 with these settings, for the lines of one of version 1
+-- the script of version 2 or 3 with these settings, for the lines of one of version 1
 abbrev pub migrated : Settings → List Piece → List ℕ
 migrated settings lines = beginning settings ++ lines_migrated 1 lines
 

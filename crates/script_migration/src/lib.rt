@@ -1,4 +1,4 @@
-//! A script of version 1 is turned into one of version 2, without a core.
+//! A script of version 1 is turned into one with a header, without a core.
 #![tactic(auto)]
 
 mod migration;

@@ -2,6 +2,7 @@
 ghost use Rattle.std.specs.Prelude.{◌≡◌, ◌+◌, ◌<◌, ◌≤◌, ◌^◌, ◌∷◌, ◌++◌, [], length};
 ghost use Rattle.line_io.specs.Out.{with};
 ghost use Rattle.policy_rules.specs.Policy.{IsProper};
+ghost use Rattle.script_lines.specs.declared.header.TheConstants.{HEADER_ROOM};
 ghost use Rattle.script_migration.specs.Begun.{Begins, fresh};
 
 use command_endings::Ending;
@@ -10,7 +11,7 @@ use line_scribe::Scribe;
 use policy_rules::Settings;
 use script_lines::{Mark, next_number, read_mark, write_header, write_step};
 
-/// A script of version 2 as it is put, line by line.
+/// A script with a header as it is put, line by line.
 #[derive(Drop)]
 pub struct Migration {
     settings: Settings,
@@ -41,9 +42,9 @@ fn put_number(number: u64, text: &mut Out)
 // Puts the header and the number of the first step.
 fn put_beginning(settings: &Settings, text: &mut Out)
     requires proper { IsProper settings.now }
-    requires room { length text.old.text + 90 ≤ text.old.room }
+    requires room { length text.old.text + HEADER_ROOM + 22 ≤ text.old.room }
     ensures put { text.new ≡ with text.old (beginning settings.now) }
-    ensures few { length text.new.text ≤ length text.old.text + 90 }
+    ensures few { length text.new.text ≤ length text.old.text + HEADER_ROOM + 22 }
 {
     write_header(settings, text);
     text.put(b"\n");
@@ -67,9 +68,9 @@ impl Migration {
     // Puts what stands before the first mark, if it was not put. It gives the last step's number.
     fn begin(&mut self, text: &mut Out) -> u64
         requires may { IsSound self.old }
-        requires room { length text.old.text + 90 ≤ text.old.room }
+        requires room { length text.old.text + HEADER_ROOM + 22 ≤ text.old.room }
         ensures begins { Begins self.old text.old result self.new text.new }
-        ensures few { length text.new.text ≤ length text.old.text + 90 }
+        ensures few { length text.new.text ≤ length text.old.text + HEADER_ROOM + 22 }
         ensures below { result < 10 ^ 18 }
     {
         match self.last {

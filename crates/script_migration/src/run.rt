@@ -12,7 +12,7 @@ use line_scribe::run_scribe;
 use policy_rules::Settings;
 use std::alloc::Global;
 
-/// Writes the script of version 1 in the input as one of version 2 with these settings, and reports
+/// Writes the script of version 1 in the input as one with a header, of these settings, and reports
 /// how that ended. No core runs: the script need not be lawful.
 pub fn migrate<I: Source, O: Sink, D: Sink>(
     alloc: Global,

@@ -36,7 +36,7 @@ kind_of TooLong = HasNone
 
 -- THE VERSION OF A SCRIPT
 
--- version 1, or version 2 with the settings of its header
+-- version 1, or version 2 or 3 with the settings of its header
 pub data Version : Type 0 where
   First : Version
   Second : (settings : Settings) → Version
@@ -45,7 +45,7 @@ abbrev pub version_by : Option Settings → Version
 version_by None = First
 version_by (Some settings) = Second settings
 
--- it is of version 2 if its first line is a header
+-- it is of version 2 or 3 if its first line is a header
 abbrev pub version_in : List Piece → Version
 version_in (Whole line ∷ lines) = version_by (header_of line)
 version_in lines = First
@@ -91,7 +91,7 @@ event_says ends e = if may ends e then Comes e else Cannot
 abbrev pub number_says : ℕ → ℕ → Said
 number_says due number = if number == due then Starts number else IsOutOfStep
 
--- In version 1 marks come in any order. In version 2 step 0 comes behind the header, and then step by step its number, the mark of
+-- In version 1 marks come in any order. With a header step 0 comes behind the header, and then step by step its number, the mark of
 -- its event, and the lines that it wrote. Open is the event of step 0, and has no mark.
 abbrev pub kind_says : Stage → Ends → Kind → Said
 kind_says stages.Start ends kind = HasNoMark

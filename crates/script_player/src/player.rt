@@ -13,6 +13,7 @@ ghost use Rattle.script_player.specs.Replaying.{IsFresh};
 ghost use Rattle.script_player.specs.Stages.{IsNumbered};
 ghost use Rattle.script_player.specs.Versions.{fault_said, kind_of, kind_says};
 ghost use Rattle.script_player.specs.declared.stage.Stage.TheVariants as stages;
+ghost use Rattle.script_lines.specs.declared.header.TheConstants.{HEADER_ROOM};
 ghost use Rattle.script_lines.specs.declared.step_text.TheConstants.{STEP_ROOM};
 
 use crate::stage::{Said, Stage};
@@ -72,11 +73,11 @@ impl Player {
         self.stage = Stage::Plain;
     }
 
-    // Opens a session of version 2.
+    // Opens a session by its header.
     fn open_numbered(&mut self, settings: &Settings)
         requires proper { IsProper settings.now }
         requires new { Stands self.old.core.settings self.old.core [] }
-        requires room { length self.old.text.text + 2 * STEP_ROOM + 128 ≤ self.old.text.room }
+        requires room { length self.old.text.text + HEADER_ROOM + 1 + 2 * STEP_ROOM ≤ self.old.text.room }
         ensures begun { HasBegun (Some settings.now) self.old.core self.old.text
             self.new.core self.new.stage self.new.text }
         ensures room { self.new.text.room ≡ self.old.text.room }

@@ -15,7 +15,7 @@ pub enum Stage {
     Start,
     /// A mark of version 1.
     Plain,
-    /// The first step of version 2.
+    /// The first step behind a header.
     Headed,
     /// What the step with this number wrote, or the next step.
     Told(u64),

@@ -16,7 +16,7 @@ HasOneTrace settings =
     → IsOpened settings t → IsOpened settings t'
     → script1 t ≡ script1 t' → t ≡ t'
 
--- Two lawful traces with the same script of version 2 are equal, and so are their settings.
+-- Two lawful traces with the same script of version 2 or 3 are equal, and so are their settings.
 abbrev pub HasOneSession : Settings → Type 0
 HasOneSession settings =
     (settings' : Settings) (t t' : List Step) → IsProper settings → IsProper settings'

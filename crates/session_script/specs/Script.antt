@@ -32,7 +32,7 @@ abbrev pub numbered_texts : List Step → List ℕ
 numbered_texts [] = []
 numbered_texts (s ∷ t) = numbered_texts t ++ numbered_text (length t) s
 
--- the script of version 2: a header with the settings, then each step with its number
+-- the script of version 2 or 3: a header with the settings, then each step with its number
 abbrev pub script2 : Settings → List Step → List ℕ
 script2 settings t = header_text settings ++ line_feed ∷ numbered_texts t
 
