@@ -22,13 +22,14 @@ use Rattle.cecp_lines.specs.declared.reply.UserError.{UserError}
 use Rattle.cecp_lines.specs.declared.reply.UserError.TheVariants as tells
 use Rattle.cecp_lines.specs.declared.reply.Outcome.{Outcome}
 use Rattle.cecp_lines.specs.declared.reply.Outcome.TheVariants as outcomes
+use Rattle.cecp_lines.specs.declared.reply.Spelling.{Spelling}
 use Rattle.cecp_lines.specs.declared.reply.Reply.{Reply as CodeReply}
 use Rattle.cecp_lines.specs.Replies as told
-use Rattle.cecp_lines.specs.Replies.{Reply, reply_of, reply_text, reason_text, user_error_text, outcome_text, hint_text, current_text, is_name_byte, is_feature_name, IsWritable, AreMoves, IsRepeated, IsReply, Fits, SpellsReply}
+use Rattle.cecp_lines.specs.Replies.{Reply, reply_of, reply_text, reason_text, user_error_text, outcome_text, hint_text, current_text, is_name_byte, is_feature_name, IsWritable, IsMoveText, AreMoves, IsRepeated, IsReply, Fits, SpellsReply}
 use Rattle.cecp_iface_side.specs.ReplyReading.{stripped, is_space, number_field, score_field, fixed_lines, fixed_of, reason_of, named_feature, feature_at, feature_in, is_repeated, error_of, error_at, error_in, short_pong, pong_in, last_in, stat01_in, hint_in, thinking_of, thinking_in, with_front, or_front, reply_in}
 use Rattle.cecp_iface_side.proofs.Plain.{decimal_written, move_written}
 use Rattle.cecp_iface_side.proofs.Rereads.{cut_position, after_cut, number_reads, score_reads}
-use Rattle.cecp_iface_side.proofs.Lists.{moves_read, hint_read, last_read}
+use Rattle.cecp_iface_side.proofs.Lists.{spelling_read, hint_read, last_read}
 use Rattle.cecp_iface_side.proofs.Tellings.{look, told_tells, stat_text, thinking_text}
 
 -- FEATURES
@@ -86,15 +87,16 @@ stat01_read time nodes depth left all current a b c d e w =
     ∙ ap (option_and_then (λ (l : ℕ × List ℕ). option_map (λ (x : ℕ × Option AnyMove). told.Stat01 time nodes depth l.0 x.0 x.1) (last_in l.1))) (number_reads left (decimal all ++ current_text current) d)
     ∙ ap (option_map (λ (x : ℕ × Option AnyMove). told.Stat01 time nodes depth left x.0 x.1)) (last_read all current e w)
 
-thinking_read : (depth : ℕ) (score : ℤ) (time nodes : ℕ) (hint : Option AnyMove) (pv : List ℕ) → depth < 2 ^ 64 → SFits w64 score → time < 2 ^ 64 → nodes < 2 ^ 64 → IfSome hint IsWritable → AreMoves pv →
-    thinking_in (decimal depth ++ (32 ∷ (signed_decimal score ++ (32 ∷ (decimal time ++ (32 ∷ (decimal nodes ++ (32 ∷ (hint_text hint ++ pv))))))))) ≡ Some (told.Thinking depth score time nodes hint pv)
-thinking_read depth score time nodes hint pv a b c d w m =
+thinking_read : (depth : ℕ) (score : ℤ) (time nodes : ℕ) (spelling : Spelling) (hint : Option (List ℕ)) (pv : List ℕ) → depth < 2 ^ 64 → SFits w64 score → time < 2 ^ 64 → nodes < 2 ^ 64
+    → IfSome hint (IsMoveText spelling) → AreMoves spelling pv →
+    thinking_in (decimal depth ++ (32 ∷ (signed_decimal score ++ (32 ∷ (decimal time ++ (32 ∷ (decimal nodes ++ (32 ∷ (hint_text hint ++ pv))))))))) ≡ Some (told.Thinking depth score time nodes spelling hint pv)
+thinking_read depth score time nodes spelling hint pv a b c d w m =
     ap (option_and_then (λ (p : ℕ × List ℕ). option_and_then (λ (s : ℤ × List ℕ). option_and_then (λ (t : ℕ × List ℕ). option_and_then (λ (n : ℕ × List ℕ). option_and_then (thinking_of p.0 s.0 t.0 n.0) (hint_in n.1)) (number_field t.1)) (number_field s.1)) (score_field p.1))) (number_reads depth (signed_decimal score ++ (32 ∷ (decimal time ++ (32 ∷ (decimal nodes ++ (32 ∷ (hint_text hint ++ pv))))))) a)
     ∙ ap (option_and_then (λ (s : ℤ × List ℕ). option_and_then (λ (t : ℕ × List ℕ). option_and_then (λ (n : ℕ × List ℕ). option_and_then (thinking_of depth s.0 t.0 n.0) (hint_in n.1)) (number_field t.1)) (number_field s.1))) (score_reads score (decimal time ++ (32 ∷ (decimal nodes ++ (32 ∷ (hint_text hint ++ pv))))) b)
     ∙ ap (option_and_then (λ (t : ℕ × List ℕ). option_and_then (λ (n : ℕ × List ℕ). option_and_then (thinking_of depth score t.0 n.0) (hint_in n.1)) (number_field t.1))) (number_reads time (decimal nodes ++ (32 ∷ (hint_text hint ++ pv))) c)
     ∙ ap (option_and_then (λ (n : ℕ × List ℕ). option_and_then (thinking_of depth score time n.0) (hint_in n.1))) (number_reads nodes (hint_text hint ++ pv) d)
-    ∙ ap (option_and_then (thinking_of depth score time nodes)) (hint_read hint pv w m)
-    ∙ ap (λ x. cond x (Some (told.Thinking depth score time nodes hint pv)) None) (moves_read pv m)
+    ∙ ap (option_and_then (thinking_of depth score time nodes)) (hint_read spelling hint pv w m)
+    ∙ ap (option_map (λ s. told.Thinking depth score time nodes s hint pv)) (spelling_read spelling hint pv w m)
 
 -- A line that begins with digits and a blank has no front and is no fixed line.
 abbrev digits_before : List ℕ → Bool
@@ -157,10 +159,10 @@ told_again (told.TellError tell) h f = tell_read tell
 told_again (told.Pong n) h f = pong_read n f
 told_again (told.Hint m) h f = ap (option_map (λ x. told.Hint x)) (move_written m h)
 told_again (told.Result outcome) h f = outcome_read outcome
-told_again (told.Thinking depth score time nodes hint pv) h f =
+told_again (told.Thinking depth score time nodes spelling hint pv) h f =
     ap reply_in (sym (thinking_text (decimal depth) (signed_decimal score) (decimal time) (decimal nodes) (hint_text hint) pv))
     ∙ told_digits depth (signed_decimal score ++ (32 ∷ (decimal time ++ (32 ∷ (decimal nodes ++ (32 ∷ (hint_text hint ++ pv))))))) f.0
-    ∙ thinking_read depth score time nodes hint pv f.0 f.1 f.2 f.3 h.0 h.1
+    ∙ thinking_read depth score time nodes spelling hint pv f.0 f.1 f.2 f.3 h.0 h.1
 told_again (told.Stat01 time nodes depth left all current) h f =
     ap reply_in (sym (stat_text (codes "stat01: ") (decimal time) (decimal nodes) (decimal depth) (decimal left) (decimal all) (current_text current)))
     ∙ stat01_read time nodes depth left all current f.0 f.1 f.2 f.3 f.4 h

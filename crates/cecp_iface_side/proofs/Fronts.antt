@@ -1,6 +1,6 @@
 -- What stands behind a front, and the parts of a text at its blanks.
 use Rattle.std.proofs.Common.{◌≡◌, ℕ, suc, ltb, ◌+◌, ◌<◌, List, [], ◌∷◌, ◌++◌, Bool, true, false, not, ◌&&◌, eqb, cond, length, take, drop, Option, Some, None, refl, sym, ap, ◌∙◌, arith}
-use Rattle.std.specs.Prelude.{MatchOption, ◌≢◌, is_some, position}
+use Rattle.std.specs.Prelude.{MatchOption, ◌≢◌, position}
 use Rattle.std.specs.Option.{option_map}
 use Rattle.std.specs.List.{list_all, slice_split, position_or_len, prefix_len}
 use Rattle.std.proofs.lemmas.Bool.Decides.{nat_tests, Decides-eqb}
@@ -8,7 +8,8 @@ use Rattle.std.proofs.lemmas.Option.{cond_some}
 use Rattle.std.proofs.lemmas.List.Sums.{prefix_len-le-length}
 use denote.Ref.{Bor}
 use Rattle.std.proofs.lemmas.List.Splits.{slice_split_first}
-use Rattle.cecp_iface_side.specs.ReplyReading.{stripped, is_space, written_move, are_moves}
+use Rattle.cecp_lines.specs.declared.reply.Spelling.{Spelling}
+use Rattle.cecp_iface_side.specs.ReplyReading.{stripped, is_space, is_move_text, are_moves}
 
 strip_step : (f b : ℕ) (fs bs rest : List ℕ) (t : Bool) → eqb f b ≡ t → (stripped fs bs ≡ Some rest → bs ≡ fs ++ rest) → cond t (stripped fs bs) None ≡ Some rest → b ∷ bs ≡ (f ∷ fs) ++ rest
 strip_step f b fs bs rest true e k h = let same : f ≡ b = (Decides-eqb f b).0 e in let more = k h in cc
@@ -42,7 +43,7 @@ whole_part : (xs : List ℕ) → prefix_len (λ c. not (is_space c)) xs ≡ leng
 whole_part [] h = refl
 whole_part (x ∷ xs) h = split_step (is_space x) x xs refl h (whole_part xs)
 
-found_at : (xs : List ℕ) (at : ℕ) → position is_space xs ≡ Some at → (position_or_len is_space xs ≡ at) × (position_or_len is_space xs < length xs)
+pub found_at : (xs : List ℕ) (at : ℕ) → position is_space xs ≡ Some at → (position_or_len is_space xs ≡ at) × (position_or_len is_space xs < length xs)
 found_at xs at h =
     let k = cond_some (ltb (position_or_len is_space xs) (length xs)) (position_or_len is_space xs) at h in
     (k.1, grind (arith, nat_tests, k.0))
@@ -58,17 +59,17 @@ and_true_is : (b : Bool) → (b && true) ≡ b
 and_true_is true = refl
 and_true_is false = refl
 
-pub moves_last : (text : List ℕ) → position is_space text ≡ None → are_moves text ≡ is_some (written_move text)
-moves_last text h = ap (list_all (λ part. is_some (written_move part))) (whole_part text (nowhere text h)) ∙ and_true_is (is_some (written_move text))
+pub moves_last : (s : Spelling) (text : List ℕ) → position is_space text ≡ None → are_moves s text ≡ is_move_text s text
+moves_last s text h = ap (list_all (is_move_text s)) (whole_part text (nowhere text h)) ∙ and_true_is (is_move_text s text)
 
-pub moves_more : (text : List ℕ) (at : ℕ) → position is_space text ≡ Some at → are_moves text ≡ (is_some (written_move (take at text)) && are_moves (drop (at + 1) text))
-moves_more text at h =
+pub moves_more : (s : Spelling) (text : List ℕ) (at : ℕ) → position is_space text ≡ Some at → are_moves s text ≡ (is_move_text s (take at text) && are_moves s (drop (at + 1) text))
+moves_more s text at h =
     let k = found_at text at h in
-    ap (list_all (λ part. is_some (written_move part))) (slice_split_first is_space text 0 k.1)
-    ∙ ap (λ n. is_some (written_move (take n text)) && are_moves (drop (n + 1) text)) k.0
+    ap (list_all (is_move_text s)) (slice_split_first is_space text 0 k.1)
+    ∙ ap (λ n. is_move_text s (take n text) && are_moves s (drop (n + 1) text)) k.0
 
-pub moves_skip : (text : List ℕ) (at : ℕ) (b : Bool) → position is_space text ≡ Some at → is_some (written_move (take at text)) ≡ b → b ≡ true → are_moves (drop (at + 1) text) ≡ are_moves text
-moves_skip text at b h e f = sym (moves_more text at h ∙ ap (λ c. c && are_moves (drop (at + 1) text)) (e ∙ f))
+pub moves_skip : (s : Spelling) (text : List ℕ) (at : ℕ) (b : Bool) → position is_space text ≡ Some at → is_move_text s (take at text) ≡ b → b ≡ true → are_moves s (drop (at + 1) text) ≡ are_moves s text
+moves_skip s text at b h e f = sym (moves_more s text at h ∙ ap (λ c. c && are_moves s (drop (at + 1) text)) (e ∙ f))
 
-pub moves_stop : (text : List ℕ) (at : ℕ) (b : Bool) → position is_space text ≡ Some at → is_some (written_move (take at text)) ≡ b → b ≡ false → are_moves text ≡ false
-moves_stop text at b h e f = moves_more text at h ∙ ap (λ c. c && are_moves (drop (at + 1) text)) (e ∙ f)
+pub moves_stop : (s : Spelling) (text : List ℕ) (at : ℕ) (b : Bool) → position is_space text ≡ Some at → is_move_text s (take at text) ≡ b → b ≡ false → are_moves s text ≡ false
+moves_stop s text at b h e f = moves_more s text at h ∙ ap (λ c. c && are_moves s (drop (at + 1) text)) (e ∙ f)

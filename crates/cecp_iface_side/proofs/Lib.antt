@@ -3,6 +3,7 @@ pub mod Plain
 pub mod Hears
 pub mod Tellings
 pub mod Rereads
+pub mod Sans
 pub mod Lists
 pub mod Exact
 pub mod Spoken

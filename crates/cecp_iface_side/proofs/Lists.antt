@@ -1,5 +1,5 @@
 -- Lists of moves, hints and whole lines are read as they are written.
-use Rattle.std.proofs.Common.{◌≡◌, ℕ, ◌+◌, ◌^◌, ◌<◌, List, [], ◌∷◌, ◌++◌, map, true, false, not, ◌&&◌, eqb, length, drop, Option, Some, None, refl, ap, ◌∙◌, arith, append_assoc}
+use Rattle.std.proofs.Common.{◌≡◌, ℕ, ◌+◌, ◌^◌, ◌<◌, List, [], ◌∷◌, ◌++◌, Bool, true, false, not, ◌&&◌, eqb, length, drop, Option, Some, None, refl, sym, ap, ◌∙◌, arith, append_assoc}
 use Rattle.std.specs.Prelude.{codes, position, is_some, IfSome}
 use Rattle.std.specs.Option.{option_map, option_and_then}
 use Rattle.std.specs.List.{list_all, slice_split, join_with_byte, AllByRecursion}
@@ -9,12 +9,14 @@ use Rattle.std.proofs.lemmas.List.{append-nil}
 use Rattle.std.proofs.Math.Seq.{take-append_seam, drop-append_seam}
 use Rattle.std.proofs.lemmas.Bool.{and_parts, not-true}
 use Rattle.chess_board.specs.declared.board.Move.{Move as AnyMove}
-use Rattle.chess_board.specs.Board.{file_of}
 use Rattle.chess_board.specs.Text.{text_of}
-use Rattle.cecp_lines.specs.Replies.{hint_text, current_text, IsWritable, AreMoves}
-use Rattle.cecp_iface_side.specs.ReplyReading.{stripped, written, written_move, is_space, is_paren, are_moves, last_at, last_in, hint_at, hint_of, hint_in}
+use Rattle.cecp_lines.specs.declared.reply.Spelling.{Spelling}
+use Rattle.cecp_lines.specs.declared.reply.Spelling.TheVariants.{Coordinates, San}
+use Rattle.cecp_lines.specs.Replies.{hint_text, current_text, IsWritable, IsMoveText, AreMoves}
+use Rattle.cecp_iface_side.specs.ReplyReading.{stripped, written, written_move, is_space, is_paren, is_move_text, are_moves, is_hint, spelling_of, last_at, last_in, hint_at, hint_of, hint_in}
 use Rattle.cecp_iface_side.proofs.Plain.{decimal_written, move_written}
-use Rattle.cecp_iface_side.proofs.Rereads.{cut_position, no_position, after_cut, decimal_solid, move_solid}
+use Rattle.cecp_iface_side.proofs.Rereads.{cut_position, no_position, after_cut, decimal_solid}
+use Rattle.cecp_iface_side.proofs.Sans.{move_text_solid, no_both}
 
 split_solid : (xs : List ℕ) → list_all (λ b. not (eqb b 32)) xs ≡ true → slice_split is_space xs ≡ xs ∷ []
 split_solid [] h = refl
@@ -24,44 +26,77 @@ split_more : (xs ys : List ℕ) → list_all (λ b. not (eqb b 32)) xs ≡ true 
 split_more [] ys h = refl
 split_more (x ∷ xs) ys h = let both = and_parts (not (eqb x 32)) (list_all (λ b. not (eqb b 32)) xs) h in rw (not-true (eqb x 32) both.0, split_more xs ys both.1) refl
 
-split_joined : (m : AnyMove) (ms : List AnyMove) → slice_split is_space (join_with_byte 32 (map text_of (m ∷ ms))) ≡ map text_of (m ∷ ms)
-split_joined m [] = split_solid (text_of m) (move_solid 32 m (omega arith))
-split_joined m (n ∷ ms) = split_more (text_of m) (join_with_byte 32 (map text_of (n ∷ ms))) (move_solid 32 m (omega arith)) ∙ ap (λ ts. text_of m ∷ ts) (split_joined n ms)
+-- texts that are moves in a spelling
+abbrev pub AreTexts : Spelling → List (List ℕ) → Type 0
+AreTexts s texts = AllByRecursion (IsMoveText s) texts
 
-all_written : (ms : List AnyMove) → AllByRecursion IsWritable ms → list_all (λ part. is_some (written_move part)) (map text_of ms) ≡ true
-all_written [] h = refl
-all_written (m ∷ ms) h = ap (λ o. is_some o && list_all (λ part. is_some (written_move part)) (map text_of ms)) (move_written m h.0) ∙ all_written ms h.1
+split_joined : (s : Spelling) (t : List ℕ) (ts : List (List ℕ)) → AreTexts s (t ∷ ts) → slice_split is_space (join_with_byte 32 (t ∷ ts)) ≡ t ∷ ts
+split_joined s t [] h = split_solid t (move_text_solid s t h.0).blank
+split_joined s t (u ∷ ts) h = split_more t (join_with_byte 32 (u ∷ ts)) (move_text_solid s t h.0).blank ∙ ap (λ l. t ∷ l) (split_joined s u ts h.1)
 
-moves_by : (pv : List ℕ) (ms : List AnyMove) → 0 < length ms → AllByRecursion IsWritable ms → pv ≡ join_with_byte 32 (map text_of ms) → are_moves pv ≡ true
-moves_by pv [] some h e = absurd (omega arith)
-moves_by pv (m ∷ ms) some h e = ap are_moves e ∙ ap (list_all (λ part. is_some (written_move part))) (split_joined m ms) ∙ all_written (m ∷ ms) h
+text_read : (s : Spelling) (t : List ℕ) → IsMoveText s t → is_move_text s t ≡ true
+text_read Coordinates t h = ap (λ x. is_some (written_move x)) h.is ∙ ap is_some (move_written h.move h.writable)
+text_read San t h = h
 
-pub moves_read : (pv : List ℕ) → AreMoves pv → are_moves pv ≡ true
-moves_read pv a = moves_by pv a.moves a.some a.writable a.text
+all_read : (s : Spelling) (ts : List (List ℕ)) → AreTexts s ts → list_all (is_move_text s) ts ≡ true
+all_read s [] h = refl
+all_read s (t ∷ ts) h = ap (λ b. b && list_all (is_move_text s) ts) (text_read s t h.0) ∙ all_read s ts h.1
+
+moves_by : (s : Spelling) (pv : List ℕ) (ts : List (List ℕ)) → 0 < length ts → AreTexts s ts → pv ≡ join_with_byte 32 ts → are_moves s pv ≡ true
+moves_by s pv [] some h e = absurd (omega arith)
+moves_by s pv (t ∷ ts) some h e = ap (are_moves s) e ∙ ap (list_all (is_move_text s)) (split_joined s t ts h) ∙ all_read s (t ∷ ts) h
+
+moves_read : (s : Spelling) (pv : List ℕ) → AreMoves s pv → are_moves s pv ≡ true
+moves_read s pv a = moves_by s pv a.texts a.some a.moves a.text
+
+-- moves in standard algebraic notation are no squares
+no_squares_by : (pv : List ℕ) (ts : List (List ℕ)) → 0 < length ts → AreTexts San ts → pv ≡ join_with_byte 32 ts → are_moves Coordinates pv ≡ false
+no_squares_by pv [] some h e = absurd (omega arith)
+no_squares_by pv (t ∷ ts) some h e =
+    ap (are_moves Coordinates) e ∙ ap (list_all (is_move_text Coordinates)) (split_joined San t ts h) ∙ ap (λ b. b && list_all (is_move_text Coordinates) ts) (no_both t h.0)
+
+hint_spelled : (s : Spelling) (hint : Option (List ℕ)) → IfSome hint (IsMoveText s) → is_hint s hint ≡ true
+hint_spelled s None h = refl
+hint_spelled s (Some t) h = text_read s t h
+
+and_false_is : (b : Bool) → (b && false) ≡ false
+and_false_is true = refl
+and_false_is false = refl
+
+pub spelling_read : (s : Spelling) (hint : Option (List ℕ)) (pv : List ℕ) → IfSome hint (IsMoveText s) → AreMoves s pv → spelling_of hint pv ≡ Some s
+spelling_read Coordinates hint pv w a = rw (hint_spelled Coordinates hint w, moves_read Coordinates pv a) refl
+spelling_read San hint pv w a =
+    rw (no_squares_by pv a.texts a.some a.moves a.text, and_false_is (is_hint Coordinates hint), hint_spelled San hint w, moves_read San pv a) refl
 
 -- HINTS
 
-no_paren : (m : AnyMove) (ms : List AnyMove) → stripped (codes "(") (join_with_byte 32 (map text_of (m ∷ ms))) ≡ None
-no_paren m [] = let t : eqb 40 (97 + file_of m.from.index) ≡ false = grind (arith, nat_tests) in rw t refl
-no_paren m (n ∷ ms) = let t : eqb 40 (97 + file_of m.from.index) ≡ false = grind (arith, nat_tests) in rw t refl
+no_paren_first : (t more : List ℕ) → 0 < length t → list_all (λ b. not (eqb b 40)) t ≡ true → stripped (codes "(") (t ++ more) ≡ None
+no_paren_first [] more some h = absurd (omega arith)
+no_paren_first (b ∷ t) more some h =
+    let other = (and_parts (not (eqb b 40)) (list_all (λ c. not (eqb c 40)) t) h).0 in
+    let e : eqb 40 b ≡ false = grind (arith, nat_tests) in
+    rw e refl
 
-no_paren_by : (pv : List ℕ) (ms : List AnyMove) → 0 < length ms → pv ≡ join_with_byte 32 (map text_of ms) → stripped (codes "(") pv ≡ None
-no_paren_by pv [] some e = absurd (omega arith)
-no_paren_by pv (m ∷ ms) some e = ap (stripped (codes "(")) e ∙ no_paren m ms
+no_paren : (s : Spelling) (t : List ℕ) (ts : List (List ℕ)) → AreTexts s (t ∷ ts) → stripped (codes "(") (join_with_byte 32 (t ∷ ts)) ≡ None
+no_paren s t [] h = let k = move_text_solid s t h.0 in ap (stripped (codes "(")) (sym (append-nil t)) ∙ no_paren_first t [] k.some k.opening
+no_paren s t (u ∷ ts) h = let k = move_text_solid s t h.0 in no_paren_first t (32 ∷ join_with_byte 32 (u ∷ ts)) k.some k.opening
 
-hint_inner : (m : AnyMove) (pv : List ℕ) → IsWritable m → hint_at (position is_paren (text_of m ++ (41 ∷ (32 ∷ pv)))) (text_of m ++ (41 ∷ (32 ∷ pv))) ≡ Some (Some m, pv)
-hint_inner m pv w =
-    ap (λ o. hint_at o (text_of m ++ (41 ∷ (32 ∷ pv)))) (cut_position 41 (text_of m) (32 ∷ pv) (move_solid 41 m (omega arith)))
-    ∙ ap (λ t. option_and_then (λ x. option_map (λ rest. (Some x, rest)) (stripped (codes ") ") (drop (length (text_of m)) (text_of m ++ (41 ∷ (32 ∷ pv)))))) (written_move t)) (take-append_seam (text_of m) (41 ∷ (32 ∷ pv)))
-    ∙ ap (λ t. option_and_then (λ x. option_map (λ rest. (Some x, rest)) (stripped (codes ") ") t)) (written_move (text_of m))) (drop-append_seam (text_of m) (41 ∷ (32 ∷ pv)))
-    ∙ ap (λ o. option_and_then (λ x. option_map (λ rest. (Some x, rest)) (stripped (codes ") ") (41 ∷ (32 ∷ pv)))) o) (move_written m w)
+no_paren_by : (s : Spelling) (pv : List ℕ) (ts : List (List ℕ)) → 0 < length ts → AreTexts s ts → pv ≡ join_with_byte 32 ts → stripped (codes "(") pv ≡ None
+no_paren_by s pv [] some h e = absurd (omega arith)
+no_paren_by s pv (t ∷ ts) some h e = ap (stripped (codes "(")) e ∙ no_paren s t ts h
+
+hint_inner : (t pv : List ℕ) → list_all (λ b. not (eqb b 41)) t ≡ true → hint_at (position is_paren (t ++ (41 ∷ (32 ∷ pv)))) (t ++ (41 ∷ (32 ∷ pv))) ≡ Some (Some t, pv)
+hint_inner t pv h =
+    ap (λ o. hint_at o (t ++ (41 ∷ (32 ∷ pv)))) (cut_position 41 t (32 ∷ pv) h)
+    ∙ ap (λ x. option_map (λ rest. (Some x, rest)) (stripped (codes ") ") (drop (length t) (t ++ (41 ∷ (32 ∷ pv)))))) (take-append_seam t (41 ∷ (32 ∷ pv)))
+    ∙ ap (λ x. option_map (λ rest. (Some t, rest)) (stripped (codes ") ") x)) (drop-append_seam t (41 ∷ (32 ∷ pv)))
 
 inner_text : (t pv : List ℕ) → (t ++ (41 ∷ 32 ∷ [])) ++ pv ≡ t ++ (41 ∷ (32 ∷ pv))
 inner_text t pv = simp append_assoc
 
-pub hint_read : (hint : Option AnyMove) (pv : List ℕ) → IfSome hint IsWritable → AreMoves pv → hint_in (hint_text hint ++ pv) ≡ Some (hint, pv)
-hint_read None pv w a = ap (λ o. hint_of o pv) (no_paren_by pv a.moves a.some a.text)
-hint_read (Some m) pv w a = ap (λ t. hint_at (position is_paren t) t) (inner_text (text_of m) pv) ∙ hint_inner m pv w
+pub hint_read : (s : Spelling) (hint : Option (List ℕ)) (pv : List ℕ) → IfSome hint (IsMoveText s) → AreMoves s pv → hint_in (hint_text hint ++ pv) ≡ Some (hint, pv)
+hint_read s None pv w a = ap (λ o. hint_of o pv) (no_paren_by s pv a.texts a.some a.moves a.text)
+hint_read s (Some t) pv w a = ap (λ x. hint_at (position is_paren x) x) (inner_text t pv) ∙ hint_inner t pv (move_text_solid s t w).closing
 
 -- THE END OF STAT01
 

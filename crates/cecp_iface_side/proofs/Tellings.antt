@@ -17,10 +17,12 @@ use Rattle.chess_board.specs.Text.{text_of}
 use Rattle.peer_words.specs.Tokens.{trimmed}
 use Rattle.cecp_lines.specs.declared.reply.Reason.{Reason}
 use Rattle.cecp_lines.specs.declared.reply.Reason.TheVariants as reasons
+use Rattle.cecp_lines.specs.declared.reply.Spelling.{Spelling}
+use Rattle.cecp_lines.specs.declared.reply.Spelling.TheVariants.{Coordinates, San}
 use Rattle.cecp_lines.specs.declared.reply.Reply.{Reply as CodeReply}
 use Rattle.cecp_lines.specs.Replies as told
-use Rattle.cecp_lines.specs.Replies.{Reply, reply_of, reason_text, field, hint_text, current_text, is_feature_name, IsWritable, AreMoves, IsRepeated, SpellsReply}
-use Rattle.cecp_iface_side.specs.ReplyReading.{stripped, written, written_move, is_space, is_paren, are_moves, number_field, score_field, fixed_lines, fixed_of, reason_words, reason_of, feature_at, feature_in, is_repeated, error_of, error_at, error_in, short_pong, pong_in, last_at, last_in, stat01_in, hint_at, hint_of, hint_in, thinking_of, thinking_in, behind, of_move, with_front, or_front, reply_in}
+use Rattle.cecp_lines.specs.Replies.{Reply, reply_of, reason_text, field, hint_text, current_text, is_feature_name, IsWritable, IsMoveText, AreMoves, IsRepeated, SpellsReply}
+use Rattle.cecp_iface_side.specs.ReplyReading.{stripped, written, written_move, is_space, is_paren, is_move_text, are_moves, is_hint, have_spelling, spelling_of, number_field, score_field, fixed_lines, fixed_of, reason_words, reason_of, feature_at, feature_in, is_repeated, error_of, error_at, error_in, short_pong, pong_in, last_at, last_in, stat01_in, hint_at, hint_of, hint_in, thinking_of, thinking_in, behind, of_move, with_front, or_front, reply_in}
 use Rattle.cecp_lines.specs.Reading.{is_equals}
 use Rattle.cecp_lines.proofs.Spellings.{bind_some}
 use Rattle.cecp_iface_side.proofs.Fronts.{stripped_is}
@@ -135,39 +137,54 @@ some_is : (o : Option AnyMove) → is_some o ≡ true → (m : AnyMove) × (o �
 some_is None h = absurd (cc)
 some_is (Some m) h = (m, refl)
 
-parts_moves : (parts : List (List ℕ)) → list_all (λ part. is_some (written_move part)) parts ≡ true → (ms : List AnyMove) × AllByRecursion IsWritable ms × (map text_of ms ≡ parts)
-parts_moves [] h = ([], tt, refl)
-parts_moves (p ∷ ps) h =
-    let both = and_parts (is_some (written_move p)) (list_all (λ part. is_some (written_move part)) ps) h in
-    let m = some_is (written_move p) both.0 in
-    let w = written_move_is p m.0 m.1 in
-    let more = parts_moves ps both.1 in
-    (m.0 ∷ more.0, (w.1, more.1), cc)
+text_is : (s : Spelling) (t : List ℕ) → is_move_text s t ≡ true → IsMoveText s t
+text_is Coordinates t h =
+    let m = some_is (written_move t) h in
+    let w = written_move_is t m.0 m.1 in
+    record { move = m.0; writable = w.1; is = w.0 }
+text_is San t h = h
 
-list_of_moves : (pv : List ℕ) → are_moves pv ≡ true → AreMoves pv
-list_of_moves pv h =
-    let k = parts_moves (slice_split is_space pv) h in
-    record {
-      moves = k.0;
-      some = omega (arith, length-slice_split is_space pv, ap length k.2, length-map k.0 text_of);
-      writable = k.1;
-      text = sym (join_with_byte-slice_split 32 pv) ∙ ap (join_with_byte 32) (sym k.2);
-    }
+texts_are : (s : Spelling) (ts : List (List ℕ)) → list_all (is_move_text s) ts ≡ true → AllByRecursion (IsMoveText s) ts
+texts_are s [] h = tt
+texts_are s (t ∷ ts) h = let both = and_parts (is_move_text s t) (list_all (is_move_text s) ts) h in (text_is s t both.0, texts_are s ts both.1)
 
-hint_inner : (text inner : List ℕ) (o : Option ℕ) (p : Option AnyMove × List ℕ) → stripped (codes "(") text ≡ Some inner → hint_at o inner ≡ Some p → IfSome p.0 IsWritable × (text ≡ hint_text p.0 ++ p.1)
+list_of_moves : (s : Spelling) (pv : List ℕ) → are_moves s pv ≡ true → AreMoves s pv
+list_of_moves s pv h = record {
+  texts = slice_split is_space pv;
+  some = omega (arith, length-slice_split is_space pv);
+  moves = texts_are s (slice_split is_space pv) h;
+  text = sym (join_with_byte-slice_split 32 pv);
+}
+
+hint_has : (s : Spelling) (hint : Option (List ℕ)) → is_hint s hint ≡ true → IfSome hint (IsMoveText s)
+hint_has s None h = tt
+hint_has s (Some t) h = text_is s t h
+
+have_by : (s : Spelling) (hint : Option (List ℕ)) (pv : List ℕ) → have_spelling s hint pv ≡ true → IfSome hint (IsMoveText s) × AreMoves s pv
+have_by s hint pv h = let both = and_parts (is_hint s hint) (are_moves s pv) h in (hint_has s hint both.0, list_of_moves s pv both.1)
+
+chosen_by : (hint : Option (List ℕ)) (pv : List ℕ) (a b : Bool) (s : Spelling) → have_spelling Coordinates hint pv ≡ a → have_spelling San hint pv ≡ b
+    → cond a (Some Coordinates) (cond b (Some San) None) ≡ Some s → IfSome hint (IsMoveText s) × AreMoves s pv
+chosen_by hint pv true b s e f h = let same : Coordinates ≡ s = cc in subst (λ (x : Spelling). IfSome hint (IsMoveText x) × AreMoves x pv) same (have_by Coordinates hint pv e)
+chosen_by hint pv false true s e f h = let same : San ≡ s = cc in subst (λ (x : Spelling). IfSome hint (IsMoveText x) × AreMoves x pv) same (have_by San hint pv f)
+chosen_by hint pv false false s e f h = absurd (cc)
+
+-- the spelling that is read is that of the hint and of the moves
+spelling_is : (hint : Option (List ℕ)) (pv : List ℕ) (s : Spelling) → spelling_of hint pv ≡ Some s → IfSome hint (IsMoveText s) × AreMoves s pv
+spelling_is hint pv s h = chosen_by hint pv (have_spelling Coordinates hint pv) (have_spelling San hint pv) s refl refl h
+
+hint_inner : (text inner : List ℕ) (o : Option ℕ) (p : Option (List ℕ) × List ℕ) → stripped (codes "(") text ≡ Some inner → hint_at o inner ≡ Some p → text ≡ hint_text p.0 ++ p.1
 hint_inner text inner None p e h = absurd (cc)
 hint_inner text inner (Some at) p e h =
-    let b = bind_some (λ m. option_map (λ pv. (Some m, pv)) (stripped (codes ") ") (drop at inner))) (written_move (take at inner)) p h in
-    let d = map_some (λ pv. (Some b.0, pv)) (stripped (codes ") ") (drop at inner)) p b.2 in
-    let w = written_move_is (take at inner) b.0 b.1 in
-    let whole : inner ≡ text_of b.0 ++ (codes ") " ++ d.0) = sym (take-append-drop at inner) ∙ ap (λ x. x ++ drop at inner) w.0 ∙ ap (λ x. text_of b.0 ++ x) (stripped_is (codes ") ") (drop at inner) d.0 d.1) in
-    subst (λ (q : Option AnyMove × List ℕ). IfSome q.0 IsWritable × (text ≡ hint_text q.0 ++ q.1)) d.2
-    (w.1, stripped_is (codes "(") text inner e ∙ ap (λ x. 40 ∷ x) whole ∙ simp append_assoc)
+    let d = map_some (λ pv. (Some (take at inner), pv)) (stripped (codes ") ") (drop at inner)) p h in
+    let whole : inner ≡ take at inner ++ (codes ") " ++ d.0) = sym (take-append-drop at inner) ∙ ap (λ x. take at inner ++ x) (stripped_is (codes ") ") (drop at inner) d.0 d.1) in
+    subst (λ (q : Option (List ℕ) × List ℕ). text ≡ hint_text q.0 ++ q.1) d.2
+    (stripped_is (codes "(") text inner e ∙ ap (λ x. 40 ∷ x) whole ∙ simp append_assoc)
 
-hint_by : (text : List ℕ) (o : Option (List ℕ)) (p : Option AnyMove × List ℕ) → stripped (codes "(") text ≡ o → hint_of o text ≡ Some p → IfSome p.0 IsWritable × (text ≡ hint_text p.0 ++ p.1)
+hint_by : (text : List ℕ) (o : Option (List ℕ)) (p : Option (List ℕ) × List ℕ) → stripped (codes "(") text ≡ o → hint_of o text ≡ Some p → text ≡ hint_text p.0 ++ p.1
 hint_by text None p e h =
     let same : (None, text) ≡ p = cc in
-    subst (λ (q : Option AnyMove × List ℕ). IfSome q.0 IsWritable × (text ≡ hint_text q.0 ++ q.1)) same (tt, refl)
+    subst (λ (q : Option (List ℕ) × List ℕ). text ≡ hint_text q.0 ++ q.1) same refl
 hint_by text (Some inner) p e h = hint_inner text inner (position is_paren inner) p e h
 
 pub thinking_text : (a b c d e f : List ℕ) → a ++ (32 ∷ (b ++ (32 ∷ (c ++ (32 ∷ (d ++ (32 ∷ (e ++ f)))))))) ≡ field a ++ field b ++ field c ++ field d ++ e ++ f
@@ -180,16 +197,17 @@ thinking_tells text t h =
     let time = bind_some (λ time. option_and_then (λ nodes. option_and_then (thinking_of depth.0.0 score.0.0 time.0 nodes.0) (hint_in nodes.1)) (number_field time.1)) (number_field score.0.1) t score.2 in
     let nodes = bind_some (λ nodes. option_and_then (thinking_of depth.0.0 score.0.0 time.0.0 nodes.0) (hint_in nodes.1)) (number_field time.0.1) t time.2 in
     let hint = bind_some (thinking_of depth.0.0 score.0.0 time.0.0 nodes.0.0) (hint_in nodes.0.1) t nodes.2 in
-    let pv = cond_some (are_moves hint.0.1) (told.Thinking depth.0.0 score.0.0 time.0.0 nodes.0.0 hint.0.0 hint.0.1) t hint.2 in
+    let spelling = map_some (λ spelling. told.Thinking depth.0.0 score.0.0 time.0.0 nodes.0.0 spelling hint.0.0 hint.0.1) (spelling_of hint.0.0 hint.0.1) t hint.2 in
+    let form = spelling_is hint.0.0 hint.0.1 spelling.0 spelling.1 in
     let a = number_is text depth.0 depth.1 in
     let b = score_is depth.0.1 score.0 score.1 in
     let c = number_is score.0.1 time.0 time.1 in
     let d = number_is time.0.1 nodes.0 nodes.1 in
     let e = hint_by nodes.0.1 (stripped (codes "(") nodes.0.1) hint.0 refl hint.1 in
     let whole : text ≡ field (decimal depth.0.0) ++ field (signed_decimal score.0.0) ++ field (decimal time.0.0) ++ field (decimal nodes.0.0) ++ hint_text hint.0.0 ++ hint.0.1 =
-    a.0 ∙ ap (λ x. decimal depth.0.0 ++ (32 ∷ x)) (b.0 ∙ ap (λ x. signed_decimal score.0.0 ++ (32 ∷ x)) (c.0 ∙ ap (λ x. decimal time.0.0 ++ (32 ∷ x)) (d.0 ∙ ap (λ x. decimal nodes.0.0 ++ (32 ∷ x)) e.1)))
+    a.0 ∙ ap (λ x. decimal depth.0.0 ++ (32 ∷ x)) (b.0 ∙ ap (λ x. signed_decimal score.0.0 ++ (32 ∷ x)) (c.0 ∙ ap (λ x. decimal time.0.0 ++ (32 ∷ x)) (d.0 ∙ ap (λ x. decimal nodes.0.0 ++ (32 ∷ x)) e)))
     ∙ thinking_text (decimal depth.0.0) (signed_decimal score.0.0) (decimal time.0.0) (decimal nodes.0.0) (hint_text hint.0.0) hint.0.1 in
-    subst (λ (u : Reply). SpellsReply text u) pv.1 (record { form = (e.0, list_of_moves hint.0.1 pv.0); fits = (a.1, b.1, c.1, d.1); text = whole })
+    subst (λ (u : Reply). SpellsReply text u) spelling.2 (record { form = form; fits = (a.1, b.1, c.1, d.1); text = whole })
 
 -- ALL
 

@@ -1,5 +1,5 @@
 -- The reply that a line spells, as a function.
-use Rattle.std.specs.Prelude.{ℕ, ℤ, pos, neg_ℤ, ◌+◌, ◌^◌, List, [], ◌∷◌, length, take, drop, position, slice_index, codes, Bool, not, ◌&&◌, ◌||◌, ◌==◌, if◌then◌else◌, nat_lt, nat_le, is_some, Option, Some, None}
+use Rattle.std.specs.Prelude.{ℕ, ℤ, pos, neg_ℤ, ◌+◌, ◌^◌, List, [], ◌∷◌, length, take, drop, position, slice_index, codes, Bool, true, not, ◌&&◌, ◌||◌, ◌==◌, if◌then◌else◌, nat_lt, nat_le, is_some, Option, Some, None}
 use Rattle.std.specs.Option.{option_map, option_and_then}
 use Rattle.std.specs.List.{list_all, slice_split}
 use Rattle.std.specs.Str.{bytes_eq}
@@ -15,6 +15,9 @@ use Rattle.cecp_lines.specs.declared.reply.Reason.{Reason}
 use Rattle.cecp_lines.specs.declared.reply.Reason.TheVariants as reasons
 use Rattle.cecp_lines.specs.declared.reply.UserError.TheVariants as tells
 use Rattle.cecp_lines.specs.declared.reply.Outcome.TheVariants as outcomes
+use Rattle.cecp_lines.specs.San.{is_san}
+use Rattle.cecp_lines.specs.declared.reply.Spelling.{Spelling}
+use Rattle.cecp_lines.specs.declared.reply.Spelling.TheVariants.{Coordinates, San}
 use Rattle.cecp_lines.specs.declared.reply.Reply.{Reply as CodeReply}
 use Rattle.cecp_lines.specs.declared.reply.Reply.TheVariants as replies
 use Rattle.cecp_lines.specs.Replies as told
@@ -62,9 +65,14 @@ written_move text = option_and_then (same_text text) (move_of text)
 abbrev pub is_space : ℕ → Bool
 is_space b = b == blank
 
--- written moves with one blank between
-abbrev pub are_moves : List ℕ → Bool
-are_moves text = list_all (λ part. is_some (written_move part)) (slice_split is_space text)
+-- a move in a spelling
+abbrev pub is_move_text : Spelling → List ℕ → Bool
+is_move_text Coordinates text = is_some (written_move text)
+is_move_text San text = is_san text
+
+-- moves in a spelling, with one blank between
+abbrev pub are_moves : Spelling → List ℕ → Bool
+are_moves spelling text = list_all (is_move_text spelling) (slice_split is_space text)
 
 -- the parts of a text before and behind its first blank
 abbrev pub cut_at : Option ℕ → List ℕ → Option (List ℕ × List ℕ)
@@ -169,19 +177,34 @@ stat01_in text =
     (number_field depth.1)) (number_field nodes.1)) (number_field time.1)) (number_field text)
 
 -- a hint in parentheses before a blank, if the text begins with one
-abbrev pub hint_at : Option ℕ → List ℕ → Option (Option AnyMove × List ℕ)
+abbrev pub hint_at : Option ℕ → List ℕ → Option (Option (List ℕ) × List ℕ)
 hint_at None text = None
-hint_at (Some at) text = option_and_then (λ m. option_map (λ pv. (Some m, pv)) (stripped (codes ") ") (drop at text))) (written_move (take at text))
+hint_at (Some at) text = option_map (λ pv. (Some (take at text), pv)) (stripped (codes ") ") (drop at text))
 
-abbrev pub hint_of : Option (List ℕ) → List ℕ → Option (Option AnyMove × List ℕ)
+abbrev pub hint_of : Option (List ℕ) → List ℕ → Option (Option (List ℕ) × List ℕ)
 hint_of None text = Some (None, text)
 hint_of (Some inner) text = hint_at (position is_paren inner) inner
 
-abbrev pub hint_in : List ℕ → Option (Option AnyMove × List ℕ)
+abbrev pub hint_in : List ℕ → Option (Option (List ℕ) × List ℕ)
 hint_in text = hint_of (stripped (codes "(") text) text
 
-abbrev pub thinking_of : ℕ → ℤ → ℕ → ℕ → Option AnyMove × List ℕ → Option Reply
-thinking_of depth score time nodes end = if are_moves end.1 then Some (told.Thinking depth score time nodes end.0 end.1) else None
+abbrev pub is_hint : Spelling → Option (List ℕ) → Bool
+is_hint spelling None = true
+is_hint spelling (Some text) = is_move_text spelling text
+
+-- the hint and all moves have the spelling
+abbrev pub have_spelling : Spelling → Option (List ℕ) → List ℕ → Bool
+have_spelling spelling hint pv = is_hint spelling hint && are_moves spelling pv
+
+-- No text has both spellings.
+abbrev pub spelling_of : Option (List ℕ) → List ℕ → Option Spelling
+spelling_of hint pv =
+    if have_spelling Coordinates hint pv then Some Coordinates
+    else (if have_spelling San hint pv then Some San else None)
+
+abbrev pub thinking_of : ℕ → ℤ → ℕ → ℕ → Option (List ℕ) × List ℕ → Option Reply
+thinking_of depth score time nodes end =
+    option_map (λ spelling. told.Thinking depth score time nodes spelling end.0 end.1) (spelling_of end.0 end.1)
 
 abbrev pub thinking_in : List ℕ → Option Reply
 thinking_in text =

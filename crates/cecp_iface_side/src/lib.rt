@@ -5,6 +5,7 @@
 
 mod laws;
 mod reply_read;
+mod san;
 mod write;
 
 pub use laws::written_messages_are_read_again;

@@ -3,11 +3,12 @@ ghost use Rattle.std.specs.Prelude.{◌≡◌, ◌↔◌, Some, is_some, ◌+◌
 ghost use Rattle.std.specs.Option.{option_map};
 ghost use Rattle.std.specs.List.{list_all};
 ghost use Rattle.cecp_lines.specs.Replies.{Reply as AnyReply, reply_of, SpellsReply, IsWritable, is_feature_name, is_name_byte};
-ghost use Rattle.cecp_iface_side.specs.ReplyReading.{stripped, plain, written, written_signed, written_move, are_moves, is_space, is_paren, is_plain, cut, number_field, score_field, fixed_of, reason_of, feature_in, is_repeated, error_in, pong_in, last_in, stat01_in, hint_in, thinking_in, reply_in, with_front};
+ghost use Rattle.cecp_iface_side.specs.ReplyReading.{stripped, plain, written, written_signed, written_move, is_move_text, are_moves, is_hint, have_spelling, spelling_of, is_space, is_paren, is_plain, cut, number_field, score_field, fixed_of, reason_of, feature_in, is_repeated, error_in, pong_in, last_in, stat01_in, hint_in, thinking_in, reply_in, with_front};
 ghost use Rattle.cecp_lines.specs.Reading.{is_equals};
 ghost use Rattle.peer_words.specs.Bytes.{};
 
-use cecp_lines::{Outcome, Reason, Reply, UserError};
+use crate::san::is_san;
+use cecp_lines::{Outcome, Reason, Reply, Spelling, UserError};
 use chess_board::{Move, read_move, write_move};
 use peer_words::{is_white, named, trim};
 
@@ -142,10 +143,14 @@ fn read_written_move(text: &[u8]) -> Option<Move>
     }
 }
 
-fn is_written_move(text: &[u8]) -> bool
-    ensures { result ≡ is_some (written_move text.now) }
+/// Whether a text is a move in a spelling.
+fn is_move_text(spelling: Spelling, text: &[u8]) -> bool
+    ensures { result ≡ is_move_text spelling text.now }
 {
-    read_written_move(text).is_some()
+    match spelling {
+        Spelling::Coordinates => read_written_move(text).is_some(),
+        Spelling::San => is_san(text),
+    }
 }
 
 fn space_at(text: &[u8]) -> Option<usize>
@@ -154,18 +159,47 @@ fn space_at(text: &[u8]) -> Option<usize>
     text.iter().position(|b| *b == b' ')
 }
 
-/// Whether the text is written moves with one blank between.
-fn is_move_list(text: &[u8]) -> bool
-    ensures { result ≡ are_moves text.now }
+/// Whether the text is moves in a spelling, with one blank between.
+fn is_move_list(spelling: Spelling, text: &[u8]) -> bool
+    ensures { result ≡ are_moves spelling text.now }
 {
     let mut rest = text;
     while let Some(at) = space_at(rest) {
-        if !is_written_move(&rest[..at]) {
+        if !is_move_text(spelling, &rest[..at]) {
             return false;
         }
         (_, rest) = rest.split_at(at + 1);
     }
-    is_written_move(rest)
+    is_move_text(spelling, rest)
+}
+
+/// Whether a hint, if there is one, is a move in a spelling.
+fn is_hint(spelling: Spelling, hint: Option<&[u8]>) -> bool
+    ensures { result ≡ is_hint spelling (option_map (λ h. h.now) hint.entry) }
+{
+    match hint {
+        Some(text) => is_move_text(spelling, text),
+        None => true,
+    }
+}
+
+fn have_spelling(spelling: Spelling, hint: Option<&[u8]>, pv: &[u8]) -> bool
+    ensures { result ≡ have_spelling spelling (option_map (λ h. h.now) hint.entry) pv.now }
+{
+    is_hint(spelling, hint) && is_move_list(spelling, pv)
+}
+
+/// The spelling of the hint and the moves of a thinking line.
+fn spelling_of(hint: Option<&[u8]>, pv: &[u8]) -> Option<Spelling>
+    ensures { result ≡ spelling_of (option_map (λ h. h.now) hint.entry) pv.now }
+{
+    if have_spelling(Spelling::Coordinates, hint, pv) {
+        Some(Spelling::Coordinates)
+    } else if have_spelling(Spelling::San, hint, pv) {
+        Some(Spelling::San)
+    } else {
+        None
+    }
 }
 
 fn paren_at(text: &[u8]) -> Option<usize>
@@ -292,14 +326,13 @@ fn read_stat01(text: &[u8]) -> Option<Reply<'_>>
 }
 
 /// The hint of a ponder search, if the text begins with one, and what follows.
-fn read_hint(text: &[u8]) -> Option<(Option<Move>, &[u8])>
-    ensures { option_map (λ p. (p.0, p.1.now)) result ≡ hint_in text.now }
+fn read_hint(text: &[u8]) -> Option<(Option<&[u8]>, &[u8])>
+    ensures { option_map (λ p. (option_map (λ h. h.now) p.0, p.1.now)) result ≡ hint_in text.now }
 {
     match behind_front(b"(", text) {
         Some(inner) => {
             let at = paren_at(inner)?;
-            let hint = read_written_move(&inner[..at])?;
-            Some((Some(hint), behind_front(b") ", &inner[at..])?))
+            Some((Some(&inner[..at]), behind_front(b") ", &inner[at..])?))
         }
         None => Some((None, text)),
     }
@@ -313,18 +346,16 @@ fn read_thinking(text: &[u8]) -> Option<Reply<'_>>
     let (time, text) = read_number_field(text)?;
     let (nodes, text) = read_number_field(text)?;
     let (hint, pv) = read_hint(text)?;
-    if is_move_list(pv) {
-        Some(Reply::Thinking {
-            depth,
-            score,
-            time,
-            nodes,
-            hint,
-            pv,
-        })
-    } else {
-        None
-    }
+    let spelling = spelling_of(hint, pv)?;
+    Some(Reply::Thinking {
+        depth,
+        score,
+        time,
+        nodes,
+        spelling,
+        hint,
+        pv,
+    })
 }
 
 fn read_with_front(line: &[u8]) -> Option<Reply<'_>>

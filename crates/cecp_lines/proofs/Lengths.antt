@@ -16,8 +16,9 @@ use Rattle.cecp_lines.specs.declared.reply.UserError.{UserError}
 use Rattle.cecp_lines.specs.declared.reply.UserError.TheVariants as tells
 use Rattle.cecp_lines.specs.declared.reply.Outcome.{Outcome}
 use Rattle.cecp_lines.specs.declared.reply.Outcome.TheVariants as outcomes
+use Rattle.cecp_lines.specs.declared.reply.Spelling.{Spelling}
 use Rattle.cecp_lines.specs.Replies as told
-use Rattle.cecp_lines.specs.Replies.{Reply, reply_text, reason_text, user_error_text, outcome_text, field, hint_text, current_text, Fits, borrowed}
+use Rattle.cecp_lines.specs.Replies.{Reply, reply_text, reason_text, user_error_text, outcome_text, field, hint_text, hint_size, current_text, Fits, borrowed}
 
 decimal_short : (n : ℕ) → n < 2 ^ 64 → length (decimal n) ≤ 20
 decimal_short n h = length-decimal-le 20 n (omega arith) (omega arith) h
@@ -43,9 +44,9 @@ outcome_short outcomes.Dead = omega arith
 outcome_short outcomes.Repetition = omega arith
 outcome_short outcomes.Fifty = omega arith
 
-hint_short : (h : Option AnyMove) → length (hint_text h) ≤ 8
+hint_short : (h : Option (List ℕ)) → length (hint_text h) ≤ 3 + hint_size h
 hint_short None = omega arith
-hint_short (Some m) = omega (arith, length-append (text_of m) (41 ∷ 32 ∷ []), move_length m)
+hint_short (Some text) = omega (arith, length-append text (41 ∷ 32 ∷ []))
 
 current_short : (c : Option AnyMove) → length (current_text c) ≤ 6
 current_short None = omega arith
@@ -63,6 +64,18 @@ thinking_parts a b c d e f = simp length-append (omega arith)
 stat_parts : (front a b c d e f : List ℕ) → length (front ++ field a ++ field b ++ field c ++ field d ++ e ++ f) ≡ length front + length a + length b + length c + length d + 4 + length e + length f
 stat_parts front a b c d e f = simp length-append (omega arith)
 
+-- a thinking line has at most 88 bytes besides its moves
+pub thinking_short : (depth : ℕ) (score : ℤ) (time nodes : ℕ) (spelling : Spelling) (hint : Option (List ℕ)) (pv : List ℕ)
+    → Fits (told.Thinking depth score time nodes spelling hint pv)
+    → length (reply_text (told.Thinking depth score time nodes spelling hint pv)) ≤ 88 + (hint_size hint + length pv)
+thinking_short depth score time nodes spelling hint pv f =
+    let a = decimal_short depth f.0 in
+    let b = signed_short score f.1 in
+    let c = decimal_short time f.2 in
+    let d = decimal_short nodes f.3 in
+    let e = hint_short hint in
+    omega (arith, thinking_parts (decimal depth) (signed_decimal score) (decimal time) (decimal nodes) (hint_text hint) pv)
+
 pub told_short : (t : Reply) → Fits t → length (reply_text t) ≤ 128 + borrowed t
 told_short (told.Feature name value) f = omega (arith, four_parts (codes "feature ") name (codes "=") value)
 told_short (told.Move m) f = omega (arith, two_parts (codes "move ") (text_of m), move_length m)
@@ -73,13 +86,7 @@ told_short (told.TellError tell) f = omega (arith, tell_short tell)
 told_short (told.Pong n) f = omega (arith, two_parts (codes "pong ") (decimal n), decimal_short n (omega arith))
 told_short (told.Hint m) f = omega (arith, two_parts (codes "Hint: ") (text_of m), move_length m)
 told_short (told.Result outcome) f = omega (arith, outcome_short outcome)
-told_short (told.Thinking depth score time nodes hint pv) f =
-    let a = decimal_short depth f.0 in
-    let b = signed_short score f.1 in
-    let c = decimal_short time f.2 in
-    let d = decimal_short nodes f.3 in
-    let e = hint_short hint in
-    omega (arith, thinking_parts (decimal depth) (signed_decimal score) (decimal time) (decimal nodes) (hint_text hint) pv)
+told_short (told.Thinking depth score time nodes spelling hint pv) f = omega (arith, thinking_short depth score time nodes spelling hint pv f)
 told_short (told.Stat01 time nodes depth left all current) f =
     let a = decimal_short time f.0 in
     let b = decimal_short nodes f.1 in

@@ -1,5 +1,6 @@
 pub mod Messages
 pub mod Words
 pub mod Reading
+pub mod San
 pub mod Replies
 pub mod Quit

@@ -2,6 +2,7 @@
 use Rattle.std.specs.Prelude.{◌≡◌, ℕ, ℤ, ◌+◌, ◌<◌, ◌≤◌, ◌^◌, List, [], ◌∷◌, ◌++◌, length, map, Bool, true, not, ◌&&◌, ◌||◌, ◌==◌, nat_lt, codes, decimal, Option, Some, None, IfSome}
 use Rattle.std.specs.Fmt.{signed_decimal}
 use Rattle.std.specs.Int.RustNames.{FitsSigned}
+use Rattle.std.specs.Option.{option_map}
 use mir.Syntax.{w64}
 use Rattle.std.specs.List.{list_all, join_with_byte, AllByRecursion}
 use Rattle.chess_board.specs.declared.board.Move.{Move as AnyMove}
@@ -13,6 +14,9 @@ use Rattle.cecp_lines.specs.declared.reply.UserError.{UserError}
 use Rattle.cecp_lines.specs.declared.reply.UserError.TheVariants as tells
 use Rattle.cecp_lines.specs.declared.reply.Outcome.{Outcome}
 use Rattle.cecp_lines.specs.declared.reply.Outcome.TheVariants as outcomes
+use Rattle.cecp_lines.specs.San.{is_san}
+use Rattle.cecp_lines.specs.declared.reply.Spelling.{Spelling}
+use Rattle.cecp_lines.specs.declared.reply.Spelling.TheVariants as spellings
 use Rattle.cecp_lines.specs.declared.reply.Reply.{Reply as CodeReply}
 use Rattle.cecp_lines.specs.declared.reply.Reply.TheVariants as replies
 use Rattle.peer_words.specs.Bytes.{blank, left_parenthesis, right_parenthesis, equals}
@@ -29,7 +33,7 @@ pub data Reply : Type 0 where
   Resign : Reply
   Hint : (hint : AnyMove) → Reply
   Result : (outcome : Outcome) → Reply
-  Thinking : (depth : ℕ) (score : ℤ) (time nodes : ℕ) (hint : Option AnyMove) (pv : List ℕ) → Reply
+  Thinking : (depth : ℕ) (score : ℤ) (time nodes : ℕ) (spelling : Spelling) (hint : Option (List ℕ)) (pv : List ℕ) → Reply
   Stat01 : (time nodes depth left all : ℕ) (current : Option AnyMove) → Reply
 
 abbrev pub reply_of : CodeReply → Reply
@@ -44,7 +48,8 @@ reply_of replies.OfferDraw = OfferDraw
 reply_of replies.Resign = Resign
 reply_of (replies.Hint m) = Hint m
 reply_of (replies.Result outcome) = Result outcome
-reply_of (replies.Thinking depth score time nodes hint pv) = Thinking depth score time nodes hint pv.now
+reply_of (replies.Thinking depth score time nodes spelling hint pv) =
+    Thinking depth score time nodes spelling (option_map (λ h. h.now) hint) pv.now
 reply_of (replies.Stat01 time nodes depth left all current) = Stat01 time nodes depth left all current
 
 abbrev pub reason_text : Reason → List ℕ
@@ -77,9 +82,9 @@ abbrev pub field : List ℕ → List ℕ
 field number = number ++ (blank ∷ [])
 
 -- the hint of a ponder search, in parentheses and before a blank
-abbrev pub hint_text : Option AnyMove → List ℕ
+abbrev pub hint_text : Option (List ℕ) → List ℕ
 hint_text None = []
-hint_text (Some m) = left_parenthesis ∷ (text_of m ++ (right_parenthesis ∷ blank ∷ []))
+hint_text (Some text) = left_parenthesis ∷ (text ++ (right_parenthesis ∷ blank ∷ []))
 
 abbrev pub current_text : Option AnyMove → List ℕ
 current_text None = []
@@ -98,7 +103,7 @@ reply_text OfferDraw = codes "offer draw"
 reply_text Resign = codes "resign"
 reply_text (Hint m) = codes "Hint: " ++ text_of m
 reply_text (Result outcome) = outcome_text outcome
-reply_text (Thinking depth score time nodes hint pv) =
+reply_text (Thinking depth score time nodes spelling hint pv) =
     field (decimal depth) ++ field (signed_decimal score) ++ field (decimal time) ++ field (decimal nodes) ++ hint_text hint ++ pv
 reply_text (Stat01 time nodes depth left all current) =
     codes "stat01: " ++ field (decimal time) ++ field (decimal nodes) ++ field (decimal depth) ++ field (decimal left) ++ decimal all ++ current_text current
@@ -113,12 +118,23 @@ is_feature_name name = nat_lt 0 (length name) && list_all is_name_byte name
 abbrev pub IsWritable : AnyMove → Type 0
 IsWritable m = IsOfficer m.promo
 
--- one or more written moves with one blank between
-pub record AreMoves (pv : List ℕ) : Type 0 where
-  pub moves : List AnyMove
-  pub some : 0 < length moves
-  pub writable : AllByRecursion IsWritable moves
-  pub text : pv ≡ join_with_byte blank (map text_of moves)
+-- the text of a move by its squares
+pub record AreSquares (text : List ℕ) : Type 0 where
+  pub move : AnyMove
+  pub writable : IsWritable move
+  pub is : text ≡ text_of move
+
+-- the text is a move in a spelling
+abbrev pub IsMoveText : Spelling → List ℕ → Type 0
+IsMoveText spellings.Coordinates text = AreSquares text
+IsMoveText spellings.San text = is_san text ≡ true
+
+-- one or more moves in a spelling, with one blank between
+pub record AreMoves (spelling : Spelling) (pv : List ℕ) : Type 0 where
+  pub texts : List (List ℕ)
+  pub some : 0 < length texts
+  pub moves : AllByRecursion (IsMoveText spelling) texts
+  pub text : pv ≡ join_with_byte blank texts
 
 -- the line that a refusal repeats is trimmed, and one that was too long is not repeated
 abbrev pub IsRepeated : Reason → List ℕ → Type 0
@@ -133,7 +149,7 @@ IsReply (Illegal m) = IsWritable m
 IsReply (IllegalLong m) = IsWritable m
 IsReply (Error reason line) = IsRepeated reason line
 IsReply (Hint m) = IsWritable m
-IsReply (Thinking depth score time nodes hint pv) = IfSome hint IsWritable × AreMoves pv
+IsReply (Thinking depth score time nodes spelling hint pv) = IfSome hint (IsMoveText spelling) × AreMoves spelling pv
 IsReply (Stat01 time nodes depth left all current) = IfSome current IsWritable
 IsReply _ = Unit {0}
 
@@ -143,14 +159,13 @@ HasWritableMoves (Move m) = IsWritable m
 HasWritableMoves (Illegal m) = IsWritable m
 HasWritableMoves (IllegalLong m) = IsWritable m
 HasWritableMoves (Hint m) = IsWritable m
-HasWritableMoves (Thinking depth score time nodes hint pv) = IfSome hint IsWritable
 HasWritableMoves (Stat01 time nodes depth left all current) = IfSome current IsWritable
 HasWritableMoves _ = Unit {0}
 
 -- the numbers are those of the fields' types
 abbrev pub Fits : Reply → Type 0
 Fits (Pong n) = n < 2 ^ 32
-Fits (Thinking depth score time nodes hint pv) = (depth < 2 ^ 64) × FitsSigned w64 score × (time < 2 ^ 64) × (nodes < 2 ^ 64)
+Fits (Thinking depth score time nodes spelling hint pv) = (depth < 2 ^ 64) × FitsSigned w64 score × (time < 2 ^ 64) × (nodes < 2 ^ 64)
 Fits (Stat01 time nodes depth left all current) = (time < 2 ^ 64) × (nodes < 2 ^ 64) × (depth < 2 ^ 64) × (left < 2 ^ 64) × (all < 2 ^ 64)
 Fits _ = Unit {0}
 
@@ -160,11 +175,15 @@ pub record SpellsReply (line : List ℕ) (t : Reply) : Type 0 where
   pub fits : Fits t
   pub text : line ≡ reply_text t
 
+abbrev pub hint_size : Option (List ℕ) → ℕ
+hint_size None = 0
+hint_size (Some text) = length text
+
 -- how many bytes of a reply's text are borrowed
 abbrev pub borrowed : Reply → ℕ
 borrowed (Feature name value) = length name + length value
 borrowed (Error reason line) = length line
-borrowed (Thinking depth score time nodes hint pv) = length pv
+borrowed (Thinking depth score time nodes spelling hint pv) = hint_size hint + length pv
 borrowed _ = 0
 
 -- No text is longer than its borrowed bytes and 128 more.

@@ -12,5 +12,5 @@ mod words;
 pub use iface::{IfaceFault, IfaceMsg};
 pub use laws::{lines_are_unambiguous, replies_are_short};
 pub use read::{is_quit, read_iface};
-pub use reply::{Outcome, Reason, Reply, UserError};
+pub use reply::{Outcome, Reason, Reply, Spelling, UserError};
 pub use reply_write::write_reply;

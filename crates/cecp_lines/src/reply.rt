@@ -39,6 +39,15 @@ pub enum Outcome {
     Fifty,
 }
 
+/// How the moves of a thinking line are written.
+#[derive(Clone, Copy, Debug, PartialEq, Eq)]
+pub enum Spelling {
+    /// By their squares: `g1f3`, `a7a8q`.
+    Coordinates,
+    /// In standard algebraic notation: `Nf3`, `a8=Q+`.
+    San,
+}
+
 /// A line for the interface: Chess Engine Communication Protocol, version 2, section "Commands from
 /// the engine to xboard". The thinking line and `stat01` are those of its sections "Thinking
 /// Output" and "Analyze Mode".
@@ -65,13 +74,14 @@ pub enum Reply<'a> {
     Hint(Move),
     Result(Outcome),
     /// Depth in plies, score in hundredths of a pawn, time in hundredths of a second, nodes, the
-    /// move that is pondered on, and one or more moves with one blank between.
+    /// move that is pondered on, and one or more moves with one blank between. All moves have one spelling.
     Thinking {
         depth: u64,
         score: i64,
         time: u64,
         nodes: u64,
-        hint: Option<Move>,
+        spelling: Spelling,
+        hint: Option<&'a [u8]>,
         pv: &'a [u8],
     },
     /// Time in hundredths of a second, nodes, depth, how many moves are left and how many there

@@ -1,6 +1,7 @@
 // The texts of replies.
 ghost use Rattle.std.specs.Prelude.{◌≡◌, ◌+◌, ◌≤◌, ◌++◌, length, decimal, IfSome};
 ghost use Rattle.std.specs.Fmt.{signed_decimal};
+ghost use Rattle.std.specs.Option.{option_map};
 ghost use Rattle.line_io.specs.Out.{with};
 ghost use Rattle.chess_board.specs.Text.{text_of};
 ghost use Rattle.cecp_lines.specs.Replies.{reply_of, reply_text, reason_text, user_error_text, outcome_text, hint_text, current_text, field, HasWritableMoves, IsWritable};
@@ -87,14 +88,14 @@ fn put_score(n: i64, out: &mut Out)
     out.put(b" ");
 }
 
-fn put_hint(hint: Option<Move>, out: &mut Out)
-    requires writable { IfSome hint IsWritable }
-    requires room { length out.old.text + length (hint_text hint) ≤ out.old.room }
-    ensures { out.new ≡ with out.old (hint_text hint) }
+fn put_hint(hint: Option<&[u8]>, out: &mut Out)
+    requires { length out.old.text + length (hint_text (option_map (λ h. h.now) hint))
+        ≤ out.old.room }
+    ensures { out.new ≡ with out.old (hint_text (option_map (λ h. h.now) hint.entry)) }
 {
-    if let Some(m) = hint {
+    if let Some(text) = hint {
         out.put(b"(");
-        put_move(m, out);
+        out.put(text);
         out.put(b") ");
     }
 }
@@ -147,6 +148,7 @@ pub fn write_reply(reply: &Reply, out: &mut Out)
             score,
             time,
             nodes,
+            spelling: _,
             hint,
             pv,
         } => {
