@@ -29,7 +29,7 @@ equal : (a b : ℕ) → (a == b) ≡ true → a ≡ b
 equal a b = (Decides-eqb a b).0
 
 -- the kind of a man that moves
-kind_of_move : (p : Position) (from to : ℕ) (promo : Option Kind) (h : IsLegal p from to promo) → kind_at p from ≡ h.piece
+pub kind_of_move : (p : Position) (from to : ℕ) (promo : Option Kind) (h : IsLegal p from to promo) → kind_at p from ≡ h.piece
 kind_of_move p from to promo h = ap kind_on h.man
 
 -- another man that may go there is a rival

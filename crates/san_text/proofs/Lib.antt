@@ -1,8 +1,10 @@
 pub mod Alone
 pub mod Bools
 pub mod Found
+pub mod Lengths
 pub mod LongForms
 pub mod Pawns
+pub mod Signs
 pub mod Texts
 pub mod Unmarked
 pub mod Written

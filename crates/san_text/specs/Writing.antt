@@ -1,12 +1,14 @@
 -- Moves in standard algebraic notation, as they are written (FIDE Laws, appendix C; PGN standard, 8.2.3).
-use Rattle.std.specs.Prelude.{◌≡◌, ◌⊎◌, ℕ, ◌+◌, List, [], ◌∷◌, ◌++◌, Bool, true, ◌&&◌, ◌||◌, not, if◌then◌else◌, ◌==◌, Option, Some, None, codes}
+use Rattle.std.specs.Prelude.{◌≡◌, ◌⊎◌, ℕ, ◌+◌, ◌≤◌, List, [], ◌∷◌, ◌++◌, length, Bool, true, ◌&&◌, ◌||◌, ◌↔◌, not, if◌then◌else◌, ◌==◌, Option, Some, None, codes}
 use Rattle.chess_board.specs.declared.board.Kind.{Kind}
 use Rattle.chess_board.specs.declared.board.Kind.TheVariants.{Pawn, Knight, Bishop, Rook, Queen, King}
 use Rattle.chess_board.specs.declared.board.Move.{Move}
 use Rattle.chess_board.specs.contracts.board.KindPartialEq.TheImpl as kinds
 use Rattle.san_text.specs.declared.men.Within.{Within}
 use Rattle.san_text.specs.declared.men.Within.TheVariants.{Board, File, Rank}
+use Rattle.chess_board.specs.Attack.{is_checked}
 use Rattle.chess_board.specs.Board.{man_at, file_of, rank_of, is_empty, is_king_kind, is_pawn_kind, some_square}
+use Rattle.chess_board.specs.Place.{has_any_way}
 use Rattle.chess_board.specs.Position.{Position}
 use Rattle.chess_board.specs.Rules.{king_home, is_legal}
 use Rattle.chess_board.specs.Laws.{IsLegal, IsChecked}
@@ -106,3 +108,21 @@ pub record IsSan (p : Position) (m : Move) (text : List ℕ) : Type 0 where
   pub mark : List ℕ
   pub fits : IsMark (after p m) mark
   pub whole : text ≡ body p m ++ mark
+
+-- the mark as a function: behind a move that checks, `+` if the side on move has a legal move, else `#`
+abbrev pub sign : Position → List ℕ
+sign p =
+    if is_checked p.men p.side then (if has_any_way p then codes "+" else codes "#")
+    else []
+
+-- the text of a move
+unfoldable pub san : Position → Move → List ℕ
+san p m = body p m ++ sign (after p m)
+
+-- it is the one text of the move by the standard
+abbrev pub IsTheText : Type 0
+IsTheText = (p : Position) (m : Move) (text : List ℕ) → IsSan p m text ↔ (text ≡ san p m)
+
+-- No text of a legal move has more than seven bytes.
+abbrev pub AreShort : Type 0
+AreShort = (p : Position) (m : Move) → IsLegal p m.from.index m.to.index m.promo → length (san p m) ≤ 7

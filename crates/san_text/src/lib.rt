@@ -14,7 +14,7 @@ mod spelling;
 mod writing;
 
 pub use fault::SanFault;
-pub use laws::texts_tell_moves_apart;
+pub use laws::{moves_have_one_text, texts_tell_moves_apart};
 pub use long_form::read_long_form;
 pub use reading::read_san;
 pub use writing::write_san;

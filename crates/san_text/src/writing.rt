@@ -3,7 +3,7 @@ ghost use Rattle.std.specs.Prelude.{◌≡◌, ◌+◌, ◌≤◌, ◌<◌, ◌+
 ghost use Rattle.arrayvec.specs.ArrayVec.{array_vec_len};
 ghost use Rattle.chess_board.specs.Laws.{IsLegal};
 ghost use Rattle.san_text.specs.Fit.{FitsAlone};
-ghost use Rattle.san_text.specs.Writing.{letter, file_letter, rank_digit, distinction, origin, promotion, body, kind_at, IsMark, IsSan};
+ghost use Rattle.san_text.specs.Writing.{letter, file_letter, rank_digit, distinction, origin, promotion, body, kind_at, san, IsMark, IsSan};
 
 use crate::men::{Within, castles_long, castles_short, has_rival, is_capture, kind_at};
 use arrayvec::ArrayVec;
@@ -136,6 +136,7 @@ fn mark(after: &Position) -> &'static [u8]
 pub fn write_san(at: &Position, m: Move) -> ArrayVec<u8, 7>
     requires { IsLegal at.now m.from.index m.to.index m.promo }
     ensures written { IsSan at.now m result.items }
+    ensures text { result.items ≡ san at.now m }
     ensures alone { FitsAlone at.now result.items m }
 {
     let mut text = body(at, m);

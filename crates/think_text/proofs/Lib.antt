@@ -2,3 +2,6 @@ pub mod Legal
 pub mod Heard
 pub mod Lines
 pub mod Short
+pub mod Rivals
+pub mod Forms
+pub mod Replies

@@ -1,5 +1,5 @@
 -- The lines that tell of a search are short.
-use Rattle.std.proofs.Common.{◌≡◌, ℕ, suc, ◌+◌, ◌/◌, ◌^◌, ◌<◌, ◌≤◌, List, [], ◌∷◌, ◌++◌, Bool, true, false, cond, ltb, filter, length, Option, Some, None, refl, ap, subst, arith, length-append}
+use Rattle.std.proofs.Common.{◌≡◌, ℕ, suc, ◌+◌, ◌*◌, ◌/◌, ◌^◌, ◌<◌, ◌≤◌, List, [], ◌∷◌, ◌++◌, Bool, true, false, cond, ltb, filter, length, Option, Some, None, refl, sym, ap, subst, arith, length-append}
 use Rattle.std.proofs.lemmas.Int.{ints, fits_signed_from_abs}
 use Rattle.std.specs.Prelude.{ℤ, pos, negsuc, neg_ℤ, ◌+ℤ◌, ◌-ℤ◌, nat_abs, int_lt, IfSome}
 use Rattle.std.specs.Int.RustNames.{FitsSigned}
@@ -11,11 +11,15 @@ use Rattle.chess_board.specs.Position.{Position}
 use Rattle.chess_board.specs.Place.{legal, legal_at, legal_count, count_below}
 use Rattle.chess_board.specs.Text.{text_of}
 use Rattle.chess_board.proofs.Count.{count_below-le}
-use Rattle.chess_board.proofs.TextLengths.{move_fits}
+use Rattle.chess_board.proofs.LegalMoves.{is_legal}
+use Rattle.chess_board.proofs.TextLengths.{move_fits, move_length}
 use Rattle.peer_words.specs.Tokens.{is_white, tokens}
 use Rattle.peer_words.proofs.Sizes.{digits_small}
-use Rattle.cecp_lines.specs.Replies.{Reply, Thinking, reply_text, IsWritable, HasWritableMoves}
-use Rattle.cecp_lines.proofs.Lengths.{told_short}
+use Rattle.san_text.proofs.Lengths.{short}
+use Rattle.cecp_lines.specs.declared.reply.Spelling.{Spelling}
+use Rattle.cecp_lines.specs.declared.reply.Spelling.TheVariants.{Coordinates, San}
+use Rattle.cecp_lines.specs.Replies.{Reply, Thinking, reply_text, hint_size, Fits}
+use Rattle.cecp_lines.proofs.Lengths.{told_short, thinking_short}
 use Rattle.uci_lines.specs.declared.messages.Score.{Score}
 use Rattle.uci_lines.specs.declared.messages.Score.TheVariants.{Cp, Mate}
 use Rattle.uci_lines.specs.Infos.{no_facts}
@@ -26,11 +30,12 @@ use Rattle.uci_lines.specs.Engine.{engine_message}
 use Rattle.uci_lines.specs.Scores.{IsCentis}
 use Rattle.uci_lines.proofs.Rows.{read_spells}
 use Rattle.uci_lines.proofs.Scores.{scores_are_centis}
+use Rattle.think_text.specs.declared.line.Pondered.{Pondered}
 use Rattle.think_text.specs.declared.seen.Seen.{Seen}
-use Rattle.think_text.specs.Line.{value_of, played, legal_run, moves_text, spaced, line_with}
+use Rattle.think_text.specs.Line.{value_of, played, legal_run, written, run_texts, spaced, line_with, hint_text, IsPlayable}
 use Rattle.think_text.specs.Kept.{after_info, stat01_of}
-use Rattle.think_text.specs.Short.{LinesAreShort, LinesAreWritable, IsBounded, StaysBounded, StatIsShort}
-use Rattle.think_text.proofs.Lines.{first_and_others}
+use Rattle.think_text.specs.Short.{most_bytes, LinesAreShort, IsBounded, StaysBounded, StatIsShort}
+use Rattle.think_text.proofs.Lines.{moves_text, first_and_others}
 
 -- THE LENGTHS OF TOKENS AND MOVES
 
@@ -62,33 +67,60 @@ kept_size (p ∷ ps) = kept_step (ltb 0 (length p)) p (filter (λ part. ltb 0 (l
 tokens_size : (t : List ℕ) → size (tokens t) ≤ length t + 1
 tokens_size t = omega (arith, kept_size (slice_split is_white t), parts_size t)
 
+-- moves by their squares, each behind a blank
+pub squares : List Move → List ℕ
+squares [] = []
+squares (m ∷ moves) = (32 ∷ text_of m) ++ squares moves
+
 -- a run of moves is no longer than its tokens
-run_size : (ts : List (List ℕ)) (moves : List Move) (others : List (List ℕ)) → IsRun ts moves others → length (spaced moves) + size others ≤ size ts
+run_size : (ts : List (List ℕ)) (moves : List Move) (others : List (List ℕ)) → IsRun ts moves others → length (squares moves) + size others ≤ size ts
+unfolding squares
 run_size ts _ _ (IsRun.Ends h) = omega arith
 run_size _ _ others (IsRun.Goes {t = t} {m = m} {ts = ts} {moves = moves} s r) =
-    omega (arith, move_fits t m s, run_size ts moves others r, length-append (32 ∷ text_of m) (spaced moves))
+    omega (arith, move_fits t m s, run_size ts moves others r, length-append (32 ∷ text_of m) (squares moves))
 
-legal_step : (w : Bool) (m : Move) (legals moves : List Move) → length (spaced legals) ≤ length (spaced moves) → length (spaced (cond w (m ∷ legals) [])) ≤ length (spaced (m ∷ moves))
-legal_step true m legals moves h = omega (arith, h, length-append (32 ∷ text_of m) (spaced legals), length-append (32 ∷ text_of m) (spaced moves))
-legal_step false m legals moves h = omega arith
+-- how many bytes moves have at most in a spelling, by those of their squares
+Within : Spelling → ℕ → ℕ → Type 0
+Within Coordinates n all = n ≤ all
+Within San n all = 5 * n ≤ 8 * all
 
-legal_size : (p : Position) (moves : List Move) → length (spaced (legal_run p moves)) ≤ length (spaced moves)
-legal_size p [] = omega arith
-legal_size p (m ∷ moves) = legal_step (legal p m) m (legal_run (played p m) moves) moves (legal_size (played p m) moves)
+none_within : (s : Spelling) (all : ℕ) → Within s 0 all
+unfolding Within
+none_within Coordinates all = omega arith
+none_within San all = omega arith
+
+one_within : (s : Spelling) (p : Position) (m : Move) (n all : ℕ) → legal p m ≡ true → Within s n all → Within s (1 + length (written s p m) + n) (1 + length (text_of m) + all)
+unfolding Within
+one_within Coordinates p m n all e h = omega (arith, h)
+one_within San p m n all e h = omega (arith, h, short p m (is_legal p m e))
+
+legal_step : (s : Spelling) (p : Position) (w : Bool) (m : Move) (legals moves : List Move) → legal p m ≡ w
+    → Within s (length (spaced s (played p m) legals)) (length (squares moves)) → Within s (length (spaced s p (cond w (m ∷ legals) []))) (length (squares (m ∷ moves)))
+unfolding squares
+legal_step s p true m legals moves e h =
+    let mine : length (spaced s p (m ∷ legals)) ≡ 1 + length (written s p m) + length (spaced s (played p m) legals) = omega (arith, length-append (32 ∷ written s p m) (spaced s (played p m) legals)) in
+    let all : length (squares (m ∷ moves)) ≡ 1 + length (text_of m) + length (squares moves) = omega (arith, length-append (32 ∷ text_of m) (squares moves)) in
+    subst (λ (n : ℕ). Within s n (length (squares (m ∷ moves)))) (sym mine)
+    (subst (λ (n : ℕ). Within s (1 + length (written s p m) + length (spaced s (played p m) legals)) n) (sym all) (one_within s p m _ _ e h))
+legal_step s p false m legals moves e h = none_within s _
+
+legal_size : (s : Spelling) (p : Position) (moves : List Move) → Within s (length (spaced s p (legal_run p moves))) (length (squares moves))
+legal_size s p [] = none_within s _
+legal_size s p (m ∷ moves) = legal_step s p (legal p m) m (legal_run (played p m) moves) moves refl (legal_size s (played p m) moves)
 
 -- WHAT LINES TELL
 
 -- at most 18 digits
-abbrev IsCount : ℕ → Type 0
+abbrev pub IsCount : ℕ → Type 0
 IsCount n = n < 10 ^ 18
 
 -- the numbers are counts, and the moves have at most so many bytes, with a blank before each
-record IsWithin (most : ℕ) (f : AnyInfo) : Type 0 where
+pub record IsWithin (most : ℕ) (f : AnyInfo) : Type 0 where
   pub depth : IfSome f.depth IsCount
   pub time : IfSome f.time IsCount
   pub nodes : IfSome f.nodes IsCount
   pub number : IfSome f.number IsCount
-  pub moves : length (spaced f.pv) ≤ most
+  pub moves : length (squares f.pv) ≤ most
 
 takes_within : (most : ℕ) (f : AnyInfo) (ts : List (List ℕ)) (g : AnyInfo) (others : List (List ℕ)) → Takes f ts g others → size ts ≤ most → IsWithin most f → IsWithin most g
 takes_within most f _ _ _ (Takes.Depth {t = t} {n = n} e) l w = record { depth = digits_small 18 t n e; time = w.time; nodes = w.nodes; number = w.number; moves = w.moves }
@@ -123,7 +155,8 @@ tells_within most f ts h (Tells.Taken {g = g} {others = others} k r) l w =
     tells_within most g others h r (omega (arith, l, takes_fewer f ts g others k)) (takes_within most f ts g others k l w)
 tells_within most f _ h (Tells.Skipped {t = t} {ts = ts} n s r) l w = tells_within most f ts h r (omega (arith, l)) w
 
-told_within : (line : List ℕ) (f : AnyInfo) → engine_message line ≡ Info f → IsWithin (length line + 1) f
+pub told_within : (line : List ℕ) (f : AnyInfo) → engine_message line ≡ Info f → IsWithin (length line + 1) f
+unfolding squares
 told_within line f e =
     let form : HasForm line (Info f) = read_spells line (Info f) e in
     let part = form.1.0 in
@@ -152,35 +185,57 @@ or_zero (Some n) h = h
 same_told : (a b : Reply) (most : ℕ) → Some a ≡ Some b → length (reply_text a) ≤ most → length (reply_text b) ≤ most
 same_told a b most e h = let same : a ≡ b = cc in subst (λ (t : Reply). length (reply_text t) ≤ most) same h
 
-line_short : (d : Option ℕ) (s : Option Score) (moves : List Move) (f : AnyInfo) (hint : Option Move) (t : Reply) (n : ℕ) →
-    IfSome d IsCount → IfSome s IsCentis → IsWithin (n + 1) f → length (spaced moves) ≤ n + 1 → line_with d s moves f hint ≡ Some t → length (reply_text t) ≤ 128 + n
-line_short (Some depth) (Some score) (m ∷ moves) f hint t n h k w l e =
-    let told : Reply = Thinking depth (value_of score) (unwrap_or f.time 0 / 10) (unwrap_or f.nodes 0) hint (moves_text (m ∷ moves)) in
+-- a hint by its squares has at most five bytes, another one seven
+abbrev most_hint : Spelling → ℕ
+most_hint Coordinates = 5
+most_hint San = 7
+
+hint_short : (s : Spelling) (hint : Option Pondered) → IsPlayable hint → hint_size (hint_text s hint) ≤ most_hint s
+hint_short Coordinates None h = omega arith
+hint_short San None h = omega arith
+hint_short Coordinates (Some hint) h = omega (arith, move_length hint.hint)
+hint_short San (Some hint) h = omega (arith, short hint.before hint.hint (is_legal hint.before hint.hint h))
+
+all_short : (s : Spelling) (text hint pv n : ℕ) → text ≤ 88 + (hint + pv) → hint ≤ most_hint s → Within s (1 + pv) (n + 1) → text ≤ most_bytes s n
+unfolding Within
+all_short Coordinates text hint pv n a b c = omega (arith, a, b, c)
+all_short San text hint pv n a b c = omega (arith, a, b, c)
+
+pub fits : (d : ℕ) (score : Score) (f : AnyInfo) (n : ℕ) (s : Spelling) (hint : Option (List ℕ)) (pv : List ℕ) → IsCount d → IsCentis score → IsWithin n f
+    → Fits (Thinking d (value_of score) (unwrap_or f.time 0 / 10) (unwrap_or f.nodes 0) s hint pv)
+fits d score f n s hint pv h k w =
     let time = or_zero f.time w.time in
     let nodes = or_zero f.nodes w.nodes in
-    let short = told_short told ((omega arith), value_fits score k, (omega arith), (omega arith)) in
-    let text = ap length (first_and_others m moves) in
-    same_told told t (128 + n) e (omega (arith, short, text, length-append (text_of m) (spaced moves), length-append (32 ∷ text_of m) (spaced moves)))
-line_short (Some depth) (Some score) [] f hint t n h k w l e = absurd (cc)
-line_short (Some depth) None moves f hint t n h k w l e = absurd (cc)
-line_short None s moves f hint t n h k w l e = absurd (cc)
+    ((omega arith), value_fits score k, (omega arith), (omega arith))
+
+-- the moves behind a blank
+behind_blank : (s : Spelling) (p : Position) (m : Move) (moves : List Move) → length (spaced s p (m ∷ moves)) ≡ 1 + length (moves_text s p (m ∷ moves))
+behind_blank s p m moves =
+    let text = ap length (first_and_others s p m moves) in
+    omega (arith, text, length-append (written s p m) (spaced s (played p m) moves), length-append (32 ∷ written s p m) (spaced s (played p m) moves))
+
+line_short : (d : Option ℕ) (score : Option Score) (s : Spelling) (p : Position) (moves : List Move) (f : AnyInfo) (hint : Option Pondered) (t : Reply) (n : ℕ) →
+    IfSome d IsCount → IfSome score IsCentis → IsWithin (n + 1) f → Within s (length (spaced s p moves)) (n + 1) → IsPlayable hint
+    → line_with d score (run_texts s p moves) f s (hint_text s hint) ≡ Some t → length (reply_text t) ≤ most_bytes s n
+line_short (Some depth) (Some score) s p (m ∷ moves) f hint t n h k w l i e =
+    let told : Reply = Thinking depth (value_of score) (unwrap_or f.time 0 / 10) (unwrap_or f.nodes 0) s (hint_text s hint) (moves_text s p (m ∷ moves)) in
+    let short = thinking_short depth (value_of score) (unwrap_or f.time 0 / 10) (unwrap_or f.nodes 0) s (hint_text s hint) (moves_text s p (m ∷ moves)) (fits depth score f (n + 1) s (hint_text s hint) (moves_text s p (m ∷ moves)) h k w) in
+    same_told told t (most_bytes s n) e
+    (all_short s (length (reply_text told)) (hint_size (hint_text s hint)) (length (moves_text s p (m ∷ moves))) n short (hint_short s hint i) (subst (λ (x : ℕ). Within s x (n + 1)) (behind_blank s p m moves) l))
+line_short (Some depth) (Some score) s p [] f hint t n h k w l i e = absurd (cc)
+line_short (Some depth) None s p moves f hint t n h k w l i e = absurd (cc)
+line_short None score s p moves f hint t n h k w l i e = absurd (cc)
+
+widened : (s : Spelling) (n a b : ℕ) → Within s n a → a ≤ b → Within s n b
+unfolding Within
+widened Coordinates n a b h l = omega (arith, h, l)
+widened San n a b h l = omega (arith, h, l)
 
 pub lines_short : LinesAreShort
-lines_short line f p hint t e h =
+lines_short s line f p hint t i e h =
     let w = told_within line f e in
-    let moves : length (spaced (legal_run p f.pv)) ≤ length line + 1 = omega (arith, legal_size p f.pv, w.moves) in
-    line_short f.depth f.score (legal_run p f.pv) f hint t (length line) w.depth (scores_are_centis line f e) w moves h
-
-writable_by : (d : Option ℕ) (s : Option Score) (moves : List Move) (f : AnyInfo) (hint : Option Move) (t : Reply) → IfSome hint IsWritable → line_with d s moves f hint ≡ Some t → HasWritableMoves t
-writable_by (Some depth) (Some score) (m ∷ moves) f hint t h e =
-    let same : Thinking depth (value_of score) (unwrap_or f.time 0 / 10) (unwrap_or f.nodes 0) hint (moves_text (m ∷ moves)) ≡ t = cc in
-    subst (λ (x : Reply). HasWritableMoves x) same h
-writable_by (Some depth) (Some score) [] f hint t h e = absurd (cc)
-writable_by (Some depth) None moves f hint t h e = absurd (cc)
-writable_by None s moves f hint t h e = absurd (cc)
-
-pub lines_writable : LinesAreWritable
-lines_writable f p hint t h e = writable_by f.depth f.score (legal_run p f.pv) f hint t h e
+    let moves = widened s (length (spaced s p (legal_run p f.pv))) _ (length line + 1) (legal_size s p f.pv) w.moves in
+    line_short f.depth f.score s p (legal_run p f.pv) f hint t (length line) w.depth (scores_are_centis line f e) w moves i h
 
 -- WHAT IS KEPT
 

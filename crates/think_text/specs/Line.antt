@@ -1,5 +1,5 @@
 -- The thinking line of what an engine reports.
-use Rattle.std.specs.Prelude.{◌≡◌, ℕ, ◌+◌, ◌/◌, ◌≤◌, ℤ, pos, neg_ℤ, ◌+ℤ◌, ◌-ℤ◌, int_lt, if◌then◌else◌, map, length, List, [], ◌∷◌, ◌++◌, Option, Some, None}
+use Rattle.std.specs.Prelude.{◌≡◌, ℕ, ◌+◌, ◌/◌, ◌≤◌, ℤ, pos, neg_ℤ, ◌+ℤ◌, ◌-ℤ◌, int_lt, true, if◌then◌else◌, length, List, [], ◌∷◌, ◌++◌, Option, Some, None, IfSome}
 use Rattle.std.specs.Option.{unwrap_or}
 use Rattle.std.specs.List.{join_with_byte}
 use Rattle.line_io.specs.Out.{Text, with}
@@ -8,7 +8,11 @@ use Rattle.chess_board.specs.Position.{Position}
 use Rattle.chess_board.specs.Play.{position_after}
 use Rattle.chess_board.specs.Place.{legal}
 use Rattle.chess_board.specs.Text.{text_of}
+use Rattle.cecp_lines.specs.declared.reply.Spelling.{Spelling}
+use Rattle.cecp_lines.specs.declared.reply.Spelling.TheVariants.{Coordinates, San}
 use Rattle.cecp_lines.specs.Replies.{Reply, Thinking, reply_text}
+use Rattle.san_text.specs.Writing.{san}
+use Rattle.think_text.specs.declared.line.Pondered.{Pondered}
 use Rattle.think_text.specs.declared.value.TheConstants.{MATE}
 use Rattle.uci_lines.specs.declared.messages.Score.{Score}
 use Rattle.uci_lines.specs.declared.messages.Score.TheVariants.{Cp, Mate}
@@ -34,25 +38,41 @@ abbrev pub legal_run : Position → List Move → List Move
 legal_run p [] = []
 legal_run p (m ∷ moves) = if legal p m then m ∷ legal_run (played p m) moves else []
 
-abbrev pub moves_text : List Move → List ℕ
-moves_text moves = join_with_byte blank (map text_of moves)
+-- a move as it is written in a position
+abbrev pub written : Spelling → Position → Move → List ℕ
+written Coordinates p m = text_of m
+written San p m = san p m
 
--- each move behind a blank
-abbrev pub spaced : List Move → List ℕ
-spaced [] = []
-spaced (m ∷ moves) = (blank ∷ text_of m) ++ spaced moves
+-- the moves of a run, each as it is written in the position in which it is played
+abbrev pub run_texts : Spelling → Position → List Move → List (List ℕ)
+run_texts s p [] = []
+run_texts s p (m ∷ moves) = written s p m ∷ run_texts s (played p m) moves
 
--- The line with these moves. It needs a depth, a score and a move; a time or a number of nodes that is missing is 0.
-abbrev pub line_with : Option ℕ → Option Score → List Move → AnyInfo → Option Move → Option Reply
-line_with (Some depth) (Some score) (m ∷ moves) facts hint =
-    Some (Thinking depth (value_of score) (unwrap_or facts.time 0 / 10) (unwrap_or facts.nodes 0) hint (moves_text (m ∷ moves)))
-line_with (Some depth) (Some score) [] facts hint = None
-line_with (Some depth) None moves facts hint = None
-line_with None score moves facts hint = None
+-- each of them behind a blank
+abbrev pub spaced : Spelling → Position → List Move → List ℕ
+spaced s p [] = []
+spaced s p (m ∷ moves) = (blank ∷ written s p m) ++ spaced s (played p m) moves
+
+-- The line with these texts of moves. It needs a depth, a score and a move; a time or a number of nodes that is missing is 0.
+abbrev pub line_with : Option ℕ → Option Score → List (List ℕ) → AnyInfo → Spelling → Option (List ℕ) → Option Reply
+line_with (Some depth) (Some score) (text ∷ texts) facts spelling hint =
+    Some (Thinking depth (value_of score) (unwrap_or facts.time 0 / 10) (unwrap_or facts.nodes 0) spelling hint (join_with_byte blank (text ∷ texts)))
+line_with (Some depth) (Some score) [] facts spelling hint = None
+line_with (Some depth) None texts facts spelling hint = None
+line_with None score texts facts spelling hint = None
+
+-- the hint, in the position before it
+abbrev pub hint_text : Spelling → Option Pondered → Option (List ℕ)
+hint_text s None = None
+hint_text s (Some hint) = Some (written s hint.before hint.hint)
 
 -- the line that the interface is shown of a search in a position, if there is one
-abbrev pub thinking_line : AnyInfo → Position → Option Move → Option Reply
-thinking_line facts p hint = line_with facts.depth facts.score (legal_run p facts.pv) facts hint
+abbrev pub thinking_line : Spelling → AnyInfo → Position → Option Pondered → Option Reply
+thinking_line s facts p hint = line_with facts.depth facts.score (run_texts s p (legal_run p facts.pv)) facts s (hint_text s hint)
+
+-- a hint can be played in the position before it
+abbrev pub IsPlayable : Option Pondered → Type 0
+IsPlayable hint = IfSome hint (λ h. legal h.before h.hint ≡ true)
 
 abbrev pub with_line : Text → Option Reply → Text
 with_line out None = out

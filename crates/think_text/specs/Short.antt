@@ -1,24 +1,41 @@
--- How long the lines about a search are, and how large the numbers that are kept.
-use Rattle.std.specs.Prelude.{◌≡◌, ℕ, ◌+◌, ◌^◌, ◌<◌, ◌≤◌, List, length, Option, Some, IfSome}
-use Rattle.chess_board.specs.declared.board.Move.{Move}
+-- How long the lines about a search are, how large the numbers that are kept, and that the lines are replies.
+use Rattle.std.specs.Prelude.{◌≡◌, ℕ, ◌+◌, ◌*◌, ◌/◌, ◌^◌, ◌<◌, ◌≤◌, List, length, Option, Some, IfSome}
+use Rattle.chess_board.specs.Play.{IsPosition}
 use Rattle.chess_board.specs.Position.{Position}
-use Rattle.cecp_lines.specs.Replies.{Reply, reply_text, IsWritable, HasWritableMoves}
+use Rattle.cecp_lines.specs.declared.reply.Spelling.{Spelling}
+use Rattle.cecp_lines.specs.declared.reply.Spelling.TheVariants.{Coordinates, San}
+use Rattle.cecp_lines.specs.Replies.{Reply, SpellsReply, reply_text}
 use Rattle.uci_lines.specs.Info.{Info as AnyInfo}
 use Rattle.uci_lines.specs.Messages.{Info}
 use Rattle.uci_lines.specs.Engine.{engine_message}
+use Rattle.think_text.specs.declared.line.Pondered.{Pondered}
 use Rattle.think_text.specs.declared.seen.Seen.{Seen}
-use Rattle.think_text.specs.Line.{IsHeard, thinking_line}
+use Rattle.think_text.specs.Line.{IsHeard, IsPlayable, thinking_line}
 use Rattle.think_text.specs.Kept.{nothing_seen, after_info, stat01_of}
 
--- A thinking line has at most 128 bytes more than the line of the engine behind it.
+-- How long a thinking line is at most, by the line of the engine behind it: a move by its squares has at most as many bytes
+-- as the engine wrote, and one in standard algebraic notation at most three more, where the engine wrote four or more.
+abbrev pub most_bytes : Spelling → ℕ → ℕ
+most_bytes Coordinates n = 128 + n
+most_bytes San n = 128 + 8 * n / 5
+
+-- No thinking line is longer.
 abbrev pub LinesAreShort : Type 0
 LinesAreShort =
-    (line : List ℕ) (facts : AnyInfo) (p : Position) (hint : Option Move) (t : Reply) → engine_message line ≡ Info facts → thinking_line facts p hint ≡ Some t
-    → length (reply_text t) ≤ 128 + length line
+    (s : Spelling) (line : List ℕ) (facts : AnyInfo) (p : Position) (hint : Option Pondered) (t : Reply)
+    → IsPlayable hint → engine_message line ≡ Info facts → thinking_line s facts p hint ≡ Some t
+    → length (reply_text t) ≤ most_bytes s (length line)
 
--- Its moves can be written, if the hint can.
-abbrev pub LinesAreWritable : Type 0
-LinesAreWritable = (facts : AnyInfo) (p : Position) (hint : Option Move) (t : Reply) → IfSome hint IsWritable → thinking_line facts p hint ≡ Some t → HasWritableMoves t
+-- the position before the hint is one
+abbrev pub IsBefore : Pondered → Type 0
+IsBefore hint = IsPosition hint.before
+
+-- Its text is read as this line and as no other.
+abbrev pub LinesAreReplies : Type 0
+LinesAreReplies =
+    (s : Spelling) (facts : AnyInfo) (p : Position) (hint : Option Pondered) (t : Reply)
+    → IsPosition p → IfSome hint IsBefore → IsPlayable hint → IsHeard facts → thinking_line s facts p hint ≡ Some t
+    → SpellsReply (reply_text t) t
 
 -- the numbers that are kept have at most 64 bits
 pub record IsBounded (seen : Seen) : Type 0 where

@@ -4,8 +4,9 @@
 mod laws;
 mod line;
 mod seen;
+mod texts;
 mod value;
 
 pub use laws::{current_stays_writable, thinking_lines_are_short};
-pub use line::thinking;
+pub use line::{Pondered, thinking};
 pub use seen::{Seen, stat01};

@@ -1,22 +1,29 @@
 // The thinking line.
-ghost use Rattle.std.specs.Option.{unwrap_or};
-ghost use Rattle.std.specs.Prelude.{◌≡◌, ◌+◌, ◌≤◌, ◌∷◌, ◌/◌, [], true, length, is_some, IfSome, MatchOption};
+ghost use Rattle.std.specs.Option.{option_map, unwrap_or};
+ghost use Rattle.std.specs.Prelude.{◌≡◌, ◌+◌, ◌≤◌, ◌∷◌, ◌/◌, [], true, length, is_some, MatchOption};
 ghost use Rattle.line_io.specs.Out.{with};
 ghost use Rattle.peer_words.specs.Tokens.{tokens};
 ghost use Rattle.chess_board.specs.Place.{legal};
-ghost use Rattle.chess_board.specs.Text.{text_of};
-ghost use Rattle.cecp_lines.specs.Replies.{IsWritable, Thinking, reply_of, reply_text};
+ghost use Rattle.cecp_lines.specs.Replies.{Thinking, reply_of};
 ghost use Rattle.uci_lines.specs.Moves.{run};
 ghost use Rattle.uci_lines.specs.Info.{info_of};
 ghost use Rattle.uci_lines.specs.Scores.{IsCentis};
-ghost use Rattle.think_text.specs.Line.{IsHeard, HasRoom, legal_run, played, value_of, spaced, thinking_line, with_line};
+ghost use Rattle.think_text.specs.Line.{IsHeard, IsPlayable, HasRoom, legal_run, played, value_of, spaced, thinking_line, with_line, written};
 ghost use Rattle.peer_words.specs.Bytes.{blank};
 
+use crate::texts::{bytes_of, hint_text, written};
 use crate::value::{is_legal, play, value_of};
-use cecp_lines::{Reply, write_reply};
-use chess_board::{Move, Position, write_move};
+use cecp_lines::{Reply, Spelling, write_reply};
+use chess_board::{Move, Position};
 use line_io::Out;
 use uci_lines::{Info, Score, next_move};
+
+/// The move that the engine ponders on, and the position in which it would be played.
+#[derive(Clone, Copy)]
+pub struct Pondered {
+    pub before: Position,
+    pub hint: Move,
+}
 
 /// The first move of a text of moves, if it is legal, and the text after it.
 fn next_legal<'a>(moves: &'a [u8], at: &Position) -> Option<(Move, &'a [u8])>
@@ -34,26 +41,29 @@ fn next_legal<'a>(moves: &'a [u8], at: &Position) -> Option<(Move, &'a [u8])>
     }
 }
 
-/// Writes a move behind a blank.
-fn write_spaced(m: Move, out: &mut Out)
-    requires writable { IsWritable m }
-    requires room { length out.old.text + length (blank ∷ text_of m) ≤ out.old.room }
-    ensures { out.new ≡ with out.old (blank ∷ text_of m) }
+/// Writes a move of a position behind a blank.
+fn write_spaced(spelling: Spelling, at: &Position, m: Move, out: &mut Out)
+    requires legal { legal at.now m ≡ true }
+    requires room { length out.old.text + length (blank ∷ written spelling at.now m)
+        ≤ out.old.room }
+    ensures { out.new ≡ with out.old (blank ∷ written spelling at.now m) }
 {
     out.put(b" ");
-    out.put(write_move(m).as_slice());
+    out.put(written(spelling, at, m).as_slice());
 }
 
 /// Writes each move behind a blank, as long as each is legal in its turn.
-fn write_moves(moves: &[u8], at: &Position, out: &mut Out)
-    requires { length out.old.text + length (spaced (legal_run at.now (run (tokens moves.now))))
+fn write_moves(spelling: Spelling, moves: &[u8], at: &Position, out: &mut Out)
+    requires { length out.old.text
+        + length (spaced spelling at.now (legal_run at.now (run (tokens moves.now))))
         ≤ out.old.room }
-    ensures { out.new ≡ with out.old (spaced (legal_run at.now (run (tokens moves.now)))) }
+    ensures { out.new
+        ≡ with out.old (spaced spelling at.now (legal_run at.now (run (tokens moves.now)))) }
 {
     let mut position = *at;
     let mut others = moves;
     while let Some((m, after)) = next_legal(others, &position) {
-        write_spaced(m, out);
+        write_spaced(spelling, &position, m, out);
         position = play(&position, m);
         others = after;
     }
@@ -64,19 +74,21 @@ fn front_of<'a>(
     info: &Info,
     depth: u64,
     score: Score,
-    hint: Option<Move>,
+    spelling: Spelling,
+    hint: Option<&'a [u8]>,
     pv: &'a [u8],
 ) -> Reply<'a>
     requires { IsCentis score }
     ensures { reply_of result
         ≡ Thinking depth (value_of score) (unwrap_or info.now.time 0 / 10)
-        (unwrap_or info.now.nodes 0) hint pv.now }
+        (unwrap_or info.now.nodes 0) spelling (option_map (λ h. h.now) hint.entry) pv.now }
 {
     Reply::Thinking {
         depth,
         score: value_of(score),
         time: info.time.unwrap_or(0) / 10,
         nodes: info.nodes.unwrap_or(0),
+        spelling,
         hint,
         pv,
     }
@@ -85,14 +97,22 @@ fn front_of<'a>(
 /// Writes the thinking line of a search: depth in plies, score in hundredths of a pawn, time in hundredths of a
 /// second, nodes, and the moves of the engine's line as long as each is legal in its turn (Chess Engine
 /// Communication Protocol, version 2, section "Thinking Output"). A hint is the move that the engine ponders on; it
-/// stands in parentheses before the moves. There is no line, and false is returned, if depth, score or a first
-/// legal move is missing.
-pub fn thinking(info: &Info, at: &Position, hint: Option<Move>, out: &mut Out) -> bool
+/// stands in parentheses before the moves. Each move is written in the position in which it is played. There is no
+/// line, and false is returned, if depth, score or a first legal move is missing.
+pub fn thinking(
+    spelling: Spelling,
+    info: &Info,
+    at: &Position,
+    hint: Option<Pondered>,
+    out: &mut Out,
+) -> bool
     requires heard { IsHeard (info_of info.now) }
-    requires hint { IfSome hint IsWritable }
-    requires room { HasRoom out.old (thinking_line (info_of info.now) at.now hint) }
-    ensures there { result ≡ is_some (thinking_line (info_of info.now) at.now hint) }
-    ensures text { out.new ≡ with_line out.old (thinking_line (info_of info.now) at.now hint) }
+    requires hint { IsPlayable hint }
+    requires room { HasRoom out.old (thinking_line spelling (info_of info.now) at.now hint) }
+    ensures there { result
+        ≡ is_some (thinking_line spelling (info_of info.now) at.now hint) }
+    ensures text { out.new
+        ≡ with_line out.old (thinking_line spelling (info_of info.now) at.now hint) }
 {
     let (Some(depth), Some(score)) = (info.depth, info.score) else {
         return false;
@@ -100,9 +120,17 @@ pub fn thinking(info: &Info, at: &Position, hint: Option<Move>, out: &mut Out) -
     let Some((first, others)) = next_legal(info.pv, at) else {
         return false;
     };
-    let text = write_move(first);
-    let front = front_of(info, depth, score, hint, text.as_slice());
+    let hint = hint_text(spelling, hint);
+    let text = written(spelling, at, first);
+    let front = front_of(
+        info,
+        depth,
+        score,
+        spelling,
+        bytes_of(&hint),
+        text.as_slice(),
+    );
     write_reply(&front, out);
-    write_moves(others, &play(at, first), out);
+    write_moves(spelling, others, &play(at, first), out);
     true
 }

@@ -7,7 +7,7 @@ use Rattle.think_text.proofs.line.write_moves.Given as goal
 
 abbrev pub invariant-loop-m : goal.invariant-loop-m
 invariant-loop-m l = record {
-  text : l.out.text ++ spaced (legal_run l.position (run (tokens l.others))) ≡ l.initial.out.text ++ spaced (legal_run l.initial.position (run (tokens l.initial.others)));
+  text : l.out.text ++ spaced l.spelling l.position (legal_run l.position (run (tokens l.others))) ≡ l.initial.out.text ++ spaced l.spelling l.initial.position (legal_run l.initial.position (run (tokens l.initial.others)));
   room : l.out.room ≡ l.initial.out.room;
 }
 

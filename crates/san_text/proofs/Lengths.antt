@@ -1,0 +1,97 @@
+-- How long the text of a move is.
+use Rattle.std.proofs.Common.{◌≡◌, ℕ, ◌+◌, ◌≤◌, List, [], ◌∷◌, ◌++◌, length, Bool, true, false, not, cond, Option, Some, None, refl, sym, ap, ◌∙◌, subst, arith, length-append}
+use Rattle.chess_board.specs.declared.board.Kind.{Kind}
+use Rattle.chess_board.specs.declared.board.Kind.TheVariants.{Pawn, Knight, Bishop, Rook, Queen, King}
+use Rattle.chess_board.specs.declared.board.Move.{Move}
+use Rattle.chess_board.specs.Attack.{is_checked}
+use Rattle.chess_board.specs.Board.{is_pawn_kind}
+use Rattle.chess_board.specs.Laws.{IsLegal, Promotes}
+use Rattle.chess_board.specs.Place.{has_any_way}
+use Rattle.chess_board.specs.Position.{Position}
+use Rattle.san_text.specs.declared.men.Within.TheVariants.{Board, File, Rank}
+use Rattle.san_text.specs.Writing.{kind_at, castles_short, castles_long, is_capture, has_rival, file_letter, rank_digit, letter, origin, promotion, target, taking, body, after, sign, san, AreShort}
+use Rattle.san_text.proofs.Alone.{kind_of_move}
+
+sign_by : (checked moves : Bool) → length {A = ℕ} (cond checked (cond moves (43 ∷ []) (35 ∷ [])) []) ≤ 1
+sign_by true true = omega arith
+sign_by true false = omega arith
+sign_by false moves = omega arith
+
+sign_short : (p : Position) → length (sign p) ≤ 1
+sign_short p = sign_by (is_checked p.men p.side) (has_any_way p)
+
+letter_short : (k : Kind) → length (letter k) ≤ 1
+letter_short Pawn = omega arith
+letter_short Knight = omega arith
+letter_short Bishop = omega arith
+letter_short Rook = omega arith
+letter_short Queen = omega arith
+letter_short King = omega arith
+
+promotion_short : (promo : Option Kind) → length (promotion promo) ≤ 2
+promotion_short None = omega arith
+promotion_short (Some k) = omega (arith, letter_short k)
+
+takes_short : (takes : Bool) → length {A = ℕ} (cond takes (120 ∷ []) []) ≤ 1
+takes_short true = omega arith
+takes_short false = omega arith
+
+distinct_short : (b f r : Bool) (file rank : ℕ) → length (cond (not b) [] (cond (not f) (file ∷ []) (cond (not r) (rank ∷ []) (file ∷ rank ∷ [])))) ≤ 2
+distinct_short false f r file rank = omega arith
+distinct_short true false r file rank = omega arith
+distinct_short true true false file rank = omega arith
+distinct_short true true true file rank = omega arith
+
+file_short : (takes : Bool) (file : ℕ) → length (cond takes (file ∷ []) []) ≤ 1
+file_short true file = omega arith
+file_short false file = omega arith
+
+-- only a pawn becomes another man
+promo_none : (k : Kind) (p : Position) (to : ℕ) (promo : Option Kind) → is_pawn_kind k ≡ false → Promotes p.side k to promo → promo ≡ None
+promo_none Pawn p to promo e h = absurd (cc)
+promo_none Knight p to promo e h = h
+promo_none Bishop p to promo e h = h
+promo_none Rook p to promo e h = h
+promo_none Queen p to promo e h = h
+promo_none King p to promo e h = h
+
+pawn_letter : (k : Kind) → is_pawn_kind k ≡ true → length (letter k) ≡ 0
+pawn_letter Pawn e = refl
+pawn_letter Knight e = absurd (cc)
+pawn_letter Bishop e = absurd (cc)
+pawn_letter Rook e = absurd (cc)
+pawn_letter Queen e = absurd (cc)
+pawn_letter King e = absurd (cc)
+
+-- the promotion of a legal move
+promo_by : (p : Position) (m : Move) → IsLegal p m.from.index m.to.index m.promo → is_pawn_kind (kind_at p m.from.index) ≡ false → m.promo ≡ None
+promo_by p m h e = promo_none (kind_at p m.from.index) p m.to.index m.promo e (subst (λ (k : Kind). Promotes p.side k m.to.index m.promo) (sym (kind_of_move p m.from.index m.to.index m.promo h)) h.promoted)
+
+man_by : (p : Position) (m : Move) (pawn : Bool) → is_pawn_kind (kind_at p m.from.index) ≡ pawn → IsLegal p m.from.index m.to.index m.promo
+    → length (letter (kind_at p m.from.index)) + (length (cond pawn (cond (is_capture p m) (file_letter m.from.index ∷ []) []) (cond (not (has_rival p m Board)) [] (cond (not (has_rival p m File)) (file_letter m.from.index ∷ []) (cond (not (has_rival p m Rank)) (rank_digit m.from.index ∷ []) (file_letter m.from.index ∷ rank_digit m.from.index ∷ []))))) + (length (taking p m) + length (target m))) ≤ 6
+man_by p m true e h = omega (arith, pawn_letter (kind_at p m.from.index) e, file_short (is_capture p m) (file_letter m.from.index), takes_short (is_capture p m), promotion_short m.promo)
+man_by p m false e h =
+    let none = ap (λ (o : Option Kind). length (promotion o)) (promo_by p m h e) in
+    omega (
+      arith,
+      none,
+      letter_short (kind_at p m.from.index),
+      distinct_short (has_rival p m Board) (has_rival p m File) (has_rival p m Rank) (file_letter m.from.index) (rank_digit m.from.index),
+      takes_short (is_capture p m),
+    )
+
+body_by : (p : Position) (m : Move) (short long : Bool) → IsLegal p m.from.index m.to.index m.promo
+    → length (cond short (79 ∷ 45 ∷ 79 ∷ []) (cond long (79 ∷ 45 ∷ 79 ∷ 45 ∷ 79 ∷ []) (letter (kind_at p m.from.index) ++ (origin p m ++ (taking p m ++ target m))))) ≤ 6
+body_by p m true long h = omega arith
+body_by p m false true h = omega arith
+body_by p m false false h = omega (
+  arith,
+  man_by p m (is_pawn_kind (kind_at p m.from.index)) refl h,
+  length-append (letter (kind_at p m.from.index)) (origin p m ++ (taking p m ++ target m)),
+  length-append (origin p m) (taking p m ++ target m),
+  length-append (taking p m) (target m),
+)
+
+pub short : AreShort
+unfolding san
+short p m h = omega (arith, body_by p m (castles_short p m) (castles_long p m) h, sign_short (after p m), length-append (body p m) (sign (after p m)))

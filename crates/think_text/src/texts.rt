@@ -1,0 +1,55 @@
+// Moves as texts.
+ghost use Rattle.std.specs.Prelude.{◌≡◌, true};
+ghost use Rattle.std.specs.Option.{option_map};
+ghost use Rattle.chess_board.specs.Place.{legal};
+ghost use Rattle.chess_board.specs.Text.{text_of};
+ghost use Rattle.cecp_lines.specs.Replies.{IsWritable};
+ghost use Rattle.think_text.specs.Line.{IsPlayable, hint_text, written};
+
+use crate::Pondered;
+use arrayvec::ArrayVec;
+use cecp_lines::Spelling;
+use chess_board::{Move, Position, write_move};
+use san_text::write_san;
+
+/// A move by its squares.
+fn squares_of(m: Move) -> ArrayVec<u8, 7>
+    requires { IsWritable m }
+    ensures { result.items ≡ text_of m }
+{
+    let mut text = ArrayVec::new();
+    let _ = text.try_extend_from_slice(write_move(m).as_slice());
+    text
+}
+
+/// A move of a position.
+pub(crate) fn written(spelling: Spelling, at: &Position, m: Move) -> ArrayVec<u8, 7>
+    requires { legal at.now m ≡ true }
+    ensures { result.items ≡ written spelling at.now m }
+{
+    match spelling {
+        Spelling::Coordinates => squares_of(m),
+        Spelling::San => write_san(at, m),
+    }
+}
+
+/// A hint, in the position before it.
+pub(crate) fn hint_text(spelling: Spelling, hint: Option<Pondered>) -> Option<ArrayVec<u8, 7>>
+    requires { IsPlayable hint }
+    ensures { option_map (λ text. text.items) result ≡ hint_text spelling hint }
+{
+    match hint {
+        Some(hint) => Some(written(spelling, &hint.before, hint.hint)),
+        None => None,
+    }
+}
+
+/// The bytes of a text, if there is one.
+pub(crate) fn bytes_of(text: &Option<ArrayVec<u8, 7>>) -> Option<&[u8]>
+    ensures { option_map (λ bytes. bytes.now) result ≡ option_map (λ text. text.items) text.now }
+{
+    match text {
+        Some(text) => Some(text.as_slice()),
+        None => None,
+    }
+}
