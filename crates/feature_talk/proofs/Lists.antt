@@ -5,7 +5,7 @@ use Rattle.std.proofs.lemmas.Grind.{flat_map-append}
 use Rattle.line_io.specs.Out.{Text, with}
 use Rattle.line_io.proofs.Puts.{put_again}
 use Rattle.cecp_lines.specs.Replies.{Feature}
-use Rattle.option_map.specs.Names.{is_hidden, holds}
+use Rattle.option_map.specs.Names.{holds}
 use Rattle.option_map.specs.Settings.{Setting, features, feature_line}
 use Rattle.option_map.specs.Shown.{takes_memory, takes_cores, takes_tables}
 use Rattle.option_map.proofs.Short.{features_length}
@@ -18,7 +18,7 @@ shown_step false o rest text h = ap (λ (t : List ℕ). (feature_line o ++ 10 �
 -- The options' lines are their replies.
 pub features_told : (os : List Setting) → features os ≡ reply_lines (map option_feature (shown_options os))
 features_told [] = refl
-features_told (o ∷ os) = shown_step (is_hidden o.name) o (shown_options os) (features os) (features_told os)
+features_told (o ∷ os) = shown_step o.hidden o (shown_options os) (features os) (features_told os)
 
 abbrev pub name_line : List ℕ → List ℕ
 name_line said = reply_line (Feature (codes "myname") (in_quotes (shown_name said)))

@@ -2,7 +2,7 @@
 use Rattle.std.specs.Prelude.{◌≡◌, ℕ, ◌+◌, ◌≤◌, List, [], ◌∷◌, ◌++◌, codes, length, map, filter, Bool, true, false, not, ◌||◌, if◌then◌else◌, nat_lt}
 use Rattle.std.specs.List.{flat_map}
 use Rattle.cecp_lines.specs.Replies.{Reply, Feature, reply_text}
-use Rattle.option_map.specs.Names.{holds, is_hidden}
+use Rattle.option_map.specs.Names.{holds}
 use Rattle.option_map.specs.Settings.{Setting, kind_text, text_size}
 use Rattle.option_map.specs.Shown.{takes_memory, takes_cores, takes_tables}
 use Rattle.feature_talk.specs.declared.features.TheConstants.{MOST_NAME, COMMON_BYTES}
@@ -48,7 +48,7 @@ option_feature o = Feature (codes "option") (in_quotes (o.name ++ kind_text o.ki
 
 -- the options that are not hidden
 abbrev pub shown_options : List Setting → List Setting
-shown_options os = filter (λ o. not (is_hidden o.name)) os
+shown_options os = filter (λ o. not o.hidden) os
 
 -- The whole list. The name is the one that the engine said, or nothing.
 abbrev pub feature_list : List Setting → List ℕ → List Reply

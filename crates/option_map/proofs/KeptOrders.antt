@@ -15,8 +15,7 @@ use Rattle.option_map.specs.declared.keeping.KeptOrder.TheVariants as kept
 use Rattle.uci_lines.specs.Orders.{Order, SetOption, order_text}
 use Rattle.option_map.specs.Data.{value_seen, order_size, setup_seen}
 use Rattle.option_map.specs.Stored.{text_at}
-use Rattle.option_map.specs.declared.held.TheConstants.{MOST_ORDERS, MOST_BYTES}
-use Rattle.option_map.specs.Held.{are_for_same, staying_beside, with_order, order_line, batch_text, can_join}
+use Rattle.option_map.specs.Held.{are_for_same, staying_beside, with_order, batch_text, can_join}
 use Rattle.option_map.specs.KeptOrders.{value_in, order_in, orders_in, IsValueIn, IsOrderIn, AreIn, value_bytes, setup_bytes}
 use Rattle.option_map.proofs.Kept.{text_stays}
 use Rattle.option_map.proofs.Short.{order_length, button_length}

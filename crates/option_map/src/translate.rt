@@ -15,7 +15,7 @@ ghost use Rattle.option_map.specs.Asked.{switch, number_within, text_or_empty, v
 
 use crate::choices::{next_choice, unstarred};
 use crate::fault::OptFault;
-use crate::names::{is_hidden, same_text};
+use crate::names::same_text;
 use crate::options::Options;
 use crate::order::{Asked, Value};
 use crate::setting::{Kind, Setting};
@@ -121,7 +121,7 @@ fn set_found<'a>(
     let Some(setting) = found else {
         return Err(OptFault::UnknownOption);
     };
-    if is_hidden(setting.name) {
+    if setting.hidden {
         return Err(OptFault::UnknownOption);
     }
     set_by(setting, value)
@@ -136,6 +136,7 @@ fn clamped(found: Option<Setting<'_>>, n: u32) -> Option<Asked<'_>>
             Setting {
                 name,
                 kind: Kind::Spin { min, max, .. },
+                ..
             },
         ) => Some(Asked {
             name,
@@ -154,6 +155,7 @@ fn path_for<'a>(found: Option<Setting<'a>>, path: &'a [u8]) -> Option<Asked<'a>>
             Setting {
                 name,
                 kind: Kind::Text(_),
+                ..
             },
         ) => Some(Asked {
             name,

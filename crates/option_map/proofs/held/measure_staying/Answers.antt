@@ -1,4 +1,4 @@
-use Rattle.std.proofs.Common.{◌≡◌, ◌∷◌, length, List, true, false, ap, sym, ◌∙◌, subst, arith}
+use Rattle.std.proofs.Common.{◌≡◌, length, List, true, false, ap, sym, ◌∙◌, subst, arith}
 use Rattle.uci_lines.specs.Orders.{Order, order_text}
 use Rattle.option_map.specs.declared.keeping.KeptOrder.{KeptOrder}
 use Rattle.option_map.specs.Data.{setup_seen}
