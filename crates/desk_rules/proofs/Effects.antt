@@ -33,7 +33,8 @@ use Rattle.search_epochs.specs.declared.words.EngineState.TheVariants as states
 use Rattle.desk_rules.specs.declared.effect.Refusal.{Refusal}
 use Rattle.desk_rules.specs.declared.effect.Refusal.TheVariants as refusals
 use Rattle.desk_rules.specs.Desk.{Situation, table, is_full, is_boot, is_getting, is_gone, current}
-use Rattle.desk_rules.specs.Lines.{verdict, judged, refusal, or_else, where_true, illegal_move, move_too_many, no_position, illegal_position, refused_option, needs_engine, lacks_moves, does_not_fit, asks, pings_too_often}
+use Rattle.desk_rules.specs.Early.{is_setting, may_wait}
+use Rattle.desk_rules.specs.Lines.{verdict, judged, is_early, deferred, refusal, or_else, where_true, illegal_move, move_too_many, no_position, illegal_position, refused_option, needs_engine, lacks_moves, does_not_fit, asks, pings_too_often}
 use Rattle.desk_rules.specs.Steps.{Effect, Nothing, LongLine, Names, Declares, Boots, Readies, Shows, Forfeits, Dies, classify, line_effect, engine_says, answers, shows, thinks}
 use Rattle.desk_rules.specs.Fits.{Fits, IsTellable, IsOther, IsCurrentMove, IsSaid, IsLineEvent}
 
@@ -89,7 +90,7 @@ option_tells (Err BadValue) = tt
 refusal_tells : (h : Situation) (held : List Order) (m : IfaceMsg) → IsWritten m → IfSome (refusal h held m) IsTellable
 unfolding refusal
 refusal_tells h held m w =
-    first_tells _ _ (reason_tells (needs_engine m && is_gone h.engine) reasons.EngineEnded)
+    first_tells _ _ (reason_tells (needs_engine h.settings m && is_gone h.engine) reasons.EngineEnded)
     (first_tells _ _ (reason_tells _ reasons.NotAnalyzing)
     (first_tells _ _ (reason_tells (lacks_moves h.desk.game m) reasons.NoMoveToUndo)
     (first_tells _ _ (move_tells h.desk.game m w)
@@ -109,12 +110,28 @@ judged_fits : (h : Situation) (held : List Order) (line : List ℕ) (m : IfaceMs
 judged_fits h held line m None c l reads e = record { line = line; is_line = l; reads = reads; is_open = c; passes = e }
 judged_fits h held line m (Some r) c l reads e = record { is_open = c; tellable = some_tells (refusal h held m) r e (refusal_tells h held m (written line m reads)); is_line = l }
 
+-- the middle of three
+third : (a b c : Bool) → (a && b && c) ≡ true → b ≡ true
+third true true c e = refl
+third true false c e = cc
+third false b c e = cc
+
+deferred_fits : (h : Situation) (held : List Order) (line : List ℕ) (b : Bool) → h.closed ≡ false → is_line line ≡ true → is_boot h.engine ≡ true → may_wait h.desk.early line ≡ b
+    → Fits h held (line_effect (deferred b) line)
+deferred_fits h held line true c l i e = record { is_open = c; in_boot = i; is_line = l; waits = e }
+deferred_fits h held line false c l i e = record { is_open = c; tellable = tt; is_line = l }
+
+early_fits : (h : Situation) (held : List Order) (line : List ℕ) (m : IfaceMsg) (b : Bool) → h.closed ≡ false → is_line line ≡ true → reading line ≡ Ok m → is_early h m ≡ b
+    → Fits h held (line_effect (cond b (deferred (may_wait h.desk.early line)) (judged m (refusal h held m))) line)
+early_fits h held line m true c l reads e = deferred_fits h held line (may_wait h.desk.early line) c l (third (is_setting m) (is_boot h.engine) h.settings.early_settings e) refl
+early_fits h held line m false c l reads e = judged_fits h held line m (refusal h held m) c l reads refl
+
 line_fits : (h : Situation) (held : List Order) (line : List ℕ) (r : Result IfaceMsg IfaceFault) → h.closed ≡ false → is_line line ≡ true → reading line ≡ r
-    → Fits h held (line_effect (verdict h held r) line)
+    → Fits h held (line_effect (verdict h held line r) line)
 unfolding verdict
 line_fits h held line (Err faults.UnknownCommand) c l e = record { is_open = c; tellable = tt; is_line = l }
 line_fits h held line (Err faults.BadArgument) c l e = record { is_open = c; tellable = tt; is_line = l }
-line_fits h held line (Ok m) c l e = judged_fits h held line m (refusal h held m) c l e refl
+line_fits h held line (Ok m) c l e = early_fits h held line m (is_early h m) c l e refl
 
 -- LINES OF THE ENGINE
 
@@ -168,7 +185,7 @@ dies_fits h held false e = e
 pub comes_fits : (h : Situation) (held : List Order) (e : Event) → IsLineEvent e → Fits h held (classify h held e)
 unfolding classify
 comes_fits h held (events.Iface line) l =
-    unless_closed h held h.closed (line_effect (verdict h held (reading line)) line) refl (λ c. line_fits h held line (reading line) c l refl)
+    unless_closed h held h.closed (line_effect (verdict h held line (reading line)) line) refl (λ c. line_fits h held line (reading line) c l refl)
 comes_fits h held events.IfaceLong l = unless_closed h held h.closed LongLine refl (λ c. tt)
 comes_fits h held (events.Engine line) l =
     unless_closed h held h.closed (engine_says h (engine_message line)) refl (λ c. says_fits h held line (engine_message line) c l refl)

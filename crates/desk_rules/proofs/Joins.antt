@@ -1,21 +1,24 @@
 -- What is asked for fits beside what is held.
-use Rattle.std.proofs.Common.{◌≡◌, ℕ, ◌+◌, ◌*◌, ◌≤◌, List, [], ◌∷◌, ◌++◌, length, Bool, true, false, not, cond, ◌&&◌, nat_le, filter, Option, Some, None, refl, sym, ap, subst, arith, length-append, inl, inr}
+use Rattle.std.proofs.Common.{◌≡◌, ℕ, ◌+◌, ◌*◌, ◌<◌, ◌≤◌, List, [], ◌∷◌, ◌++◌, length, Bool, true, false, not, cond, ◌&&◌, nat_le, filter, Option, Some, None, refl, sym, ap, subst, arith, length-append, inl, inr}
 use Rattle.std.specs.Prelude.{IfSome, codes}
 use Rattle.std.specs.Option.{option_map, option_to_list}
 use Rattle.std.proofs.lemmas.Bool.Decides.{nat_tests}
 use Rattle.uci_lines.specs.Orders.{Order, NewGame, order_text}
 use Rattle.option_map.specs.Settings.{Setting}
 use Rattle.option_map.specs.Shown.{check_named}
-use Rattle.option_map.specs.Held.{are_for_same, staying_beside, with_order, batch_text, can_join}
+use Rattle.option_map.specs.Held.{are_for_same, staying_beside, with_order, with_orders, batch_text, can_join}
 use Rattle.option_map.specs.Spelled.{AreDeclared, IsSpelled}
 use Rattle.option_map.proofs.KeptOrders.{batch_first, batch_last}
 use Rattle.option_map.proofs.Asking.{switches_spelled}
 use Rattle.desk_rules.specs.declared.desk.Desk.{Desk}
 use Rattle.desk_rules.specs.Desk.{Situation, analyses, is_gone, ponder_name, analyse_name}
-use Rattle.desk_rules.specs.Lines.{switches, tells, asks, does_not_fit}
+use Rattle.desk_rules.specs.Early.{fed}
+use Rattle.desk_rules.specs.Lines.{switches, tells, asks, asked_by, does_not_fit, early_answer}
 use Rattle.desk_rules.specs.Steps.{Effect, Accepts, Boots}
-use Rattle.desk_rules.specs.Orders.{ponder_at_boot, analysis_at_boot, asked_by_effect, AllJoin}
+use Rattle.desk_rules.specs.Orders.{ponder_at_boot, analysis_at_boot, early_orders, asked_at_boot, asked_by_effect, AllJoin}
 use Rattle.desk_rules.specs.Fits.{Fits, IsSound, IsFirst, CanHold, AreFew}
+use Rattle.desk_rules.proofs.EarlyLines.{fed_first}
+use Rattle.desk_rules.proofs.EarlyOrders.{IsShortFor, early_short}
 use Rattle.desk_rules.proofs.Passes.{passes}
 
 -- an order that may be written, with its line of bounded length
@@ -51,33 +54,88 @@ fewer : (p : Order → Bool) (os : List Order) → (length (filter p os) ≤ len
 fewer p [] = (omega arith, omega arith)
 fewer p (o ∷ os) = let f = fewer p os in fewer_step (p o) o (filter p os) os f.0 f.1
 
-joined_few : (n : ℕ) (held : List Order) (order : Order) → AreFew n held → length (order_text order) ≤ 200 → AreFew (n + 1) (with_order held order)
-joined_few n held order f l =
+joined_few : (n b : ℕ) (held : List Order) (order : Order) → AreFew n b held → AreFew (n + 1) (b + (length (order_text order) + 1)) (with_order held order)
+joined_few n b held order f =
     let less = fewer (λ o. not (are_for_same order o)) held in (
       omega (arith, f.0, less.0, length-append (staying_beside order held) (order ∷ [])),
-      omega (arith, f.1, less.1, l, batch_last (staying_beside order held) order),
+      omega (arith, f.1, less.1, batch_last (staying_beside order held) order),
     )
+
+wider_few : (n b n' b' : ℕ) (held : List Order) → n ≤ n' → b ≤ b' → AreFew n b held → AreFew n' b' held
+wider_few n b n' b' held l m f = (omega (arith, f.0, l), omega (arith, f.1, m))
 
 within : (a b : ℕ) → a ≤ 256 → b ≤ 65536 → (nat_le a 256 && nat_le b 65536) ≡ true
 within a b h k = grind (arith, nat_tests)
 
-few_join : (n : ℕ) (held : List Order) (order : Order) → n ≤ 2 → AreFew n held → length (order_text order) ≤ 200 → can_join held order ≡ true
-few_join n held order m f l =
-    let j = joined_few n held order f l in
-    within (length (with_order held order)) (length (batch_text (with_order held order))) (omega (arith, j.0)) (omega (arith, j.1))
+few_join : (n b : ℕ) (held : List Order) (order : Order) → n < 256 → b + (length (order_text order) + 1) ≤ 65536 → AreFew n b held → can_join held order ≡ true
+few_join n b held order m l f =
+    let j = joined_few n b held order f in
+    within (length (with_order held order)) (length (batch_text (with_order held order))) (omega (arith, j.0, m)) (omega (arith, j.1, l))
 
-one_joins : (n : ℕ) (held : List Order) (o : Option Order) → n ≤ 2 → AreFew n held → IfSpelled 200 o → AllJoin held (option_to_list o)
-one_joins n held None m f s = tt
-one_joins n held (Some order) m f s = (few_join n held order m f s.short, tt)
+-- the orders join, and so few are held then
+record Join (n b : ℕ) (held asked : List Order) : Type 0 where
+  join : AllJoin held asked
+  few : AreFew n b (with_orders held asked)
 
-two_join : (held : List Order) (a b : Option Order) → AreFew 1 held → IfSpelled 200 a → IfSpelled 200 b → AllJoin held (option_to_list a ++ option_to_list b)
-two_join held None b f s t = one_joins 1 held b (omega arith) f t
-two_join held (Some order) b f s t = (few_join 1 held order (omega arith) f s.short, one_joins 2 (with_order held order) b (omega arith) (joined_few 1 held order f s.short) t)
+one_joins : (n b : ℕ) (held : List Order) (o : Option Order) → n < 256 → b + 201 ≤ 65536 → AreFew n b held → IfSpelled 200 o → Join (n + 1) (b + 201) held (option_to_list o)
+one_joins n b held None m l f s = record { join = tt; few = wider_few n b (n + 1) (b + 201) held (omega arith) (omega arith) f }
+one_joins n b held (Some order) m l f s = record {
+  join = (few_join n b held order m (omega (arith, s.short, l)) f, tt);
+  few = wider_few (n + 1) (b + (length (order_text order) + 1)) (n + 1) (b + 201) (with_order held order) (omega arith) (omega (arith, s.short)) (joined_few n b held order f);
+}
 
-first_few : (held : List Order) → IsFirst held → AreFew 1 held
+-- orders that join one after the other
+pub orders_append : (held xs ys : List Order) → with_orders held (xs ++ ys) ≡ with_orders (with_orders held xs) ys
+orders_append held [] ys = refl
+orders_append held (x ∷ xs) ys = orders_append (with_order held x) xs ys
+
+both_join : (held xs ys : List Order) → AllJoin held xs → AllJoin (with_orders held xs) ys → AllJoin held (xs ++ ys)
+both_join held [] ys a b = b
+both_join held (x ∷ xs) ys a b = (a.0, both_join (with_order held x) xs ys a.1 b)
+
+pub parts_join : (held xs ys : List Order) → AllJoin held (xs ++ ys) → AllJoin held xs × AllJoin (with_orders held xs) ys
+parts_join held [] ys a = (tt, a)
+parts_join held (x ∷ xs) ys a = let p = parts_join (with_order held x) xs ys a.1 in ((a.0, p.0), p.1)
+
+-- the orders of early lines join
+early_join : (os : List Setting) (lines : List (List ℕ)) (n b : ℕ) (held : List Order) → AreDeclared os → n + length lines ≤ 255 → b + (length (fed lines) + 64 * length lines) ≤ 65000 → AreFew n b held
+    → Join (n + length lines) (b + (length (fed lines) + 64 * length lines)) held (early_orders os lines)
+early_join os [] n b held d m l f = record { join = tt; few = wider_few n b (n + 0) (b + (0 + 64 * 0)) held (omega arith) (omega arith) f }
+early_join os (line ∷ lines) n b held d m l f = by_order (asked_by (early_answer os line)) (early_short os line d) (λ k c later m' l' f'. early_join os lines k c later d m' l' f') where
+  by_order : (o : Option Order) → IfSome o (IsShortFor line)
+      → ((k c : ℕ) (later : List Order) → k + length lines ≤ 255 → c + (length (fed lines) + 64 * length lines) ≤ 65000 → AreFew k c later
+      → Join (k + length lines) (c + (length (fed lines) + 64 * length lines)) later (early_orders os lines))
+      → Join (n + length (line ∷ lines)) (b + (length (fed (line ∷ lines)) + 64 * length (line ∷ lines))) held (option_to_list o ++ early_orders os lines)
+  by_order None s joins =
+      let j = joins n b held (omega (arith, m)) (omega (arith, l, fed_first line lines)) f in
+      record {
+        join = j.join;
+        few = wider_few (n + length lines) (b + (length (fed lines) + 64 * length lines)) _ _ (with_orders held (early_orders os lines)) (omega arith) (omega (arith, fed_first line lines)) j.few;
+      }
+  by_order (Some order) s joins =
+      let c = b + (length (order_text order) + 1) in
+      let j = joins (n + 1) c (with_order held order) (omega (arith, m)) (omega (arith, l, s, fed_first line lines)) (joined_few n b held order f) in
+      record {
+        join = (few_join n b held order (omega (arith, m)) (omega (arith, l, s, fed_first line lines)) f, j.join);
+        few = wider_few (n + 1 + length lines) (c + (length (fed lines) + 64 * length lines)) _ _ (with_orders held (order ∷ early_orders os lines)) (omega arith) (omega (arith, s, fed_first line lines)) j.few;
+      }
+
+-- what is asked for when Boot is left joins
+boot_join : (d : Desk) (held : List Order) → IsSound d → AreFew 1 300 held → AllJoin held (asked_at_boot d)
+boot_join d held s f =
+    let early = early_join d.options d.early 1 300 held s.options (omega (arith, s.early.few)) (omega (arith, s.early.few, s.early.short)) f in
+    let few = wider_few (1 + length d.early) (300 + (length (fed d.early) + 64 * length d.early)) 251 50000 (with_orders held (early_orders d.options d.early)) (omega (arith, s.early.few)) (omega (arith, s.early.few, s.early.short)) early.few in
+    let one = one_joins 251 50000 (with_orders held (early_orders d.options d.early)) (ponder_at_boot d) (omega arith) (omega arith) few (ponder_spelled d s.options) in
+    let front = early_orders d.options d.early ++ option_to_list (ponder_at_boot d) in
+    let few' : AreFew 252 50201 (with_orders held front) =
+    subst (AreFew 252 50201) (sym (orders_append held (early_orders d.options d.early) (option_to_list (ponder_at_boot d)))) one.few in
+    both_join held front (option_to_list (analysis_at_boot d)) (both_join held (early_orders d.options d.early) (option_to_list (ponder_at_boot d)) early.join one.join)
+    (one_joins 252 50201 (with_orders held front) (analysis_at_boot d) (omega arith) (omega arith) few' (analysis_spelled d s.options)).join
+
+first_few : (held : List Order) → IsFirst held → AreFew 1 300 held
 unfolding order_text
-first_few held (inl e) = subst (AreFew 1) (sym e) (omega arith, omega arith)
-first_few held (inr e) = subst (AreFew 1) (sym e) (omega arith, omega arith)
+first_few held (inl e) = subst (AreFew 1 300) (sym e) (omega arith, omega arith)
+first_few held (inr e) = subst (AreFew 1 300) (sym e) (omega arith, omega arith)
 
 fits_joins : (held : List Order) (o : Option Order) → does_not_fit held o ≡ false → AllJoin held (option_to_list o)
 fits_joins held None e = tt
@@ -90,5 +148,5 @@ fits_joins held (Some order) e = (not_false (can_join held order) e, tt) where
 pub asked_join : (h : Situation) (held : List Order) (d : Effect) → IsSound h.desk → Fits h held d → CanHold held d → AllJoin held (asked_by_effect h d)
 unfolding asked_by_effect
 asked_join h held (Accepts m) s f c = fits_joins held (asks (is_gone h.engine) h.desk m) (passes h held m f.passes).fits
-asked_join h held Boots s f c = two_join held (ponder_at_boot h.desk) (analysis_at_boot h.desk) (first_few held c) (ponder_spelled h.desk s.options) (analysis_spelled h.desk s.options)
+asked_join h held Boots s f c = boot_join h.desk held s (first_few held c)
 asked_join h held d s f c = tt

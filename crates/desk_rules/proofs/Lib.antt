@@ -1,5 +1,8 @@
 pub mod Effects
 pub mod Passes
+pub mod Ponders
+pub mod EarlyLines
+pub mod EarlyOrders
 pub mod Joins
 pub mod Waits
 pub mod Hints
@@ -13,3 +16,4 @@ pub mod Serves
 pub mod Sound
 pub mod Quiet
 pub mod Firsts
+pub mod EarlyRooms

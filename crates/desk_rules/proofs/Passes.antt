@@ -76,7 +76,7 @@ pub passes : (h : Situation) (held : List Order) (m : IfaceMsg) → refusal h he
 unfolding refusal
 passes h held m e =
     let unfit = does_not_fit held (asks (is_gone h.engine) h.desk m) in
-    let n = all_none (where_true (needs_engine m && is_gone h.engine) reasons.EngineEnded) (where_true (needs_analysis m && not (analyses h.desk.mode)) reasons.NotAnalyzing)
+    let n = all_none (where_true (needs_engine h.settings m && is_gone h.engine) reasons.EngineEnded) (where_true (needs_analysis m && not (analyses h.desk.mode)) reasons.NotAnalyzing)
     (where_true (lacks_moves h.desk.game m) reasons.NoMoveToUndo) (illegal_move h.desk.game m) (move_too_many h.desk.game m)
     (illegal_position m) (refused_option (asked (table h.desk) m)) (where_true unfit reasons.TooManySettings) (where_true (pings_too_often h m) reasons.TooManyPings) e in
     record {

@@ -6,13 +6,16 @@ use Rattle.std.proofs.lemmas.Fmt.{length-decimal-le}
 use Rattle.std.proofs.lemmas.Bool.Decides.{nat_tests}
 use Rattle.line_io.specs.Event.{is_line, has_feed}
 use Rattle.line_io.specs.Out.{Text, with}
-use Rattle.chess_board.specs.declared.board.Move.{Move}
 use Rattle.chess_board.specs.Position.{Position}
+use Rattle.cecp_lines.specs.declared.reply.Spelling.{Spelling}
+use Rattle.cecp_lines.specs.declared.reply.Spelling.TheVariants.{Coordinates, San}
 use Rattle.cecp_lines.specs.Replies.{Reply, Pong, Fits, borrowed, reply_text}
 use Rattle.cecp_lines.proofs.Lengths.{told_short}
 use Rattle.uci_lines.specs.Info.{Info as AnyInfo}
 use Rattle.uci_lines.specs.Messages.{Info}
-use Rattle.think_text.specs.Line.{thinking_line, with_line, HasRoom}
+use Rattle.think_text.specs.declared.line.Pondered.{Pondered}
+use Rattle.think_text.specs.Line.{thinking_line, with_line, HasRoom, IsPlayable}
+use Rattle.think_text.specs.Short.{most_bytes}
 use Rattle.option_map.specs.Settings.{Setting, text_size}
 use Rattle.feature_talk.specs.Features.{feature_list, reply_line, reply_lines}
 use Rattle.feature_talk.proofs.Lists.{short_list}
@@ -69,23 +72,28 @@ line_le line h = first (length line) (not (has_feed line)) h where
   first n true h = grind (arith, nat_tests)
   first n false h = grind (arith, nat_tests)
 
-thought_le : (o : Option Reply) → ((t : Reply) → o ≡ Some t → length (reply_text t) ≤ 128 + 65536) → length (reply_lines (option_to_list o)) ≤ 65700
+thought_le : (o : Option Reply) → ((t : Reply) → o ≡ Some t → length (reply_text t) ≤ 128 + 104857) → length (reply_lines (option_to_list o)) ≤ 105021
 thought_le None h = omega arith
 thought_le (Some t) h = omega (arith, h t refl, ap length (lines-one t), length-append (reply_text t) (10 ∷ []))
 
 -- the room for a thinking line
-pub thought_room : (out : Text) (o : Option Reply) → length (reply_lines (option_to_list o)) ≤ 65700 → length out.text + 65700 ≤ out.room → HasRoom out o
+pub thought_room : (out : Text) (o : Option Reply) → length (reply_lines (option_to_list o)) ≤ 105021 → length out.text + 105021 ≤ out.room → HasRoom out o
 thought_room out None h r = tt
 thought_room out (Some t) h r = omega (arith, h, r, ap length (lines-one t), length-append (reply_text t) (10 ∷ []))
 
 -- and for its line feed
-pub feed_room : (old new : Text) (o : Option Reply) → new ≡ with_line old o → is_some o ≡ true → length (reply_lines (option_to_list o)) ≤ 65700 → length old.text + 65700 ≤ old.room → length new.text + 1 ≤ new.room
+pub feed_room : (old new : Text) (o : Option Reply) → new ≡ with_line old o → is_some o ≡ true → length (reply_lines (option_to_list o)) ≤ 105021 → length old.text + 105021 ≤ old.room → length new.text + 1 ≤ new.room
 feed_room old new None e s h r = absurd (cc)
 feed_room old new (Some t) e s h r =
     omega (arith, h, r, ap (λ (x : Text). length x.text) e, ap (λ (x : Text). x.room) e, length-append old.text (reply_text t), ap length (lines-one t), length-append (reply_text t) (10 ∷ []))
 
-pub thinking_le : (facts : AnyInfo) (p : Position) (hint : Option Move) → IsSaid (Info facts) → length (reply_lines (option_to_list (thinking_line facts p hint))) ≤ 65700
-thinking_le facts p hint s = thought_le (thinking_line facts p hint) (λ t e. let l = line_le s.line s.is_line in omega (arith, lines_short s.line facts p hint t s.says e))
+pub most_le : (s : Spelling) (n : ℕ) → n ≤ 65536 → most_bytes s n ≤ 128 + 104857
+most_le Coordinates n h = omega (arith, h)
+most_le San n h = omega (arith, h)
+
+pub thinking_le : (s : Spelling) (facts : AnyInfo) (p : Position) (hint : Option Pondered) → IsPlayable hint → IsSaid (Info facts) → length (reply_lines (option_to_list (thinking_line s facts p hint))) ≤ 105021
+thinking_le s facts p hint i said =
+    thought_le (thinking_line s facts p hint) (λ t e. let l = most_le s (length said.line) (line_le said.line said.is_line) in omega (arith, l, lines_short s said.line facts p hint t i said.says e))
 
 -- PONGS
 

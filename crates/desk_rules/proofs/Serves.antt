@@ -22,7 +22,7 @@ use Rattle.desk_rules.specs.declared.mode.Mode.TheVariants as modes
 use Rattle.desk_rules.specs.declared.desk.Desk.{Desk}
 use Rattle.desk_rules.specs.Desk.{Situation, call_of, call_in, call_while_waiting, call_for_hint, call_before, current, is_gone, is_boot, is_getting, is_full, table, ponder_name, has_ended, on_move, played, owes_move, owed_at}
 use Rattle.desk_rules.specs.Lines.{asks, change, is_epoch_line}
-use Rattle.desk_rules.specs.Steps.{Effect, Accepts, Names, Declares, Boots, Readies, Thinks, Shows, Forfeits, Answers, Dies, desk_after_effect, begins_epoch, call_after}
+use Rattle.desk_rules.specs.Steps.{Effect, Accepts, Defers, Names, Declares, Boots, Readies, Thinks, Shows, Forfeits, Answers, Dies, desk_after_effect, begins_epoch, call_after}
 use Rattle.desk_rules.specs.Fits.{Fits}
 
 -- an effect that leaves an open search open
@@ -138,6 +138,7 @@ as_gone k c g d s = subst (λ (b : Bool). Serves k (call_of c b d)) (sym (or-fal
 pub still_serves : (h : Situation) (held : List Order) (d : Effect) (k : GoKind) → Fits h held d → IsNoAnswer d → begins_epoch h d ≡ false → current h.engine ≡ Some k → Serves k (call_before h) → Serves k (call_after h.closed h d)
 unfolding desk_after_effect
 still_serves h held (Accepts m) k f n r c s = as_gone k h.closed (is_gone h.engine) (change (is_boot h.engine) h.desk m) (line_serves h m k r s)
+still_serves h held (Defers line) k f n r c s = absurd (not_boot h.engine k c f.in_boot)
 still_serves h held (Names x) k f n r c s = absurd (not_boot h.engine k c f.1)
 still_serves h held (Declares x y) k f n r c s = absurd (not_boot h.engine k c f.1)
 still_serves h held Boots k f n r c s = absurd (not_boot h.engine k c f.1)

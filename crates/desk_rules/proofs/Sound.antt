@@ -24,8 +24,9 @@ use Rattle.option_map.proofs.Usable.{stay_declared}
 use Rattle.desk_rules.specs.declared.desk.Desk.{Desk}
 use Rattle.desk_rules.specs.Desk.{Situation, is_boot, played}
 use Rattle.desk_rules.specs.Lines.{change, at_position}
-use Rattle.desk_rules.specs.Steps.{Effect, Accepts, Declares, Thinks, Shows, hint_after, searched_by, desk_after_effect, desk_after, clears_seen, begins_epoch}
+use Rattle.desk_rules.specs.Steps.{Effect, Accepts, Defers, Declares, Boots, Dies, Thinks, Shows, hint_after, searched_by, desk_after_effect, desk_after, clears_seen, begins_epoch}
 use Rattle.desk_rules.specs.Fits.{Fits, IsSound}
+use Rattle.desk_rules.proofs.EarlyLines.{early_more, none_early, early_left}
 
 -- a hint that counts can be played
 hint_counts : (g : Game) (m : Move) (b : Bool) → legal (now_of g) m ≡ b → IfSome (cond b (Some m) None) (λ m. IsPlayable (now_of g) (ply_of m))
@@ -40,34 +41,38 @@ new_short : (c : Clocks) → AreShort c → AreShort (after_new c)
 new_short c s = record { control = s.control; moves = s.moves; base = s.base; increment = s.increment; depth = tt; engine = s.base; opponent = s.base }
 
 position_sound : (d : Desk) (r : Result Position FenFault) → IsSound d → IsSound (at_position d r)
-position_sound d (Ok p) s = record { hint = tt; clocks = s.clocks; current = s.current; options = s.options }
+position_sound d (Ok p) s = record { hint = tt; clocks = s.clocks; current = s.current; options = s.options; early = s.early }
 position_sound d (Err fault) s = s
 
 change_sound : (boot : Bool) (d : Desk) (m : IfaceMsg) → CanBeRead m → IsSound d → IsSound (change boot d m)
 unfolding change
-change_sound boot d says.New r s = record { hint = tt; clocks = new_short d.clocks s.clocks; current = s.current; options = s.options }
-change_sound boot d (says.UserMove m) r s = record { hint = tt; clocks = s.clocks; current = s.current; options = s.options }
-change_sound boot d says.Undo r s = record { hint = tt; clocks = s.clocks; current = s.current; options = s.options }
-change_sound boot d says.Remove r s = record { hint = tt; clocks = s.clocks; current = s.current; options = s.options }
+change_sound boot d says.New r s = record { hint = tt; clocks = new_short d.clocks s.clocks; current = s.current; options = s.options; early = s.early }
+change_sound boot d (says.UserMove m) r s = record { hint = tt; clocks = s.clocks; current = s.current; options = s.options; early = s.early }
+change_sound boot d says.Undo r s = record { hint = tt; clocks = s.clocks; current = s.current; options = s.options; early = s.early }
+change_sound boot d says.Remove r s = record { hint = tt; clocks = s.clocks; current = s.current; options = s.options; early = s.early }
 change_sound boot d (says.SetBoard text) r s = position_sound d (position_of text) s
 change_sound boot d (says.Level mps base_ms inc_ms) r s =
-    record { hint = s.hint; clocks = stay_short d.clocks (says.Level mps base_ms inc_ms) s.clocks r; current = s.current; options = s.options }
-change_sound boot d (says.St ms) r s = record { hint = s.hint; clocks = stay_short d.clocks (says.St ms) s.clocks r; current = s.current; options = s.options }
-change_sound boot d (says.Sd n) r s = record { hint = s.hint; clocks = stay_short d.clocks (says.Sd n) s.clocks r; current = s.current; options = s.options }
-change_sound boot d (says.Time n) r s = record { hint = s.hint; clocks = stay_short d.clocks (says.Time n) s.clocks r; current = s.current; options = s.options }
-change_sound boot d (says.Otim n) r s = record { hint = s.hint; clocks = stay_short d.clocks (says.Otim n) s.clocks r; current = s.current; options = s.options }
-change_sound boot d m r s = record { hint = s.hint; clocks = s.clocks; current = s.current; options = s.options }
+    record { hint = s.hint; clocks = stay_short d.clocks (says.Level mps base_ms inc_ms) s.clocks r; current = s.current; options = s.options; early = s.early }
+change_sound boot d (says.St ms) r s = record { hint = s.hint; clocks = stay_short d.clocks (says.St ms) s.clocks r; current = s.current; options = s.options; early = s.early }
+change_sound boot d (says.Sd n) r s = record { hint = s.hint; clocks = stay_short d.clocks (says.Sd n) s.clocks r; current = s.current; options = s.options; early = s.early }
+change_sound boot d (says.Time n) r s = record { hint = s.hint; clocks = stay_short d.clocks (says.Time n) s.clocks r; current = s.current; options = s.options; early = s.early }
+change_sound boot d (says.Otim n) r s = record { hint = s.hint; clocks = stay_short d.clocks (says.Otim n) s.clocks r; current = s.current; options = s.options; early = s.early }
+change_sound boot d m r s = record { hint = s.hint; clocks = s.clocks; current = s.current; options = s.options; early = s.early }
 
 -- after an effect
 pub stays_sound : (h : Situation) (held : List Order) (d : Effect) → IsSound h.desk → Fits h held d → IsSound (desk_after_effect h d)
 unfolding desk_after_effect
 stays_sound h held (Accepts m) s f = change_sound (is_boot h.engine) h.desk m (f.line, reading_spells f.line m f.reads) s
+stays_sound h held (Defers line) s f =
+    record { hint = s.hint; clocks = s.clocks; current = s.current; options = s.options; early = early_more h.desk.early line s.early f.is_line f.waits }
+stays_sound h held Boots s f = record { hint = s.hint; clocks = s.clocks; current = s.current; options = s.options; early = none_early }
+stays_sound h held Dies s f = record { hint = s.hint; clocks = s.clocks; current = s.current; options = s.options; early = none_early }
 stays_sound h held (Declares name shape) s f =
-    record { hint = s.hint; clocks = s.clocks; current = s.current; options = stay_declared h.desk.options f.2.line name shape s.options f.2.is_line f.2.says }
+    record { hint = s.hint; clocks = s.clocks; current = s.current; options = stay_declared h.settings.strength_options h.desk.options f.2.line name shape s.options f.2.is_line f.2.says; early = s.early }
 stays_sound h held (Thinks k facts) s f =
-    record { hint = s.hint; clocks = s.clocks; current = stays_writable h.desk.seen facts (now_of (searched_by k h.desk.game h.desk.hint)) s.current; options = s.options }
-stays_sound h held (Shows best hint) s f = record { hint = hint_sound (played h.desk.game best) hint; clocks = s.clocks; current = s.current; options = s.options }
-stays_sound h held d s f = record { hint = s.hint; clocks = s.clocks; current = s.current; options = s.options }
+    record { hint = s.hint; clocks = s.clocks; current = stays_writable h.desk.seen facts (now_of (searched_by k h.desk.game h.desk.hint)) s.current; options = s.options; early = s.early }
+stays_sound h held (Shows best hint) s f = record { hint = hint_sound (played h.desk.game best) hint; clocks = s.clocks; current = s.current; options = s.options; early = s.early }
+stays_sound h held d s f = record { hint = s.hint; clocks = s.clocks; current = s.current; options = s.options; early = s.early }
 
 cleared_sound : (b : Bool) (seen : Seen) → IfSome seen.current IsWritable → IfSome (cond b nothing_seen seen).current IsWritable
 cleared_sound true seen s = tt
@@ -77,4 +82,4 @@ cleared_sound false seen s = s
 pub step_sound : (closed owes hits : Bool) (h : Situation) (held : List Order) (d : Effect) → IsSound h.desk → Fits h held d → IsSound (desk_after closed owes hits h d)
 step_sound closed owes hits h held d s f =
     let t = stays_sound h held d s f in
-    record { hint = t.hint; clocks = t.clocks; current = cleared_sound (clears_seen (begins_epoch h d) hits) (desk_after_effect h d).seen t.current; options = t.options }
+    record { hint = t.hint; clocks = t.clocks; current = cleared_sound (clears_seen (begins_epoch h d) hits) (desk_after_effect h d).seen t.current; options = t.options; early = early_left closed (desk_after_effect h d).early t.early }

@@ -12,7 +12,7 @@ use Rattle.uci_lines.specs.Orders as orders
 use Rattle.uci_lines.specs.OrderReading.{is_order}
 use Rattle.option_map.specs.declared.fault.OptFault.{OptFault}
 use Rattle.option_map.specs.declared.fault.OptFault.TheVariants.{UnknownOption, BadValue}
-use Rattle.option_map.specs.Names.{same_text, is_hidden}
+use Rattle.option_map.specs.Names.{same_text}
 use Rattle.option_map.specs.Shown.{check_named}
 use Rattle.option_map.specs.Asked.{asked}
 use Rattle.option_map.specs.Held.{IsLine}
@@ -24,9 +24,11 @@ use Rattle.option_map.proofs.Asking.{asked_spelled, switches_spelled}
 use Rattle.search_epochs.specs.Tickets.{AllSetup, Word}
 use Rattle.desk_rules.specs.declared.desk.Desk.{Desk}
 use Rattle.desk_rules.specs.Desk.{Situation, table, analyses, is_gone, ponder_name, analyse_name}
-use Rattle.desk_rules.specs.Lines.{switch_text, switches, tells, asks_for_mode, asked_by, asks_of, asks}
+use Rattle.cecp_lines.specs.declared.iface.IfaceFault.{IfaceFault}
+use Rattle.desk_rules.specs.Lines.{switch_text, switches, tells, asks_for_mode, asked_by, asks_of, asks, answered_by, early_answer}
+use Rattle.desk_rules.proofs.EarlyOrders.{early_all}
 use Rattle.desk_rules.specs.Steps.{Effect, Accepts, Boots}
-use Rattle.desk_rules.specs.Orders.{ponder_at_boot, analysis_at_boot, asked_by_effect, waiting, word_of, IsHeld, AreHeld}
+use Rattle.desk_rules.specs.Orders.{ponder_at_boot, analysis_at_boot, early_orders, asked_by_effect, waiting, word_of, IsHeld, AreHeld}
 use Rattle.desk_rules.specs.Fits.{Fits, IsSound}
 
 -- SETTINGS
@@ -55,7 +57,7 @@ unless_hidden false r i = i
 
 set_named : (o : Option Setting) (value : Option (List ℕ)) → IfSome (asked_by (set_found o value)) IsSetting
 set_named None value = tt
-set_named (Some o) value = unless_hidden (is_hidden o.name) (set_by o value) (set_option o value)
+set_named (Some o) value = unless_hidden o.hidden (set_by o value) (set_option o value)
 
 set_spin : (name : List ℕ) (k : Kind) (n : ℕ) → IfSome (clamped_by name k n) IsSetting
 set_spin name (Spin default min max) n = tt
@@ -153,18 +155,30 @@ one_held : (o : Option Order) → IfSome o IsHeld → AreHeld (option_to_list o)
 one_held None h = tt
 one_held (Some order) h = (h, tt)
 
-two_held : (a b : Option Order) → IfSome a IsHeld → IfSome b IsHeld → AreHeld (option_to_list a ++ option_to_list b)
-two_held None None f g = tt
-two_held None (Some y) f g = (g, tt)
-two_held (Some x) None f g = (f, tt)
-two_held (Some x) (Some y) f g = (f, (g, tt))
+both_held : (xs ys : List Order) → AreHeld xs → AreHeld ys → AreHeld (xs ++ ys)
+both_held [] ys f g = g
+both_held (x ∷ xs) ys f g = (f.0, both_held xs ys f.1 g)
+
+three_held : (xs : List Order) (a b : Option Order) → AreHeld xs → IfSome a IsHeld → IfSome b IsHeld → AreHeld (xs ++ option_to_list a ++ option_to_list b)
+three_held xs a b f g h = both_held (xs ++ option_to_list a) (option_to_list b) (both_held xs (option_to_list a) f (one_held a g)) (one_held b h)
+
+early_answer_held : (os : List Setting) (line : List ℕ) (r : Result IfaceMsg IfaceFault) → AreDeclared os → is_line line ≡ true → reading line ≡ r → IfSome (asked_by (answered_by os r)) IsHeld
+early_answer_held os line (Ok m) d l e = set_held os line m d l e
+early_answer_held os line (Err fault) d l e = tt
+
+early_held : (os : List Setting) (lines : List (List ℕ)) → AreDeclared os → AllByRecursion (λ line. is_line line ≡ true) lines → AreHeld (early_orders os lines)
+early_held os lines d l = early_all IsHeld os lines (each lines l) where
+  each : (lines : List (List ℕ)) → AllByRecursion (λ line. is_line line ≡ true) lines → AllByRecursion (λ line. IfSome (asked_by (early_answer os line)) IsHeld) lines
+  each [] l = tt
+  each (line ∷ lines) l = (early_answer_held os line (reading line) d l.0 refl, each lines l.1)
 
 -- what an effect asks may be held
 pub asked_held : (h : Situation) (held : List Order) (d : Effect) → IsSound h.desk → Fits h held d → AreHeld (asked_by_effect h d)
 unfolding asked_by_effect
 asked_held h held (Accepts m) s f = one_held (asks (is_gone h.engine) h.desk m) (asks_held (is_gone h.engine) h.desk f.line m s.options f.is_line f.reads)
 asked_held h held Boots s f =
-    two_held (ponder_at_boot h.desk) (analysis_at_boot h.desk) (told_held h.desk.options ponder_name h.desk.pondering s.options)
+    three_held (early_orders h.desk.options h.desk.early) (ponder_at_boot h.desk) (analysis_at_boot h.desk) (early_held h.desk.options h.desk.early s.options s.early.lines)
+    (told_held h.desk.options ponder_name h.desk.pondering s.options)
     (where_some IsHeld (analyses h.desk.mode) (tells h.desk.options analyse_name true) (told_held h.desk.options analyse_name true s.options))
 asked_held h held d s f = tt
 

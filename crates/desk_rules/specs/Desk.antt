@@ -17,6 +17,7 @@ use Rattle.think_text.specs.Kept.{nothing_seen}
 use Rattle.option_map.specs.Settings.{Setting}
 use Rattle.option_map.specs.Shown.{check_named}
 use Rattle.feature_talk.specs.Features.{shown_name}
+use Rattle.policy_rules.specs.declared.settings.Settings.{Settings}
 use Rattle.search_epochs.specs.declared.words.Call.{Call}
 use Rattle.search_epochs.specs.declared.words.Call.TheVariants as calls
 use Rattle.search_epochs.specs.declared.words.EngineState.{EngineState}
@@ -41,6 +42,7 @@ opening_desk = record {
   booted = false;
   name = shown_name [];
   due = false;
+  early = [];
   seen = nothing_seen;
 }
 
@@ -111,9 +113,10 @@ call_of closed gone d = if closed || gone || is_full d.game then calls.Nothing e
 
 -- HERE
 
--- What stands when an event comes: the desk, the engine (a search is stale if its ticket is not the epoch), whether the call is
--- spent, what the policy says of the scores, and whether thinking lines are shown while pondering.
+-- What stands when an event comes: the settings, the desk, the engine (a search is stale if its ticket is not the epoch), whether the
+-- call is spent, and what the policy says of the scores.
 pub record Situation : Type 0 where
+  pub settings : Settings
   pub closed : Bool
   pub engine : EngineState
   pub spent : Bool
@@ -121,11 +124,10 @@ pub record Situation : Type 0 where
   -- whether the policy resigns once a move with the kept score is shown, and whether it accepts a draw
   pub resigns : Bool
   pub accepts : Bool
-  pub show_ponder : Bool
 
 -- the same, of what is seen beside the desk
 abbrev pub at : Context → Desk → Situation
-at s d = record { closed = s.closed; engine = s.engine; spent = s.spent; desk = d; resigns = s.resigns; accepts = s.accepts; show_ponder = s.show_ponder }
+at s d = record { settings = s.settings; closed = s.closed; engine = s.engine; spent = s.spent; desk = d; resigns = s.resigns; accepts = s.accepts }
 
 abbrev pub is_gone : EngineState → Bool
 is_gone states.Gone = true

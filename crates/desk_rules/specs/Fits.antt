@@ -1,5 +1,5 @@
 -- What holds of the desk between steps, and what holds of an effect.
-use Rattle.std.specs.Prelude.{◌≡◌, ◌⊎◌, ℕ, List, [], ◌∷◌, ◌*◌, ◌<◌, ◌≤◌, ◌+◌, length, true, false, Some, None, IfSome, Ok}
+use Rattle.std.specs.Prelude.{◌≡◌, ◌⊎◌, ℕ, List, [], ◌∷◌, ◌<◌, ◌≤◌, ◌+◌, length, true, false, Some, None, IfSome, Ok}
 use Rattle.line_io.specs.Event.{Event, is_line}
 use Rattle.line_io.specs.Event as events
 use Rattle.chess_board.specs.Place.{legal}
@@ -31,8 +31,8 @@ use Rattle.desk_rules.specs.declared.effect.Refusal.TheVariants as refusals
 use Rattle.desk_rules.specs.declared.desk.Desk.{Desk}
 use Rattle.desk_rules.specs.Desk.{Situation, is_boot, is_getting, is_gone, current, call_before, plies}
 use Rattle.desk_rules.specs.Lines.{refusal}
-use Rattle.desk_rules.specs.Steps.{Effect, Refuses, Accepts, Names, Declares, Boots, Readies, Thinks, Shows, Forfeits, Answers, Dies}
-use Rattle.desk_rules.specs.declared.sizes.TheConstants.{EARLY_ORDER}
+use Rattle.desk_rules.specs.Early.{AreEarly, may_wait}
+use Rattle.desk_rules.specs.Steps.{Effect, Refuses, Accepts, Defers, Names, Declares, Boots, Readies, Thinks, Shows, Forfeits, Answers, Dies}
 use Rattle.desk_rules.specs.declared.pings.TheConstants.{MOST_PINGS}
 
 -- the line of an event is a line that a peer may send
@@ -51,6 +51,7 @@ pub record IsSound (d : Desk) : Type 0 where
   pub clocks : AreShort d.clocks
   pub current : IfSome d.seen.current IsWritable
   pub options : AreDeclared d.options
+  pub early : AreEarly d.early
 
 -- A move of a refused line can be written.
 abbrev pub IsTellable : Refusal → Type 0
@@ -72,6 +73,13 @@ pub record IsAccepted (h : Situation) (held : List Order) (m : IfaceMsg) : Type 
   pub reads : reading line ≡ Ok m
   pub is_open : h.closed ≡ false
   pub passes : refusal h held m ≡ None
+
+-- the line is early, and may wait
+pub record IsDeferred (h : Situation) (line : List ℕ) : Type 0 where
+  pub is_open : h.closed ≡ false
+  pub in_boot : is_boot h.engine ≡ true
+  pub is_line : is_line line ≡ true
+  pub waits : may_wait h.desk.early line ≡ true
 
 -- some line of the engine says this
 pub record IsSaid (m : EngineMsg) : Type 0 where
@@ -108,6 +116,7 @@ IsNoLine d = Unit {0}
 abbrev pub Fits : Situation → List Order → Effect → Type 0
 Fits h held (Refuses r line) = IsRefused h r line
 Fits h held (Accepts m) = IsAccepted h held m
+Fits h held (Defers line) = IsDeferred h line
 Fits h held (Names text) = (h.closed ≡ false) × (is_boot h.engine ≡ true)
 Fits h held (Declares name shape) = (h.closed ≡ false) × (is_boot h.engine ≡ true) × IsSaid (hears.OptionLine name shape)
 Fits h held Boots = (h.closed ≡ false) × (is_boot h.engine ≡ true)
@@ -144,9 +153,9 @@ abbrev pub CanHold : List Order → Effect → Type 0
 CanHold held Boots = IsFirst held
 CanHold held d = Unit {0}
 
--- at most so many orders, each as long as an early one
-abbrev pub AreFew : ℕ → List Order → Type 0
-AreFew n held = (length held ≤ n) × (length (batch_text held) ≤ EARLY_ORDER * n)
+-- at most so many orders, with at most so many bytes
+abbrev pub AreFew : ℕ → ℕ → List Order → Type 0
+AreFew n bytes held = (length held ≤ n) × (length (batch_text held) ≤ bytes)
 
 -- a move that is entered can be played
 abbrev pub CanEnter : Game → IfaceMsg → Type 0

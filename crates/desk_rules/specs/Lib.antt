@@ -1,3 +1,4 @@
+pub mod Early
 pub mod Desk
 pub mod Lines
 pub mod Steps

@@ -9,6 +9,7 @@ use Rattle.fen_text.specs.declared.fault.FenFault.{FenFault}
 use Rattle.fen_text.specs.Fen.{position_of}
 use Rattle.cecp_lines.specs.Messages.{IfaceMsg}
 use Rattle.cecp_lines.specs.Messages as says
+use Rattle.cecp_lines.specs.Reading.{reading}
 use Rattle.cecp_lines.specs.declared.iface.IfaceFault.{IfaceFault}
 use Rattle.cecp_lines.specs.declared.iface.IfaceFault.TheVariants as faults
 use Rattle.cecp_lines.specs.declared.reply.Reason.{Reason}
@@ -24,12 +25,14 @@ use Rattle.option_map.specs.Shown.{check_named}
 use Rattle.option_map.specs.Asked.{asked}
 use Rattle.option_map.specs.Held.{can_join}
 use Rattle.feature_talk.specs.Due.{due_after}
+use Rattle.policy_rules.specs.declared.settings.Settings.{Settings}
 use Rattle.desk_rules.specs.declared.mode.Mode.{Mode}
 use Rattle.desk_rules.specs.declared.mode.Mode.TheVariants as modes
 use Rattle.desk_rules.specs.declared.effect.Refusal.{Refusal}
 use Rattle.desk_rules.specs.declared.effect.Refusal.TheVariants as refusals
 use Rattle.desk_rules.specs.declared.desk.Desk.{Desk}
-use Rattle.desk_rules.specs.Desk.{Situation, table, analyses, is_full, is_gone, on_move, other, played, plies, owes_move, ponder_name, analyse_name}
+use Rattle.desk_rules.specs.Early.{is_setting, may_wait}
+use Rattle.desk_rules.specs.Desk.{Situation, table, analyses, is_full, is_boot, is_gone, on_move, other, played, plies, owes_move, ponder_name, analyse_name}
 use Rattle.desk_rules.specs.declared.pings.TheConstants.{MOST_PINGS}
 
 -- WHAT A LINE ASKS
@@ -84,11 +87,12 @@ or_else (Some r) b = Some r
 abbrev pub where_true : Bool → Reason → Option Refusal
 where_true b r = if b then because r else None
 
-abbrev pub needs_engine : IfaceMsg → Bool
-needs_engine says.Go = true
-needs_engine says.PlayOther = true
-needs_engine says.Analyze = true
-needs_engine m = false
+-- An engine that resigns when it is gone may still be told whom it plays.
+abbrev pub needs_engine : Settings → IfaceMsg → Bool
+needs_engine o says.Go = not o.resign_when_gone
+needs_engine o says.PlayOther = not o.resign_when_gone
+needs_engine o says.Analyze = true
+needs_engine o m = false
 
 abbrev pub needs_analysis : IfaceMsg → Bool
 needs_analysis says.Exit = true
@@ -133,7 +137,7 @@ pings_too_often h m = false
 -- why a message is refused, if it is: the first that applies
 unfoldable pub refusal : Situation → List Order → IfaceMsg → Option Refusal
 refusal h held m =
-    or_else (where_true (needs_engine m && is_gone h.engine) reasons.EngineEnded)
+    or_else (where_true (needs_engine h.settings m && is_gone h.engine) reasons.EngineEnded)
     (or_else (where_true (needs_analysis m && not (analyses h.desk.mode)) reasons.NotAnalyzing)
     (or_else (where_true (lacks_moves h.desk.game m) reasons.NoMoveToUndo)
     (or_else (illegal_move h.desk.game m)
@@ -143,19 +147,37 @@ refusal h held m =
     (or_else (where_true (does_not_fit held (asks (is_gone h.engine) h.desk m)) reasons.TooManySettings)
     (where_true (pings_too_often h m) reasons.TooManyPings))))))))
 
--- what is read of a line is refused or accepted
+-- A line is early if it sets an option while the engine is in Boot, where no option counts yet, and the settings say that such lines wait.
+abbrev pub is_early : Situation → IfaceMsg → Bool
+is_early h m = is_setting m && is_boot h.engine && h.settings.early_settings
+
+-- what is read of a line is refused, accepted, or waits since it is early
 pub data Verdict : Type 0 where
   Refused : Refusal → Verdict
   Accepted : IfaceMsg → Verdict
+  Early : Verdict
 
 abbrev pub judged : IfaceMsg → Option Refusal → Verdict
 judged m None = Accepted m
 judged m (Some r) = Refused r
 
-unfoldable pub verdict : Situation → List Order → Answer IfaceMsg IfaceFault → Verdict
-verdict h held (Err faults.UnknownCommand) = Refused (refusals.Because reasons.UnknownCommand)
-verdict h held (Err faults.BadArgument) = Refused (refusals.Because reasons.BadArgument)
-verdict h held (Ok m) = judged m (refusal h held m)
+-- an early line waits, unless too many do
+abbrev pub deferred : Bool → Verdict
+deferred fits = if fits then Early else Refused (refusals.Because reasons.TooManySettings)
+
+-- of a line, by what is read of it
+unfoldable pub verdict : Situation → List Order → List ℕ → Answer IfaceMsg IfaceFault → Verdict
+verdict h held line (Err faults.UnknownCommand) = Refused (refusals.Because reasons.UnknownCommand)
+verdict h held line (Err faults.BadArgument) = Refused (refusals.Because reasons.BadArgument)
+verdict h held line (Ok m) = if is_early h m then deferred (may_wait h.desk.early line) else judged m (refusal h held m)
+
+-- what the options answer to an early line, once they are declared
+abbrev pub answered_by : List Setting → Answer IfaceMsg IfaceFault → Answer (Option Order) OptFault
+answered_by os (Ok m) = asked os m
+answered_by os (Err fault) = Ok None
+
+abbrev pub early_answer : List Setting → List ℕ → Answer (Option Order) OptFault
+early_answer os line = answered_by os (reading line)
 
 -- EPOCH LINES
 

@@ -1,7 +1,7 @@
 -- The orders that wait and the orders for a search.
 use Rattle.std.specs.Prelude.{◌≡◌, ℕ, List, [], ◌∷◌, ◌++◌, map, Bool, true, false, if◌then◌else◌, Option, Some, None}
 use Rattle.std.specs.Option.{option_to_list, option_map}
-use Rattle.std.specs.List.{AllByRecursion, join_with_byte}
+use Rattle.std.specs.List.{AllByRecursion, flat_map, join_with_byte}
 use Rattle.chess_board.specs.declared.board.Move.{Move}
 use Rattle.chess_board.specs.Position.{Position}
 use Rattle.peer_words.specs.declared.kinds.GoKind.{GoKind}
@@ -27,7 +27,8 @@ use Rattle.desk_rules.specs.declared.effect.Asks.{Asks}
 use Rattle.desk_rules.specs.declared.effect.Asks.TheVariants as asks
 use Rattle.desk_rules.specs.declared.desk.Desk.{Desk}
 use Rattle.desk_rules.specs.Desk.{Situation, is_gone, analyses, on_move, plies, played, ponder_name, analyse_name}
-use Rattle.desk_rules.specs.Lines.{tells, asks as asked_of}
+use Rattle.option_map.specs.Settings.{Setting}
+use Rattle.desk_rules.specs.Lines.{tells, asks as asked_of, asked_by, early_answer}
 use Rattle.desk_rules.specs.Steps.{Effect, Accepts, Boots}
 use Rattle.peer_words.specs.Bytes.{blank}
 
@@ -40,16 +41,28 @@ ponder_at_boot d = tells d.options ponder_name d.pondering
 abbrev pub analysis_at_boot : Desk → Option Order
 analysis_at_boot d = if analyses d.mode then tells d.options analyse_name true else None
 
+-- the order that an early line asks for, if it asks for one
+abbrev pub early_order : List Setting → List ℕ → List Order
+early_order os line = option_to_list (asked_by (early_answer os line))
+
+-- the orders that early lines ask for, in turn
+abbrev pub early_orders : List Setting → List (List ℕ) → List Order
+early_orders os lines = flat_map (early_order os) lines
+
+-- the orders that are asked for when Boot is left: those of the early lines, and what is set then
+abbrev pub asked_at_boot : Desk → List Order
+asked_at_boot d = early_orders d.options d.early ++ option_to_list (ponder_at_boot d) ++ option_to_list (analysis_at_boot d)
+
 -- the orders that an event asks for, in turn
 unfoldable pub asked_by_effect : Situation → Effect → List Order
 asked_by_effect h (Accepts m) = option_to_list (asked_of (is_gone h.engine) h.desk m)
-asked_by_effect h Boots = option_to_list (ponder_at_boot h.desk) ++ option_to_list (analysis_at_boot h.desk)
+asked_by_effect h Boots = asked_at_boot h.desk
 asked_by_effect h d = []
 
 -- what is asked for as data
 abbrev pub orders_asked : Asks → List Order
 orders_asked (asks.One order) = option_to_list (option_map setup_seen order)
-orders_asked (asks.Two first second) = option_to_list (option_map setup_seen first) ++ option_to_list (option_map setup_seen second)
+orders_asked (asks.AtBoot desk) = asked_at_boot desk.now
 
 -- the orders that wait after an event
 abbrev pub waiting : Situation → List Order → Effect → List Order

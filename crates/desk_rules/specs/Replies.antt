@@ -1,6 +1,7 @@
 -- The lines to the interface.
 use Rattle.std.specs.Prelude.{ℕ, List, [], ◌∷◌, ◌++◌, map, codes, Bool, true, false, not, if◌then◌else◌, ◌&&◌, Option, Some, None}
 use Rattle.std.specs.Option.{option_to_list}
+use Rattle.std.specs.List.{flat_map}
 use Rattle.chess_board.specs.declared.board.Move.{Move}
 use Rattle.chess_board.specs.declared.board.Side.{Side}
 use Rattle.chess_board.specs.declared.board.Side.TheVariants.{White, Black}
@@ -11,6 +12,8 @@ use Rattle.cecp_lines.specs.Messages.{IfaceMsg}
 use Rattle.cecp_lines.specs.Messages as says
 use Rattle.cecp_lines.specs.Replies.{Reply}
 use Rattle.cecp_lines.specs.Replies as told
+use Rattle.cecp_lines.specs.declared.reply.Spelling.{Spelling}
+use Rattle.cecp_lines.specs.declared.reply.Spelling.TheVariants.{Coordinates, San}
 use Rattle.cecp_lines.specs.declared.reply.Reason.TheVariants as reasons
 use Rattle.cecp_lines.specs.declared.reply.UserError.TheVariants as tell
 use Rattle.cecp_lines.specs.declared.reply.Outcome.{Outcome}
@@ -20,6 +23,8 @@ use Rattle.game_record.specs.declared.ending.End.{End}
 use Rattle.game_record.specs.declared.ending.End.TheVariants as ends
 use Rattle.game_record.specs.Game.{Game, now_of}
 use Rattle.game_record.specs.Ending.{ended_of}
+use Rattle.policy_rules.specs.declared.settings.Settings.{Settings}
+use Rattle.think_text.specs.declared.line.Pondered.{Pondered}
 use Rattle.think_text.specs.Line.{thinking_line}
 use Rattle.think_text.specs.Kept.{stat01_of}
 use Rattle.feature_talk.specs.declared.talk.Say.{Say}
@@ -30,8 +35,9 @@ use Rattle.desk_rules.specs.declared.effect.Refusal.{Refusal}
 use Rattle.desk_rules.specs.declared.effect.Refusal.TheVariants as refusals
 use Rattle.desk_rules.specs.declared.desk.Desk.{Desk}
 use Rattle.desk_rules.specs.Desk.{Situation, table, plays, is_boot, on_move, played, has_ended}
-use Rattle.desk_rules.specs.Lines.{change}
-use Rattle.desk_rules.specs.Steps.{Effect, LongLine, Refuses, Accepts, Boots, Thinks, Shows, Forfeits, Dies, desk_after_effect, searched_by, resigns_after, resigns_at_end}
+use Rattle.option_map.specs.Settings.{Setting}
+use Rattle.desk_rules.specs.Lines.{change, refused_option, early_answer}
+use Rattle.desk_rules.specs.Steps.{Effect, LongLine, Refuses, Accepts, Boots, Thinks, Shows, Forfeits, Dies, desk_after_effect, searched_by, resigns_after, resigns_at_end, resigns_when_gone}
 
 -- what the line of `Error (line too long)` says in place of the line
 abbrev pub dots : List ℕ
@@ -76,9 +82,9 @@ protover_row say.List d = feature_list (table d) d.name
 abbrev pub offer_where : Bool → List Reply
 offer_where b = if b then told.OfferDraw ∷ [] else []
 
--- a draw is offered back if the desk plays a game that has not ended and the policy accepts
+-- a draw is offered back if draws are handled, the desk plays a game that has not ended and the policy accepts
 abbrev pub draw_row : Situation → List Reply
-draw_row h = offer_where (plays h.desk.mode && not (has_ended h.desk.game) && h.accepts)
+draw_row h = offer_where (h.settings.handle_draws && plays h.desk.mode && not (has_ended h.desk.game) && h.accepts)
 
 abbrev pub hint_row : Option Move → List Reply
 hint_row None = []
@@ -112,12 +118,16 @@ row_after d m = []
 abbrev pub is_told : Situation → GoKind → Bool
 is_told h kinds.Analyse = true
 is_told h kinds.Move = h.desk.post
-is_told h kinds.Ponder = h.desk.post && h.show_ponder
+is_told h kinds.Ponder = h.desk.post && h.settings.show_ponder
 
--- a thinking line of a Ponder search names the hint
-abbrev pub named_hint : GoKind → Option Move → Option Move
-named_hint kinds.Ponder hint = hint
-named_hint k hint = None
+-- how the moves of thinking lines are written
+abbrev pub spelling_of : Settings → Spelling
+spelling_of o = if o.show_san then San else Coordinates
+
+-- a thinking line of a Ponder search names the hint, which would be played in the present position
+abbrev pub named_hint : GoKind → Game → Option Move → Option Pondered
+named_hint kinds.Ponder g (Some hint) = Some (record { before = now_of g; hint = hint })
+named_hint k g hint = None
 
 abbrev pub list_where : Bool → Desk → List Reply
 list_where b d = if b then feature_list (table d) d.name else []
@@ -128,7 +138,10 @@ resign_where b = if b then told.Resign ∷ [] else []
 -- a thinking line, if it is shown
 abbrev pub thought : Situation → GoKind → Info → List Reply
 thought h k facts =
-    if is_told h k then option_to_list (thinking_line facts (now_of (searched_by k h.desk.game h.desk.hint)) (named_hint k h.desk.hint)) else []
+    if is_told h k then
+    option_to_list
+    (thinking_line (spelling_of h.settings) facts (now_of (searched_by k h.desk.game h.desk.hint)) (named_hint k h.desk.game h.desk.hint))
+    else []
 
 -- a move that is shown
 abbrev pub shown_row : Situation → Move → List Reply
@@ -138,21 +151,35 @@ shown_row h best = told.Move best ∷ (result_of (played h.desk.game best) ++ re
 abbrev pub end_row : Situation → List Reply
 end_row h = list_where h.desk.due h.desk ++ (told.TellError tell.Ended ∷ resign_where (resigns_at_end h))
 
+-- what an early line is refused by, if it is
+abbrev pub early_refusal : Option Refusal → List ℕ → List Reply
+early_refusal None line = []
+early_refusal (Some r) line = refused r line ∷ []
+
+-- the lines for the early lines that are refused, in turn
+abbrev pub early_refusals : List Setting → List (List ℕ) → List Reply
+early_refusals os lines = flat_map (λ line. early_refusal (refused_option (early_answer os line)) line) lines
+
+-- the engine leaves Boot: the list if it is due, and the early lines that are refused
+abbrev pub boot_row : Desk → List Reply
+boot_row d = list_where d.due (record d { booted = true }) ++ early_refusals d.options d.early
+
 -- the lines of what comes of an event, except pongs
 unfoldable pub row : Situation → Effect → List Reply
 row h (Refuses refusal line) = refused refusal line ∷ []
 row h LongLine = told.Error reasons.LineTooLong dots ∷ []
 row h (Accepts m) = row_accepted h m
-row h Boots = list_where h.desk.due (record h.desk { booted = true })
+row h Boots = boot_row h.desk
 row h (Thinks k facts) = thought h k facts
 row h (Shows best hint) = shown_row h best
 row h Forfeits = told.TellError tell.Move ∷ told.Resign ∷ []
 row h Dies = end_row h
 row h d = []
 
--- all lines of a step: its row, then the pongs
+-- all lines of a step: its row, `resign` for an engine that is gone, then the pongs
 abbrev pub replies_of : Bool → Bool → Situation → Effect → List Reply
-replies_of closed owes h d = if closed then [] else row h d ++ (if owes then [] else map told.Pong (desk_after_effect h d).pings)
+replies_of closed owes h d =
+    if closed then [] else row h d ++ resign_where (resigns_when_gone closed h d) ++ (if owes then [] else map told.Pong (desk_after_effect h d).pings)
 
 abbrev pub pongs : Bool → List ℕ → List Reply
 pongs b pings = if b then map told.Pong pings else []

@@ -1,5 +1,5 @@
 -- What comes of an event, and what follows for the desk and the dialogue.
-use Rattle.std.specs.Prelude.{ℕ, List, Bool, true, false, not, if◌then◌else◌, ◌&&◌, ◌||◌, [], ◌∷◌, Option, Some, None}
+use Rattle.std.specs.Prelude.{ℕ, List, Bool, true, false, not, if◌then◌else◌, ◌&&◌, ◌||◌, [], ◌∷◌, ◌++◌, Option, Some, None}
 use Rattle.line_io.specs.Event.{Event}
 use Rattle.line_io.specs.Event as events
 use Rattle.chess_board.specs.declared.board.Move.{Move}
@@ -25,7 +25,7 @@ use Rattle.search_epochs.specs.declared.words.Call.{Call}
 use Rattle.search_epochs.specs.declared.words.Said.TheVariants as said
 use Rattle.search_epochs.specs.declared.words.EngineState.{EngineState}
 use Rattle.search_epochs.specs.declared.words.EngineState.TheVariants as states
-use Rattle.search_epochs.specs.Tickets.{What, Plays, Hurries, Quiet}
+use Rattle.search_epochs.specs.Tickets.{What, Plays, Hurries, Quiet, is_move}
 use Rattle.search_epochs.specs.Tickets as word
 use Rattle.desk_rules.specs.declared.mode.Mode.{Mode}
 use Rattle.desk_rules.specs.declared.mode.Mode.TheVariants as modes
@@ -34,7 +34,7 @@ use Rattle.desk_rules.specs.declared.effect.Effect as code
 use Rattle.desk_rules.specs.declared.effect.Effect.TheVariants as effects
 use Rattle.desk_rules.specs.declared.desk.Desk.{Desk}
 use Rattle.desk_rules.specs.Desk.{Situation, is_gone, is_boot, is_getting, current, call_of, owes_move, played, has_ended}
-use Rattle.desk_rules.specs.Lines.{Verdict, Refused, Accepted, verdict, asks, is_epoch_line, change, clears_scores}
+use Rattle.desk_rules.specs.Lines.{Verdict, Refused, Accepted, Early, verdict, asks, is_epoch_line, change, clears_scores}
 
 -- what comes of an event, whatever memory its line lies in
 pub data Effect : Type 0 where
@@ -43,6 +43,7 @@ pub data Effect : Type 0 where
   LongLine : Effect
   Refuses : (refusal : Refusal) (line : List ℕ) → Effect
   Accepts : (message : IfaceMsg) → Effect
+  Defers : (line : List ℕ) → Effect
   Names : (text : List ℕ) → Effect
   Declares : (name : List ℕ) (shape : OptionKind) → Effect
   Boots : Effect
@@ -59,6 +60,7 @@ effect_of effects.Opens = Opens
 effect_of effects.LongLine = LongLine
 effect_of (effects.Refuses refusal line) = Refuses refusal line.now
 effect_of (effects.Accepts m) = Accepts (message_of m)
+effect_of (effects.Defers line) = Defers line.now
 effect_of (effects.Names text) = Names text.now
 effect_of (effects.Declares option) = Declares option.name.now (option_kind_of option.kind)
 effect_of effects.Boots = Boots
@@ -74,6 +76,7 @@ effect_of effects.Dies = Dies
 abbrev pub line_effect : Verdict → List ℕ → Effect
 line_effect (Refused r) line = Refuses r line
 line_effect (Accepted m) line = Accepts m
+line_effect Early line = Defers line
 
 -- a current search reports on itself
 abbrev pub thinks : Option GoKind → Info → Effect
@@ -105,7 +108,7 @@ dies e = if is_gone e then Nothing else Dies
 -- The held orders say only whether what a line asks for fits.
 unfoldable pub classify : Situation → List Order → Event → Effect
 classify h held events.Open = Opens
-classify h held (events.Iface line) = if h.closed then Nothing else line_effect (verdict h held (reading line)) line
+classify h held (events.Iface line) = if h.closed then Nothing else line_effect (verdict h held line (reading line)) line
 classify h held events.IfaceLong = if h.closed then Nothing else LongLine
 classify h held events.IfaceEnd = Nothing
 classify h held events.IfaceLost = Nothing
@@ -171,13 +174,14 @@ desk_with_move h m hint = record h.desk { game = played h.desk.game m; hint = hi
 -- the desk after an effect, before pings are answered and kept values cleared
 unfoldable pub desk_after_effect : Situation → Effect → Desk
 desk_after_effect h (Accepts m) = change (is_boot h.engine) h.desk m
+desk_after_effect h (Defers line) = record h.desk { early = h.desk.early ++ line ∷ [] }
 desk_after_effect h (Names text) = record h.desk { name = shown_name text }
-desk_after_effect h (Declares name shape) = record h.desk { options = after_declared h.desk.options name shape }
-desk_after_effect h Boots = record h.desk { booted = true; due = false }
+desk_after_effect h (Declares name shape) = record h.desk { options = after_declared h.settings.strength_options h.desk.options name shape }
+desk_after_effect h Boots = record h.desk { booted = true; due = false; early = [] }
 desk_after_effect h (Thinks k facts) = record h.desk { seen = after_info h.desk.seen facts (now_of (searched_by k h.desk.game h.desk.hint)) }
 desk_after_effect h (Shows best hint) = desk_with_move h best hint
 desk_after_effect h Forfeits = record h.desk { mode = modes.Over }
-desk_after_effect h Dies = record h.desk { mode = over_where (resigns_at_end h) h.desk.mode; due = h.desk.due && h.closed }
+desk_after_effect h Dies = record h.desk { mode = over_where (resigns_at_end h) h.desk.mode; due = h.desk.due && h.closed; early = [] }
 desk_after_effect h d = h.desk
 
 abbrev pub is_death : Effect → Bool
@@ -192,6 +196,14 @@ is_boots d = false
 abbrev pub call_after : Bool → Situation → Effect → Call
 call_after closed h d = call_of closed (is_gone h.engine || is_death d) (desk_after_effect h d)
 
+-- The engine is gone, and the desk would call for a Move if it were there.
+abbrev pub owes_when_gone : Bool → Bool → Desk → Bool
+owes_when_gone closed gone d = gone && is_move (call_of closed false d)
+
+-- An engine that is gone resigns the game in which it owes a move, if the settings say so: by the desk that the event leaves.
+abbrev pub resigns_when_gone : Bool → Situation → Effect → Bool
+resigns_when_gone closed h d = h.settings.resign_when_gone && owes_when_gone closed (is_gone h.engine || is_death d) (desk_after_effect h d)
+
 -- pings are answered if no Move is owed and the session is not closed
 abbrev pub answers_pings : Bool → Bool → Bool
 answers_pings closed owes = not closed && not owes
@@ -200,10 +212,12 @@ answers_pings closed owes = not closed && not owes
 abbrev pub clears_seen : Bool → Bool → Bool
 clears_seen rose hits = rose && not hits
 
--- the desk after the step
+-- the desk after the step: no line waits in a closed session
 abbrev pub desk_after : Bool → Bool → Bool → Situation → Effect → Desk
 desk_after closed owes hits h d = record (desk_after_effect h d) {
+  mode = over_where (resigns_when_gone closed h d) (desk_after_effect h d).mode;
   pings = (if answers_pings closed owes then [] else (desk_after_effect h d).pings);
+  early = (if closed then [] else (desk_after_effect h d).early);
   seen = (if clears_seen (begins_epoch h d) hits then nothing_seen else (desk_after_effect h d).seen);
 }
 

@@ -12,16 +12,18 @@ ghost use Rattle.think_text.specs.Kept.{after_info, nothing_seen};
 ghost use Rattle.feature_talk.specs.Features.{reply_lines};
 ghost use Rattle.desk_rules.specs.Desk.{at, is_boot};
 ghost use Rattle.desk_rules.specs.Lines.{change};
-ghost use Rattle.desk_rules.specs.Steps.{effect_of, hint_after, searched_by, resigns_at_end, over_where, desk_with_move, desk_after_effect, answers_pings};
-ghost use Rattle.desk_rules.specs.Replies.{row_accepted, list_where, thought, shown_row, end_row, row, pongs};
+ghost use Rattle.desk_rules.specs.Steps.{effect_of, hint_after, searched_by, resigns_at_end, owes_when_gone, over_where, desk_with_move, desk_after_effect, answers_pings};
+ghost use Rattle.desk_rules.specs.Replies.{row_accepted, resign_where, thought, shown_row, boot_row, end_row, row, pongs};
+ghost use Rattle.desk_rules.specs.Early.{AreEarly};
 ghost use Rattle.desk_rules.specs.Fits.{IsHintPlayable, IsSound, IsFit, IsServed, IsSaid, CanChange};
-ghost use Rattle.desk_rules.specs.declared.sizes.TheConstants.{ENGINE_END, FEATURE_LIST, OBEYED, STEP_REPLIES, SHOWN_MOVE, THINKING_LINE};
+ghost use Rattle.desk_rules.specs.declared.sizes.TheConstants.{BOOT_REPLIES, ENGINE_END, FEATURE_LIST, OBEYED, SHORT_REPLY, STEP_REPLIES, SHOWN_MOVE, THINKING_LINE};
 ghost use Rattle.desk_rules.specs.declared.pings.TheConstants.{MOST_PINGS};
 
 use crate::answers::{
-    named_hint, put_error, put_forfeit, put_pongs, put_refused, put_shown, put_thinking,
+    named_hint, put_error, put_forfeit, put_pongs, put_refused, put_resign, put_shown,
+    put_thinking, spelling_of,
 };
-use crate::call::{has_ended, is_boot};
+use crate::call::{has_ended, is_boot, is_move};
 use crate::change::play;
 use crate::refuse::is_legal;
 use crate::{Context, Desk, Effect, Mode};
@@ -31,6 +33,7 @@ use feature_talk::Talk;
 use game_record::Game;
 use line_io::Out;
 use peer_words::GoKind;
+use policy_rules::Settings;
 use think_text::Seen;
 use uci_lines::Info;
 
@@ -108,15 +111,15 @@ impl Desk {
 
     // Has the engine leave Boot.
     fn boot(&mut self, out: &mut Out)
-        requires { length out.old.text + FEATURE_LIST ≤ out.old.room }
-        ensures desk { self.new ≡ record self.old { booted = true; due = false } }
-        ensures lines { out.new
-            ≡ with out.old
-            (reply_lines (list_where self.old.due (record self.old { booted = true }))) }
-        ensures short { length (reply_lines (list_where self.old.due
-            (record self.old { booted = true }))) ≤ FEATURE_LIST }
+        requires early { AreEarly self.old.early }
+        requires room { length out.old.text + BOOT_REPLIES ≤ out.old.room }
+        ensures desk { self.new ≡ record self.old { booted = true; due = false; early = [] } }
+        ensures lines { out.new ≡ with out.old (reply_lines (boot_row self.old)) }
+        ensures short { length (reply_lines (boot_row self.old)) ≤ BOOT_REPLIES }
     {
         self.put_due_list(true, out);
+        self.early.put_refusals(&self.options, out);
+        self.early.clear();
         self.booted = true;
         self.due.left_boot();
     }
@@ -139,7 +142,8 @@ impl Desk {
     {
         let position = self.searched(kind);
         if self.is_told(context, kind) {
-            put_thinking(info, &position, named_hint(kind, self.hint), out);
+            let hint = named_hint(kind, &self.game, self.hint);
+            put_thinking(spelling_of(context.settings), info, &position, hint, out);
         }
         self.seen.hear(info, &position);
     }
@@ -169,6 +173,7 @@ impl Desk {
               mode = over_where
                   (resigns_at_end (at context self.old)) self.old.mode;
               due = self.old.due && context.closed;
+              early = [];
             } }
         ensures lines { out.new ≡ with out.old (reply_lines (end_row (at context self.old))) }
         ensures short { length (reply_lines (end_row (at context self.old))) ≤ ENGINE_END }
@@ -177,6 +182,7 @@ impl Desk {
         self.put_end(resigns, out);
         self.mode = over_where(resigns, self.mode);
         leave_boot(&mut self.due, context.closed);
+        self.early.clear();
     }
 
     // Writes the lines of an effect, except pongs, and changes the desk.
@@ -197,9 +203,11 @@ impl Desk {
             Effect::Refuses { refusal, line } => put_refused(*refusal, line, out),
             Effect::LongLine => put_error(Reason::LineTooLong, b"...", out),
             Effect::Accepts(message) => self.obey(context, message, out),
+            Effect::Defers(line) => self.early.add(line),
             Effect::Names(text) => self.name.set(text),
             Effect::Declares(option) => {
-                self.options.declare(option);
+                self.options
+                    .declare(option, context.settings.strength_options);
             }
             Effect::Boots => self.boot(out),
             Effect::Thinks { kind, info } => self.think(context, *kind, info, out),
@@ -233,8 +241,28 @@ impl Desk {
         }
     }
 
+    /// Resigns for an engine that is gone and owes a move, if the settings say so.
+    pub fn resign_when_gone(&mut self, settings: Settings, closed: bool, gone: bool, out: &mut Out)
+        requires hint { IsHintPlayable self.old }
+        requires room { length out.old.text + SHORT_REPLY ≤ out.old.room }
+        ensures lines { out.new
+            ≡ with out.old
+            (reply_lines (resign_where
+            (settings.resign_when_gone && owes_when_gone closed gone self.old))) }
+        ensures room { length out.new.text ≤ length out.old.text + SHORT_REPLY }
+        ensures desk { self.new
+            ≡ record self.old {
+              mode = over_where (settings.resign_when_gone && owes_when_gone closed gone self.old)
+                  self.old.mode;
+            } }
+    {
+        let resigns = settings.resign_when_gone && gone && is_move(self.call(closed, false));
+        put_resign(resigns, out);
+        self.mode = over_where(resigns, self.mode);
+    }
+
     /// Answers the pings unless a Move is owed or the session is closed, and clears the kept values of an epoch that is
-    /// over.
+    /// over, and the early lines of a session that is closed.
     pub fn finish(&mut self, closed: bool, owes: bool, clears: bool, out: &mut Out)
         requires { length out.old.text + 16 * length self.old.pings ≤ out.old.room }
         ensures lines { out.new
@@ -243,11 +271,15 @@ impl Desk {
         ensures desk { self.new
             ≡ record self.old {
               pings = cond (answers_pings closed owes) [] self.old.pings;
+              early = cond closed [] self.old.early;
               seen = cond clears nothing_seen self.old.seen;
             } }
     {
         if clears {
             self.seen = Seen::new();
+        }
+        if closed {
+            self.early.clear();
         }
         if !closed && !owes {
             put_pongs(self.pings.numbers(), out);

@@ -8,25 +8,26 @@ ghost use Rattle.cecp_lines.specs.Replies as told;
 ghost use Rattle.cecp_lines.specs.declared.reply.UserError.TheVariants as tell;
 ghost use Rattle.uci_lines.specs.Info.{info_of};
 ghost use Rattle.uci_lines.specs.Messages.{Info as SaysInfo};
-ghost use Rattle.think_text.specs.Line.{thinking_line};
+ghost use Rattle.think_text.specs.Line.{thinking_line, IsPlayable as CanBePlayed};
 ghost use Rattle.think_text.specs.Kept.{stat01_of};
 ghost use Rattle.feature_talk.specs.Due.{answer};
 ghost use Rattle.feature_talk.specs.Features.{feature_list, reply_line, reply_lines};
 ghost use Rattle.desk_rules.specs.Desk.{at, table};
-ghost use Rattle.desk_rules.specs.Replies.{refused, outcome_of, result_by, result_of, protover_row, offer_where, draw_row, hint_row, row_before, row_after, is_told, named_hint, list_where, resign_where};
+ghost use Rattle.desk_rules.specs.Replies.{refused, outcome_of, result_by, result_of, protover_row, offer_where, draw_row, hint_row, row_before, row_after, is_told, named_hint, spelling_of, list_where, resign_where};
 ghost use Rattle.desk_rules.specs.Fits.{IsSound, IsSaid, IsTellable};
 ghost use Rattle.line_io.specs.declared.limits.TheConstants.{PEER_LINE};
 ghost use Rattle.desk_rules.specs.declared.sizes.TheConstants.{ENGINE_END, ERROR_REPLY, FEATURE_LIST, SHORT_REPLY, SHOWN_MOVE, THINKING_LINE};
 
 use crate::call::{has_ended, is_boot, on_move, plays};
 use crate::{Context, Desk, Refusal};
-use cecp_lines::{IfaceMsg, Outcome, Reason, Reply, UserError, write_reply};
+use cecp_lines::{IfaceMsg, Outcome, Reason, Reply, Spelling, UserError, write_reply};
 use chess_board::{Move, Position, Side};
 use feature_talk::{write_bare_list, write_list};
 use game_record::{End, Game};
 use line_io::Out;
 use peer_words::{GoKind, trim};
-use think_text::{Seen, stat01, thinking};
+use policy_rules::Settings;
+use think_text::{Pondered, Seen, stat01, thinking};
 use uci_lines::Info;
 
 // Puts a reply and its line feed.
@@ -49,6 +50,15 @@ fn put_short(reply: &Reply, out: &mut Out)
     ensures short { length (reply_lines (reply_of reply.now ∷ [])) ≤ SHORT_REPLY }
 {
     put_reply(reply, out);
+}
+
+// Puts an error, for which there may be no more room than it takes.
+pub(crate) fn put_error_line(reason: Reason, line: &[u8], out: &mut Out)
+    requires { length out.old.text + length (reply_lines (told.Error reason line.now ∷ []))
+        ≤ out.old.room }
+    ensures { out.new ≡ with out.old (reply_lines (told.Error reason line.now ∷ [])) }
+{
+    put_reply(&Reply::Error { reason, line }, out);
 }
 
 pub(crate) fn put_error(reason: Reason, line: &[u8], out: &mut Out)
@@ -108,7 +118,7 @@ pub(crate) fn put_result_of(game: &Game, out: &mut Out)
     put_result(on_move(game), game.ended(), out);
 }
 
-fn put_resign(resigns: bool, out: &mut Out)
+pub(crate) fn put_resign(resigns: bool, out: &mut Out)
     requires { length out.old.text + SHORT_REPLY ≤ out.old.room }
     ensures line { out.new ≡ with out.old (reply_lines (resign_where resigns)) }
     ensures short { length (reply_lines (resign_where resigns)) ≤ SHORT_REPLY }
@@ -154,27 +164,48 @@ fn put_stat(seen: &Seen, at: &Position, out: &mut Out)
     out.put(b"\n");
 }
 
-pub(crate) fn put_thinking(info: &Info, at: &Position, hint: Option<Move>, out: &mut Out)
+pub(crate) fn put_thinking(
+    spelling: Spelling,
+    info: &Info,
+    at: &Position,
+    hint: Option<Pondered>,
+    out: &mut Out,
+)
     requires said { IsSaid (SaysInfo (info_of info.now)) }
-    requires hint { IfSome hint IsWritable }
+    requires hint { CanBePlayed hint }
     requires room { length out.old.text + THINKING_LINE ≤ out.old.room }
     ensures line { out.new
         ≡ with out.old
-        (reply_lines (option_to_list (thinking_line (info_of info.now) at.now hint))) }
+        (reply_lines (option_to_list
+        (thinking_line spelling (info_of info.now) at.now hint))) }
     ensures short { length (reply_lines (option_to_list
-        (thinking_line (info_of info.now) at.now hint))) ≤ THINKING_LINE }
+        (thinking_line spelling (info_of info.now) at.now hint))) ≤ THINKING_LINE }
 {
-    if thinking(info, at, hint, out) {
+    if thinking(spelling, info, at, hint, out) {
         out.put(b"\n");
     }
 }
 
-// A thinking line of a Ponder search names the hint.
-pub(crate) fn named_hint(kind: GoKind, hint: Option<Move>) -> Option<Move>
-    ensures { result ≡ named_hint kind hint }
+// How the moves of thinking lines are written.
+pub(crate) fn spelling_of(settings: Settings) -> Spelling
+    ensures { result ≡ spelling_of settings }
 {
-    match kind {
-        GoKind::Ponder => hint,
+    if settings.show_san {
+        Spelling::San
+    } else {
+        Spelling::Coordinates
+    }
+}
+
+// A thinking line of a Ponder search names the hint, which would be played in the present position.
+pub(crate) fn named_hint(kind: GoKind, game: &Game, hint: Option<Move>) -> Option<Pondered>
+    ensures { result ≡ named_hint kind game.now hint }
+{
+    match (kind, hint) {
+        (GoKind::Ponder, Some(hint)) => Some(Pondered {
+            before: *game.now(),
+            hint,
+        }),
         _ => None,
     }
 }
@@ -236,7 +267,10 @@ impl Desk {
         match message {
             IfaceMsg::Protover(_) => self.put_protover(is_boot(context.engine), out),
             IfaceMsg::Draw => put_offer(
-                plays(self.mode) && !has_ended(self.game.ended()) && context.accepts,
+                context.settings.handle_draws
+                    && plays(self.mode)
+                    && !has_ended(self.game.ended())
+                    && context.accepts,
                 out,
             ),
             IfaceMsg::Hint => put_hint(self.hint, out),
@@ -270,7 +304,7 @@ impl Desk {
         match kind {
             GoKind::Analyse => true,
             GoKind::Move => self.post,
-            GoKind::Ponder => self.post && context.show_ponder,
+            GoKind::Ponder => self.post && context.settings.show_ponder,
         }
     }
 

@@ -44,7 +44,7 @@ fn no_options(message: &IfaceMsg) -> Result<Option<Asked<'static>>, OptFault>
 }
 
 // The order that sets an option, or none if it is not set.
-fn set(answer: Result<Option<Asked<'_>>, OptFault>) -> Option<Setup<'_>>
+pub(crate) fn set(answer: Result<Option<Asked<'_>>, OptFault>) -> Option<Setup<'_>>
     ensures { option_map setup_seen result ≡ asked_by (answer_seen answer.entry) }
 {
     match answer {

@@ -49,7 +49,7 @@ fn same_side(a: Side, b: Side) -> bool
     }
 }
 
-fn is_move(call: Call) -> bool
+pub(crate) fn is_move(call: Call) -> bool
     ensures { result ≡ is_move call }
 {
     matches!(call, Call::Move)

@@ -2,7 +2,7 @@
 ghost use Rattle.std.specs.Prelude.{◌≡◌, IfOk};
 ghost use Rattle.desk_rules.specs.Desk.{opening_desk};
 
-use crate::{EngineName, Mode, Pings};
+use crate::{Early, EngineName, Mode, Pings};
 use chess_board::{Move, Side};
 use clock_map::Clocks;
 use feature_talk::Talk;
@@ -30,6 +30,8 @@ pub struct Desk {
     pub name: EngineName,
     /// Whether the feature list is due.
     pub due: Talk,
+    /// The settings that came before the options are known.
+    pub early: Early,
     /// What the open search reported.
     pub seen: Seen,
 }
@@ -51,6 +53,7 @@ impl Desk {
             booted: false,
             name: EngineName::new(),
             due: Talk::new(),
+            early: Early::make(alloc)?,
             seen: Seen::new(),
         })
     }

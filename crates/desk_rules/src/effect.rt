@@ -4,18 +4,20 @@ ghost use Rattle.search_epochs.specs.Tickets.{is_hurry};
 ghost use Rattle.search_epochs.specs.Dialogue.{mid_dialogue, played_of};
 ghost use Rattle.desk_rules.specs.Steps.{effect_of, what_of, is_boots, is_death, counts_after};
 
+use crate::Desk;
 use crate::change::clears_scores;
 use cecp_lines::{IfaceMsg, Reason};
 use chess_board::Move;
 use option_map::Setup;
 use peer_words::GoKind;
-use policy_rules::Scores;
+use policy_rules::{Scores, Settings};
 use search_epochs::{Dialogue, EngineState, Said};
 use uci_lines::{Info, OptionMsg};
 
 /// What is seen beside the desk when an event comes.
 #[derive(Clone, Copy)]
 pub struct Context {
+    pub settings: Settings,
     pub closed: bool,
     pub engine: EngineState,
     /// Whether the call was answered in this epoch.
@@ -24,8 +26,6 @@ pub struct Context {
     pub resigns: bool,
     /// Whether the policy accepts a draw.
     pub accepts: bool,
-    /// Whether thinking lines are shown while pondering.
-    pub show_ponder: bool,
 }
 
 /// Why a line of the interface is refused.
@@ -50,6 +50,8 @@ pub enum Effect<'a> {
     Refuses { refusal: Refusal, line: &'a [u8] },
     /// A line of the interface is obeyed.
     Accepts(IfaceMsg<'a>),
+    /// A setting of the interface is early, and waits.
+    Defers(&'a [u8]),
     /// The engine names itself.
     Names(&'a [u8]),
     Declares(OptionMsg<'a>),
@@ -73,8 +75,8 @@ pub enum Effect<'a> {
 pub enum Asks<'a> {
     /// What a line asks for, if it asks for anything.
     One(Option<Setup<'a>>),
-    /// What is set when the engine leaves Boot.
-    Two(Option<Setup<'a>>, Option<Setup<'a>>),
+    /// What is set when the engine leaves Boot: what the early lines of the desk ask for, and then pondering and analysis.
+    AtBoot(&'a Desk),
 }
 
 /// What is decided of an event, except what it asks for.

@@ -1,17 +1,18 @@
 // What comes of an event.
-ghost use Rattle.std.specs.Prelude.{◌≡◌, List};
+ghost use Rattle.std.specs.Prelude.{◌≡◌, List, Ok};
 ghost use Rattle.std.specs.Option.{option_map};
 ghost use Rattle.line_io.specs.Event.{event_of};
 ghost use Rattle.cecp_lines.specs.Messages.{message_of};
 ghost use Rattle.cecp_lines.specs.Reading.{reading};
-ghost use Rattle.cecp_lines.specs.Quit.{is_quit};
+ghost use Rattle.cecp_lines.specs.Quit.{is_quit, is_quit_message};
 ghost use Rattle.uci_lines.specs.Engine.{engine_message};
 ghost use Rattle.uci_lines.specs.Orders.{Order};
 ghost use Rattle.option_map.specs.Data.{setup_seen};
 ghost use Rattle.desk_rules.specs.declared.effect.Refusal.TheVariants as refusals;
 ghost use Rattle.desk_rules.specs.declared.effect.Context.{Context as AnyContext};
 ghost use Rattle.desk_rules.specs.Desk.{at, is_getting, current, owes_move};
-ghost use Rattle.desk_rules.specs.Lines.{verdict, is_epoch_line};
+ghost use Rattle.desk_rules.specs.Early.{is_setting, may_wait};
+ghost use Rattle.desk_rules.specs.Lines.{is_early, deferred, judged, refusal, verdict, is_epoch_line};
 ghost use Rattle.desk_rules.specs.Steps.{Refuses, effect_of, line_effect, shows, answers, engine_says, dies, classify, begins_epoch as epoch_begun, quits as event_quits};
 ghost use Rattle.desk_rules.specs.Orders.{orders_asked, asked_by_effect};
 ghost use Rattle.desk_rules.specs.Fits.{IsHintPlayable, IsNoLine, IsNoIfaceLine};
@@ -32,6 +33,18 @@ fn is_getting(engine: EngineState) -> bool
     ensures { result ≡ is_getting engine }
 {
     matches!(engine, EngineState::Getting)
+}
+
+fn is_setting(message: &IfaceMsg) -> bool
+    ensures { result ≡ is_setting (message_of message.now) }
+{
+    matches!(
+        message,
+        IfaceMsg::SetOption { name: _, value: _ }
+            | IfaceMsg::Memory(_)
+            | IfaceMsg::Cores(_)
+            | IfaceMsg::EgtPath { kind: _, path: _ }
+    )
 }
 
 // The kind of the open search, if it is current.
@@ -158,6 +171,26 @@ impl Desk {
         }
     }
 
+    // Whether a line sets an option while no option counts, and such lines are to wait.
+    fn is_early(&self, context: Context, message: &IfaceMsg) -> bool
+        ensures { result ≡ is_early (at context self.now) (message_of message.now) }
+    {
+        is_setting(message) && is_boot(context.engine) && context.settings.early_settings
+    }
+
+    // An early line waits, unless too many do.
+    fn defer<'l>(&self, line: &'l [u8]) -> Effect<'l>
+        ensures effect { effect_of result
+            ≡ line_effect (deferred (may_wait self.now.early line.now)) line.now }
+        ensures kind { IsNoLine (effect_of result) }
+    {
+        if self.early.fits(line) {
+            Effect::Defers(line)
+        } else {
+            refused(Reason::TooManySettings, line)
+        }
+    }
+
     // The decision by an effect that obeys no line.
     #[tactic(auto, unfolding(crate::specs::Orders::asked_by_effect))]
     fn decision<'l, 's>(&'s self, effect: Effect<'l>, quits: bool) -> Decision<'l, 's>
@@ -170,7 +203,7 @@ impl Desk {
         ensures quits { result.ruling.quits ≡ quits }
     {
         let asks = match effect {
-            Effect::Boots => Asks::Two(self.ponder_at_boot(), self.analysis_at_boot()),
+            Effect::Boots => Asks::AtBoot(self),
             _ => Asks::One(None),
         };
         let ruling = Ruling {
@@ -182,7 +215,7 @@ impl Desk {
     }
 
     // Decides what comes of a line of the interface in an open session.
-    #[tactic(auto, unfolding(crate::specs::Lines::verdict, crate::specs::Orders::asked_by_effect))]
+    #[tactic(auto, unfolding(crate::specs::Lines::verdict))]
     fn decide_line<'l: 's, 's>(
         &'s self,
         context: Context,
@@ -191,7 +224,8 @@ impl Desk {
     ) -> Decision<'l, 's>
         requires { IsHintPlayable self.now }
         ensures effect { effect_of result.ruling.effect
-            ≡ line_effect (verdict (at context self.now) held.now (reading line.now)) line.now }
+            ≡ line_effect (verdict (at context self.now) held.now line.now (reading line.now))
+            line.now }
         ensures asks { orders_asked result.asks
             ≡ asked_by_effect (at context self.now) (effect_of result.ruling.effect) }
         ensures epoch { result.ruling.begins_epoch
@@ -207,6 +241,31 @@ impl Desk {
                 return self.decision(refused(Reason::BadArgument, line), false);
             }
         };
+        if self.is_early(context, &message) {
+            return self.decision(self.defer(line), matches!(message, IfaceMsg::Quit));
+        }
+        self.decide_message(context, held, message, line)
+    }
+
+    // Decides what comes of a message that is not early, by its line.
+    #[tactic(auto, unfolding(crate::specs::Orders::asked_by_effect))]
+    fn decide_message<'l: 's, 's>(
+        &'s self,
+        context: Context,
+        held: &Held,
+        message: IfaceMsg<'l>,
+        line: &'l [u8],
+    ) -> Decision<'l, 's>
+        requires { IsHintPlayable self.now }
+        ensures effect { effect_of result.ruling.effect
+            ≡ line_effect (judged (message_of message.entry)
+            (refusal (at context self.now) held.now (message_of message.entry))) line.now }
+        ensures asks { orders_asked result.asks
+            ≡ asked_by_effect (at context self.now) (effect_of result.ruling.effect) }
+        ensures epoch { result.ruling.begins_epoch
+            ≡ epoch_begun (at context self.now) (effect_of result.ruling.effect) }
+        ensures quits { result.ruling.quits ≡ is_quit_message (Ok (message_of message.entry)) }
+    {
         let quits = matches!(message, IfaceMsg::Quit);
         let answer = self.asked(&message);
         let asks = self.asks(is_gone(context.engine), &message, answer);

@@ -10,7 +10,7 @@ ghost use Rattle.option_map.specs.Data.{setup_seen};
 ghost use Rattle.option_map.specs.Held.{with_orders, order_line};
 ghost use Rattle.search_epochs.specs.Tickets.{kind_of};
 ghost use Rattle.desk_rules.specs.Desk.{on_move, plies};
-ghost use Rattle.desk_rules.specs.Orders.{AllJoin, position_order, pondered, searched, search_orders, order_list};
+ghost use Rattle.desk_rules.specs.Orders.{AllJoin, asked_at_boot, position_order, pondered, searched, search_orders, order_list};
 ghost use Rattle.desk_rules.specs.Texts.{order_lines};
 ghost use Rattle.desk_rules.specs.Fits.{IsSound, CanSearch, CanWrite};
 ghost use Rattle.desk_rules.specs.declared.sizes.TheConstants.{GO_LINE, STEP_ORDERS, POSITION_LINE};
@@ -47,12 +47,24 @@ fn pondered(call: Call) -> Option<Move>
 }
 
 // Holds what is asked for, if anything is.
-fn hold(asked: Option<Setup>, held: &mut Held)
+pub(crate) fn hold(asked: Option<Setup>, held: &mut Held)
     requires { AllJoin held.old (option_to_list (option_map setup_seen asked)) }
     ensures { held.new ≡ with_orders held.old (option_to_list (option_map setup_seen asked.entry)) }
 {
     if let Some(order) = asked {
         held.add_order(order);
+    }
+}
+
+impl Desk {
+    // Holds what is asked for when Boot is left.
+    fn hold_at_boot(&self, held: &mut Held)
+        requires { AllJoin held.old (asked_at_boot self.now) }
+        ensures { held.new ≡ with_orders held.old (asked_at_boot self.now) }
+    {
+        self.early.hold_all(&self.options, held);
+        hold(self.ponder_at_boot(), held);
+        hold(self.analysis_at_boot(), held);
     }
 }
 
@@ -66,10 +78,7 @@ impl Asks<'_> {
     {
         match self {
             Asks::One(order) => hold(*order, held),
-            Asks::Two(first, second) => {
-                hold(*first, held);
-                hold(*second, held);
-            }
+            Asks::AtBoot(desk) => desk.hold_at_boot(held),
         }
     }
 }

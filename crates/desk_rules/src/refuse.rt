@@ -18,6 +18,7 @@ use chess_board::Move;
 use fen_text::read_fen;
 use game_record::Game;
 use option_map::{Asked, Held, OptFault, Setup};
+use policy_rules::Settings;
 
 /// Whether a move is legal now.
 pub(crate) fn is_legal(game: &Game, m: Move) -> bool
@@ -32,13 +33,14 @@ fn because(reason: Reason) -> Option<Refusal>
     Some(Refusal::Because(reason))
 }
 
-fn needs_engine(message: &IfaceMsg) -> bool
-    ensures { result ≡ needs_engine (message_of message.now) }
+fn needs_engine(settings: Settings, message: &IfaceMsg) -> bool
+    ensures { result ≡ needs_engine settings (message_of message.now) }
 {
-    matches!(
-        message,
-        IfaceMsg::Go | IfaceMsg::PlayOther | IfaceMsg::Analyze
-    )
+    match message {
+        IfaceMsg::Go | IfaceMsg::PlayOther => !settings.resign_when_gone,
+        IfaceMsg::Analyze => true,
+        _ => false,
+    }
 }
 
 fn needs_analysis(message: &IfaceMsg) -> bool
@@ -146,7 +148,7 @@ impl Desk {
             ≡ asks_for (is_gone context.engine) self.now (message_of message.now) }
         ensures { result ≡ refusal (at context self.now) held.now (message_of message.now) }
     {
-        if needs_engine(message) && is_gone(context.engine) {
+        if needs_engine(context.settings, message) && is_gone(context.engine) {
             return because(Reason::EngineEnded);
         }
         if needs_analysis(message) && !analyses(self.mode) {

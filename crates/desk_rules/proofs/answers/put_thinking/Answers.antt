@@ -7,13 +7,13 @@ use Rattle.desk_rules.proofs.answers.put_thinking.Goals as goal
 pub thinking-requires-clause-room : goal.thinking-requires-clause-room
 thinking-requires-clause-room c =
     let facts = info_of c.args.info.now in
-    thought_room c.args.out.now (thinking_line facts c.args.at.now c.args.hint) (thinking_le facts c.args.at.now c.args.hint c.requires.said) c.requires.room
+    thought_room c.args.out.now (thinking_line c.args.spelling facts c.args.at.now c.args.hint) (thinking_le c.args.spelling facts c.args.at.now c.args.hint c.requires.hint c.requires.said) c.requires.room
 
 pub put-requires : goal.put-requires
 put-requires c =
     let facts = info_of c.args.info.now in
-    feed_room c.args.out.now c.thinking.new.out (thinking_line facts c.args.at.now c.args.hint) c.thinking.ensures.text (sym c.thinking.ensures.there ∙ c.if-thinking.true)
-    (thinking_le facts c.args.at.now c.args.hint c.requires.said) c.requires.room
+    feed_room c.args.out.now c.thinking.new.out (thinking_line c.args.spelling facts c.args.at.now c.args.hint) c.thinking.ensures.text (sym c.thinking.ensures.there ∙ c.if-thinking.true)
+    (thinking_le c.args.spelling facts c.args.at.now c.args.hint c.requires.hint c.requires.said) c.requires.room
 
 pub returns-then-thinking-clause-short : goal.returns-then-thinking-clause-short
-returns-then-thinking-clause-short c = thinking_le (info_of c.args.info.now) c.args.at.now c.args.hint c.requires.said
+returns-then-thinking-clause-short c = thinking_le c.args.spelling (info_of c.args.info.now) c.args.at.now c.args.hint c.requires.hint c.requires.said

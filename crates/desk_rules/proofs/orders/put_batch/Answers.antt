@@ -1,4 +1,4 @@
-use Rattle.std.proofs.Common.{ℕ, List, [], ◌∷◌, ◌++◌, length, ap, sym, ◌∙◌, arith, length-append, append_assoc}
+use Rattle.std.proofs.Common.{ℕ, List, ◌++◌, length, ap, ◌∙◌, arith, length-append, append_assoc}
 use Rattle.std.specs.Prelude.{codes}
 use Rattle.line_io.specs.Out.{Text, with}
 use Rattle.option_map.specs.Held.{batch_text}

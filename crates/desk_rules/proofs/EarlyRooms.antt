@@ -1,0 +1,51 @@
+-- How long the refusals of early lines are.
+use Rattle.std.proofs.Common.{◌≡◌, ℕ, ◌+◌, ◌*◌, ◌≤◌, List, [], ◌∷◌, ◌++◌, length, codes, true, Result, Ok, Err, Option, ap, arith, length-append}
+use Rattle.peer_words.specs.Tokens.{trimmed}
+use Rattle.peer_words.proofs.Lengths.{trimmed_length}
+use Rattle.cecp_lines.specs.Replies.{reply_text}
+use Rattle.cecp_lines.specs.Replies as told
+use Rattle.cecp_lines.specs.declared.reply.Reason.TheVariants as reasons
+use Rattle.uci_lines.specs.Orders.{Order}
+use Rattle.option_map.specs.declared.fault.OptFault.{OptFault}
+use Rattle.option_map.specs.declared.fault.OptFault.TheVariants.{UnknownOption, BadValue}
+use Rattle.option_map.specs.Settings.{Setting}
+use Rattle.feature_talk.specs.Features.{reply_line, reply_lines}
+use Rattle.desk_rules.specs.declared.desk.Desk.{Desk}
+use Rattle.desk_rules.specs.Early.{fed, AreEarly}
+use Rattle.desk_rules.specs.Lines.{refused_option, early_answer}
+use Rattle.desk_rules.specs.Replies.{early_refusal, early_refusals, list_where, boot_row}
+use Rattle.desk_rules.proofs.Rooms.{lines-one, lines-append}
+use Rattle.desk_rules.proofs.EarlyLines.{fed_first}
+
+behind : (front line : List ℕ) → length ((front ++ trimmed line) ++ 10 ∷ []) ≤ length front + length line + 1
+behind front line = omega (arith, length-append (front ++ trimmed line) (10 ∷ []), length-append front (trimmed line), trimmed_length line)
+
+unknown_le : (line : List ℕ) → length (reply_lines (told.Error reasons.UnknownOption (trimmed line) ∷ [])) ≤ 64 + length line
+unknown_le line = omega (arith, ap length (lines-one (told.Error reasons.UnknownOption (trimmed line))), behind (codes "Error (" ++ codes "unknown option" ++ codes "): ") line)
+
+bad_le : (line : List ℕ) → length (reply_lines (told.Error reasons.BadValue (trimmed line) ∷ [])) ≤ 64 + length line
+bad_le line = omega (arith, ap length (lines-one (told.Error reasons.BadValue (trimmed line))), behind (codes "Error (" ++ codes "bad value" ++ codes "): ") line)
+
+refusal_le : (a : Result (Option Order) OptFault) (line : List ℕ) → length (reply_lines (early_refusal (refused_option a) line)) ≤ 64 + length line
+refusal_le (Ok order) line = omega arith
+refusal_le (Err UnknownOption) line = unknown_le line
+refusal_le (Err BadValue) line = bad_le line
+
+pub refusals_le : (os : List Setting) (lines : List (List ℕ)) → length (reply_lines (early_refusals os lines)) ≤ length (fed lines) + 64 * length lines
+refusals_le os [] = omega arith
+refusals_le os (line ∷ lines) =
+    let first = early_refusal (refused_option (early_answer os line)) line in
+    omega (
+      arith,
+      ap length (lines-append first (early_refusals os lines)),
+      length-append (reply_lines first) (reply_lines (early_refusals os lines)),
+      refusal_le (early_answer os line) line,
+      refusals_le os lines,
+      fed_first line lines,
+    )
+
+pub boot_le : (d : Desk) → AreEarly d.early → length (reply_lines (list_where d.due (record d { booted = true }))) ≤ 67000 → length (reply_lines (boot_row d)) ≤ 115768
+boot_le d a h =
+    let list = list_where d.due (record d { booted = true }) in
+    let refused = early_refusals d.options d.early in
+    omega (arith, ap length (lines-append list refused), length-append (reply_lines list) (reply_lines refused), refusals_le d.options d.early, a.few, a.short, h)

@@ -1,0 +1,13 @@
+use Rattle.std.proofs.Common.{◌≡◌, length}
+use Rattle.line_io.specs.Lines.{parts}
+use Rattle.line_io.specs.Out.{with}
+use Rattle.feature_talk.specs.Features.{reply_lines}
+use Rattle.desk_rules.specs.Replies.{early_refusals}
+use Rattle.desk_rules.proofs.early.put_lines.Given as goal
+
+abbrev pub invariant-loop-line : goal.invariant-loop-line
+invariant-loop-line l =
+    with l.out (reply_lines (early_refusals l.options (parts l.others))) ≡ with l.fn.out (reply_lines (early_refusals l.options (parts l.text)))
+
+abbrev pub decreases-loop-line : goal.decreases-loop-line
+decreases-loop-line l = length (parts l.others)
