@@ -22,17 +22,18 @@ use Rattle.desk_rules.specs.declared.effect.Refusal.{Refusal}
 use Rattle.desk_rules.specs.declared.effect.Refusal.TheVariants as refusals
 use Rattle.desk_rules.specs.declared.desk.Desk.{Desk}
 use Rattle.desk_rules.specs.Desk.{Situation, table, plays, has_ended, is_gone, is_boot, owes_move, owed_at, call_of, call_before}
-use Rattle.desk_rules.specs.Lines.{verdict, judged, asks, or_else, where_true, refused_option, does_not_fit, refusal, change}
-use Rattle.desk_rules.specs.Steps.{Effect, Nothing, LongLine, Refuses, Accepts, Boots, Thinks, Shows, Dies, classify, line_effect, desk_after_effect, answers_pings, is_death}
-use Rattle.desk_rules.specs.Replies.{row, row_accepted, result_of, result_at, offer_where, hint_row, replies_of}
+use Rattle.desk_rules.specs.Early.{is_setting, may_wait}
+use Rattle.desk_rules.specs.Lines.{verdict, judged, is_early, deferred, asks, or_else, where_true, refused_option, does_not_fit, refusal, change}
+use Rattle.desk_rules.specs.Steps.{Effect, Nothing, LongLine, Refuses, Accepts, Defers, Boots, Thinks, Shows, Dies, classify, line_effect, desk_after_effect, answers_pings, is_death}
+use Rattle.desk_rules.specs.Replies.{row, row_accepted, result_of, result_at, resign_where, offer_where, draw_row, hint_row, replies_of}
 use Rattle.desk_rules.proofs.Firsts.{no_table}
 use Rattle.adapter_core.specs.Ends.{ends_after}
 use Rattle.adapter_core.specs.Trace.{State, Step, IsLawful, Lawful, state, state_after, situation, effect, owing, closed_after, desk_of, replies}
 use Rattle.adapter_core.specs.Alone.{Commanded, commanded, Alone, lone_situation, lone_effect, lone_owes, lone_after, lone_replies, alone, is_of_iface, iface_events, is_answer, is_overfull, tells_of_engine, IsWithoutSay, DeskIsAlone, IsApartFromEngine, RepliesAreAlone}
 use Rattle.adapter_core.proofs.Fresh.{calls_move, call_is}
 use Rattle.adapter_core.proofs.Traces.{Lasts, lasts, gone_is, owed_is}
-use Rattle.adapter_core.proofs.Commands.{alike_changed, is_setting, setting_changes, plain_option, refused_by, option_refusal, fit_refusal, refusal_is, is_full_refusal, unfilled, lone_fits}
-use Rattle.adapter_core.proofs.Sides.{IsIfaceDeed, iface_effect, no_death, no_answer, no_hint, no_scores, still_unbooted, IsQuietDeed, quiet_desk, engine_effect, closed_same, closed_still, or_no, kept_pings, answered}
+use Rattle.adapter_core.proofs.Commands.{alike_changed, setting_changes, plain_option, refused_by, option_refusal, fit_refusal, refusal_is, is_full_refusal, unfilled, lone_fits}
+use Rattle.adapter_core.proofs.Sides.{IsIfaceDeed, iface_effect, no_death, no_answer, no_hint, no_scores, still_unbooted, IsQuietDeed, quiet_desk, engine_effect, closed_same, closed_still, or_no, kept_pings, given_up, no_resigner, answered}
 
 -- TWO THAT STAND ALIKE
 
@@ -40,6 +41,7 @@ use Rattle.adapter_core.proofs.Sides.{IsIfaceDeed, iface_effect, no_death, no_an
 abbrev IsIdleDeed : Effect → Type 0
 IsIdleDeed (Refuses r line) = Unit {0}
 IsIdleDeed (Accepts m) = is_setting m ≡ true
+IsIdleDeed (Defers line) = Unit {0}
 IsIdleDeed d = ⊥
 
 data Pair (d x : Effect) : Type 0 where
@@ -58,6 +60,23 @@ record Alike (o : Settings) (s : State) (a : Alone) : Type 0 where
 idle_judged : (m : IfaceMsg) (o : Option Refusal) (line : List ℕ) → is_setting m ≡ true → IsIdleDeed (line_effect (judged m o) line)
 idle_judged m None line p = p
 idle_judged m (Some r) line p = tt
+
+early_idle : (b w : Bool) (m : IfaceMsg) (o : Option Refusal) (line : List ℕ) → is_setting m ≡ true → IsIdleDeed (line_effect (cond b (deferred w) (judged m o)) line)
+early_idle true true m o line p = tt
+early_idle true false m o line p = tt
+early_idle false w m o line p = idle_judged m o line p
+
+-- what is deferred tells of the engine
+early_tells : (b w : Bool) (m : IfaceMsg) (o : Option Refusal) (line : List ℕ)
+    → (is_overfull (line_effect (judged m o) line) ≡ false → tells_of_engine (line_effect (judged m o) line) ≡ false → ⊥)
+    → is_overfull (line_effect (cond b (deferred w) (judged m o)) line) ≡ false → tells_of_engine (line_effect (cond b (deferred w) (judged m o)) line) ≡ false → ⊥
+early_tells true true m o line f n t = cc
+early_tells true false m o line f n t = cc
+early_tells false w m o line f n t = f n t
+
+-- a line that sets no option is not early
+not_early : (h : Situation) (m : IfaceMsg) → is_setting m ≡ false → is_early h m ≡ false
+not_early h m p = ap (λ (b : Bool). b && is_boot h.engine && h.settings.early_settings) p
 
 tells_setting : (m : IfaceMsg) → is_setting m ≡ true → tells_of_engine (Accepts m) ≡ true
 tells_setting (says.SetOption name value) p = refl
@@ -99,6 +118,7 @@ owed_unspent false c f = refl
 idle_desk : (h : Situation) (d : Effect) → IsIdleDeed d → commanded (desk_after_effect h d) ≡ commanded h.desk
 unfolding desk_after_effect
 idle_desk h (Refuses r line) i = refl
+idle_desk h (Defers line) i = refl
 idle_desk h (Accepts m) i = ap commanded (setting_changes (is_boot h.engine) h.desk m i)
 idle_desk h d i = absurd i
 
@@ -114,14 +134,15 @@ calls_alike closed closed' gone gone' d d' c g e =
 
 -- REFUSALS ALIKE
 
-refused_alike : (gone gone' owes owes' : Bool) (d d' : Desk) (option option' fit fit' : Option Refusal) (m : IfaceMsg) → gone ≡ gone' → owes ≡ owes' → commanded d ≡ commanded d' → option ≡ option' → fit ≡ fit'
-    → refused_by gone d.game d.mode d.pings owes option fit m ≡ refused_by gone' d'.game d'.mode d'.pings owes' option' fit' m
-refused_alike gone gone' owes owes' d d' option option' fit fit' m g w e p f =
-    ap (λ (b : Bool). refused_by b d.game d.mode d.pings owes option fit m) g
-    ∙ ap (λ (b : Bool). refused_by gone' d.game d.mode d.pings b option fit m) w
-    ∙ ap (λ (c : Commanded). refused_by gone' c.game c.mode c.pings owes' option fit m) e
-    ∙ ap (λ (r : Option Refusal). refused_by gone' d'.game d'.mode d'.pings owes' r fit m) p
-    ∙ ap (λ (r : Option Refusal). refused_by gone' d'.game d'.mode d'.pings owes' option' r m) f
+refused_alike : (o o' : Settings) (gone gone' owes owes' : Bool) (d d' : Desk) (option option' fit fit' : Option Refusal) (m : IfaceMsg) → o ≡ o' → gone ≡ gone' → owes ≡ owes' → commanded d ≡ commanded d' → option ≡ option' → fit ≡ fit'
+    → refused_by o gone d.game d.mode d.pings owes option fit m ≡ refused_by o' gone' d'.game d'.mode d'.pings owes' option' fit' m
+refused_alike o o' gone gone' owes owes' d d' option option' fit fit' m s g w e p f =
+    ap (λ (x : Settings). refused_by x gone d.game d.mode d.pings owes option fit m) s
+    ∙ ap (λ (b : Bool). refused_by o' b d.game d.mode d.pings owes option fit m) g
+    ∙ ap (λ (b : Bool). refused_by o' gone' d.game d.mode d.pings b option fit m) w
+    ∙ ap (λ (c : Commanded). refused_by o' gone' c.game c.mode c.pings owes' option fit m) e
+    ∙ ap (λ (r : Option Refusal). refused_by o' gone' d'.game d'.mode d'.pings owes' r fit m) p
+    ∙ ap (λ (r : Option Refusal). refused_by o' gone' d'.game d'.mode d'.pings owes' option' r m) f
 
 module _ (o : Settings) (s : State) (a : Alone) (holds : Lasts s) (alike : Alike o s a) (there : is_gone (situation s).engine ≡ false) where
   abbrev h : Situation
@@ -140,24 +161,37 @@ module _ (o : Settings) (s : State) (a : Alone) (holds : Lasts s) (alike : Alike
   refusal_alike m p n =
       let unfit = does_not_fit held (asks (is_gone h.engine) h.desk m) in
       let is = refusal_is h held m in
-      let n' : is_full_refusal (refused_by (is_gone h.engine) h.desk.game h.desk.mode h.desk.pings (owes_move h) (option_refusal h m) (fit_refusal h held m) m) ≡ false = ap is_full_refusal (sym is) ∙ n in
+      let n' : is_full_refusal (refused_by s.settings (is_gone h.engine) h.desk.game h.desk.mode h.desk.pings (owes_move h) (option_refusal h m) (fit_refusal h held m) m) ≡ false = ap is_full_refusal (sym is) ∙ n in
       is
-      ∙ unfilled (is_gone h.engine) h.desk.game h.desk.mode h.desk.pings (owes_move h) (option_refusal h m) unfit m n'
-      ∙ refused_alike (is_gone h.engine) false (owes_move h) (owes_move g) s.desk a.desk (option_refusal h m) (option_refusal g m) None (fit_refusal g [] m) m there owes_alike alike.parts
+      ∙ unfilled s.settings (is_gone h.engine) h.desk.game h.desk.mode h.desk.pings (owes_move h) (option_refusal h m) unfit m n'
+      ∙ refused_alike s.settings o (is_gone h.engine) false (owes_move h) (owes_move g) s.desk a.desk (option_refusal h m) (option_refusal g m) None (fit_refusal g [] m) m alike.settings there owes_alike alike.parts
       (plain_option (table h.desk) m p ∙ sym (plain_option (table g.desk) m p))
       (ap (λ (b : Bool). where_true b reasons.TooManySettings) (sym (lone_fits a.desk m (no_table a.desk.booted a.desk.options alike.unbooted) p)))
       ∙ sym (refusal_is g [] m)
 
-  judged_pair : (m : IfaceMsg) (line : List ℕ) (b : Bool) → is_setting m ≡ b → is_overfull (line_effect (judged m (refusal h held m)) line) ≡ false
-      → Pair (line_effect (judged m (refusal h held m)) line) (line_effect (judged m (refusal g [] m)) line)
-  judged_pair m line false p n = Equal (ap (λ (r : Option Refusal). line_effect (judged m r) line) (refusal_alike m p (full_effect m (refusal h held m) line n)))
+  -- the verdict on a message, by whether it is early
+  abbrev by_early : Bool → IfaceMsg → List ℕ → Effect
+  by_early b m line = line_effect (cond b (deferred (may_wait h.desk.early line)) (judged m (refusal h held m))) line
+
+  abbrev lone_early : Bool → IfaceMsg → List ℕ → Effect
+  lone_early b m line = line_effect (cond b (deferred (may_wait g.desk.early line)) (judged m (refusal g [] m))) line
+
+  judged_pair : (m : IfaceMsg) (line : List ℕ) (b : Bool) → is_setting m ≡ b → is_overfull (by_early (is_early h m) m line) ≡ false → Pair (by_early (is_early h m) m line) (lone_early (is_early g m) m line)
+  judged_pair m line false p n =
+      let here = not_early h m p in
+      let full : is_overfull (line_effect (judged m (refusal h held m)) line) ≡ false = ap (λ (b : Bool). is_overfull (by_early b m line)) (sym here) ∙ n in
+      Equal
+      (ap (λ (b : Bool). by_early b m line) here
+      ∙ ap (λ (r : Option Refusal). line_effect (judged m r) line) (refusal_alike m p (full_effect m (refusal h held m) line full))
+      ∙ sym (ap (λ (b : Bool). lone_early b m line) (not_early g m p)))
   judged_pair m line true p n =
       let r = setting_refusal h held m p in
-      Idle (idle_judged m (refusal h held m) line p) (idle_judged m (refusal g [] m) line p)
-      (λ t. tells_judged m (asked (table h.desk) m) (does_not_fit held (asks (is_gone h.engine) h.desk m)) line p
-      (ap (λ (x : Option Refusal). is_overfull (line_effect (judged m x) line)) (sym r) ∙ n) (ap (λ (x : Option Refusal). tells_of_engine (line_effect (judged m x) line)) (sym r) ∙ t))
+      Idle (early_idle (is_early h m) (may_wait h.desk.early line) m (refusal h held m) line p) (early_idle (is_early g m) (may_wait g.desk.early line) m (refusal g [] m) line p)
+      (early_tells (is_early h m) (may_wait h.desk.early line) m (refusal h held m) line
+      (λ f t. tells_judged m (asked (table h.desk) m) (does_not_fit held (asks (is_gone h.engine) h.desk m)) line p
+      (ap (λ (x : Option Refusal). is_overfull (line_effect (judged m x) line)) (sym r) ∙ f) (ap (λ (x : Option Refusal). tells_of_engine (line_effect (judged m x) line)) (sym r) ∙ t)) n)
 
-  line_pair : (line : List ℕ) (r : Result IfaceMsg IfaceFault) → is_overfull (line_effect (verdict h held r) line) ≡ false → Pair (line_effect (verdict h held r) line) (line_effect (verdict g [] r) line)
+  line_pair : (line : List ℕ) (r : Result IfaceMsg IfaceFault) → is_overfull (line_effect (verdict h held line r) line) ≡ false → Pair (line_effect (verdict h held line r) line) (line_effect (verdict g [] line r) line)
   unfolding verdict
   line_pair line (Err faults.UnknownCommand) n = Equal refl
   line_pair line (Err faults.BadArgument) n = Equal refl
@@ -179,6 +213,7 @@ module _ (o : Settings) (s : State) (a : Alone) (holds : Lasts s) (alike : Alike
   alike_effect Nothing i = alike.parts
   alike_effect LongLine i = alike.parts
   alike_effect (Refuses r line) i = alike.parts
+  alike_effect (Defers line) i = alike.parts
   alike_effect d i = absurd i
 
   pair_desk : (d x : Effect) → IsIfaceDeed d → Pair d x → commanded (desk_after_effect h d) ≡ commanded (desk_after_effect g x)
@@ -190,11 +225,11 @@ module _ (o : Settings) (s : State) (a : Alone) (holds : Lasts s) (alike : Alike
   result_alike : (m : IfaceMsg) → result_at (change false h.desk m) ≡ result_at (change false g.desk m)
   result_alike m = ap (λ (c : Commanded). cond (plays c.mode) (result_of c.game) []) (alike_changed false false s.desk a.desk m alike.parts)
 
-  offer_alike : offer_where (plays s.desk.mode && not (has_ended s.desk.game) && h.accepts) ≡ offer_where (plays a.desk.mode && not (has_ended a.desk.game) && g.accepts)
+  offer_alike : draw_row h ≡ draw_row g
   offer_alike =
-      ap (λ (c : Commanded). offer_where (plays c.mode && not (has_ended c.game) && h.accepts)) alike.parts
-      ∙ ap (λ (x : Settings). offer_where (plays a.desk.mode && not (has_ended a.desk.game) && does_accept x s.scores)) alike.settings
-      ∙ ap (λ (xs : List Score). offer_where (plays a.desk.mode && not (has_ended a.desk.game) && does_accept o xs)) alike.scores
+      ap (λ (c : Commanded). offer_where (s.settings.handle_draws && plays c.mode && not (has_ended c.game) && h.accepts)) alike.parts
+      ∙ ap (λ (x : Settings). offer_where (x.handle_draws && plays a.desk.mode && not (has_ended a.desk.game) && does_accept x s.scores)) alike.settings
+      ∙ ap (λ (xs : List Score). offer_where (o.handle_draws && plays a.desk.mode && not (has_ended a.desk.game) && does_accept o xs)) alike.scores
 
   accepted_alike : (m : IfaceMsg) → tells_of_engine (Accepts m) ≡ false → row_accepted h m ≡ row_accepted g m
   unfolding row_accepted
@@ -253,11 +288,18 @@ module _ (o : Settings) (s : State) (a : Alone) (holds : Lasts s) (alike : Alike
       owed_alike : owes ≡ lone_owes o a e
       owed_alike = owed_is s step holds l ∙ calls_alike (closed_after s e) closed_then (is_gone h.engine || is_death d) (is_death x) (desk_after_effect h d) (desk_after_effect g x) closed_alike gone_alike desk_alike
 
+      still_here : (is_gone h.engine || is_death d) ≡ false
+      still_here = ap (λ (b : Bool). b || is_death d) there ∙ no_death d of_iface
+
       iface_parts : commanded (desk_of s e) ≡ commanded (lone_after o a e).desk
       iface_parts =
-          ap (answered (answers_pings (closed_after s e) owes)) desk_alike
+          ap (λ (b : Bool). answered (answers_pings (closed_after s e) owes) (given_up b (commanded (desk_after_effect h d))))
+          (no_resigner s.settings.resign_when_gone (is_gone h.engine || is_death d) (is_move (call_of (closed_after s e) false (desk_after_effect h d))) still_here)
+          ∙ ap (answered (answers_pings (closed_after s e) owes)) desk_alike
           ∙ ap (λ (b : Bool). answered (answers_pings b owes) (commanded (desk_after_effect g x))) closed_alike
           ∙ ap (λ (b : Bool). answered (answers_pings closed_then b) (commanded (desk_after_effect g x))) owed_alike
+          ∙ sym (ap (λ (b : Bool). answered (answers_pings closed_then (lone_owes o a e)) (given_up b (commanded (desk_after_effect g x))))
+          (no_resigner o.resign_when_gone (is_death x) (is_move (call_of closed_then false (desk_after_effect g x))) (no_death x of_lone)))
 
       iface_alike : Alike o (state_after s step) (lone_after o a e)
       iface_alike = record {
@@ -274,8 +316,12 @@ module _ (o : Settings) (s : State) (a : Alone) (holds : Lasts s) (alike : Alike
       equal_replies q t =
           ap (λ (b : Bool). replies_of b owes h d) closed_alike
           ∙ ap (λ (b : Bool). replies_of closed_then b h d) owed_alike
-          ∙ ap (λ (rows : List Reply). cond closed_then [] (rows ++ cond (lone_owes o a e) [] (map reply.Pong (desk_after_effect h d).pings))) (row_alike d of_iface t)
-          ∙ ap (λ (c : Commanded). cond closed_then [] (row g d ++ cond (lone_owes o a e) [] (map reply.Pong c.pings))) (alike_effect d of_iface)
+          ∙ ap (λ (b : Bool). cond closed_then [] (row h d ++ resign_where b ++ cond (lone_owes o a e) [] (map reply.Pong (desk_after_effect h d).pings)))
+          (no_resigner s.settings.resign_when_gone (is_gone h.engine || is_death d) (is_move (call_of closed_then false (desk_after_effect h d))) still_here)
+          ∙ ap (λ (rows : List Reply). cond closed_then [] (rows ++ [] ++ cond (lone_owes o a e) [] (map reply.Pong (desk_after_effect h d).pings))) (row_alike d of_iface t)
+          ∙ ap (λ (c : Commanded). cond closed_then [] (row g d ++ [] ++ cond (lone_owes o a e) [] (map reply.Pong c.pings))) (alike_effect d of_iface)
+          ∙ sym (ap (λ (b : Bool). cond closed_then [] (row g d ++ resign_where b ++ cond (lone_owes o a e) [] (map reply.Pong (desk_after_effect g d).pings)))
+          (no_resigner o.resign_when_gone (is_death d) (is_move (call_of closed_then false (desk_after_effect g d))) (no_death d of_iface)))
           ∙ ap (λ (y : Effect). replies_of closed_then (lone_owes o a e) g y) q
 
     iface_replies : is_of_iface e ≡ true → Pair d x → tells_of_engine d ≡ false → replies s e ≡ lone_replies o a e
@@ -295,7 +341,9 @@ module _ (o : Settings) (s : State) (a : Alone) (holds : Lasts s) (alike : Alike
 
       engine_parts : commanded (desk_of s e) ≡ commanded s.desk
       engine_parts =
-          ap (answered (answers_pings (closed_after s e) owes)) (quiet_desk h d quiet)
+          ap (λ (b : Bool). answered (answers_pings (closed_after s e) owes) (given_up b (commanded (desk_after_effect h d))))
+          (no_resigner s.settings.resign_when_gone (is_gone h.engine || is_death d) (is_move (call_of (closed_after s e) false (desk_after_effect h d))) (or_no (is_gone h.engine) (is_death d) m ∙ there))
+          ∙ ap (answered (answers_pings (closed_after s e) owes)) (quiet_desk h d quiet)
           ∙ ap (λ (ps : List ℕ). let c : Commanded = record (commanded s.desk) { pings = ps } in c) (kept_pings (closed_after s e) owes s.desk.pings quiet_before)
 
       engine_alike : Alike o (state_after s step) a

@@ -69,7 +69,7 @@ unfolding is_epoch_line
 quit_rises h line None = refl
 quit_rises h line (Some r) = refl
 
-line_rises : (h : Situation) (held : List Order) (line : List ℕ) (r : Result IfaceMsg IfaceFault) → is_quit_message r ≡ true → begins_epoch h (line_effect (verdict h held r) line) ≡ false
+line_rises : (h : Situation) (held : List Order) (line : List ℕ) (r : Result IfaceMsg IfaceFault) → is_quit_message r ≡ true → begins_epoch h (line_effect (verdict h held line r) line) ≡ false
 unfolding verdict
 line_rises h held line (Err faults.UnknownCommand) q = cc
 line_rises h held line (Err faults.BadArgument) q = cc
@@ -77,7 +77,7 @@ line_rises h held line (Ok says.Quit) q = quit_rises h line (refusal h held says
 line_rises h held line (Ok m) q = cc
 
 either_rises : (h : Situation) (held : List Order) (b q : Bool) (line : List ℕ) (r : Result IfaceMsg IfaceFault) → is_quit_message r ≡ q → (b || q) ≡ true
-    → begins_epoch h (cond b Nothing (line_effect (verdict h held r) line)) ≡ false
+    → begins_epoch h (cond b Nothing (line_effect (verdict h held line r) line)) ≡ false
 either_rises h held true q line r e c = refl
 either_rises h held false true line r e c = line_rises h held line r e
 either_rises h held false false line r e c = cc
@@ -114,7 +114,7 @@ quit_closes : (line : List ℕ) (r : Option Refusal) → Closes (line_effect (ju
 quit_closes line None = tt
 quit_closes line (Some r) = tt
 
-line_closes : (h : Situation) (held : List Order) (line : List ℕ) (r : Result IfaceMsg IfaceFault) → is_quit_message r ≡ true → Closes (line_effect (verdict h held r) line)
+line_closes : (h : Situation) (held : List Order) (line : List ℕ) (r : Result IfaceMsg IfaceFault) → is_quit_message r ≡ true → Closes (line_effect (verdict h held line r) line)
 unfolding verdict
 line_closes h held line (Err faults.UnknownCommand) q = cc
 line_closes h held line (Err faults.BadArgument) q = cc
@@ -125,7 +125,7 @@ cond_closes : (b : Bool) (d : Effect) → b ≡ true → Closes (cond b Nothing 
 cond_closes true d e = tt
 cond_closes false d e = cc
 
-either_closes : (h : Situation) (held : List Order) (b q : Bool) (line : List ℕ) (r : Result IfaceMsg IfaceFault) → is_quit_message r ≡ q → (b || q) ≡ true → Closes (cond b Nothing (line_effect (verdict h held r) line))
+either_closes : (h : Situation) (held : List Order) (b q : Bool) (line : List ℕ) (r : Result IfaceMsg IfaceFault) → is_quit_message r ≡ q → (b || q) ≡ true → Closes (cond b Nothing (line_effect (verdict h held line r) line))
 either_closes h held true q line r e c = tt
 either_closes h held false true line r e c = line_closes h held line r e
 either_closes h held false false line r e c = cc

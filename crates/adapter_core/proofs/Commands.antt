@@ -7,11 +7,13 @@ use Rattle.uci_lines.specs.Orders.{Order, order_text}
 use Rattle.game_record.specs.Game.{Game, begun}
 use Rattle.option_map.specs.Settings.{Setting}
 use Rattle.option_map.specs.Asked.{asked}
+use Rattle.policy_rules.specs.declared.settings.Settings.{Settings}
 use Rattle.desk_rules.specs.declared.mode.Mode.{Mode}
 use Rattle.desk_rules.specs.declared.effect.Refusal.{Refusal}
 use Rattle.desk_rules.specs.declared.effect.Refusal.TheVariants as refusals
 use Rattle.desk_rules.specs.declared.desk.Desk.{Desk}
 use Rattle.desk_rules.specs.Desk.{Situation, opening_desk, table, analyses, is_gone, owes_move, ponder_name, analyse_name}
+use Rattle.desk_rules.specs.Early.{is_setting}
 use Rattle.desk_rules.specs.Lines.{asks, asks_for_mode, or_else, where_true, needs_engine, needs_analysis, lacks_moves, illegal_move, move_too_many, illegal_position, refused_option, does_not_fit, pings_too_often, refusal, at_position, change}
 use Rattle.desk_rules.proofs.Firsts.{tells_none}
 use Rattle.adapter_core.specs.Alone.{Commanded, commanded}
@@ -37,15 +39,7 @@ alike_changed boot boot' d d' m e = changed boot d m ∙ ap (λ (c : Commanded).
 
 -- SETTINGS
 
--- the messages that set options
-abbrev pub is_setting : IfaceMsg → Bool
-is_setting (says.SetOption name value) = true
-is_setting (says.Memory n) = true
-is_setting (says.Cores n) = true
-is_setting (says.EgtPath kind path) = true
-is_setting m = false
-
--- change nothing
+-- the messages that set options change nothing
 pub setting_changes : (boot : Bool) (d : Desk) (m : IfaceMsg) → is_setting m ≡ true → change boot d m ≡ d
 unfolding change
 setting_changes boot d (says.SetOption name value) e = refl
@@ -72,10 +66,10 @@ pings_are : (h : Situation) (m : IfaceMsg) → pings_too_often h m ≡ pings_by 
 pings_are h (says.Ping n) = refl
 pings_are h m = refl
 
--- why a message is refused, by the parts that the interface commands, whether the engine is Gone and a Move is owed, and what is said of options
-pub refused_by : Bool → Game → Mode → List ℕ → Bool → Option Refusal → Option Refusal → IfaceMsg → Option Refusal
-refused_by gone g mode pings owes option fit m =
-    or_else (where_true (needs_engine m && gone) reasons.EngineEnded)
+-- why a message is refused, by the settings, the parts that the interface commands, whether the engine is Gone and a Move is owed, and what is said of options
+pub refused_by : Settings → Bool → Game → Mode → List ℕ → Bool → Option Refusal → Option Refusal → IfaceMsg → Option Refusal
+refused_by o gone g mode pings owes option fit m =
+    or_else (where_true (needs_engine o m && gone) reasons.EngineEnded)
     (or_else (where_true (needs_analysis m && not (analyses mode)) reasons.NotAnalyzing)
     (or_else (where_true (lacks_moves g m) reasons.NoMoveToUndo)
     (or_else (illegal_move g m)
@@ -92,10 +86,10 @@ abbrev pub fit_refusal : Situation → List Order → IfaceMsg → Option Refusa
 fit_refusal h held m = where_true (does_not_fit held (asks (is_gone h.engine) h.desk m)) reasons.TooManySettings
 
 pub refusal_is : (h : Situation) (held : List Order) (m : IfaceMsg)
-    → refusal h held m ≡ refused_by (is_gone h.engine) h.desk.game h.desk.mode h.desk.pings (owes_move h) (option_refusal h m) (fit_refusal h held m) m
+    → refusal h held m ≡ refused_by h.settings (is_gone h.engine) h.desk.game h.desk.mode h.desk.pings (owes_move h) (option_refusal h m) (fit_refusal h held m) m
 unfolding refusal refused_by
 refusal_is h held m =
-    ap (λ (b : Bool). or_else (where_true (needs_engine m && is_gone h.engine) reasons.EngineEnded)
+    ap (λ (b : Bool). or_else (where_true (needs_engine h.settings m && is_gone h.engine) reasons.EngineEnded)
     (or_else (where_true (needs_analysis m && not (analyses h.desk.mode)) reasons.NotAnalyzing)
     (or_else (where_true (lacks_moves h.desk.game m) reasons.NoMoveToUndo)
     (or_else (illegal_move h.desk.game m)
@@ -119,12 +113,12 @@ fits_last true x n = cc
 fits_last false x n = refl
 
 -- where that is not so, the settings do not matter
-pub unfilled : (gone : Bool) (g : Game) (mode : Mode) (pings : List ℕ) (owes : Bool) (option : Option Refusal) (b : Bool) (m : IfaceMsg)
-    → is_full_refusal (refused_by gone g mode pings owes option (where_true b reasons.TooManySettings) m) ≡ false
-    → refused_by gone g mode pings owes option (where_true b reasons.TooManySettings) m ≡ refused_by gone g mode pings owes option None m
+pub unfilled : (o : Settings) (gone : Bool) (g : Game) (mode : Mode) (pings : List ℕ) (owes : Bool) (option : Option Refusal) (b : Bool) (m : IfaceMsg)
+    → is_full_refusal (refused_by o gone g mode pings owes option (where_true b reasons.TooManySettings) m) ≡ false
+    → refused_by o gone g mode pings owes option (where_true b reasons.TooManySettings) m ≡ refused_by o gone g mode pings owes option None m
 unfolding refused_by
-unfilled gone g mode pings owes option b m n =
-    behind (where_true (needs_engine m && gone) reasons.EngineEnded) _ _
+unfilled o gone g mode pings owes option b m n =
+    behind (where_true (needs_engine o m && gone) reasons.EngineEnded) _ _
     (behind (where_true (needs_analysis m && not (analyses mode)) reasons.NotAnalyzing) _ _
     (behind (where_true (lacks_moves g m) reasons.NoMoveToUndo) _ _
     (behind (illegal_move g m) _ _

@@ -1,5 +1,5 @@
 -- Before `uciok` no more than a new game is held, and no option counts.
-use Rattle.std.proofs.Common.{◌≡◌, ℕ, List, [], Bool, true, false, cond, refl, ◌∙◌, inl}
+use Rattle.std.proofs.Common.{◌≡◌, List, [], Bool, true, false, cond, refl, ◌∙◌, inl}
 use Rattle.uci_lines.specs.Orders.{Order}
 use Rattle.search_epochs.specs.declared.words.Said.TheVariants as said
 use Rattle.search_epochs.specs.declared.words.EngineState.{EngineState}

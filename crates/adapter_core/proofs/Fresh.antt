@@ -1,5 +1,5 @@
 -- Whether a Move is called for rests on the game and the mode alone.
-use Rattle.std.proofs.Common.{◌≡◌, Bool, true, false, not, cond, ◌&&◌, ◌||◌, Option, Some, None, refl, sym, ap, ◌∙◌}
+use Rattle.std.proofs.Common.{◌≡◌, [], Bool, true, false, not, cond, ◌&&◌, ◌||◌, Option, Some, None, refl, sym, ap, ◌∙◌}
 use Rattle.std.specs.Option.{is_some}
 use mathlib.Core.Bool.{and-false}
 use Rattle.chess_board.specs.declared.board.Move.{Move}
@@ -91,7 +91,7 @@ line_stays h says.Exit r = cc
 line_stays h says.Result r = cc
 line_stays h m r = Same refl refl
 
-over_stays : (h : Situation) (b : Bool) → Stays h.desk (record h.desk { mode = over_where b h.desk.mode; due = h.desk.due && h.closed })
+over_stays : (h : Situation) (b : Bool) → Stays h.desk (record h.desk { mode = over_where b h.desk.mode; due = h.desk.due && h.closed; early = [] })
 over_stays h true = Ends refl
 over_stays h false = Same refl refl
 

@@ -1,24 +1,17 @@
 -- What holds after each lawful trace, and that each step of a core extends each trace that it stands for.
-use Rattle.std.proofs.Common.{◌≡◌, ℕ, List, [], ◌∷◌, map, Bool, true, false, cond, ◌||◌, refl, sym, ap, subst, ◌∙◌}
+use Rattle.std.proofs.Common.{◌≡◌, ℕ, List, [], ◌∷◌, map, Bool, true, false, cond, refl, sym, ap, subst, ◌∙◌}
 use Rattle.std.proofs.lemmas.Bool.{both_ways}
 use Rattle.line_io.specs.Event.{Event}
 use Rattle.line_io.specs.Out.{Text}
 use Rattle.uci_lines.specs.Orders.{Order}
 use Rattle.policy_rules.specs.declared.settings.Settings.{Settings}
 use Rattle.policy_rules.specs.Policy.{IsProper}
-use Rattle.search_epochs.specs.declared.words.Orders.{Orders}
-use Rattle.search_epochs.specs.Tickets.{Engine, Boot, Getting, Idle, Search, Gone, is_move}
-use Rattle.search_epochs.specs.Dialogue as dialogues
-use Rattle.search_epochs.specs.Dialogue.{mid_dialogue, owed_by_dialogue}
+use Rattle.search_epochs.specs.Tickets.{Engine, Boot, Getting, Idle, Search, Gone}
 use Rattle.search_epochs.proofs.Turns.{TicketWithin}
 use Rattle.search_epochs.proofs.Within.{all_within, turned_within, turned_last}
-use Rattle.desk_rules.specs.declared.desk.Desk.{Desk}
-use Rattle.desk_rules.specs.Desk.{Situation, is_gone}
-use Rattle.desk_rules.specs.Steps.{Effect, classify, what_of, begins_epoch, call_after, is_death}
 use Rattle.desk_rules.specs.Orders.{waiting, word_of, AreHeld}
-use Rattle.desk_rules.specs.Texts.{order_lines}
 use Rattle.desk_rules.specs.Fits.{IsSound}
-use Rattle.adapter_core.specs.Ends.{may, ends_after, is_open}
+use Rattle.adapter_core.specs.Ends.{may}
 use Rattle.adapter_core.specs.Trace.{State, Step, Lawful, state, state_after, situation, effect, turn, mid, has_ready, iface_text, engine_text}
 use Rattle.adapter_core.specs.Parts as parts
 use Rattle.adapter_core.specs.Parts.{Parts, advance}

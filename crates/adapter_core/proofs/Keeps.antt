@@ -22,6 +22,7 @@ use Rattle.desk_rules.specs.Orders.{waiting}
 use Rattle.desk_rules.specs.Fits.{Fits, IsFirst, CanHold}
 use Rattle.desk_rules.proofs.Serves.{not_gone}
 use Rattle.desk_rules.proofs.Sound.{stays_sound, step_sound}
+use Rattle.desk_rules.proofs.EarlyLines.{none_early}
 use Rattle.desk_rules.proofs.Effects.{comes_fits}
 use Rattle.desk_rules.proofs.Quiet.{quiet_pings, effect_pings, owed_ping, ping_call}
 use Rattle.adapter_core.specs.Ends.{may, ends_after, is_open}
@@ -110,7 +111,7 @@ module _ (v : Parts) (e : Event) (k : Keeps v) (m : may v.ends e ≡ true) where
       let y = served (is_open e || closed_now) c g x in
       let n = not_gone_served closed_now (is_gone h.engine || is_death d) (desk_after_effect h d) g y in
       let n' = not_gone (settled_state mid.state o) g x in
-      subst (Serves g) (ap (λ z. call_of closed_now z (desk_after_effect h d)) (n ∙ sym n') ∙ call_settled closed_now _ _ _ closed_now h d) y
+      subst (Serves g) (call_settled closed_now _ _ closed_now h d ∙ ap (λ z. call_of closed_now z (advance v e).desk) (n ∙ sym n')) y
 
   -- what the core needs to take the event
   pub is_ready : IsReadyFor h v d
@@ -149,7 +150,7 @@ first_short = record { control = tt; moves = omega arith; base = omega arith; in
 pub opening_keeps : (settings : Settings) → IsProper settings → Keeps (opening settings)
 opening_keeps settings p = record {
   settings = p;
-  sound = record { hint = tt; clocks = first_short; current = tt; options = tt };
+  sound = record { hint = tt; clocks = first_short; current = tt; options = tt; early = none_early };
   serves = λ c g x. absurd (cc);
   pings = omega arith;
   first = λ b. (inl refl, refl);

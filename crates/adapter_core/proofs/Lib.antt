@@ -6,6 +6,7 @@ pub mod Holds
 pub mod Unique
 pub mod Ended
 pub mod Told
+pub mod Resigns
 pub mod Serving
 pub mod First
 pub mod Keeps

@@ -31,7 +31,7 @@ use Rattle.desk_rules.specs.declared.effect.Refusal.{Refusal}
 use Rattle.desk_rules.specs.declared.desk.Desk.{Desk}
 use Rattle.desk_rules.specs.Desk.{Situation, current, call_of, call_before, is_gone, is_boot, is_getting}
 use Rattle.desk_rules.specs.Lines.{verdict, judged, refusal, or_else, where_true, does_not_fit, asks}
-use Rattle.desk_rules.specs.Steps.{Effect, Nothing, LongLine, Refuses, Names, Declares, Boots, Readies, Shows, Forfeits, Dies, classify, line_effect, engine_says, answers, shows, thinks, begins_epoch, call_after, desk_after, desk_after_effect, answers_pings, scores_after, what_of}
+use Rattle.desk_rules.specs.Steps.{Effect, Nothing, LongLine, Refuses, Names, Declares, Boots, Readies, Shows, Forfeits, Dies, classify, line_effect, engine_says, answers, shows, thinks, begins_epoch, call_after, desk_after, desk_after_effect, answers_pings, scores_after, what_of, over_where, resigns_when_gone}
 use Rattle.desk_rules.specs.Orders.{word_of, waiting, asked_by_effect}
 use Rattle.adapter_core.specs.declared.ends.Ends.{Ends}
 use Rattle.adapter_core.specs.Ends.{ends_after, is_open}
@@ -61,7 +61,7 @@ judged_back : (m : IfaceMsg) (o : Option Refusal) (line : List ℕ) (r : Refusal
 judged_back m None line r text e = absurd (cc)
 judged_back m (Some x) line r text e = cc
 
-refused_stays : (h : Situation) (held : List Order) (line : List ℕ) (a : Result IfaceMsg IfaceFault) (r : Refusal) (text : List ℕ) → line_effect (verdict h held a) line ≡ Refuses r text → is_quit_message a ≡ false
+refused_stays : (h : Situation) (held : List Order) (line : List ℕ) (a : Result IfaceMsg IfaceFault) (r : Refusal) (text : List ℕ) → line_effect (verdict h held line a) line ≡ Refuses r text → is_quit_message a ≡ false
 unfolding verdict
 refused_stays h held line (Err faults.UnknownCommand) r text e = refl
 refused_stays h held line (Err faults.BadArgument) r text e = refl
@@ -245,10 +245,31 @@ module _ (s : State) (step : Step) (holds : Lasts s) (l : IsLawful s step) (r : 
       kept_pings (closed_after s e) (is_move (owing s e)) s.desk.pings
       (λ n. holds.pings spelled.is_open (ap (λ (u : Turn). is_move u.call) (sym turn_is) ∙ sym (owed_is s step holds l) ∙ n))
 
+  -- what resigns for being gone has resigned before
+  not_again : (wants gone owes : Bool) → (wants ≡ true → gone ≡ true → owes ≡ false) → (wants && ((gone || false) && owes)) ≡ false
+  not_again false gone owes f = refl
+  not_again true false owes f = refl
+  not_again true true owes f = f refl refl
+
+  none_resigns : resigns_when_gone (closed_after s e) h (Refuses r line) ≡ false
+  unfolding desk_after_effect
+  none_resigns =
+      not_again s.settings.resign_when_gone (is_gone h.engine) (is_move (call_of (closed_after s e) false s.desk))
+      (λ w g. ap (λ (x : Ends). is_move (call_of x.closed false s.desk)) ends_stay ∙ holds.resigned w g)
+
   desk_stays : desk_of s e ≡ s.desk
   unfolding desk_after_effect
   desk_stays =
       ap (λ (d : Effect). desk_after (closed_after s e) (is_move (owing s e)) (is_hit s.dialogue (turn s e)) h d) q
+      ∙ ap (λ (b : Bool). let d : Desk = record s.desk {
+        mode = over_where b s.desk.mode;
+        pings = cond (answers_pings (closed_after s e) (is_move (owing s e))) [] s.desk.pings;
+        early = cond (closed_after s e) [] s.desk.early;
+      } in d) none_resigns
+      ∙ ap (λ (b : Bool). let d : Desk = record s.desk {
+        pings = cond (answers_pings (closed_after s e) (is_move (owing s e))) [] s.desk.pings;
+        early = cond b [] s.desk.early;
+      } in d) closed_now
       ∙ ap (λ (ps : List ℕ). let d : Desk = record s.desk { pings = ps } in d) pings_stay
 
   held_stays : still_held (waiting h s.held (effect s e)) ws ≡ s.held

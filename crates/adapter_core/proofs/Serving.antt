@@ -1,5 +1,5 @@
 -- A current search goes on to serve the call.
-use Rattle.std.proofs.Common.{◌≡◌, ℕ, List, Bool, true, false, cond, ◌||◌, Some, refl, ap, subst, ◌∙◌}
+use Rattle.std.proofs.Common.{◌≡◌, ℕ, List, Bool, true, false, cond, ◌&&◌, ◌||◌, Some, refl, sym, ap, subst, ◌∙◌}
 use Rattle.peer_words.specs.declared.kinds.GoKind.{GoKind}
 use Rattle.peer_words.specs.declared.kinds.GoKind.TheVariants as kinds
 use Rattle.uci_lines.specs.Orders.{Order}
@@ -8,14 +8,15 @@ use Rattle.search_epochs.specs.declared.words.Call.TheVariants as calls
 use Rattle.search_epochs.specs.declared.words.Said.TheVariants as said
 use Rattle.search_epochs.specs.declared.words.EngineState.{EngineState}
 use Rattle.search_epochs.specs.declared.words.EngineState.TheVariants as states
-use Rattle.search_epochs.specs.Tickets.{What, Says, Serves, kind_of}
+use Rattle.search_epochs.specs.Tickets.{What, Says, Serves, kind_of, is_move}
+use Rattle.think_text.specs.declared.seen.Seen.{Seen}
 use Rattle.search_epochs.specs.Dialogue as dialogues
 use Rattle.search_epochs.specs.Dialogue.{after_what, mid_dialogue, stale_state, heard_state, settled_state, choose}
 use Rattle.search_epochs.proofs.Current.{IfCurrent, settled_current}
 use Rattle.search_epochs.proofs.Serving.{move_serves}
 use Rattle.desk_rules.specs.declared.desk.Desk.{Desk}
-use Rattle.desk_rules.specs.Desk.{Situation, current, call_of, call_before}
-use Rattle.desk_rules.specs.Steps.{Effect, Shows, Forfeits, Answers, Dies, what_of, begins_epoch, call_after, desk_after, desk_after_effect}
+use Rattle.desk_rules.specs.Desk.{Situation, is_gone, current, call_of, call_before}
+use Rattle.desk_rules.specs.Steps.{Effect, Shows, Forfeits, Answers, Dies, what_of, begins_epoch, call_after, desk_after, desk_after_effect, is_death, over_where, resigns_when_gone}
 use Rattle.desk_rules.specs.Fits.{Fits}
 use Rattle.desk_rules.proofs.Serves.{IsNoAnswer, still_serves}
 use Rattle.desk_rules.proofs.Passes.{served_short}
@@ -130,7 +131,32 @@ pub not_gone_served : (closed gone : Bool) (d : Desk) (k : GoKind) → Serves k 
 unfolding call_of
 not_gone_served closed gone d k s = middle closed gone _ (served_short _ _ k s)
 
--- answered pings and cleared values change no call
-pub call_settled : (closed gone owes hits c : Bool) (h : Situation) (d : Effect) → call_of closed gone (desk_after_effect h d) ≡ call_of closed gone (desk_after c owes hits h d)
+-- a gone engine is called for nothing
+pub gone_calls : (closed gone : Bool) (d : Desk) → gone ≡ true → call_of closed gone d ≡ calls.Nothing
 unfolding call_of
-call_settled closed gone owes hits c h d = refl
+gone_calls true true d e = refl
+gone_calls false true d e = refl
+gone_calls closed false d e = cc
+
+-- one that resigns is gone
+pub resigner_gone : (wants gone owes : Bool) → (wants && (gone && owes)) ≡ true → gone ≡ true
+resigner_gone true true owes e = refl
+resigner_gone true false owes e = cc
+resigner_gone false gone owes e = cc
+
+given_up : (closed gone : Bool) (d : Desk) (b : Bool) → (b ≡ true → gone ≡ true) → call_of closed gone d ≡ call_of closed gone (record d { mode = over_where b d.mode })
+given_up closed gone d true f = gone_calls closed gone d (f refl) ∙ sym (gone_calls closed gone (record d { mode = over_where true d.mode }) (f refl))
+given_up closed gone d false f = refl
+
+other_parts : (closed gone : Bool) (d : Desk) (pings : List ℕ) (early : List (List ℕ)) (seen : Seen) → call_of closed gone d ≡ call_of closed gone (record d { pings = pings; early = early; seen = seen })
+unfolding call_of
+other_parts closed gone d pings early seen = refl
+
+-- a game that is given up, answered pings and cleared values change no call
+pub call_settled : (closed owes hits c : Bool) (h : Situation) (d : Effect)
+    → call_of closed (is_gone h.engine || is_death d) (desk_after_effect h d) ≡ call_of closed (is_gone h.engine || is_death d) (desk_after c owes hits h d)
+call_settled closed owes hits c h d =
+    let gone = is_gone h.engine || is_death d in
+    let desk = desk_after_effect h d in
+    given_up closed gone desk (resigns_when_gone c h d) (resigner_gone h.settings.resign_when_gone gone (is_move (call_of c false desk)))
+    ∙ other_parts closed gone (record desk { mode = over_where (resigns_when_gone c h d) desk.mode }) _ _ _

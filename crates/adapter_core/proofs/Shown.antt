@@ -14,6 +14,7 @@ use Rattle.line_io.specs.Event as events
 use Rattle.cecp_lines.specs.Messages.{IfaceMsg}
 use Rattle.cecp_lines.specs.Messages as says
 use Rattle.cecp_lines.specs.Reading.{reading}
+use Rattle.cecp_lines.specs.declared.reply.Spelling.{Spelling}
 use Rattle.cecp_lines.specs.Replies.{Reply}
 use Rattle.cecp_lines.specs.Replies as reply
 use Rattle.cecp_lines.specs.declared.iface.IfaceFault.{IfaceFault}
@@ -29,7 +30,7 @@ use Rattle.game_record.specs.Ending.{ended_of}
 use Rattle.option_map.specs.Settings.{Setting}
 use Rattle.option_map.specs.Shown.{takes_tables}
 use Rattle.uci_lines.specs.declared.messages.Score.{Score}
-use Rattle.think_text.specs.Line.{thinking_line, line_with, legal_run}
+use Rattle.think_text.specs.Line.{thinking_line, line_with, legal_run, run_texts, hint_text}
 use Rattle.feature_talk.specs.declared.talk.Say.{Say}
 use Rattle.feature_talk.specs.declared.talk.Say.TheVariants as say
 use Rattle.feature_talk.specs.Due.{answer}
@@ -43,9 +44,9 @@ use Rattle.desk_rules.specs.declared.effect.Refusal.{Refusal}
 use Rattle.desk_rules.specs.declared.effect.Refusal.TheVariants as refusals
 use Rattle.desk_rules.specs.declared.desk.Desk.{Desk}
 use Rattle.desk_rules.specs.Desk.{Situation, is_boot, is_getting, is_gone, current, table, on_move, played, plays}
-use Rattle.desk_rules.specs.Lines.{verdict, judged, refusal, change}
-use Rattle.desk_rules.specs.Steps.{Effect, Nothing, LongLine, Refuses, Accepts, Names, Declares, Boots, Readies, Thinks, Shows, Forfeits, Dies, classify, line_effect, engine_says, answers, shows, thinks, searched_by, resigns_after, resigns_at_end, desk_after_effect}
-use Rattle.desk_rules.specs.Replies.{refused, result_by, result_of, protover_row, offer_where, hint_row, row_accepted, list_where, resign_where, row, is_told, named_hint, replies_of}
+use Rattle.desk_rules.specs.Lines.{Verdict, Refused, Accepted, Early, verdict, change, refused_option, early_answer}
+use Rattle.desk_rules.specs.Steps.{Effect, Nothing, LongLine, Refuses, Accepts, Names, Declares, Boots, Readies, Thinks, Shows, Forfeits, Dies, classify, line_effect, engine_says, answers, shows, thinks, searched_by, resigns_after, resigns_at_end, resigns_when_gone, desk_after_effect}
+use Rattle.desk_rules.specs.Replies.{refused, result_by, result_of, protover_row, offer_where, hint_row, row_accepted, list_where, resign_where, early_refusal, early_refusals, row, is_told, named_hint, spelling_of, replies_of}
 use Rattle.adapter_core.specs.Trace.{State, state, situation, effect, replies, owing, closed_after}
 use Rattle.adapter_core.specs.Shown.{Answers, MovesAreShownInTime, MovesAreShownOnce, moves_told}
 
@@ -148,11 +149,11 @@ no_refusal (refusals.IllegalMove m) line = refl
 no_refusal (refusals.GameTooLong m) line = refl
 no_refusal refusals.IllegalPosition line = refl
 
-no_line : (depth : Option ℕ) (score : Option Score) (moves : List AnyMove) (facts : Info) (hint : Option AnyMove) → moves_told (option_to_list (line_with depth score moves facts hint)) ≡ []
-no_line (Some depth) (Some score) (m ∷ moves) facts hint = refl
-no_line (Some depth) (Some score) [] facts hint = refl
-no_line (Some depth) None moves facts hint = refl
-no_line None score moves facts hint = refl
+no_line : (depth : Option ℕ) (score : Option Score) (texts : List (List ℕ)) (facts : Info) (s : Spelling) (hint : Option (List ℕ)) → moves_told (option_to_list (line_with depth score texts facts s hint)) ≡ []
+no_line (Some depth) (Some score) (text ∷ texts) facts s hint = refl
+no_line (Some depth) (Some score) [] facts s hint = refl
+no_line (Some depth) None texts facts s hint = refl
+no_line None score texts facts s hint = refl
 
 no_thinking : (b : Bool) (x : Option Reply) → moves_told (option_to_list x) ≡ [] → moves_told (cond b (option_to_list x) []) ≡ []
 no_thinking true x e = e
@@ -168,6 +169,16 @@ no_answer h says.Draw = no_offer _
 no_answer h says.Hint = no_hint h.desk.hint
 no_answer h m = refl
 
+no_early_line : (o : Option Refusal) (line : List ℕ) → moves_told (early_refusal o line) ≡ []
+no_early_line None line = refl
+no_early_line (Some r) line = no_refusal r line
+
+no_early : (os : List Setting) (lines : List (List ℕ)) → moves_told (early_refusals os lines) ≡ []
+no_early os [] = refl
+no_early os (line ∷ lines) =
+    let first = refused_option (early_answer os line) in
+    none_joined (early_refusal first line) (early_refusals os lines) (no_early_line first line) (no_early os lines)
+
 -- THE MOVES OF A STEP
 
 -- the move that an effect shows
@@ -179,10 +190,13 @@ row_shows : (h : Situation) (d : Effect) → moves_told (row h d) ≡ shown_by d
 unfolding row
 row_shows h (Refuses r line) = no_refusal r line
 row_shows h (Accepts m) = no_answer h m
-row_shows h Boots = no_list h.desk.due (record h.desk { booted = true })
+row_shows h Boots =
+    none_joined (list_where h.desk.due (record h.desk { booted = true })) (early_refusals h.desk.options h.desk.early) (no_list h.desk.due (record h.desk { booted = true })) (no_early h.desk.options h.desk.early)
 row_shows h (Thinks k facts) =
     let p = now_of (searched_by k h.desk.game h.desk.hint) in
-    no_thinking (is_told h k) (thinking_line facts p (named_hint k h.desk.hint)) (no_line facts.depth facts.score (legal_run p facts.pv) facts (named_hint k h.desk.hint))
+    let s = spelling_of h.settings in
+    let hint = named_hint k h.desk.game h.desk.hint in
+    no_thinking (is_told h k) (thinking_line s facts p hint) (no_line facts.depth facts.score (run_texts s p (legal_run p facts.pv)) facts s (hint_text s hint))
 row_shows h (Shows best hint) =
     ap (λ (l : List AnyMove). best ∷ l) (none_joined (result_of (played h.desk.game best)) (resign_where (resigns_after h best)) (no_result (on_move (played h.desk.game best)) (ended_of (played h.desk.game best))) (no_resign (resigns_after h best)))
 row_shows h Dies = none_joined (list_where h.desk.due h.desk) (reply.TellError _ ∷ resign_where (resigns_at_end h)) (no_list h.desk.due h.desk) (no_resign (resigns_at_end h))
@@ -192,7 +206,9 @@ row_shows h d = refl
 pub open_shows : (owes : Bool) (h : Situation) (d : Effect) → moves_told (replies_of false owes h d) ≡ shown_by d
 open_shows owes h d =
     let pongs = cond owes [] (map reply.Pong (desk_after_effect h d).pings) in
-    joined (row h d) pongs ∙ ap (λ (l : List AnyMove). moves_told (row h d) ++ l) (no_pongs owes (desk_after_effect h d).pings) ∙ append_none (moves_told (row h d)) ∙ row_shows h d where
+    let resign = resign_where (resigns_when_gone false h d) in
+    joined (row h d ++ resign) pongs ∙ ap (λ (l : List AnyMove). moves_told (row h d ++ resign) ++ l) (no_pongs owes (desk_after_effect h d).pings) ∙ append_none (moves_told (row h d ++ resign))
+    ∙ joined (row h d) resign ∙ ap (λ (l : List AnyMove). moves_told (row h d) ++ l) (no_resign (resigns_when_gone false h d)) ∙ append_none (moves_told (row h d)) ∙ row_shows h d where
       append_none : (l : List AnyMove) → l ++ [] ≡ l
       append_none [] = refl
       append_none (m ∷ l) = ap (λ (xs : List AnyMove). m ∷ xs) (append_none l)
@@ -258,14 +274,10 @@ open_back : (b : Bool) (d : Effect) (m : AnyMove) (hint : Option AnyMove) → co
 open_back true d m hint e = absurd (cc)
 open_back false d m hint e = (refl, e)
 
-line_not : (h : Situation) (held : List Order) (line : List ℕ) (r : Result IfaceMsg IfaceFault) (m : AnyMove) (hint : Option AnyMove) → line_effect (verdict h held r) line ≡ Shows m hint → ⊥
-unfolding verdict
-line_not h held line (Err faults.UnknownCommand) m hint e = cc
-line_not h held line (Err faults.BadArgument) m hint e = cc
-line_not h held line (Ok message) m hint e = judged_not (refusal h held message) e where
-  judged_not : (r : Option Refusal) → line_effect (judged message r) line ≡ Shows m hint → ⊥
-  judged_not None e = cc
-  judged_not (Some r) e = cc
+line_not : (v : Verdict) (line : List ℕ) (m : AnyMove) (hint : Option AnyMove) → line_effect v line ≡ Shows m hint → ⊥
+line_not (Refused r) line m hint e = cc
+line_not (Accepted message) line m hint e = cc
+line_not Early line m hint e = cc
 
 ticket_back : (t epoch : ℕ) → not (t == epoch) ≡ false → t ≡ epoch
 ticket_back t epoch e = grind (arith, nat_tests)
@@ -297,7 +309,7 @@ answer_back s (events.Engine line) m hint e =
       current = engine_back s.dialogue.epoch s.dialogue.engine said.stopped said.engine;
       is_legal = said.is_legal;
     }
-answer_back s (events.Iface line) m hint e = absurd (line_not (situation s) _ line (reading line) m hint (open_back s.ends.closed _ m hint e).1)
+answer_back s (events.Iface line) m hint e = absurd (line_not (verdict (situation s) s.held line (reading line)) line m hint (open_back s.ends.closed _ m hint e).1)
 answer_back s events.IfaceLong m hint e = let o = open_back s.ends.closed LongLine m hint e in absurd (cc (o.1))
 answer_back s events.EngineEnd m hint e = absurd (dies_not (is_gone (situation s).engine) e) where
   dies_not : (b : Bool) → cond b Nothing Dies ≡ Shows m hint → ⊥
@@ -348,7 +360,9 @@ effect_shows s e m a = ap (effect s) a.event ∙ event_shows s a.line m a.hint a
 
 row_first : (owes : Bool) (h : Situation) (m : AnyMove) (hint : Option AnyMove) → Contains (replies_of false owes h (Shows m hint)) (reply.Move m)
 unfolding row
-row_first owes h m hint = Contains-append_left (row h (Shows m hint)) _ (reply.Move m) (is_first (reply.Move m) _)
+row_first owes h m hint =
+    Contains-append_left (row h (Shows m hint) ++ resign_where (resigns_when_gone false h (Shows m hint))) _ (reply.Move m)
+    (Contains-append_left (row h (Shows m hint)) (resign_where (resigns_when_gone false h (Shows m hint))) (reply.Move m) (is_first (reply.Move m) _))
 
 tells_it : (closed owes : Bool) (h : Situation) (d : Effect) (m : AnyMove) (hint : Option AnyMove) → closed ≡ false → d ≡ Shows m hint → Contains (replies_of closed owes h d) (reply.Move m)
 tells_it true owes h d m hint c e = absurd (cc)

@@ -1,5 +1,5 @@
 -- What the effects of either side do to the parts that the interface commands.
-use Rattle.std.proofs.Common.{◌≡◌, ℕ, List, [], Bool, true, false, cond, ◌||◌, Option, Some, None, Result, Ok, Err, refl, sym, ap, ◌∙◌}
+use Rattle.std.proofs.Common.{◌≡◌, ℕ, List, [], Bool, true, false, cond, ◌&&◌, ◌||◌, Option, Some, None, Result, Ok, Err, refl, sym, ap, ◌∙◌}
 use Rattle.chess_board.specs.declared.board.Move.{Move}
 use Rattle.chess_board.specs.Place.{legal}
 use Rattle.line_io.specs.Event.{Event}
@@ -23,8 +23,8 @@ use Rattle.search_epochs.specs.declared.words.EngineState.TheVariants as states
 use Rattle.desk_rules.specs.declared.effect.Refusal.{Refusal}
 use Rattle.desk_rules.specs.declared.desk.Desk.{Desk}
 use Rattle.desk_rules.specs.Desk.{Situation, is_gone, is_boot, is_getting, current}
-use Rattle.desk_rules.specs.Lines.{verdict, judged, refusal, at_position, change}
-use Rattle.desk_rules.specs.Steps.{Effect, Nothing, LongLine, Refuses, Accepts, Names, Declares, Boots, Readies, Shows, Forfeits, Dies, classify, line_effect, engine_says, answers, shows, thinks, desk_after_effect, answers_pings, scores_after, is_death}
+use Rattle.desk_rules.specs.Lines.{Verdict, Refused, Accepted, Early, verdict, at_position, change}
+use Rattle.desk_rules.specs.Steps.{Effect, Nothing, LongLine, Refuses, Accepts, Defers, Names, Declares, Boots, Readies, Shows, Forfeits, Dies, classify, line_effect, engine_says, answers, shows, thinks, desk_after_effect, answers_pings, scores_after, is_death, over_where}
 use Rattle.desk_rules.proofs.Firsts.{line_booted}
 use Rattle.adapter_core.specs.declared.ends.Ends.{Ends}
 use Rattle.adapter_core.specs.Ends.{ends_after}
@@ -38,17 +38,13 @@ IsIfaceDeed Nothing = Unit {0}
 IsIfaceDeed LongLine = Unit {0}
 IsIfaceDeed (Refuses r line) = Unit {0}
 IsIfaceDeed (Accepts m) = Unit {0}
+IsIfaceDeed (Defers line) = Unit {0}
 IsIfaceDeed d = ⊥
 
-judged_iface : (m : IfaceMsg) (o : Option Refusal) (line : List ℕ) → IsIfaceDeed (line_effect (judged m o) line)
-judged_iface m None line = tt
-judged_iface m (Some r) line = tt
-
-line_iface : (h : Situation) (held : List Order) (line : List ℕ) (r : Result IfaceMsg IfaceFault) → IsIfaceDeed (line_effect (verdict h held r) line)
-unfolding verdict
-line_iface h held line (Err faults.UnknownCommand) = tt
-line_iface h held line (Err faults.BadArgument) = tt
-line_iface h held line (Ok m) = judged_iface m (refusal h held m) line
+line_iface : (v : Verdict) (line : List ℕ) → IsIfaceDeed (line_effect v line)
+line_iface (Refused r) line = tt
+line_iface (Accepted m) line = tt
+line_iface Early line = tt
 
 unless_closed : (b : Bool) (d : Effect) → IsIfaceDeed d → IsIfaceDeed (cond b Nothing d)
 unless_closed true d i = tt
@@ -56,7 +52,7 @@ unless_closed false d i = i
 
 pub iface_effect : (h : Situation) (held : List Order) (e : Event) → is_of_iface e ≡ true → IsIfaceDeed (classify h held e)
 unfolding classify
-iface_effect h held (events.Iface line) i = unless_closed h.closed _ (line_iface h held line (reading line))
+iface_effect h held (events.Iface line) i = unless_closed h.closed _ (line_iface (verdict h held line (reading line)) line)
 iface_effect h held events.IfaceLong i = unless_closed h.closed LongLine tt
 iface_effect h held events.IfaceEnd i = tt
 iface_effect h held events.IfaceLost i = tt
@@ -107,6 +103,7 @@ still_unbooted h (Accepts m) i e = line_booted (is_boot h.engine) h.desk m ∙ e
 still_unbooted h Nothing i e = e
 still_unbooted h LongLine i e = e
 still_unbooted h (Refuses r line) i e = e
+still_unbooted h (Defers line) i e = e
 still_unbooted h d i e = absurd i
 
 -- DEEDS OF THE ENGINE
@@ -196,6 +193,15 @@ pub kept_pings : (closed owes : Bool) (ps : List ℕ) → (closed ≡ false → 
 kept_pings true owes ps f = refl
 kept_pings false true ps f = refl
 kept_pings false false ps f = sym (f refl refl)
+
+-- the game is given up, if that is so
+abbrev pub given_up : Bool → Commanded → Commanded
+given_up b c = record c { mode = over_where b c.mode }
+
+-- an engine that is there does not resign for being gone
+pub no_resigner : (wants gone owes : Bool) → gone ≡ false → (wants && (gone && owes)) ≡ false
+no_resigner true gone owes e = ap (λ (b : Bool). b && owes) e
+no_resigner false gone owes e = refl
 
 abbrev pub answered : Bool → Commanded → Commanded
 answered b c = record c { pings = cond b [] c.pings }

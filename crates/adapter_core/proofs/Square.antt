@@ -24,7 +24,7 @@ use Rattle.feature_talk.specs.Features.{reply_lines}
 use Rattle.think_text.specs.Kept.{nothing_seen}
 use Rattle.desk_rules.specs.declared.desk.Desk.{Desk}
 use Rattle.desk_rules.specs.Desk.{Situation}
-use Rattle.desk_rules.specs.Steps.{classify, what_of, begins_epoch, desk_after_effect, answers_pings, scores_after}
+use Rattle.desk_rules.specs.Steps.{classify, what_of, begins_epoch, desk_after_effect, answers_pings, scores_after, over_where, resigns_when_gone}
 use Rattle.desk_rules.specs.Orders.{waiting, order_list, word_of}
 use Rattle.desk_rules.specs.Texts.{order_lines}
 use Rattle.desk_rules.specs.Fits.{Fits, IsSound, IsLineEvent}
@@ -126,7 +126,9 @@ module _ (s : State) (to_iface to_engine : Text) (e : Event) (holds : Holds s) (
   desk_kept : desk_with (situation s) (effect s e) e old owes choice_situation ≡ desk_of s e
   desk_kept =
       ap (λ (c : Bool). let d : Desk = record (desk_after_effect (situation s) (effect s e)) {
+        mode = over_where (resigns_when_gone (closed_after s e) (situation s) (effect s e)) (desk_after_effect (situation s) (effect s e)).mode;
         pings = cond (answers_pings (closed_after s e) owes) [] (desk_after_effect (situation s) (effect s e)).pings;
+        early = cond (closed_after s e) [] (desk_after_effect (situation s) (effect s e)).early;
         seen = cond c nothing_seen (desk_after_effect (situation s) (effect s e)).seen;
       } in d) (clears (begins_epoch (situation s) (effect s e)) (is_hit_order choice_situation) (is_hit s.dialogue (turn s e)) hit_situation)
 

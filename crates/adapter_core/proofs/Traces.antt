@@ -1,5 +1,5 @@
 -- What holds after each lawful trace, whatever the settings.
-use Rattle.std.proofs.Common.{◌≡◌, ℕ, ◌+◌, List, [], ◌∷◌, ◌⊎◌, inl, inr, map, Bool, true, false, not, cond, ◌||◌, ◌==◌, Option, Some, None, refl, sym, ap, subst, ◌∙◌}
+use Rattle.std.proofs.Common.{◌≡◌, ℕ, ◌+◌, List, [], ◌∷◌, ◌⊎◌, inl, inr, map, Bool, true, false, not, cond, ◌&&◌, ◌||◌, ◌==◌, Option, Some, None, refl, sym, ap, subst, ◌∙◌}
 use Rattle.std.proofs.lemmas.Bool.{both_ways}
 use Rattle.line_io.specs.Event.{Event}
 use Rattle.chess_board.specs.declared.board.Move.{Move}
@@ -23,10 +23,12 @@ use Rattle.search_epochs.proofs.Within.{all_within, turned_within, turned_last}
 use Rattle.search_epochs.proofs.Same.{same}
 use Rattle.search_epochs.proofs.Serving.{served_no_move}
 use Rattle.desk_rules.specs.declared.mode.Mode.TheVariants as modes
+use Rattle.desk_rules.specs.declared.desk.Desk.{Desk}
 use Rattle.desk_rules.specs.Desk.{Situation, current, call_of, call_before, is_gone}
-use Rattle.desk_rules.specs.Steps.{Effect, Accepts, Shows, Forfeits, Answers, what_of, what_accepted, begins_epoch, call_after, is_death, desk_after_effect, answers_pings}
+use Rattle.desk_rules.specs.Steps.{Effect, Accepts, Shows, Forfeits, Answers, what_of, what_accepted, begins_epoch, call_after, is_death, desk_after_effect, answers_pings, over_where, resigns_when_gone}
 use Rattle.desk_rules.specs.Orders.{waiting, word_of, AreHeld}
 use Rattle.desk_rules.specs.Fits.{Fits, IsSound, IsServed, IsOther}
+use Rattle.desk_rules.proofs.EarlyLines.{none_early}
 use Rattle.desk_rules.proofs.Effects.{comes_fits}
 use Rattle.desk_rules.proofs.Sound.{step_sound}
 use Rattle.desk_rules.proofs.Waits.{all_setup, all_held}
@@ -35,7 +37,7 @@ use Rattle.adapter_core.specs.Trace.{State, Step, IsLawful, Lawful, opening, sta
 use Rattle.adapter_core.proofs.Keeps.{first_short}
 use Rattle.adapter_core.proofs.Closing.{line_event, opened_later, open_before}
 use Rattle.adapter_core.proofs.Serving.{still, chosen_serves, call_settled}
-use Rattle.adapter_core.proofs.Fresh.{closed_calls, over_calls, still_quiet}
+use Rattle.adapter_core.proofs.Fresh.{calls_move, call_is, closed_calls, over_calls, still_quiet}
 
 pub record Lasts (s : State) : Type 0 where
   pub sound : IsSound s.desk
@@ -51,6 +53,8 @@ pub record Lasts (s : State) : Type 0 where
   pub pings : s.ends.closed ≡ false → is_move (call_before (situation s)) ≡ false → s.desk.pings ≡ []
   -- the engine is idle only where nothing waits and nothing is owed
   pub rests : s.ends.closed ≡ false → is_idle s.dialogue.engine ≡ true → (s.held ≡ []) × (is_nothing (owed s.dialogue (call_before (situation s))) ≡ true)
+  -- an engine that resigns when it is gone owes no move then
+  pub resigned : s.settings.resign_when_gone ≡ true → is_gone (situation s).engine ≡ true → is_move (call_of s.ends.closed false s.desk) ≡ false
   -- an open search that is not stopped is current
   pub live : s.ends.closed ≡ false → IsLiveOnlyAt s.dialogue.epoch s.dialogue.engine
 
@@ -58,7 +62,7 @@ pub record Lasts (s : State) : Type 0 where
 
 first_lasts : (o : Settings) → Lasts (opening o)
 first_lasts o = record {
-  sound = record { hint = tt; clocks = first_short; current = tt; options = tt };
+  sound = record { hint = tt; clocks = first_short; current = tt; options = tt; early = none_early };
   held = tt;
   begins = λ c. refl;
   ticket = tt;
@@ -67,6 +71,7 @@ first_lasts o = record {
   unspent = λ n. absurd (cc);
   pings = λ c n. refl;
   rests = λ c i. absurd (cc);
+  resigned = λ w g. absurd (cc);
   live = λ c. tt;
 }
 
@@ -159,6 +164,11 @@ no_pings true owes ps c o = cc
 no_pings false true ps c o = cc
 no_pings false false ps c o = refl
 
+owes_not : (wants gone owes : Bool) → (wants && (gone && owes)) ≡ false → wants ≡ true → gone ≡ true → owes ≡ false
+owes_not true true owes x w g = x
+owes_not false gone owes x w g = cc
+owes_not true false owes x w g = cc
+
 forfeited : (h : Situation) → (desk_after_effect h Forfeits).mode ≡ modes.Over
 unfolding desk_after_effect
 forfeited h = refl
@@ -202,7 +212,7 @@ module _ (s : State) (step : Step) (lasts : Lasts s) (l : IsLawful s step) where
   pub call_is_after : call_before (situation (state_after s step)) ≡ u.call
   call_is_after =
       ap (λ (b : Bool). call_of (closed_after s e) b (desk_of s e)) gone_is
-      ∙ sym (call_settled (closed_after s e) (is_gone h.engine || is_death d) (is_move (owing s e)) (is_hit s.dialogue u) (closed_after s e) h d)
+      ∙ sym (call_settled (closed_after s e) (is_move (owing s e)) (is_hit s.dialogue u) (closed_after s e) h d)
 
   -- a call for a Move is not spent after the event
   quiet_situation : (x : Effect) → closed_after s e ≡ false → begins_epoch h x ≡ false → is_move (call_before h) ≡ false → is_move (call_after (closed_after s e) h x) ≡ false
@@ -290,6 +300,20 @@ module _ (s : State) (step : Step) (lasts : Lasts s) (l : IsLawful s step) where
   live_after : closed_after s e ≡ false → IsLiveOnlyAt m.epoch (sent_all m.epoch m.engine ws)
   live_after c = by_stage (IsLiveOnlyAt m.epoch (sent_all m.epoch m.engine ws)) (λ o. after_uci (λ y. IsLiveOnlyAt m.epoch y) o tt tt) (λ o. (l.settled o c).words.current)
 
+  resigned_after : s.settings.resign_when_gone ≡ true → is_gone (situation (state_after s step)).engine ≡ true → is_move (call_of (closed_after s e) false (desk_of s e)) ≡ false
+  resigned_after w g = by_flag (resigns_when_gone (closed_after s e) h d) refl where
+    desk : Desk
+    desk = desk_after_effect h d
+
+    calls : (b : Bool) → resigns_when_gone (closed_after s e) h d ≡ b → is_move (call_of (closed_after s e) false (desk_of s e)) ≡ calls_move (closed_after s e) false desk.game (over_where b desk.mode)
+    calls b x = call_is (closed_after s e) false (desk_of s e) ∙ ap (λ (y : Bool). calls_move (closed_after s e) false desk.game (over_where y desk.mode)) x
+
+    by_flag : (b : Bool) → resigns_when_gone (closed_after s e) h d ≡ b → is_move (call_of (closed_after s e) false (desk_of s e)) ≡ false
+    by_flag true x = over_calls (closed_after s e) false (desk_of s e) (ap (λ (y : Bool). over_where y desk.mode) x)
+    by_flag false x =
+        calls false x ∙ sym (call_is (closed_after s e) false desk)
+        ∙ owes_not s.settings.resign_when_gone (is_gone h.engine || is_death d) (is_move (call_of (closed_after s e) false desk)) x w (sym gone_is ∙ g)
+
   pub lasts_on : Lasts (state_after s step)
   lasts_on = record {
     sound = step_sound (closed_after s e) (is_move (owing s e)) (is_hit s.dialogue u) h s.held d lasts.sound fits;
@@ -301,6 +325,7 @@ module _ (s : State) (step : Step) (lasts : Lasts s) (l : IsLawful s step) where
     unspent = λ n. ap is_move call_is_after ∙ spent_quiet n;
     pings = pings_after;
     rests = rests_after;
+    resigned = resigned_after;
     live = live_after;
   }
 

@@ -16,7 +16,7 @@ use Rattle.desk_rules.specs.declared.mode.Mode.{Mode}
 use Rattle.desk_rules.specs.declared.effect.Refusal.TheVariants as refusals
 use Rattle.desk_rules.specs.declared.desk.Desk.{Desk}
 use Rattle.desk_rules.specs.Desk.{Situation, opening_desk, is_gone}
-use Rattle.desk_rules.specs.Steps.{Effect, Refuses, Accepts, Shows, Forfeits, classify, call_after, desk_after}
+use Rattle.desk_rules.specs.Steps.{Effect, Refuses, Accepts, Defers, Shows, Forfeits, classify, call_after, desk_after}
 use Rattle.desk_rules.specs.Replies.{replies_of}
 use Rattle.adapter_core.specs.declared.ends.Ends.{Ends}
 use Rattle.adapter_core.specs.Ends.{ends_after, at_start}
@@ -38,7 +38,7 @@ commanded d = record { game = d.game; mode = d.mode; post = d.post; pondering = 
 
 -- what stands if the engine never says anything: no move is shown, so the policy has no scores
 abbrev pub lone : Settings → Bool → Desk → Situation
-lone o closed d = record { closed = closed; engine = states.Idle; spent = false; desk = d; resigns = false; accepts = does_accept o []; show_ponder = false }
+lone o closed d = record { settings = o; closed = closed; engine = states.Idle; spent = false; desk = d; resigns = false; accepts = does_accept o [] }
 
 -- which sides have ended, and the desk
 pub record Alone : Type 0 where
@@ -111,6 +111,7 @@ tells_of_engine (Accepts (says.Memory n)) = true
 tells_of_engine (Accepts (says.Cores n)) = true
 tells_of_engine (Accepts (says.EgtPath kind path)) = true
 tells_of_engine (Accepts says.Dot) = true
+tells_of_engine (Defers line) = true
 tells_of_engine (Refuses (refusals.Because reasons.UnknownOption) line) = true
 tells_of_engine (Refuses (refusals.Because reasons.BadValue) line) = true
 tells_of_engine d = false

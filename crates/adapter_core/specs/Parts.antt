@@ -1,5 +1,5 @@
 -- What the core keeps, and how an event changes it.
-use Rattle.std.specs.Prelude.{ℕ, List, [], ◌∷◌, Bool, true, false, not, ◌||◌, if◌then◌else◌, ◌≤◌, length, ◌≡◌, ◌+◌}
+use Rattle.std.specs.Prelude.{List, [], ◌∷◌, Bool, true, false, not, ◌||◌, if◌then◌else◌, ◌≤◌, length, ◌≡◌, ◌+◌}
 use Rattle.line_io.specs.Event.{Event}
 use Rattle.line_io.specs.Out.{empty, with}
 use Rattle.uci_lines.specs.Orders.{Order}
@@ -45,12 +45,12 @@ opening o = record {
 
 abbrev pub context_of : Settings → Bool → EngineState → Bool → Score → Scores → Context
 context_of o closed engine spent score scores = record {
+  settings = o;
   closed = closed;
   engine = engine;
   spent = spent;
   resigns = resigns_by (after_shown scores score);
   accepts = accepts_by scores;
-  show_ponder = o.show_ponder;
 }
 
 abbrev pub situation : Parts → Situation

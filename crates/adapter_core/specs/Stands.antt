@@ -1,5 +1,5 @@
 -- When a core stands for a trace.
-use Rattle.std.specs.Prelude.{◌≡◌, ℕ, ◌≤◌, List, [], ◌∷◌, ◌++◌, map, length, Bool, true, false, ◌||◌, if◌then◌else◌, IfSome}
+use Rattle.std.specs.Prelude.{◌≡◌, ℕ, ◌≤◌, List, [], ◌∷◌, ◌++◌, map, length, true, false, ◌||◌, IfSome}
 use Rattle.std.specs.List.{flat_map}
 use Rattle.line_io.specs.Event.{Event}
 use Rattle.line_io.specs.Out.{Text}

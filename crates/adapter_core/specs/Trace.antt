@@ -60,13 +60,13 @@ opening o = record {
 -- what stands when an event comes
 abbrev pub situation : State → Situation
 situation s = record {
+  settings = s.settings;
   closed = s.ends.closed;
   engine = forget s.dialogue.epoch s.dialogue.engine;
   spent = spent s.dialogue;
   desk = s.desk;
   resigns = does_resign s.settings (s.desk.seen.score ∷ s.scores);
   accepts = does_accept s.settings s.scores;
-  show_ponder = s.settings.show_ponder;
 }
 
 abbrev pub effect : State → Event → Effect

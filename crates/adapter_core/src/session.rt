@@ -52,12 +52,12 @@ impl Parts {
         let mut next = self.scores;
         next.shown(self.desk.seen.score);
         Context {
+            settings: self.settings,
             closed: self.ends.closed,
             engine: self.dialogue.state(),
             spent: self.dialogue.is_spent(),
             resigns: next.resigns(),
             accepts: self.scores.accepts_draw(),
-            show_ponder: self.settings.show_ponder,
         }
     }
 
@@ -111,6 +111,12 @@ impl Parts {
         let unsent = is_unsent(&self.held, effect);
         let orders = choose(&mut self.dialogue, stage, call, unsent, effect);
         let clears = ruling.begins_epoch && !is_hit(orders);
+        self.desk.resign_when_gone(
+            context.settings,
+            stage.closed,
+            stage.gone,
+            &mut self.to_iface,
+        );
         self.desk
             .finish(stage.closed, owes, clears, &mut self.to_iface);
         put_orders(stage, &self.held, &self.desk, orders, &mut self.to_engine);

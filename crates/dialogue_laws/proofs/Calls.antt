@@ -1,5 +1,5 @@
 -- The call goes on unless an epoch begins or the step ends it.
-use Rattle.std.proofs.Common.{◌≡◌, ℕ, List, Bool, true, false, not, cond, ◌&&◌, ◌||◌, ◌==◌, Option, None, refl, sym, ap, ◌∙◌}
+use Rattle.std.proofs.Common.{◌≡◌, ℕ, List, [], Bool, true, false, not, cond, ◌&&◌, ◌||◌, ◌==◌, Option, None, refl, sym, ap, ◌∙◌}
 use Rattle.std.specs.Option.{is_some}
 use mathlib.Core.Bool.{or-false}
 use Rattle.chess_board.specs.declared.board.Move.{Move}
@@ -24,7 +24,7 @@ use Rattle.desk_rules.specs.declared.mode.Mode.TheVariants as modes
 use Rattle.desk_rules.specs.declared.desk.Desk.{Desk}
 use Rattle.desk_rules.specs.Desk.{Situation, call_of, call_in, call_for_hint, call_while_waiting, call_before, is_gone, is_boot, is_full, table, ponder_name, has_ended, on_move, owes_move, owed_at}
 use Rattle.desk_rules.specs.Lines.{asks, change, is_epoch_line}
-use Rattle.desk_rules.specs.Steps.{Effect, Accepts, Names, Declares, Boots, Thinks, Shows, Forfeits, Answers, Dies, what_of, desk_after_effect, begins_epoch, is_death}
+use Rattle.desk_rules.specs.Steps.{Effect, Accepts, Defers, Names, Declares, Boots, Thinks, Shows, Forfeits, Answers, Dies, what_of, desk_after_effect, begins_epoch, is_death}
 use Rattle.desk_rules.specs.Fits.{Fits, IsCurrentMove, IsOther}
 use Rattle.desk_rules.proofs.Serves.{is_move_call}
 use Rattle.adapter_core.specs.Trace.{State, situation}
@@ -77,15 +77,15 @@ wait_none d e =
     ap (λ (o : Option Move). cond (d.pondering && is_some (check_named ponder_name (table d))) (call_for_hint d.game o) calls.Nothing) e
     ∙ none_both (d.pondering && is_some (check_named ponder_name (table d)))
 
-in_boots : (d : Desk) (m : Mode) → d.hint ≡ None → call_in (record d { booted = true; due = false }) m ≡ call_in d m
+in_boots : (d : Desk) (m : Mode) → d.hint ≡ None → call_in (record d { booted = true; due = false; early = [] }) m ≡ call_in d m
 in_boots d modes.Force e = refl
 in_boots d modes.Over e = refl
 in_boots d modes.Analyse e = refl
 in_boots d (modes.Plays s) e =
     ap (λ (c : Call). cond (has_ended d.game) calls.Nothing (cond (same_side s (on_move d.game)) calls.Move c))
-    (wait_none (record d { booted = true; due = false }) e ∙ sym (wait_none d e))
+    (wait_none (record d { booted = true; due = false; early = [] }) e ∙ sym (wait_none d e))
 
-boots_call : (closed gone : Bool) (d : Desk) → d.hint ≡ None → call_of closed gone (record d { booted = true; due = false }) ≡ call_of closed gone d
+boots_call : (closed gone : Bool) (d : Desk) → d.hint ≡ None → call_of closed gone (record d { booted = true; due = false; early = [] }) ≡ call_of closed gone d
 unfolding call_of
 boots_call closed gone d e = ap (λ (c : Call). cond (closed || gone || is_full d.game) calls.Nothing c) (in_boots d d.mode e)
 
@@ -188,9 +188,10 @@ module _ (s : State) (fresh : IsFreshInBoot s) where
   effect_call (Accepts m) f r =
       going (ends_situation s.dialogue.epoch s.dialogue.engine (Accepts m)) (call_of s.ends.closed (gone || false) (desk_after_effect (situation s) (Accepts m))) (call_before (situation s))
       (line_ends s.dialogue.epoch s.dialogue.engine m) (same_call (Accepts m) (line_call (situation s) m r))
+  effect_call (Defers line) f r = same_call (Defers line) (unfold call_of in refl)
   effect_call (Names text) f r = same_call (Names text) (unfold call_of in refl)
   effect_call (Declares name shape) f r =
-      same_call (Declares name shape) (unbooted_call s.ends.closed gone s.desk (after_declared s.desk.options name shape) (fresh (boot_back s.dialogue.epoch s.dialogue.engine f.1)).0)
+      same_call (Declares name shape) (unbooted_call s.ends.closed gone s.desk (after_declared s.settings.strength_options s.desk.options name shape) (fresh (boot_back s.dialogue.epoch s.dialogue.engine f.1)).0)
   effect_call Boots f r = same_call Boots (boots_call s.ends.closed gone s.desk (fresh (boot_back s.dialogue.epoch s.dialogue.engine f.1)).1)
   effect_call (Thinks k facts) f r = same_call (Thinks k facts) (unfold call_of in refl)
   effect_call (Shows best hint) f r = cc

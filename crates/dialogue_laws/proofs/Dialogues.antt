@@ -60,7 +60,7 @@ quit_deaf : (line : List ℕ) (r : Option Refusal) → IsDeaf (what_of (line_eff
 quit_deaf line None = tt
 quit_deaf line (Some r) = tt
 
-line_deaf : (h : Situation) (held : List Order) (line : List ℕ) (r : Result IfaceMsg IfaceFault) → is_quit_message r ≡ true → IsDeaf (what_of (line_effect (verdict h held r) line))
+line_deaf : (h : Situation) (held : List Order) (line : List ℕ) (r : Result IfaceMsg IfaceFault) → is_quit_message r ≡ true → IsDeaf (what_of (line_effect (verdict h held line r) line))
 unfolding verdict
 line_deaf h held line (Err faults.UnknownCommand) q = cc
 line_deaf h held line (Err faults.BadArgument) q = cc
@@ -68,7 +68,7 @@ line_deaf h held line (Ok says.Quit) q = quit_deaf line (refusal h held says.Qui
 line_deaf h held line (Ok m) q = cc
 
 either_deaf : (h : Situation) (held : List Order) (b q : Bool) (line : List ℕ) (r : Result IfaceMsg IfaceFault) → is_quit_message r ≡ q → (b || q) ≡ true
-    → IsDeaf (what_of (cond b Nothing (line_effect (verdict h held r) line)))
+    → IsDeaf (what_of (cond b Nothing (line_effect (verdict h held line r) line)))
 either_deaf h held true q line r e c = tt
 either_deaf h held false true line r e c = line_deaf h held line r e
 either_deaf h held false false line r e c = cc

@@ -21,7 +21,7 @@ use Rattle.search_epochs.specs.declared.words.EngineState.TheVariants as states
 use Rattle.search_epochs.specs.Tickets.{Engine, Boot, Getting, Idle, Search, Gone, heard, said_of, sent, sent_all}
 use Rattle.search_epochs.specs.Dialogue.{forget}
 use Rattle.desk_rules.specs.Desk.{Situation, is_boot, is_getting, is_gone, current}
-use Rattle.desk_rules.specs.Lines.{Verdict, Refused, Accepted, verdict}
+use Rattle.desk_rules.specs.Lines.{Verdict, Refused, Accepted, Early, verdict}
 use Rattle.desk_rules.specs.Steps.{Effect, Nothing, LongLine, Names, Declares, Boots, Readies, Shows, Forfeits, Dies, classify, line_effect, engine_says, thinks, answers, what_of}
 use Rattle.desk_rules.specs.Orders.{word_of}
 use Rattle.adapter_core.specs.Ends.{ends_after}
@@ -61,6 +61,7 @@ silent_unless false d e = refl
 line_silent : (v : Verdict) (line : List ℕ) → tells (line_effect v line) ≡ None
 line_silent (Refused r) line = refl
 line_silent (Accepted m) line = quiet_line m
+line_silent Early line = refl
 
 shown_best : (b : Bool) (m : Move) (hint : Option Move) → tells (cond b (Shows m hint) Forfeits) ≡ Some said.Best
 shown_best true m hint = refl
@@ -128,7 +129,7 @@ module _ (s : State) where
   -- the engine after the event is as the event says
   pub event_heard : (e : Event) → heard engine (tells (effect s e)) ≡ heard engine (said_by s.ends.closed e)
   unfolding classify
-  event_heard (events.Iface line) = ap (heard engine) (silent_where s.ends.closed _ (line_silent (verdict h s.held (reading line)) line))
+  event_heard (events.Iface line) = ap (heard engine) (silent_where s.ends.closed _ (line_silent (verdict h s.held line (reading line)) line))
   event_heard events.IfaceLong = ap (heard engine) (silent_where s.ends.closed LongLine refl)
   event_heard (events.Engine line) = line_heard s.ends.closed (engine_message line)
   event_heard events.EngineEnd = end_heard s.dialogue.epoch engine

@@ -39,7 +39,7 @@ use Rattle.search_epochs.specs.Tickets.{Word, Stop, PonderHit, Position, Go, onl
 use Rattle.search_epochs.proofs.Same.{only_orders}
 use Rattle.desk_rules.specs.declared.desk.Desk.{Desk}
 use Rattle.desk_rules.specs.Desk.{Situation, is_boot, is_getting, is_gone, is_full as is_full_game, plies, played, current}
-use Rattle.desk_rules.specs.Lines.{Verdict, Refused, Accepted, verdict, refusal, change, at_position}
+use Rattle.desk_rules.specs.Lines.{Verdict, Refused, Accepted, Early, verdict, refusal, change, at_position}
 use Rattle.desk_rules.specs.Steps.{Effect, Nothing, LongLine, Names, Accepts, Declares, Boots, Readies, Shows, Forfeits, Dies, classify, line_effect, engine_says, thinks, shows, answers, desk_after_effect}
 use Rattle.desk_rules.specs.Orders.{waiting, word_of}
 use Rattle.desk_rules.specs.Fits.{Fits, IsServed, IsLineEvent}
@@ -106,10 +106,11 @@ says_bare h line hears.Nothing l e = tt
 verdict_bare : (v : Verdict) (line : List ℕ) → IsBareName (line_effect v line)
 verdict_bare (Refused r) line = tt
 verdict_bare (Accepted m) line = tt
+verdict_bare Early line = tt
 
 comes_bare : (h : Situation) (held : List Order) (e : Event) → IsLineEvent e → IsBareName (classify h held e)
 unfolding classify
-comes_bare h held (events.Iface line) l = bare_unless h.closed (line_effect (verdict h held (reading line)) line) (verdict_bare (verdict h held (reading line)) line)
+comes_bare h held (events.Iface line) l = bare_unless h.closed (line_effect (verdict h held line (reading line)) line) (verdict_bare (verdict h held line (reading line)) line)
 comes_bare h held events.IfaceLong l = bare_unless h.closed LongLine tt
 comes_bare h held (events.Engine line) l = bare_unless h.closed (engine_says h (engine_message line)) (says_bare h line (engine_message line) l refl)
 comes_bare h held events.EngineEnd l = bare_unless (is_gone h.engine) Dies tt
@@ -196,8 +197,8 @@ shown_step : (w : Bool) (os : List Setting) (name : List ℕ) (o : Setting) → 
 shown_step true os name o f = f
 shown_step false os name o f = beside_step (found name os) os o f
 
-declared_few : (os : List Setting) (name : List ℕ) (shape : OptionKind) → AreFewOptions os → AreFewOptions (after_declared os name shape)
-declared_few os name shape f = shown_step (is_unshowable name shape) os name (kept name shape) f
+declared_few : (strength : Bool) (os : List Setting) (name : List ℕ) (shape : OptionKind) → AreFewOptions os → AreFewOptions (after_declared strength os name shape)
+declared_few strength os name shape f = shown_step (is_unshowable name shape) os name (kept strength name shape) f
 
 -- AFTER AN EFFECT
 
@@ -220,7 +221,7 @@ few_after h held (Accepts m) s f n k =
     left_few h.desk new (change_leaves (is_boot h.engine) h.desk m) (change_plies (is_boot h.engine) h.desk m (has_room h held m f.passes) k.plies) k
 few_after h held (Names text) s f n k = record { size = k.size; count = k.count; name = shown_bare (is_unfit text) text n; plies = k.plies }
 few_after h held (Declares name shape) s f n k =
-    let o = declared_few h.desk.options name shape (record { size = k.size; count = k.count }) in
+    let o = declared_few h.settings.strength_options h.desk.options name shape (record { size = k.size; count = k.count }) in
     record { size = o.size; count = o.count; name = k.name; plies = k.plies }
 few_after h held (Shows best hint) s f n k =
     record { size = k.size; count = k.count; name = k.name; plies = played_plies h.desk.game best (served_few h kinds.Move s f.0 f.1) }
@@ -331,7 +332,7 @@ module _ (o : Settings) (step : Step) (t : List Step) (l : Lawful o (step ∷ t)
       let few = (waits_in o t l.0).few in
       subst AreTold (sym l.1.replies)
       (replies_told (closed_after s ev) (is_move (owing s ev)) (situation s) s.held (effect s ev)
-      (record { options = last.sound.options; size = few.size; count = few.count; name = few.name }) (fits s step last l.1))
+      (record { options = last.sound.options; early = last.sound.early.lines; size = few.size; count = few.count; name = few.name }) last.sound (fits s step last l.1))
 
 -- LINES
 

@@ -111,5 +111,5 @@ unfolding IsBare
 declared_bare o d =
     let part = line_part d.line d.is_line in
     let heard : IsPiece 65536 d.name × IsHeardShape d.shape = subst (λ (m : EngineMsg). IsHeardOption m) d.says (message_heard d.line part) in
-    let kind = kind_by (is_hidden d.name) (hidden_kind d.shape) (shown_kind d.shape) (hidden_bare d.shape) (shown_bare d.line d.name d.shape d.says part heard.1) in
+    let kind = kind_by (is_hidden d.strength d.name) (hidden_kind d.shape) (shown_kind d.shape) (hidden_bare d.shape) (shown_bare d.line d.name d.shape d.says part heard.1) in
     both_bare o.name (kind_text o.kind) (usable o d).name.part.line (subst (λ (x : Setting). IsBare x.kind) (sym d.kept_is) kind)

@@ -40,7 +40,8 @@ use Rattle.desk_rules.specs.declared.desk.Desk.{Desk}
 use Rattle.desk_rules.specs.Desk.{Situation, is_gone, table, analyses, on_move, plies, ponder_name, analyse_name}
 use Rattle.desk_rules.specs.Lines.{switches, tells, asks_for_mode, asked_by, asks_of, asks}
 use Rattle.desk_rules.specs.Steps.{Effect, Accepts, Boots}
-use Rattle.desk_rules.specs.Orders.{ponder_at_boot, analysis_at_boot, asked_by_effect, waiting, position_order, pondered, searched, search_orders}
+use Rattle.desk_rules.proofs.EarlyOrders.{early_spelled}
+use Rattle.desk_rules.specs.Orders.{ponder_at_boot, analysis_at_boot, early_orders, asked_by_effect, waiting, position_order, pondered, searched, search_orders}
 use Rattle.desk_rules.specs.Fits.{Fits, IsSound}
 use Rattle.desk_rules.proofs.Searches.{searched_text}
 use Rattle.desk_rules.proofs.Waits.{table_declared}
@@ -115,9 +116,13 @@ one_spelled : (o : Option Order) → IsSetting o → AllByRecursion (IsSpelled 6
 one_spelled None h = tt
 one_spelled (Some order) h = (h, tt)
 
-two_spelled : (a b : Option Order) → IsSetting a → IsSetting b → AllByRecursion (IsSpelled 65700) (option_to_list a ++ option_to_list b)
-two_spelled None b f g = one_spelled b g
-two_spelled (Some order) b f g = (f, one_spelled b g)
+both_spelled : (xs ys : List Order) → AllByRecursion (IsSpelled 65700) xs → AllByRecursion (IsSpelled 65700) ys → AllByRecursion (IsSpelled 65700) (xs ++ ys)
+both_spelled [] ys f g = g
+both_spelled (x ∷ xs) ys f g = (f.0, both_spelled xs ys f.1 g)
+
+three_spelled : (xs : List Order) (a b : Option Order) → AllByRecursion (IsSpelled 65700) xs → IsSetting a → IsSetting b
+    → AllByRecursion (IsSpelled 65700) (xs ++ option_to_list a ++ option_to_list b)
+three_spelled xs a b f g h = both_spelled (xs ++ option_to_list a) (option_to_list b) (both_spelled xs (option_to_list a) f (one_spelled a g)) (one_spelled b h)
 
 -- what an effect asks for
 effect_spelled : (h : Situation) (held : List Order) (d : Effect) → IsSound h.desk → Fits h held d → AllByRecursion (IsSpelled 65700) (asked_by_effect h d)
@@ -126,7 +131,8 @@ effect_spelled h held (Accepts m) s f =
     one_spelled (asks (is_gone h.engine) h.desk m)
     (unless (is_gone h.engine) (asks_of h.desk m) (desk_setting h.desk f.line m (table_declared h.desk.booted h.desk.options s.options) f.is_line f.reads))
 effect_spelled h held Boots s f =
-    two_spelled (ponder_at_boot h.desk) (analysis_at_boot h.desk) (tells_setting h.desk.options ponder_name h.desk.pondering s.options)
+    three_spelled (early_orders h.desk.options h.desk.early) (ponder_at_boot h.desk) (analysis_at_boot h.desk) (early_spelled h.desk.options h.desk.early s.options s.early.lines)
+    (tells_setting h.desk.options ponder_name h.desk.pondering s.options)
     (only_if (analyses h.desk.mode) (tells h.desk.options analyse_name true) (tells_setting h.desk.options analyse_name true s.options))
 effect_spelled h held d s f = tt
 

@@ -56,7 +56,7 @@ numbered {n} front words k w s p =
 
 -- MOVES
 
-high_bare : (n k : ℕ) → 10 < n → not (is_feed (n + k)) ≡ true
+pub high_bare : (n k : ℕ) → 10 < n → not (is_feed (n + k)) ≡ true
 high_bare n k h = grind (arith, nat_tests)
 
 promotion_bare : (p : Option Kind) → no_feed (promotion_text p) ≡ true

@@ -5,6 +5,7 @@ use Rattle.chess_board.specs.declared.board.Move.{Move as AnyMove}
 use Rattle.chess_board.specs.declared.board.Side.{Side}
 use Rattle.cecp_lines.specs.Messages.{IfaceMsg}
 use Rattle.cecp_lines.specs.Messages as says
+use Rattle.cecp_lines.specs.declared.reply.Spelling.{Spelling}
 use Rattle.cecp_lines.specs.Replies.{Reply}
 use Rattle.cecp_lines.specs.Replies as told
 use Rattle.uci_lines.specs.Info.{Info}
@@ -14,7 +15,7 @@ use Rattle.game_record.specs.Ending.{ended_of}
 use Rattle.option_map.specs.Settings.{Setting}
 use Rattle.option_map.specs.Shown.{takes_tables}
 use Rattle.uci_lines.specs.declared.messages.Score.{Score}
-use Rattle.think_text.specs.Line.{thinking_line, line_with, legal_run}
+use Rattle.think_text.specs.Line.{thinking_line, line_with, legal_run, run_texts, hint_text}
 use Rattle.feature_talk.specs.declared.talk.Say.{Say}
 use Rattle.feature_talk.specs.declared.talk.Say.TheVariants as say
 use Rattle.feature_talk.specs.Due.{answer}
@@ -25,9 +26,9 @@ use Rattle.desk_rules.specs.declared.effect.Refusal.{Refusal}
 use Rattle.desk_rules.specs.declared.effect.Refusal.TheVariants as refusals
 use Rattle.desk_rules.specs.declared.desk.Desk.{Desk}
 use Rattle.desk_rules.specs.Desk.{Situation, is_boot, table, on_move, played, plays}
-use Rattle.desk_rules.specs.Lines.{change}
-use Rattle.desk_rules.specs.Steps.{Effect, Refuses, Accepts, Boots, Thinks, Shows, Dies, searched_by, resigns_after, resigns_at_end, desk_after_effect, answers_pings}
-use Rattle.desk_rules.specs.Replies.{refused, result_by, result_of, protover_row, offer_where, hint_row, row_accepted, list_where, resign_where, row, is_told, named_hint, replies_of}
+use Rattle.desk_rules.specs.Lines.{change, refused_option, early_answer}
+use Rattle.desk_rules.specs.Steps.{Effect, Refuses, Accepts, Boots, Thinks, Shows, Dies, searched_by, resigns_after, resigns_at_end, resigns_when_gone, desk_after_effect, answers_pings}
+use Rattle.desk_rules.specs.Replies.{refused, result_by, result_of, protover_row, offer_where, hint_row, row_accepted, list_where, resign_where, early_refusal, early_refusals, row, is_told, named_hint, spelling_of, replies_of}
 use Rattle.desk_rules.proofs.Quiet.{added_ping, quiet_pings}
 use Rattle.adapter_core.specs.Trace.{State, Step, IsLawful, state, situation, effect, owing, closed_after}
 use Rattle.adapter_core.proofs.Traces.{no_pings}
@@ -94,11 +95,21 @@ no_refusal (refusals.IllegalMove m) line = refl
 no_refusal (refusals.GameTooLong m) line = refl
 no_refusal refusals.IllegalPosition line = refl
 
-no_line : (depth : Option ℕ) (score : Option Score) (moves : List AnyMove) (facts : Info) (hint : Option AnyMove) → pongs_told (option_to_list (line_with depth score moves facts hint)) ≡ []
-no_line (Some depth) (Some score) (m ∷ moves) facts hint = refl
-no_line (Some depth) (Some score) [] facts hint = refl
-no_line (Some depth) None moves facts hint = refl
-no_line None score moves facts hint = refl
+no_early_line : (o : Option Refusal) (line : List ℕ) → pongs_told (early_refusal o line) ≡ []
+no_early_line None line = refl
+no_early_line (Some r) line = no_refusal r line
+
+no_early : (os : List Setting) (lines : List (List ℕ)) → pongs_told (early_refusals os lines) ≡ []
+no_early os [] = refl
+no_early os (line ∷ lines) =
+    let first = refused_option (early_answer os line) in
+    none_joined (early_refusal first line) (early_refusals os lines) (no_early_line first line) (no_early os lines)
+
+no_line : (depth : Option ℕ) (score : Option Score) (texts : List (List ℕ)) (facts : Info) (s : Spelling) (hint : Option (List ℕ)) → pongs_told (option_to_list (line_with depth score texts facts s hint)) ≡ []
+no_line (Some depth) (Some score) (text ∷ texts) facts s hint = refl
+no_line (Some depth) (Some score) [] facts s hint = refl
+no_line (Some depth) None texts facts s hint = refl
+no_line None score texts facts s hint = refl
 
 no_thinking : (b : Bool) (x : Option Reply) → pongs_told (option_to_list x) ≡ [] → pongs_told (cond b (option_to_list x) []) ≡ []
 no_thinking true x e = e
@@ -118,10 +129,13 @@ no_pong : (h : Situation) (d : Effect) → pongs_told (row h d) ≡ []
 unfolding row
 no_pong h (Refuses r line) = no_refusal r line
 no_pong h (Accepts m) = no_answer h m
-no_pong h Boots = no_list h.desk.due (record h.desk { booted = true })
+no_pong h Boots =
+    none_joined (list_where h.desk.due (record h.desk { booted = true })) (early_refusals h.desk.options h.desk.early) (no_list h.desk.due (record h.desk { booted = true })) (no_early h.desk.options h.desk.early)
 no_pong h (Thinks k facts) =
     let p = now_of (searched_by k h.desk.game h.desk.hint) in
-    no_thinking (is_told h k) (thinking_line facts p (named_hint k h.desk.hint)) (no_line facts.depth facts.score (legal_run p facts.pv) facts (named_hint k h.desk.hint))
+    let s = spelling_of h.settings in
+    let hint = named_hint k h.desk.game h.desk.hint in
+    no_thinking (is_told h k) (thinking_line s facts p hint) (no_line facts.depth facts.score (run_texts s p (legal_run p facts.pv)) facts s (hint_text s hint))
 no_pong h (Shows best hint) =
     none_joined (result_of (played h.desk.game best)) (resign_where (resigns_after h best)) (no_result (on_move (played h.desk.game best)) (ended_of (played h.desk.game best))) (no_resign (resigns_after h best))
 no_pong h Dies = none_joined (list_where h.desk.due h.desk) (told.TellError _ ∷ resign_where (resigns_at_end h)) (no_list h.desk.due h.desk) (no_resign (resigns_at_end h))
@@ -140,8 +154,9 @@ none_owed false ns = pongs_in ns
 -- in a session that is not closed
 open_pongs : (owes : Bool) (h : Situation) (d : Effect) → pongs_told (replies_of false owes h d) ≡ cond owes [] (desk_after_effect h d).pings
 open_pongs owes h d =
-    joined (row h d) (cond owes [] (map told.Pong (desk_after_effect h d).pings))
-    ∙ ap (λ (l : List ℕ). l ++ pongs_told (cond owes [] (map told.Pong (desk_after_effect h d).pings))) (no_pong h d)
+    let resign = resign_where (resigns_when_gone false h d) in
+    joined (row h d ++ resign) (cond owes [] (map told.Pong (desk_after_effect h d).pings))
+    ∙ ap (λ (l : List ℕ). l ++ pongs_told (cond owes [] (map told.Pong (desk_after_effect h d).pings))) (none_joined (row h d) resign (no_pong h d) (no_resign (resigns_when_gone false h d)))
     ∙ none_owed owes (desk_after_effect h d).pings
 
 -- what is told and what is held then are all that were held

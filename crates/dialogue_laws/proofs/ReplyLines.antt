@@ -1,8 +1,8 @@
 -- Each line to the interface is one line.
-use Rattle.std.proofs.Common.{◌≡◌, ℕ, ◌+◌, ◌≤◌, List, [], ◌∷◌, ◌++◌, length, map, not, Bool, true, false, cond, Option, Some, None, decimal, codes, refl, arith, length-append}
-use Rattle.std.specs.Prelude.{ℤ}
+use Rattle.std.proofs.Common.{◌≡◌, ℕ, ◌+◌, ◌≤◌, List, [], ◌∷◌, ◌++◌, length, map, not, Bool, true, false, cond, Option, Some, None, Result, Ok, Err, decimal, codes, refl, arith, length-append}
+use Rattle.std.specs.Prelude.{ℤ, IfSome}
 use Rattle.std.specs.Fmt.{signed_decimal}
-use Rattle.std.specs.List.{AllByRecursion}
+use Rattle.std.specs.List.{AllByRecursion, join_with_byte}
 use Rattle.std.specs.Option.{option_to_list}
 use Rattle.chess_board.specs.declared.board.Move.{Move}
 use Rattle.chess_board.specs.declared.board.Side.{Side}
@@ -11,6 +11,8 @@ use Rattle.chess_board.specs.Text.{text_of}
 use Rattle.peer_words.specs.Tokens.{trimmed}
 use Rattle.cecp_lines.specs.Messages.{IfaceMsg}
 use Rattle.cecp_lines.specs.Messages as says
+use Rattle.cecp_lines.specs.declared.reply.Spelling.{Spelling}
+use Rattle.cecp_lines.specs.declared.reply.Spelling.TheVariants.{Coordinates, San}
 use Rattle.cecp_lines.specs.Replies.{Reply, Feature, reply_text, reason_text, field, hint_text, current_text}
 use Rattle.cecp_lines.specs.Replies as told
 use Rattle.cecp_lines.specs.declared.reply.Reason.{Reason}
@@ -25,12 +27,17 @@ use Rattle.uci_lines.specs.Messages as hears
 use Rattle.game_record.specs.declared.ending.End.{End}
 use Rattle.game_record.specs.Game.{Game, now_of}
 use Rattle.game_record.specs.Ending.{ended_of}
-use Rattle.option_map.specs.Names.{is_hidden}
 use Rattle.option_map.specs.Settings.{Setting, kind_text, text_size}
 use Rattle.option_map.specs.Shown.{takes_memory, takes_cores, takes_tables}
 use Rattle.option_map.specs.Spelled.{AreDeclared}
+use Rattle.line_io.specs.Event.{is_line}
+use Rattle.uci_lines.specs.Orders.{Order}
+use Rattle.option_map.specs.declared.fault.OptFault.{OptFault}
+use Rattle.option_map.specs.declared.fault.OptFault.TheVariants.{UnknownOption, BadValue}
 use Rattle.option_map.proofs.Values.{no_feed, IsPart, line_part, trimmed_part}
-use Rattle.think_text.specs.Line.{legal_run, line_with, moves_text, thinking_line, value_of}
+use Rattle.think_text.specs.declared.line.Pondered.{Pondered}
+use Rattle.think_text.specs.Line.{legal_run, line_with, run_texts, thinking_line, value_of, written}
+use Rattle.think_text.specs.Line as think
 use Rattle.think_text.proofs.Short.{lines_short}
 use Rattle.feature_talk.specs.declared.talk.Say.{Say}
 use Rattle.feature_talk.specs.declared.talk.Say.TheVariants as say
@@ -40,13 +47,15 @@ use Rattle.desk_rules.specs.declared.effect.Refusal.{Refusal}
 use Rattle.desk_rules.specs.declared.effect.Refusal.TheVariants as refusals
 use Rattle.desk_rules.specs.declared.desk.Desk.{Desk}
 use Rattle.desk_rules.specs.Desk.{Situation, is_boot, on_move, played, plays}
-use Rattle.desk_rules.specs.Lines.{change}
-use Rattle.desk_rules.specs.Steps.{Effect, LongLine, Refuses, Accepts, Boots, Thinks, Shows, Forfeits, Dies, searched_by, resigns_after, resigns_at_end, desk_after_effect}
-use Rattle.desk_rules.specs.Replies.{refused, outcome_of, result_by, result_of, protover_row, offer_where, hint_row, row_accepted, list_where, resign_where, row, is_told, named_hint, replies_of}
-use Rattle.desk_rules.specs.Fits.{Fits, IsSaid}
-use Rattle.desk_rules.proofs.Rooms.{line_le, list_le}
+use Rattle.desk_rules.specs.Lines.{change, refused_option, early_answer}
+use Rattle.desk_rules.specs.Steps.{Effect, LongLine, Refuses, Accepts, Boots, Thinks, Shows, Forfeits, Dies, searched_by, resigns_after, resigns_at_end, resigns_when_gone, desk_after_effect}
+use Rattle.desk_rules.specs.Replies.{refused, outcome_of, result_by, result_of, protover_row, offer_where, hint_row, row_accepted, list_where, resign_where, early_refusal, early_refusals, row, is_told, named_hint, spelling_of, replies_of}
+use Rattle.desk_rules.specs.Fits.{Fits, IsSaid, IsSound}
+use Rattle.desk_rules.proofs.Ponders.{hint_played}
+use Rattle.desk_rules.proofs.Rooms.{line_le, list_le, most_le}
 use Rattle.dialogue_laws.proofs.Pieces.{both_bare, joined, wide, number_part, signed_part, move_part, all_both, all_where}
 use Rattle.dialogue_laws.proofs.OptionTexts.{declared_bare}
+use Rattle.dialogue_laws.proofs.Sans.{san_bare}
 
 -- the text of the reply is one line
 abbrev pub IsTold : Reply → Type 0
@@ -120,7 +129,7 @@ shown_bare false o os h k = k
 options_bare : (os : List Setting) → AreDeclared os → AreBare (map option_feature (shown_options os))
 unfolding AreBare
 options_bare [] d = tt
-options_bare (o ∷ os) d = shown_bare (not (is_hidden o.name)) o (shown_options os) (declared_bare o d.0) (options_bare os d.1)
+options_bare (o ∷ os) d = shown_bare (not o.hidden) o (shown_options os) (declared_bare o d.0) (options_bare os d.1)
 
 list_bare : (os : List Setting) (said : List ℕ) → AreDeclared os → no_feed (shown_name said) ≡ true → AreBare (feature_list os said)
 unfolding AreBare
@@ -145,6 +154,7 @@ lines_told n (r ∷ rs) b l m =
 -- what the lines to the interface say of the desk
 pub record HasTexts (d : Desk) : Type 0 where
   pub options : AreDeclared d.options
+  pub early : AllByRecursion (λ line. is_line line ≡ true) d.early
   pub size : text_size d.options ≤ 65536
   pub count : length d.options ≤ 256
   pub name : no_feed d.name ≡ true
@@ -230,25 +240,42 @@ pongs_told (n ∷ ns) = (worded (codes "pong ") (decimal n) refl (omega arith) (
 
 -- THINKING LINES
 
-hint_bare : (hint : Option Move) → no_feed (hint_text hint) ≡ true
-hint_bare None = refl
-hint_bare (Some m) = both_bare (40 ∷ []) (text_of m ++ 41 ∷ 32 ∷ []) refl (both_bare (text_of m) (41 ∷ 32 ∷ []) (move_part m).line refl)
+hint_bare : (hint : Option (List ℕ)) → IfSome hint (λ t. no_feed t ≡ true) → no_feed (hint_text hint) ≡ true
+hint_bare None h = refl
+hint_bare (Some t) h = both_bare (40 ∷ []) (t ++ 41 ∷ 32 ∷ []) refl (both_bare t (41 ∷ 32 ∷ []) h refl)
 
-run_bare : (m : Move) (moves : List Move) → no_feed (moves_text (m ∷ moves)) ≡ true
-run_bare m [] = (move_part m).line
-run_bare m (n ∷ moves) =
-    both_bare (text_of m) (32 ∷ moves_text (n ∷ moves)) (move_part m).line (both_bare (32 ∷ []) (moves_text (n ∷ moves)) refl (run_bare n moves))
+-- a move has no line feed in either spelling
+written_bare : (s : Spelling) (p : Position) (m : Move) → no_feed (written s p m) ≡ true
+written_bare Coordinates p m = (move_part m).line
+written_bare San p m = san_bare p m
+
+said_bare : (s : Spelling) (hint : Option Pondered) → IfSome (think.hint_text s hint) (λ t. no_feed t ≡ true)
+said_bare s None = tt
+said_bare s (Some hint) = written_bare s hint.before hint.hint
+
+-- texts without line feeds
+abbrev AreBareTexts : List (List ℕ) → Type 0
+AreBareTexts texts = AllByRecursion (λ t. no_feed t ≡ true) texts
+
+texts_bare : (s : Spelling) (p : Position) (moves : List Move) → AreBareTexts (run_texts s p moves)
+texts_bare s p [] = tt
+texts_bare s p (m ∷ moves) = (written_bare s p m, texts_bare s (think.played p m) moves)
+
+run_bare : (t : List ℕ) (texts : List (List ℕ)) → AreBareTexts (t ∷ texts) → no_feed (join_with_byte 32 (t ∷ texts)) ≡ true
+run_bare t [] h = h.0
+run_bare t (u ∷ texts) h = both_bare t (32 ∷ join_with_byte 32 (u ∷ texts)) h.0 (both_bare (32 ∷ []) (join_with_byte 32 (u ∷ texts)) refl (run_bare u texts h.1))
 
 number_bare : (n : ℕ) → no_feed (field (decimal n)) ≡ true
 number_bare n = (field_part (decimal n) (number_part n)).line
 
-thinking_bare : (depth : ℕ) (score : ℤ) (time nodes : ℕ) (hint : Option Move) (pv : List ℕ) → no_feed pv ≡ true → no_feed (reply_text (told.Thinking depth score time nodes hint pv)) ≡ true
-thinking_bare depth score time nodes hint pv h =
+thinking_bare : (depth : ℕ) (score : ℤ) (time nodes : ℕ) (s : Spelling) (hint : Option (List ℕ)) (pv : List ℕ) → IfSome hint (λ t. no_feed t ≡ true) → no_feed pv ≡ true
+    → no_feed (reply_text (told.Thinking depth score time nodes s hint pv)) ≡ true
+thinking_bare depth score time nodes s hint pv w h =
     let a = field (decimal depth) ++ field (signed_decimal score) in
     let one : no_feed a ≡ true = both_bare (field (decimal depth)) (field (signed_decimal score)) (number_bare depth) (field_part (signed_decimal score) (signed_part score)).line in
     let two = both_bare a (field (decimal time)) one (number_bare time) in
     let three = both_bare (a ++ field (decimal time)) (field (decimal nodes)) two (number_bare nodes) in
-    let four = both_bare (a ++ field (decimal time) ++ field (decimal nodes)) (hint_text hint) three (hint_bare hint) in
+    let four = both_bare (a ++ field (decimal time) ++ field (decimal nodes)) (hint_text hint) three (hint_bare hint w) in
     both_bare (a ++ field (decimal time) ++ field (decimal nodes) ++ hint_text hint) pv four h
 
 -- a thinking line, if there is one
@@ -256,21 +283,23 @@ abbrev IsBareIn : Option Reply → Type 0
 IsBareIn None = Unit {0}
 IsBareIn (Some reply) = no_feed (reply_text reply) ≡ true
 
-line_bare : (depth : Option ℕ) (score : Option Score) (moves : List Move) (facts : Info) (hint : Option Move) → IsBareIn (line_with depth score moves facts hint)
-line_bare (Some depth) (Some score) (m ∷ moves) facts hint = thinking_bare depth (value_of score) _ _ hint (moves_text (m ∷ moves)) (run_bare m moves)
-line_bare (Some depth) (Some score) [] facts hint = tt
-line_bare (Some depth) None moves facts hint = tt
-line_bare None score moves facts hint = tt
+line_bare : (depth : Option ℕ) (score : Option Score) (texts : List (List ℕ)) (facts : Info) (s : Spelling) (hint : Option (List ℕ)) → AreBareTexts texts → IfSome hint (λ t. no_feed t ≡ true)
+    → IsBareIn (line_with depth score texts facts s hint)
+line_bare (Some depth) (Some score) (t ∷ texts) facts s hint b w = thinking_bare depth (value_of score) _ _ s hint (join_with_byte 32 (t ∷ texts)) w (run_bare t texts b)
+line_bare (Some depth) (Some score) [] facts s hint b w = tt
+line_bare (Some depth) None texts facts s hint b w = tt
+line_bare None score texts facts s hint b w = tt
 
-one_told : (o : Option Reply) (b : Bool) → IsBareIn o → ((t : Reply) → o ≡ Some t → length (reply_text t) ≤ 128 + 65536) → AreTold (cond b (option_to_list o) [])
+one_told : (o : Option Reply) (b : Bool) → IsBareIn o → ((t : Reply) → o ≡ Some t → length (reply_text t) ≤ 128 + 104857) → AreTold (cond b (option_to_list o) [])
 one_told o false h l = tt
 one_told None true h l = tt
 one_told (Some t) true h l = (record { line = h; short = omega (arith, l t refl) }, tt)
 
-thought_told : (b : Bool) (facts : Info) (p : Position) (hint : Option Move) → IsSaid (hears.Info facts) → AreTold (cond b (option_to_list (thinking_line facts p hint)) [])
-thought_told b facts p hint s =
-    one_told (thinking_line facts p hint) b (line_bare facts.depth facts.score (legal_run p facts.pv) facts hint)
-    (λ t e. let l = line_le s.line s.is_line in omega (arith, lines_short s.line facts p hint t s.says e))
+thought_told : (b : Bool) (s : Spelling) (facts : Info) (p : Position) (hint : Option Pondered) → think.IsPlayable hint → IsSaid (hears.Info facts) → AreTold (cond b (option_to_list (thinking_line s facts p hint)) [])
+thought_told b s facts p hint i said =
+    one_told (thinking_line s facts p hint) b
+    (line_bare facts.depth facts.score (run_texts s p (legal_run p facts.pv)) facts s (think.hint_text s hint) (texts_bare s p (legal_run p facts.pv)) (said_bare s hint))
+    (λ t e. let l = most_le s (length said.line) (line_le said.line said.is_line) in omega (arith, l, lines_short s said.line facts p hint t i said.says e))
 
 -- ROWS
 
@@ -291,20 +320,34 @@ answered_told h says.Hint t = hint_told h.desk.hint
 answered_told h says.Dot t = (stat_told _ _ _ _ _ h.desk.seen.current, tt)
 answered_told h m t = tt
 
-row_told : (h : Situation) (d : Effect) → HasTexts h.desk → ((held : List _) × Fits h held d) → AreTold (row h d)
-unfolding row
-row_told h (Refuses r line) t f = (refused_told r line (line_part line f.1.is_line), tt)
-row_told h LongLine t f = (record { line = refl; short = omega arith }, tt)
-row_told h (Accepts m) t f = answered_told h m t
-row_told h Boots t f = list_told h.desk.due (record h.desk { booted = true }) (record { options = t.options; size = t.size; count = t.count; name = t.name })
-row_told h (Thinks k facts) t f = thought_told (is_told h k) facts (now_of (searched_by k h.desk.game h.desk.hint)) (named_hint k h.desk.hint) f.1.2
-row_told h (Shows best hint) t f = shown_told h best
-row_told h Forfeits t f = (tell_told tell.Move, (record { line = refl; short = omega arith }, tt))
-row_told h Dies t f = all_both IsTold (list_where h.desk.due h.desk) _ (list_told h.desk.due h.desk t) (tell_told tell.Ended, resign_told (resigns_at_end h))
-row_told h d t f = tt
+early_line_told : (a : Result (Option Order) OptFault) (line : List ℕ) → is_line line ≡ true → AreTold (early_refusal (refused_option a) line)
+early_line_told (Ok order) line l = tt
+early_line_told (Err UnknownOption) line l = (refused_told (refusals.Because reasons.UnknownOption) line (line_part line l), tt)
+early_line_told (Err BadValue) line l = (refused_told (refusals.Because reasons.BadValue) line (line_part line l), tt)
 
-pub replies_told : (closed owes : Bool) (h : Situation) (held : List _) (d : Effect) → HasTexts h.desk → Fits h held d → AreTold (replies_of closed owes h d)
-replies_told closed owes h held d t f =
+early_told : (os : List Setting) (lines : List (List ℕ)) → AllByRecursion (λ line. is_line line ≡ true) lines → AreTold (early_refusals os lines)
+early_told os [] l = tt
+early_told os (line ∷ lines) l =
+    all_both IsTold (early_refusal (refused_option (early_answer os line)) line) (early_refusals os lines) (early_line_told (early_answer os line) line l.0) (early_told os lines l.1)
+
+row_told : (h : Situation) (d : Effect) → HasTexts h.desk → IsSound h.desk → ((held : List _) × Fits h held d) → AreTold (row h d)
+unfolding row
+row_told h (Refuses r line) t o f = (refused_told r line (line_part line f.1.is_line), tt)
+row_told h LongLine t o f = (record { line = refl; short = omega arith }, tt)
+row_told h (Accepts m) t o f = answered_told h m t
+row_told h Boots t o f =
+    all_both IsTold (list_where h.desk.due (record h.desk { booted = true })) (early_refusals h.desk.options h.desk.early)
+    (list_told h.desk.due (record h.desk { booted = true }) (record { options = t.options; early = t.early; size = t.size; count = t.count; name = t.name }))
+    (early_told h.desk.options h.desk.early t.early)
+row_told h (Thinks k facts) t o f = thought_told (is_told h k) (spelling_of h.settings) facts (now_of (searched_by k h.desk.game h.desk.hint)) (named_hint k h.desk.game h.desk.hint) (hint_played k h.desk.game h.desk.hint o.hint) f.1.2
+row_told h (Shows best hint) t o f = shown_told h best
+row_told h Forfeits t o f = (tell_told tell.Move, (record { line = refl; short = omega arith }, tt))
+row_told h Dies t o f = all_both IsTold (list_where h.desk.due h.desk) _ (list_told h.desk.due h.desk t) (tell_told tell.Ended, resign_told (resigns_at_end h))
+row_told h d t o f = tt
+
+pub replies_told : (closed owes : Bool) (h : Situation) (held : List _) (d : Effect) → HasTexts h.desk → IsSound h.desk → Fits h held d → AreTold (replies_of closed owes h d)
+replies_told closed owes h held d t o f =
     all_where IsTold closed [] _ tt
-    (all_both IsTold (row h d) (cond owes [] (map told.Pong (desk_after_effect h d).pings)) (row_told h d t (held, f))
+    (all_both IsTold (row h d ++ resign_where (resigns_when_gone closed h d)) (cond owes [] (map told.Pong (desk_after_effect h d).pings))
+    (all_both IsTold (row h d) (resign_where (resigns_when_gone closed h d)) (row_told h d t o (held, f)) (resign_told (resigns_when_gone closed h d)))
     (all_where IsTold owes [] (map told.Pong (desk_after_effect h d).pings) tt (pongs_told (desk_after_effect h d).pings)))

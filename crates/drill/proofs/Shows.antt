@@ -58,8 +58,8 @@ thinking_begins depth a b c d e f g =
 -- lines that tell no move do not begin with one
 none_first : (rs : List Reply) → moves_told rs ≡ [] → shows_move (reply_lines rs) ≡ false
 none_first (told.Move m ∷ rs) e = cc
-none_first (told.Thinking depth score time nodes hint pv ∷ rs) e =
-    none_shown (reply_lines (told.Thinking depth score time nodes hint pv ∷ rs)) (begins_more _ (reply_lines rs) (thinking_begins depth (32 ∷ []) _ _ _ _ pv (10 ∷ [])))
+none_first (told.Thinking depth score time nodes spelling hint pv ∷ rs) e =
+    none_shown (reply_lines (told.Thinking depth score time nodes spelling hint pv ∷ rs)) (begins_more _ (reply_lines rs) (thinking_begins depth (32 ∷ []) _ _ _ _ pv (10 ∷ [])))
 none_first (told.TellError tells.Position ∷ rs) e = refl
 none_first (told.Result outcomes.WhiteMates ∷ rs) e = refl
 none_first rs e = refl
