@@ -3,14 +3,16 @@ use Rattle.std.proofs.Common.{◌≡◌, ℕ, ◌+◌, suc, List, [], ◌∷◌,
 use Rattle.line_io.specs.Lines.{Piece}
 use Rattle.line_io.specs.Out.{Text, with}
 use Rattle.command_endings.specs.declared.ending.Ending.{Ending}
+use Rattle.command_endings.specs.declared.ending.Ending.TheVariants as endings
 use Rattle.session_judge.specs.declared.deed.Deed.{Deed}
 use Rattle.session_judge.specs.declared.rule.Rule.{Rule}
+use Rattle.session_judge.specs.declared.listener.Listener.{Listener}
 use Rattle.session_judge.specs.declared.talk.Talk.{Talk}
 use Rattle.session_judge.specs.Clean.{verdict}
-use Rattle.session_judge.specs.Talks.{opening}
+use Rattle.session_judge.specs.Talks.{after, opening}
 use Rattle.std.specs.Prelude.{Ok, Err, IfSome}
-use Rattle.judge_report.specs.Texts.{searched, unlawful_line}
-use Rattle.judge_report.specs.Reports.{Course, Outcome, brought_out, kind_of, of_deed, of_kind, with_outcome, read_on, over, report, last_lines}
+use Rattle.judge_report.specs.Texts.{unlawful_line}
+use Rattle.judge_report.specs.Reports.{Course, Outcome, brought_out, kind_of, of_deed, of_kind, summed, with_outcome, read_on, over, report, last_lines}
 use Rattle.line_scribe.specs.Putting.{IsOfLine, Puts, Then}
 use Rattle.line_scribe.specs.Putting as scribe
 use Rattle.judge_report.specs.Judging.{judges}
@@ -27,9 +29,26 @@ put_ok t n d None held held' e h = h
 put_ok t n d (Some r) held held' e h = absurd (cc)
 
 -- and for one that breaks this one first
-pub put_err : (t : Talk) (n : ℕ) (d : Deed) (o : Option Rule) (rule : Rule) (held held' : Text) → Err rule ≡ verdict o → held' ≡ with held (searched t.search ++ unlawful_line n rule) → held' ≡ with held (of_deed t n d o).more
+pub put_err : (t : Talk) (n : ℕ) (d : Deed) (o : Option Rule) (rule : Rule) (held held' : Text) → Err rule ≡ verdict o → held' ≡ with held (summed t ++ unlawful_line n rule) → held' ≡ with held (of_deed t n d o).more
 put_err t n d None rule held held' e h = absurd (cc)
-put_err t n d (Some r) rule held held' e h = let same : rule ≡ r = cc in h ∙ ap (λ x. with held (searched t.search ++ unlawful_line n x)) same
+put_err t n d (Some r) rule held held' e h = let same : rule ≡ r = cc in h ∙ ap (λ x. with held (summed t ++ unlawful_line n x)) same
+
+-- the reason to end, and the talk then
+pub ending_ok : (t : Talk) (n : ℕ) (d : Deed) (o : Option Rule) → Ok tt ≡ verdict o → None ≡ (of_deed t n d o).ending
+ending_ok t n d None e = refl
+ending_ok t n d (Some r) e = absurd (cc)
+
+pub ending_err : (t : Talk) (n : ℕ) (d : Deed) (o : Option Rule) (rule : Rule) → Err rule ≡ verdict o → Some (endings.Unlawful n) ≡ (of_deed t n d o).ending
+ending_err t n d None rule e = absurd (cc)
+ending_err t n d (Some r) rule e = refl
+
+pub talk_ok : (t u : Talk) (n : ℕ) (d : Deed) (o : Option Rule) → Ok tt ≡ verdict o → u ≡ after t n d → u ≡ (of_deed t n d o).talk
+talk_ok t u n d None e h = h
+talk_ok t u n d (Some r) e h = absurd (cc)
+
+pub talk_err : (t u : Talk) (n : ℕ) (d : Deed) (o : Option Rule) (rule : Rule) → Err rule ≡ verdict o → u ≡ t → u ≡ (of_deed t n d o).talk
+talk_err t u n d None rule e h = absurd (cc)
+talk_err t u n d (Some r) rule e h = h
 
 -- the last of some lines
 over_last : (c : Course) (n : ℕ) (ps : List Piece) (p : Piece) → over c n (ps ++ p ∷ []) ≡ read_on (over c n ps).ending (over c n ps) (n + length ps) p
@@ -43,22 +62,22 @@ over_last c n (q ∷ qs) p =
 abbrev grown : Talk → List ℕ → ℕ → Piece → Course
 grown t text n p = record { talk = (of_kind t n (kind_of n p)).talk; text = text ++ (of_kind t n (kind_of n p)).more; ending = (of_kind t n (kind_of n p)).ending }
 
-next : (lines : List Piece) (t : Talk) (text : List ℕ) (number : ℕ) (piece : Piece) → Stands lines t text → number ≡ length lines + 1 → report (lines ++ piece ∷ []) ≡ grown t text number piece
-next lines t text number piece s e =
-    let c : Course = report lines in
-    over_last (record { talk = opening; text = []; ending = None }) 1 lines piece
+next : (listener : Listener) (lines : List Piece) (t : Talk) (text : List ℕ) (number : ℕ) (piece : Piece) → Stands listener lines t text → number ≡ length lines + 1 → report listener (lines ++ piece ∷ []) ≡ grown t text number piece
+next listener lines t text number piece s e =
+    let c : Course = report listener lines in
+    over_last (record { talk = opening listener; text = []; ending = None }) 1 lines piece
     ∙ read_more c (1 + length lines) number piece (omega arith)
     ∙ ap (λ o. read_on o c number piece) s.goes_on
     ∙ ap (λ u. grown u c.text number piece) s.talk_is
     ∙ ap (λ x. grown t x number piece) s.text_is
 
-comes : (o : Option Ending) (lines : List Piece) (t : Talk) (text : List ℕ) (c : Course) → IfSome o IsOfLine → report lines ≡ c → o ≡ c.ending → t ≡ c.talk → text ≡ c.text → Comes lines o t text
-comes None lines t text c w e o h x = record {
+comes : (listener : Listener) (o : Option Ending) (lines : List Piece) (t : Talk) (text : List ℕ) (c : Course) → IfSome o IsOfLine → report listener lines ≡ c → o ≡ c.ending → t ≡ c.talk → text ≡ c.text → Comes listener lines o t text
+comes listener None lines t text c w e o h x = record {
   talk_is = ap (λ (d : Course). d.talk) e ∙ sym h;
   text_is = ap (λ (d : Course). d.text) e ∙ sym x;
   goes_on = ap (λ (d : Course). d.ending) e ∙ sym o;
 }
-comes (Some ending) lines t text c w e o h x = record {
+comes listener (Some ending) lines t text c w e o h x = record {
   of_line = w;
   ends = ap (λ (d : Course). d.ending) e ∙ sym o;
   text_is = ap (λ (d : Course). d.text) e ∙ sym x;
@@ -71,8 +90,8 @@ pub reads : (number : ℕ) (piece : Piece) (result : Option Ending) (t t' : Talk
 reads number piece result t t' held held' r h p w = record {
   more = (of_kind t number (kind_of number piece)).more;
   put = p;
-  goes = λ lines text s e. comes result (lines ++ piece ∷ []) t' (text ++ (of_kind t number (kind_of number piece)).more)
-      (grown t text number piece) w (next lines t text number piece s e) r h refl;
+  goes = λ listener lines text s e. comes listener result (lines ++ piece ∷ []) t' (text ++ (of_kind t number (kind_of number piece)).more)
+      (grown t text number piece) w (next listener lines t text number piece s e) r h refl;
 }
 
 -- The report is closed by what is put last.
@@ -80,32 +99,32 @@ pub ends : (ending : Ending) (t : Talk) (held held' : Text) → held' ≡ with h
 ends ending t held held' p = record {
   more = last_lines t ending;
   put = p;
-  goes = λ lines text s. record {
+  goes = λ listener lines text s. record {
     goes_on = s.goes_on;
-    text_is = ap (λ (u : Talk). (report lines).text ++ last_lines u ending) s.talk_is ∙ ap (λ x. x ++ last_lines t ending) s.text_is;
+    text_is = ap (λ (u : Talk). (report listener lines).text ++ last_lines u ending) s.talk_is ∙ ap (λ x. x ++ last_lines t ending) s.text_is;
   };
 }
 
 -- AS A SCRIBE
 
-then_by : (o : Option Ending) (t0 : Talk) (lines : List Piece) (t : Talk) (text : List ℕ) → (t0 ≡ opening → Comes lines o t text) → Then judges t0 lines o t text
+then_by : (o : Option Ending) (t0 : Talk) (lines : List Piece) (t : Talk) (text : List ℕ) → ((listener : Listener) → t0 ≡ opening listener → Comes listener lines o t text) → Then judges t0 lines o t text
 then_by None t0 lines t text h = h
-then_by (Some ending) t0 lines t text h = λ first. inl (h first)
+then_by (Some ending) t0 lines t text h = λ listener first. inl (h listener first)
 
 pub puts : (number : ℕ) (piece : Piece) (result : Option Ending) (t t' : Talk) (held held' : Text) → Reads number piece result t t' held held' → Puts judges number piece result t held t' held'
 puts number piece result t t' held held' r = record {
   more = r.more;
   put = r.put;
-  goes = λ t0 lines text p e. then_by result t0 (lines ++ piece ∷ []) t' (text ++ r.more) (λ first. r.goes lines text (p first) e);
+  goes = λ t0 lines text p e. then_by result t0 (lines ++ piece ∷ []) t' (text ++ r.more) (λ listener first. r.goes listener lines text (p listener first) e);
 }
 
 pub closes : (ending : Ending) (t : Talk) (held held' : Text) → (IsOfLine ending → ⊥) → Ends ending t held held' → scribe.Closes judges ending t held held'
 closes ending t held held' unlined r = record {
   more = r.more;
   put = r.put;
-  says = λ t0 lines text p first. inr (unlined, r.goes lines text (p first));
+  says = λ t0 lines text p listener first. inr (unlined, r.goes listener lines text (p listener first));
 }
 
 -- before the first line
-pub begins : Stands [] opening []
-begins = record { talk_is = refl; text_is = refl; goes_on = refl }
+pub stands_fresh : (listener : Listener) (t : Talk) → t ≡ opening listener → Stands listener [] t []
+stands_fresh listener t e = record { talk_is = sym e; text_is = refl; goes_on = refl }

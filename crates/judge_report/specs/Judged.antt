@@ -11,59 +11,64 @@ use Rattle.command_endings.specs.Ran.{Ran, WritingBroke}
 use Rattle.command_endings.specs.Reads.{Got, IsAll, AreFirst, AreRead}
 use Rattle.command_endings.specs.Streams.{Streams, AreSame, IsSteady}
 use Rattle.line_scribe.specs.Scribed.{EndsBy}
+use Rattle.session_judge.specs.declared.listener.Listener.{Listener}
 use Rattle.session_judge.specs.Talks.{opening}
 use Rattle.judge_report.specs.Reports.{report, last_lines}
 use Rattle.judge_report.specs.Judging.{judges}
 use Rattle.line_io.specs.declared.limits.TheConstants.{SCRIPT_LINE}
 
 -- the report on these lines, with what is written last if it ends so
-abbrev pub whole_report : List Piece → Ending → List ℕ
-whole_report lines ending = (report lines).text ++ last_lines (report lines).talk ending
+abbrev pub whole_report : Listener → List Piece → Ending → List ℕ
+whole_report listener lines ending =
+    (report listener lines).text ++ last_lines (report listener lines).talk ending
 
 -- All of the input was read, no mark of it breaks a rule and none of its lines has no mark; and the report on it was
 -- written, whose last line is `lawful talk`.
-pub record AllJudged (before after : Streams) : Type 0 where
+pub record AllJudged (listener : Listener) (before after : Streams) : Type 0 where
   pub got : List ℕ
   pub reads : Got before after got
   pub all_read : IsAll before.input.left got
-  pub faultless : (report (items SCRIPT_LINE got)).ending ≡ None
-  pub written : Appends before.output.taken after.output.taken (whole_report (items SCRIPT_LINE got) endings.Done)
+  pub faultless : (report listener (items SCRIPT_LINE got)).ending ≡ None
+  pub written : Appends before.output.taken after.output.taken
+      (whole_report listener (items SCRIPT_LINE got) endings.Done)
 
 -- A line has no mark, or has one that breaks a rule. The report on the lines up to it was written, and what it is was
 -- reported if its status has a diagnostic.
-pub record FaultFound (before after : Streams) (code : ℕ) : Type 0 where
+pub record FaultFound (listener : Listener) (before after : Streams) (code : ℕ) : Type 0 where
   pub fault : Ending
   pub code_is : code ≡ code_of fault
   pub lines : List Piece
   pub read : AreRead before after lines
-  pub is_fault : (report lines).ending ≡ Some fault
-  pub written : Appends before.output.taken after.output.taken (report lines).text
+  pub is_fault : (report listener lines).ending ≡ Some fault
+  pub written : Appends before.output.taken after.output.taken (report listener lines).text
   pub told : Appends before.diag.taken after.diag.taken (diagnostic fault)
 
 -- All whole lines that were read are without a fault, and the report on them was written, except what comes last.
-pub record WholeJudged (ending : Ending) (least : ℕ) (before after : Streams) : Type 0 where
+pub record WholeJudged (listener : Listener) (ending : Ending) (least : ℕ) (before after : Streams) : Type 0 where
   pub got : List ℕ
   pub reads : Got before after got
   pub least_is : least ≤ length got
   pub first : AreFirst before.input.left (whole SCRIPT_LINE got)
-  pub faultless : (report (whole SCRIPT_LINE got)).ending ≡ None
-  pub written : Appends before.output.taken after.output.taken (whole_report (whole SCRIPT_LINE got) ending)
+  pub faultless : (report listener (whole SCRIPT_LINE got)).ending ≡ None
+  pub written : Appends before.output.taken after.output.taken
+      (whole_report listener (whole SCRIPT_LINE got) ending)
 
-abbrev pub Completes : Streams → Streams → ℕ → Type 0
-Completes before after code =
+abbrev pub Completes : Listener → Streams → Streams → ℕ → Type 0
+Completes listener before after code =
     (x : List ℕ) → before.input.left ≡ Some x → length x < 2 ^ 32 → IsSteady before after
-    → ((code ≡ 0) × AllJudged before after) ⊎ FaultFound before after code ⊎ (code ≡ 3)
+    → ((code ≡ 0) × AllJudged listener before after) ⊎ FaultFound listener before after code ⊎ (code ≡ 3)
 
--- `Untouched` says that the input and the output are just as they were.
-pub record Judged (Untouched : Type 0) (before after : Streams) (code : ℕ) : Type 0 where
-  pub ended : Ran (λ e. EndsBy judges opening Untouched e before after) before after code
+-- The log that this one wrote is judged. `Untouched` says that the input and the output are just as they were.
+pub record Judged (listener : Listener) (Untouched : Type 0) (before after : Streams) (code : ℕ) : Type 0 where
+  pub ended : Ran (λ e. EndsBy judges (opening listener) Untouched e before after) before after code
   -- what each status says
-  pub lawful : code ≡ 0 → AllJudged before after × AreSame before after
-  pub unlawful : code ≡ 1 → FaultFound before after 1
-  pub no_mark : code ≡ 2 → FaultFound before after 2
+  pub lawful : code ≡ 0 → AllJudged listener before after × AreSame before after
+  pub unlawful : code ≡ 1 → FaultFound listener before after 1
+  pub no_mark : code ≡ 2 → FaultFound listener before after 2
   pub memory : code ≡ 3 → Untouched
-  pub reading_failed : code ≡ 4 → Rose before.input.faults after.input.faults × WholeJudged endings.ReadingFailed 0 before after
+  pub reading_failed : code ≡ 4 → Rose before.input.faults after.input.faults
+      × WholeJudged listener endings.ReadingFailed 0 before after
   pub writing_failed : code ≡ 5 → WritingBroke before after
-  pub too_long : code ≡ 6 → WholeJudged endings.TooLong (2 ^ 32) before after
+  pub too_long : code ≡ 6 → WholeJudged listener endings.TooLong (2 ^ 32) before after
   -- an input of fewer than 2^32 bytes is judged to its end or to its first fault, or there was no memory
-  pub complete : Completes before after code
+  pub complete : Completes listener before after code

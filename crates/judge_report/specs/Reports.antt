@@ -6,6 +6,7 @@ use Rattle.script_lines.specs.Marks.{Mark, mark_of}
 use Rattle.script_lines.specs.StepLine.{step_of}
 use Rattle.command_endings.specs.declared.ending.Ending.{Ending}
 use Rattle.command_endings.specs.declared.ending.Ending.TheVariants as endings
+use Rattle.session_judge.specs.declared.listener.Listener.{Listener}
 use Rattle.session_judge.specs.declared.deed.Order.TheVariants as orders
 use Rattle.session_judge.specs.declared.deed.Deed.{Deed}
 use Rattle.session_judge.specs.declared.deed.Deed.TheVariants as deeds
@@ -15,7 +16,7 @@ use Rattle.session_judge.specs.declared.talk.Talk.{Talk}
 use Rattle.session_judge.specs.Deeds.{deed_of}
 use Rattle.session_judge.specs.Rules.{broken}
 use Rattle.session_judge.specs.Talks.{after, opening}
-use Rattle.judge_report.specs.Texts.{searched, lawful_line, unlawful_line}
+use Rattle.judge_report.specs.Texts.{searched, crossings_line, lawful_line, unlawful_line}
 
 -- what a line of a log is: a mark, a line that is ignored, or neither
 pub data Kind : Type 0 where
@@ -46,10 +47,14 @@ abbrev pub brought_out : Option Search → Deed → List ℕ
 brought_out search (deeds.Writes (orders.Go kind)) = searched search
 brought_out search deed = []
 
+-- what comes before the last line: the line of the last search, and how many orders crossed
+abbrev pub summed : Talk → List ℕ
+summed t = searched t.search ++ crossings_line t.crossings
+
 abbrev pub of_deed : Talk → ℕ → Deed → Option Rule → Outcome
 of_deed t number deed None = record { talk = after t number deed; more = brought_out t.search deed; ending = None }
 of_deed t number deed (Some rule) =
-    record { talk = t; more = searched t.search ++ unlawful_line number rule; ending = Some (endings.Unlawful number) }
+    record { talk = t; more = summed t ++ unlawful_line number rule; ending = Some (endings.Unlawful number) }
 
 abbrev pub of_kind : Talk → ℕ → Kind → Outcome
 of_kind t number (Marks mark) = of_deed t number (deed_of mark) (broken t (deed_of mark))
@@ -74,21 +79,11 @@ abbrev pub over : Course → ℕ → List Piece → Course
 over c number [] = c
 over c number (piece ∷ pieces) = over (read_on c.ending c number piece) (number + 1) pieces
 
-abbrev pub report : List Piece → Course
-report lines = over (record { talk = opening; text = []; ending = None }) 1 lines
+-- the report on the lines of a log that this one wrote
+abbrev pub report : Listener → List Piece → Course
+report listener lines = over (record { talk = opening listener; text = []; ending = None }) 1 lines
 
 -- what is written at the end of the input; nothing is written if it was not read to its end
 abbrev pub last_lines : Talk → Ending → List ℕ
-last_lines t endings.Done = searched t.search ++ lawful_line
+last_lines t endings.Done = summed t ++ lawful_line
 last_lines t ending = []
-
--- the reason to end that stands in a line
-abbrev pub ending_in : Ending → Option Ending
-ending_in (endings.Unlawful number) = Some (endings.Unlawful number)
-ending_in (endings.NoMark number) = Some (endings.NoMark number)
-ending_in ending = None
-
--- The text of the report on these lines, if it ends so.
-pub record IsReport (lines : List Piece) (ending : Ending) (text : List ℕ) : Type 0 where
-  pub ends : (report lines).ending ≡ ending_in ending
-  pub text_is : text ≡ (report lines).text ++ last_lines (report lines).talk ending

@@ -1,5 +1,5 @@
 -- The lines of a report.
-use Rattle.std.specs.Prelude.{ℕ, List, [], ◌∷◌, ◌++◌, codes, decimal, Bool, true, false, Option, Some, None}
+use Rattle.std.specs.Prelude.{ℕ, List, [], ◌∷◌, ◌++◌, codes, decimal, Bool, true, false, ◌==◌, if◌then◌else◌, Option, Some, None}
 use Rattle.chess_board.specs.declared.board.Move.{Move}
 use Rattle.chess_board.specs.Text.{text_of}
 use Rattle.peer_words.specs.declared.kinds.GoKind.{GoKind}
@@ -53,6 +53,14 @@ rule_text rules.Stop = codes "stop"
 rule_text rules.Hit = codes "hit"
 rule_text rules.Position = codes "position"
 rule_text rules.Move = codes "move"
+
+-- `crossings: N`
+abbrev pub count_line : ℕ → List ℕ
+count_line n = codes "crossings: " ++ decimal n ++ line_feed ∷ []
+
+-- if an order crossed
+abbrev pub crossings_line : ℕ → List ℕ
+crossings_line n = if n == 0 then [] else count_line n
 
 abbrev pub lawful_line : List ℕ
 lawful_line = codes "lawful talk" ++ line_feed ∷ []

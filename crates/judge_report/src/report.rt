@@ -14,7 +14,7 @@ use command_endings::Ending;
 use line_io::Out;
 use line_scribe::Scribe;
 use script_lines::{read_header, read_mark, read_step};
-use session_judge::{Deed, Judge, Order, Search, deed_of};
+use session_judge::{Deed, Judge, Listener, Order, Search, deed_of};
 use std::marker::Model;
 
 /// How many bytes are put for a line, or last, at most.
@@ -53,13 +53,13 @@ fn is_passed(number: u64, line: &[u8]) -> bool
 }
 
 impl Report {
-    /// No line was read yet.
-    pub fn new() -> Report
-        ensures opening { result ≡ opening }
-        ensures stands { Stands [] result [] }
+    /// The report on a log that this one wrote. No line was read yet.
+    pub fn new(listener: Listener) -> Report
+        ensures opening { result ≡ opening listener }
+        ensures stands { Stands listener [] result [] }
     {
         Report {
-            judge: Judge::new(),
+            judge: Judge::new(listener),
         }
     }
 
@@ -81,7 +81,7 @@ impl Report {
                 None
             }
             Err(rule) => {
-                put_refusal(before, number, rule, text);
+                put_refusal(&self.judge, number, rule, text);
                 Some(Ending::Unlawful(number))
             }
         }
@@ -131,16 +131,13 @@ impl Report {
         ensures { text.new ≡ with text.old (last_lines self.now ending) }
     {
         match ending {
-            Ending::Done => {
-                put_search(self.judge.search(), text);
-                put_lawful(text);
-            }
+            Ending::Done => put_lawful(&self.judge, text),
             _ => text.put(b""),
         }
     }
 
-    /// Puts what comes last if no line is the reason to end: the line of the last search, and that the talk is lawful, if
-    /// all of the log was read.
+    /// Puts what comes last if no line is the reason to end: the line of the last search, how many orders crossed, and that
+    /// the talk is lawful, if all of the log was read.
     pub fn put_last(&self, ending: Ending, text: &mut Out)
         requires { length text.old.text + LAST_LINES ≤ text.old.room }
         ensures { Ends ending self.now text.old text.new }

@@ -8,20 +8,22 @@ use crate::report::Report;
 use command_endings::Ending;
 use line_io::{Sink, Source};
 use line_scribe::run_scribe;
+use session_judge::Listener;
 use std::alloc::Global;
 
-/// Judges the log that the input gives, writes the report on it, and reports how that ended: `Done` if the talk with the
+/// Judges the log that the input gives and this one wrote, writes the report on it, and reports how that ended: `Done` if the talk with the
 /// engine is lawful, `Unlawful` with the line of the mark that breaks a rule, `NoMark` with a line that is none of a
 /// log; or what kept it from reading or writing.
 pub fn run_judge<I: Source, O: Sink, D: Sink>(
     alloc: Global,
+    listener: Listener,
     input: &mut I,
     output: &mut O,
     diag: &mut D,
 ) -> Ending
-    ensures { Judged ((input.new ≡ input.old) × (output.new ≡ output.old))
+    ensures { Judged listener ((input.new ≡ input.old) × (output.new ≡ output.old))
         (streams (I.state input.old) (O.state output.old) (D.state diag.old))
         (streams (I.state input.new) (O.state output.new) (D.state diag.new)) (code_of result) }
 {
-    run_scribe(alloc, Report::new(), input, output, diag)
+    run_scribe(alloc, Report::new(listener), input, output, diag)
 }

@@ -2,14 +2,15 @@
 ghost use Rattle.std.specs.Prelude.{◌≡◌, ◌+◌, ◌≤◌, ◌++◌, decimal, length};
 ghost use Rattle.line_io.specs.Out.{with};
 ghost use Rattle.chess_board.specs.Text.{promotion_text, text_of};
-ghost use Rattle.judge_report.specs.Texts.{begun_text, end_text, ended_text, kind_text, lawful_line, rule_text, searched, shown_text, stop_text, unlawful_line};
+ghost use Rattle.judge_report.specs.Reports.{summed};
+ghost use Rattle.judge_report.specs.Texts.{begun_text, count_line, crossings_line, end_text, ended_text, kind_text, lawful_line, rule_text, searched, shown_text, stop_text, unlawful_line};
 ghost use Rattle.judge_report.specs.declared.report.TheConstants.{LAST_LINES};
 
 use chess_board::{Kind, Move};
 use itoa::Buffer;
 use line_io::Out;
 use peer_words::GoKind;
-use session_judge::{Rule, Search};
+use session_judge::{Judge, Rule, Search};
 
 fn put_number(word: &[u8], number: u64, out: &mut Out)
     requires { length out.old.text + length word.now + 20 ≤ out.old.room }
@@ -119,9 +120,9 @@ fn put_ended(search: &Search, out: &mut Out)
 
 /// Puts the line of a search, if there is one.
 pub(crate) fn put_search(search: Option<Search>, out: &mut Out)
-    requires { length out.old.text + 200 ≤ out.old.room }
+    requires { length out.old.text + 130 ≤ out.old.room }
     ensures text { out.new ≡ with out.old (searched search) }
-    ensures short { length out.new.text ≤ length out.old.text + 200 }
+    ensures short { length out.new.text ≤ length out.old.text + 130 }
 {
     if let Some(search) = search {
         put_begun(&search, out);
@@ -157,19 +158,60 @@ fn put_unlawful(line: u64, rule: Rule, out: &mut Out)
     out.put(b"\n");
 }
 
-/// Puts the line of the last search, and the line about a mark that breaks a rule.
-pub(crate) fn put_refusal(search: Option<Search>, line: u64, rule: Rule, out: &mut Out)
-    requires { length out.old.text + LAST_LINES ≤ out.old.room }
-    ensures { out.new ≡ with out.old (searched search ++ unlawful_line line rule) }
+// Puts the line about the orders that crossed.
+fn put_count(crossings: u64, out: &mut Out)
+    requires { length out.old.text + 40 ≤ out.old.room }
+    ensures text { out.new ≡ with out.old (count_line crossings) }
+    ensures short { length out.new.text ≤ length out.old.text + 40 }
 {
-    put_search(search, out);
+    put_number(b"crossings: ", crossings, out);
+    out.put(b"\n");
+}
+
+// Puts it if an order crossed.
+fn put_crossings(crossings: u64, out: &mut Out)
+    requires { length out.old.text + 40 ≤ out.old.room }
+    ensures text { out.new ≡ with out.old (crossings_line crossings) }
+    ensures short { length out.new.text ≤ length out.old.text + 40 }
+{
+    match crossings {
+        0 => out.put(b""),
+        _ => put_count(crossings, out),
+    }
+}
+
+// Puts what comes before the last line.
+fn put_sum(judge: &Judge, out: &mut Out)
+    requires { length out.old.text + 170 ≤ out.old.room }
+    ensures text { out.new ≡ with out.old (summed judge.now) }
+    ensures short { length out.new.text ≤ length out.old.text + 170 }
+{
+    put_search(judge.search(), out);
+    put_crossings(judge.crossings(), out);
+}
+
+/// Puts what the judge found so far, and the line about a mark that breaks a rule.
+pub(crate) fn put_refusal(judge: &Judge, line: u64, rule: Rule, out: &mut Out)
+    requires { length out.old.text + LAST_LINES ≤ out.old.room }
+    ensures { out.new ≡ with out.old (summed judge.now ++ unlawful_line line rule) }
+{
+    put_sum(judge, out);
     put_unlawful(line, rule, out);
 }
 
-/// Puts the line about a log in which no mark breaks a rule.
-pub(crate) fn put_lawful(out: &mut Out)
+// Puts the line about a log in which no mark breaks a rule.
+fn put_none_broken(out: &mut Out)
     requires { length out.old.text + 100 ≤ out.old.room }
     ensures { out.new ≡ with out.old lawful_line }
 {
     out.put(b"lawful talk\n");
+}
+
+/// Puts what the judge found, and the line about a log in which no mark breaks a rule.
+pub(crate) fn put_lawful(judge: &Judge, out: &mut Out)
+    requires { length out.old.text + LAST_LINES ≤ out.old.room }
+    ensures { out.new ≡ with out.old (summed judge.now ++ lawful_line) }
+{
+    put_sum(judge, out);
+    put_none_broken(out);
 }

@@ -1,4 +1,6 @@
 pub mod Deeds
-pub mod Rules
+pub mod Engines
+pub mod Crossings
 pub mod Talks
+pub mod Rules
 pub mod Clean

@@ -9,14 +9,17 @@ use Rattle.session_judge.specs.declared.deed.Order.{Order}
 use Rattle.session_judge.specs.declared.deed.Order.TheVariants as orders
 use Rattle.session_judge.specs.declared.deed.Deed.{Deed}
 use Rattle.session_judge.specs.declared.deed.Deed.TheVariants as deeds
+use Rattle.session_judge.specs.declared.engine.Engine.{Engine}
+use Rattle.session_judge.specs.declared.listener.Listener.{Listener}
+use Rattle.session_judge.specs.declared.listener.Listener.TheVariants as listeners
 use Rattle.session_judge.specs.declared.rule.Rule.{Rule}
 use Rattle.session_judge.specs.declared.rule.Rule.TheVariants as rules
 use Rattle.session_judge.specs.declared.talk.Answer.{Answer}
-use Rattle.session_judge.specs.declared.talk.Engine.{Engine}
-use Rattle.session_judge.specs.declared.talk.Engine.TheVariants as engines
 use Rattle.session_judge.specs.declared.talk.Stage.{Stage}
 use Rattle.session_judge.specs.declared.talk.Stage.TheVariants as stages
 use Rattle.session_judge.specs.declared.talk.Talk.{Talk}
+use Rattle.session_judge.specs.Engines.{is_idle, is_pondering, is_running}
+use Rattle.session_judge.specs.Crossings.{taken}
 
 -- First: the first order is not `uci`, or a later one is.
 abbrev pub breaks_first : Stage → Order → Bool
@@ -25,10 +28,10 @@ breaks_first stages.Start order = true
 breaks_first stage orders.Uci = true
 breaks_first stage order = false
 
--- Gone: an order is written to an engine that is gone.
-abbrev pub breaks_gone : Engine → Bool
-breaks_gone engines.Gone = true
-breaks_gone engine = false
+-- Gone: an order is written to an engine that is gone, and the bridge knew it.
+abbrev pub breaks_gone : Bool → Listener → Bool
+breaks_gone true listeners.Bridge = true
+breaks_gone gone listener = false
 
 -- Quit: an order stands behind `quit`.
 abbrev pub breaks_quit : Stage → Bool
@@ -49,18 +52,9 @@ needs_idle (orders.Position p) = true
 needs_idle (orders.Go kind) = true
 needs_idle order = false
 
-abbrev pub is_idle : Engine → Bool
-is_idle engines.Idle = true
-is_idle engine = false
-
 -- Busy: settings, `isready`, `position` or `go` for an engine that is not idle.
 abbrev pub breaks_busy : Engine → Order → Bool
 breaks_busy engine order = not (is_idle engine) && needs_idle order
-
--- an open search that is not stopped
-abbrev pub is_running : Engine → Bool
-is_running (engines.Search kind stopped) = not stopped
-is_running engine = false
 
 abbrev pub is_stop : Order → Bool
 is_stop orders.Stop = true
@@ -69,11 +63,6 @@ is_stop order = false
 -- Stop: `stop` outside a search that is not stopped.
 abbrev pub breaks_stop : Engine → Order → Bool
 breaks_stop engine order = is_stop order && not (is_running engine)
-
--- an open Ponder search that is not stopped
-abbrev pub is_pondering : Engine → Bool
-is_pondering (engines.Search kinds.Ponder stopped) = not stopped
-is_pondering engine = false
 
 abbrev pub is_hit : Order → Bool
 is_hit orders.PonderHit = true
@@ -92,12 +81,12 @@ breaks_position order = false
 abbrev pub broken_by : Talk → Order → Option Rule
 broken_by t order =
     if breaks_first t.stage order then Some rules.First
-    else (if breaks_gone t.engine then Some rules.Gone
+    else (if breaks_gone t.gone t.listener then Some rules.Gone
     else (if breaks_quit t.stage then Some rules.Quit
     else (if breaks_order t.stage order then Some rules.Order
     else (if breaks_busy t.engine order then Some rules.Busy
-    else (if breaks_stop t.engine order then Some rules.Stop
-    else (if breaks_hit t.engine order then Some rules.Hit
+    else (if breaks_stop (taken t) order then Some rules.Stop
+    else (if breaks_hit (taken t) order then Some rules.Hit
     else (if breaks_position order then Some rules.Position else None)))))))
 
 abbrev pub is_best : Option Move → Move → Bool

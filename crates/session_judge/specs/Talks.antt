@@ -1,5 +1,5 @@
 -- The dialogue with the engine, as the marks of a log show it.
-use Rattle.std.specs.Prelude.{ℕ, ◌+◌, true, false, nat_lt, if◌then◌else◌, Option, Some, None}
+use Rattle.std.specs.Prelude.{ℕ, false, true, if◌then◌else◌, Option, Some, None}
 use Rattle.chess_board.specs.declared.board.Move.{Move}
 use Rattle.chess_board.specs.Position.{Position}
 use Rattle.chess_board.specs.Play.{start_position}
@@ -9,37 +9,29 @@ use Rattle.session_judge.specs.declared.deed.Order.{Order}
 use Rattle.session_judge.specs.declared.deed.Order.TheVariants as orders
 use Rattle.session_judge.specs.declared.deed.Deed.{Deed}
 use Rattle.session_judge.specs.declared.deed.Deed.TheVariants as deeds
+use Rattle.session_judge.specs.declared.engine.Engine.{Engine}
+use Rattle.session_judge.specs.declared.engine.Engine.TheVariants as engines
+use Rattle.session_judge.specs.declared.listener.Listener.{Listener}
 use Rattle.session_judge.specs.declared.search.Search.{Search}
 use Rattle.session_judge.specs.declared.talk.Answer.{Answer}
-use Rattle.session_judge.specs.declared.talk.Engine.{Engine}
-use Rattle.session_judge.specs.declared.talk.Engine.TheVariants as engines
 use Rattle.session_judge.specs.declared.talk.Stage.{Stage}
 use Rattle.session_judge.specs.declared.talk.Stage.TheVariants as stages
 use Rattle.session_judge.specs.declared.talk.Talk.{Talk}
-use Rattle.session_judge.specs.declared.talk.TheConstants.{LAST_NUMBER}
+use Rattle.session_judge.specs.Engines.{engine_after, gone_after, heard_of, is_searching}
+use Rattle.session_judge.specs.Crossings.{crossings_after, next, unanswered_after}
 
-abbrev pub opening : Talk
-opening = record {
+abbrev pub opening : Listener → Talk
+opening listener = record {
+  listener = listener;
   engine = engines.Boot;
+  gone = false;
+  unanswered = engines.Idle;
+  crossings = 0;
   stage = stages.Start;
   placed = start_position;
   answer = None;
   search = None;
 }
-
--- the engine, by its lines and the orders to it alone
-abbrev pub engine_after : Engine → Deed → Engine
-engine_after engines.Gone deed = engines.Gone
-engine_after engine deeds.Ends = engines.Gone
-engine_after engine (deeds.Writes orders.Uci) = engines.Boot
-engine_after engine (deeds.Writes orders.IsReady) = engines.Getting
-engine_after engine (deeds.Writes (orders.Go kind)) = engines.Search kind false
-engine_after (engines.Search kind stopped) (deeds.Writes orders.Stop) = engines.Search kind true
-engine_after (engines.Search kinds.Ponder stopped) (deeds.Writes orders.PonderHit) = engines.Search kinds.Move false
-engine_after engines.Boot deeds.Boots = engines.Idle
-engine_after engines.Getting deeds.GetsReady = engines.Idle
-engine_after (engines.Search kind stopped) (deeds.Answers best) = engines.Idle
-engine_after engine deed = engine
 
 -- which orders came
 abbrev pub stage_after : Stage → Deed → Stage
@@ -73,7 +65,7 @@ answer_after engine p last deed = last
 
 abbrev pub number_after : Option Search → ℕ
 number_after None = 1
-number_after (Some s) = if nat_lt s.number LAST_NUMBER then s.number + 1 else LAST_NUMBER
+number_after (Some s) = next s.number
 
 abbrev pub begun : ℕ → GoKind → ℕ → Search
 begun number kind line = record {
@@ -85,9 +77,12 @@ begun number kind line = record {
   shown = None;
 }
 
-abbrev pub ended_in : Engine → ℕ → Search → Search
-ended_in (engines.Search kind stopped) line s = record s { ended = Some line }
-ended_in engine line s = s
+-- what is written and heard while the engine is in it
+abbrev pub search_told : ℕ → Search → Deed → Search
+search_told line s (deeds.Writes orders.Stop) = record s { stopped = true }
+search_told line s (deeds.Writes orders.PonderHit) = record s { kind = kinds.Move }
+search_told line s (deeds.Answers best) = record s { ended = Some line }
+search_told line s deed = s
 
 -- A move is shown in the search that ended last, if no other was begun since.
 abbrev pub shown_by : Option ℕ → Move → Search → Search
@@ -99,18 +94,23 @@ shown_in m s = shown_by s.ended m s
 
 abbrev pub search_after : Engine → ℕ → Option Search → Deed → Option Search
 search_after engine line search (deeds.Writes (orders.Go kind)) = Some (begun (number_after search) kind line)
-search_after engine line (Some s) (deeds.Writes orders.Stop) = Some (record s { stopped = true })
-search_after engine line (Some s) (deeds.Writes orders.PonderHit) = Some (record s { kind = kinds.Move })
-search_after engine line (Some s) (deeds.Answers best) = Some (ended_in engine line s)
 search_after engine line (Some s) (deeds.Shows m) = Some (shown_in m s)
-search_after engine line search deed = search
+search_after engine line (Some s) deed = Some (if is_searching engine then search_told line s deed else s)
+search_after engine line None deed = None
 
--- after a mark in the line with this number
-abbrev pub after : Talk → ℕ → Deed → Talk
-after t line deed = record {
+abbrev pub after_heard : Talk → ℕ → Deed → Talk
+after_heard t line deed = record {
+  listener = t.listener;
   engine = engine_after t.engine deed;
+  gone = gone_after t.gone deed;
+  unanswered = unanswered_after t.engine t.unanswered deed;
+  crossings = crossings_after t.crossings t.gone t.engine deed;
   stage = stage_after t.stage deed;
   placed = placed_after t.placed deed;
   answer = answer_after t.engine t.placed t.answer deed;
   search = search_after t.engine line t.search deed;
 }
+
+-- after a mark in the line with this number
+abbrev pub after : Talk → ℕ → Deed → Talk
+after t line deed = after_heard t line (heard_of deed t.gone)

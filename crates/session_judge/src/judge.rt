@@ -1,12 +1,14 @@
 // The judge.
 ghost use Rattle.std.specs.Prelude.{◌≡◌, ◌∷◌, [], List, OnOk, OnErr};
 ghost use Rattle.script_lines.specs.Marks.{plain};
-ghost use Rattle.session_judge.specs.Clean.{Entry, IsClean, broken_rule, talk, verdict};
+ghost use Rattle.session_judge.specs.Clean.{CrossingsAreTheDifference, Entry, broken_rule, talk, verdict};
 ghost use Rattle.session_judge.specs.Deeds.{deed_of};
 ghost use Rattle.session_judge.specs.Rules.{broken};
 ghost use Rattle.session_judge.specs.Talks.{after};
+ghost use Rattle.session_judge.specs.declared.listener.Listener.{Listener as AnyListener};
 
 use crate::deed::{Deed, deed_of};
+use crate::listener::Listener;
 use crate::rule::Rule;
 use crate::search::Search;
 use crate::talk::Talk;
@@ -28,11 +30,13 @@ impl Model for Judge {
 }
 
 impl Judge {
-    /// Nothing was heard yet.
-    pub fn new() -> Judge
-        ensures { result ≡ talk [] }
+    /// A judge of the log that this one wrote. Nothing was heard yet.
+    pub fn new(listener: Listener) -> Judge
+        ensures { result ≡ talk listener [] }
     {
-        Judge { talk: Talk::new() }
+        Judge {
+            talk: Talk::new(listener),
+        }
     }
 
     /// Hears a mark, in the line with this number.
@@ -44,10 +48,10 @@ impl Judge {
         ensures after { OnOk result (self.new ≡ after self.old line (deed_of (plain mark.now))) }
         ensures err { OnErr result (self.new ≡ self.old) }
         // A mark is refused exactly by the first rule that it breaks.
-        ensures exact { (log : List Entry) → self.old ≡ talk log
-            → result ≡ verdict (broken_rule log (plain mark.now)) }
-        ensures goes_on { (log : List Entry) → self.old ≡ talk log
-            → OnOk result (self.new ≡ talk (record { line = line; mark = plain mark.now } ∷ log)) }
+        ensures exact { (listener : AnyListener) (log : List Entry) → self.old ≡ talk listener log
+            → result ≡ verdict (broken_rule listener log (plain mark.now)) }
+        ensures goes_on { (listener : AnyListener) (log : List Entry) → self.old ≡ talk listener log
+            → OnOk result (self.new ≡ talk listener (record { line = line; mark = plain mark.now } ∷ log)) }
     {
         self.hear_deed(line, &deed_of(mark))
     }
@@ -76,4 +80,16 @@ impl Judge {
     {
         self.talk.search
     }
+
+    /// How many orders crossed a line of the engine: they are lawful in the log of a tap alone.
+    pub fn crossings(&self) -> u64
+        ensures { result ≡ self.now.crossings }
+    {
+        self.talk.crossings
+    }
 }
+
+/// A law: what a tap is forgiven, and no more, is the orders that cross.
+pub fn crossings_are_the_difference()
+    ensures { CrossingsAreTheDifference }
+{}

@@ -4,12 +4,15 @@
 #![tactic(auto)]
 
 mod deed;
+mod engine;
 mod judge;
+mod listener;
 mod rule;
 mod search;
 mod talk;
 
 pub use deed::{Deed, Order, deed_of};
-pub use judge::Judge;
+pub use judge::{Judge, crossings_are_the_difference};
+pub use listener::Listener;
 pub use rule::Rule;
 pub use search::Search;

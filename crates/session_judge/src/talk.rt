@@ -2,33 +2,22 @@
 ghost use Rattle.std.specs.Prelude.{◌≡◌, ◌&&◌, ◌||◌, not};
 ghost use Rattle.chess_board.specs.Place.{legal};
 ghost use Rattle.search_epochs.specs.Tickets.{same_move};
-ghost use Rattle.session_judge.specs.Rules.{broken, broken_by, is_answer, is_best, needs_idle, breaks_first, breaks_order, breaks_busy, breaks_stop, breaks_hit, is_running, is_pondering};
-ghost use Rattle.session_judge.specs.Talks.{after, answer_after, answer_in, ended_in, engine_after, number_after, opening, placed_after, search_after, shown_in, stage_after};
+ghost use Rattle.session_judge.specs.Rules.{broken, broken_by, is_answer, is_best, needs_idle, breaks_first, breaks_gone, breaks_order, breaks_busy, breaks_stop, breaks_hit};
+ghost use Rattle.session_judge.specs.Engines.{heard_of, gone_after, is_idle};
+ghost use Rattle.session_judge.specs.Crossings.{crossings_after, is_crossing, is_to_search, next, taken, unanswered_after};
+ghost use Rattle.session_judge.specs.Talks.{after, after_heard, answer_after, answer_in, number_after, opening, placed_after, search_after, search_told, shown_in, stage_after};
 ghost use Rattle.session_judge.specs.declared.talk.TheConstants.{LAST_NUMBER};
 
 use crate::deed::{Deed, Order};
+use crate::engine::Engine;
+use crate::listener::Listener;
 use crate::rule::Rule;
 use crate::search::Search;
 use chess_board::{Move, Position};
 use peer_words::GoKind;
 
-/// The last number of a search.
+/// The last number of a search, and of a crossing.
 const LAST_NUMBER: u64 = u64::MAX;
-
-/// The state of the engine, by what was written to it and heard from it (UCI, April 2006).
-#[derive(Clone, Copy)]
-pub enum Engine {
-    /// From `uci` to `uciok`.
-    Boot,
-    /// From `isready` to `readyok`.
-    Getting,
-    /// It waits for orders.
-    Idle,
-    /// From `go` to `bestmove`.
-    Search { kind: GoKind, stopped: bool },
-    /// It ended, or was lost.
-    Gone,
-}
 
 /// Which orders came so far.
 #[derive(Clone, Copy)]
@@ -52,11 +41,17 @@ pub struct Answer {
     pub told: bool,
 }
 
-/// What was written and heard so far. The position is that of the last `position` line, and the standard start before
-/// the first; the answer and the search are the last ones.
+/// What was written and heard so far, and who heard it. The position is that of the last `position` line, and the standard
+/// start before the first; the answer and the search are the last ones. `gone` says that the engine's end or loss was heard;
+/// `unanswered` is the engine as it would be if its last `bestmove` had not come; `crossings` counts the orders that crossed
+/// a line of the engine.
 #[derive(Clone, Copy)]
 pub struct Talk {
+    pub listener: Listener,
     pub engine: Engine,
+    pub gone: bool,
+    pub unanswered: Engine,
+    pub crossings: u64,
     pub stage: Stage,
     pub placed: Position,
     pub answer: Option<Answer>,
@@ -74,71 +69,6 @@ fn is_same(a: Move, b: Move) -> bool
     ensures { result ≡ same_move a b }
 {
     a == b
-}
-
-impl Engine {
-    fn is_running(self) -> bool
-        ensures { result ≡ is_running self }
-    {
-        matches!(
-            self,
-            Engine::Search {
-                kind: _,
-                stopped: false
-            }
-        )
-    }
-
-    fn is_pondering(self) -> bool
-        ensures { result ≡ is_pondering self }
-    {
-        matches!(
-            self,
-            Engine::Search {
-                kind: GoKind::Ponder,
-                stopped: false
-            }
-        )
-    }
-
-    fn after(self, deed: &Deed) -> Engine
-        ensures { result ≡ engine_after self deed.now }
-    {
-        match (self, deed) {
-            (Engine::Gone, _) => Engine::Gone,
-            (_, Deed::Ends) => Engine::Gone,
-            (_, Deed::Writes(Order::Uci)) => Engine::Boot,
-            (_, Deed::Writes(Order::IsReady)) => Engine::Getting,
-            (_, Deed::Writes(Order::Go(kind))) => Engine::Search {
-                kind: *kind,
-                stopped: false,
-            },
-            (Engine::Search { kind, stopped: _ }, Deed::Writes(Order::Stop)) => Engine::Search {
-                kind,
-                stopped: true,
-            },
-            (
-                Engine::Search {
-                    kind: GoKind::Ponder,
-                    stopped: _,
-                },
-                Deed::Writes(Order::PonderHit),
-            ) => Engine::Search {
-                kind: GoKind::Move,
-                stopped: false,
-            },
-            (Engine::Boot, Deed::Boots) => Engine::Idle,
-            (Engine::Getting, Deed::GetsReady) => Engine::Idle,
-            (
-                Engine::Search {
-                    kind: _,
-                    stopped: _,
-                },
-                Deed::Answers(_),
-            ) => Engine::Idle,
-            _ => self,
-        }
-    }
 }
 
 impl Stage {
@@ -170,13 +100,24 @@ impl Answer {
 ghost use Rattle.session_judge.specs.Rules.{is_shown_by};
 
 impl Search {
-    /// The search after an answer at a line.
-    fn ended_at(self, line: u64) -> Search
-        ensures { result ≡ record self { ended = Some line } }
+    /// The search after what was written and heard, in this line, while the engine was in it.
+    fn told(self, line: u64, deed: &Deed) -> Search
+        ensures { result ≡ search_told line self deed.now }
     {
-        Search {
-            ended: Some(line),
-            ..self
+        match deed {
+            Deed::Writes(Order::Stop) => Search {
+                stopped: true,
+                ..self
+            },
+            Deed::Writes(Order::PonderHit) => Search {
+                kind: GoKind::Move,
+                ..self
+            },
+            Deed::Answers(_) => Search {
+                ended: Some(line),
+                ..self
+            },
+            _ => self,
         }
     }
 
@@ -195,26 +136,46 @@ impl Search {
 
 ghost use Rattle.std.specs.Prelude.{Some};
 
+// The next number, which stays at the last.
+fn next(number: u64) -> u64
+    ensures { result ≡ next number }
+{
+    number.saturating_add(1)
+}
+
 fn number_after(search: Option<Search>) -> u64
     ensures { result ≡ number_after search }
 {
     match search {
-        Some(search) if search.number < LAST_NUMBER => search.number + 1,
-        Some(_) => LAST_NUMBER,
+        Some(search) => next(search.number),
         None => 1,
     }
 }
 
 impl Talk {
-    pub(crate) fn new() -> Talk
-        ensures { result ≡ opening }
+    pub(crate) fn new(listener: Listener) -> Talk
+        ensures { result ≡ opening listener }
     {
         Talk {
+            listener,
             engine: Engine::Boot,
+            gone: false,
+            unanswered: Engine::Idle,
+            crossings: 0,
             stage: Stage::Start,
             placed: Position::start(),
             answer: None,
             search: None,
+        }
+    }
+
+    // The engine as the bridge may take it to be.
+    fn taken(&self) -> Engine
+        ensures { result ≡ taken self.now }
+    {
+        match (self.listener, self.engine) {
+            (Listener::Tap, Engine::Idle) => self.unanswered,
+            _ => self.engine,
         }
     }
 
@@ -224,7 +185,7 @@ impl Talk {
     {
         if breaks_first(self.stage, order) {
             Some(Rule::First)
-        } else if matches!(self.engine, Engine::Gone) {
+        } else if self.gone && matches!(self.listener, Listener::Bridge) {
             Some(Rule::Gone)
         } else if matches!(self.stage, Stage::Over) {
             Some(Rule::Quit)
@@ -232,9 +193,9 @@ impl Talk {
             Some(Rule::Order)
         } else if breaks_busy(self.engine, order) {
             Some(Rule::Busy)
-        } else if matches!(order, Order::Stop) && !self.engine.is_running() {
+        } else if matches!(order, Order::Stop) && !self.taken().is_running() {
             Some(Rule::Stop)
-        } else if matches!(order, Order::PonderHit) && !self.engine.is_pondering() {
+        } else if matches!(order, Order::PonderHit) && !self.taken().is_pondering() {
             Some(Rule::Hit)
         } else if matches!(order, Order::Position(None)) {
             Some(Rule::Position)
@@ -305,17 +266,63 @@ impl Talk {
                 stopped: false,
                 shown: None,
             }),
-            (Deed::Writes(Order::Stop), Some(search)) => Some(Search {
-                stopped: true,
-                ..search
-            }),
-            (Deed::Writes(Order::PonderHit), Some(search)) => Some(Search {
-                kind: GoKind::Move,
-                ..search
-            }),
-            (Deed::Answers(_), Some(search)) => Some(self.engine.ended(search, line)),
             (Deed::Shows(m), Some(search)) => Some(search.with_shown(*m)),
+            (_, Some(search)) if self.engine.is_searching() => Some(search.told(line, deed)),
             (_, search) => search,
+        }
+    }
+
+    fn unanswered_after(&self, deed: &Deed) -> Engine
+        ensures { result ≡ unanswered_after self.now.engine self.now.unanswered deed.now }
+    {
+        match (deed, self.engine) {
+            (Deed::Writes(order), _) if is_to_search(order) => self.unanswered.after(deed),
+            (Deed::Writes(_), _) => Engine::Idle,
+            (
+                Deed::Answers(_),
+                Engine::Search {
+                    kind: _,
+                    stopped: _,
+                },
+            ) => self.engine,
+            _ => self.unanswered,
+        }
+    }
+
+    fn is_crossing(&self, order: &Order) -> bool
+        ensures { result ≡ is_crossing self.now.gone self.now.engine order.now }
+    {
+        self.gone || (self.engine.is_idle() && is_to_search(order))
+    }
+
+    fn crossings_after(&self, deed: &Deed) -> u64
+        ensures { result ≡ crossings_after self.now.crossings self.now.gone self.now.engine deed.now }
+    {
+        match deed {
+            Deed::Writes(order) if self.is_crossing(order) => next(self.crossings),
+            _ => self.crossings,
+        }
+    }
+
+    fn gone_after(&self, deed: &Deed) -> bool
+        ensures { result ≡ gone_after self.now.gone deed.now }
+    {
+        self.gone || matches!(deed, Deed::Ends)
+    }
+
+    fn after_heard(&self, line: u64, deed: &Deed) -> Talk
+        ensures { result ≡ after_heard self.now line deed.now }
+    {
+        Talk {
+            listener: self.listener,
+            engine: self.engine.after(deed),
+            gone: self.gone_after(deed),
+            unanswered: self.unanswered_after(deed),
+            crossings: self.crossings_after(deed),
+            stage: self.stage.after(deed),
+            placed: self.placed_after(deed),
+            answer: self.answer_after(deed),
+            search: self.search_after(line, deed),
         }
     }
 
@@ -323,29 +330,21 @@ impl Talk {
     pub(crate) fn after(&self, line: u64, deed: &Deed) -> Talk
         ensures { result ≡ after self.now line deed.now }
     {
-        Talk {
-            engine: self.engine.after(deed),
-            stage: self.stage.after(deed),
-            placed: self.placed_after(deed),
-            answer: self.answer_after(deed),
-            search: self.search_after(line, deed),
+        match deed {
+            Deed::Boots | Deed::GetsReady | Deed::Answers(_) if self.gone => self.after_heard(
+                line,
+                &Deed::Nothing,
+            ),
+            _ => self.after_heard(line, deed),
         }
     }
 }
 
-impl Engine {
-    // A search after an answer, which ends it if the engine searches.
-    fn ended(self, search: Search, line: u64) -> Search
-        ensures { result ≡ ended_in self line search }
-    {
-        match self {
-            Engine::Search {
-                kind: _,
-                stopped: _,
-            } => search.ended_at(line),
-            _ => search,
-        }
-    }
+// `stop` and `ponderhit` speak to a search.
+fn is_to_search(order: &Order) -> bool
+    ensures { result ≡ is_to_search order.now }
+{
+    matches!(order, Order::Stop | Order::PonderHit)
 }
 
 // The first order is `uci`, and no later one is.

@@ -4,9 +4,10 @@ use Rattle.session_judge.specs.declared.search.Search.{Search}
 use Rattle.session_judge.specs.declared.talk.Talk.{Talk}
 use Rattle.session_judge.specs.Clean.{verdict}
 use Rattle.session_judge.specs.Rules.{broken}
-use Rattle.judge_report.specs.Reports.{brought_out}
-use Rattle.judge_report.specs.Texts.{searched, unlawful_line}
-use Rattle.judge_report.proofs.Reading.{put_ok, put_err}
+use Rattle.session_judge.specs.Talks.{after}
+use Rattle.judge_report.specs.Reports.{brought_out, summed}
+use Rattle.judge_report.specs.Texts.{unlawful_line}
+use Rattle.judge_report.proofs.Reading.{ending_ok, ending_err, put_ok, put_err, talk_ok, talk_err}
 use Rattle.judge_report.proofs.report.Report.hear.Goals as goal
 use Rattle.judge_report.proofs.report.Report.hear.Goals.{in-Ok, in-Err}
 
@@ -26,5 +27,29 @@ returns-clause-put c =
           w.text-is
           ∙ put_err c.args.self.now n d (broken c.args.self.now d) w.in-Err.rule held w.put_refusal.new.out
           (w.in-Err.ensures.step ∙ ap (λ (u : Talk). verdict (broken u d)) c.self.view_is)
-          (w.put_refusal.ensures ∙ ap (λ (s : Option Search). with held (searched s ++ unlawful_line n w.in-Err.rule)) before)
+          (w.put_refusal.ensures ∙ ap (λ (u : Talk). with held (summed u ++ unlawful_line n w.in-Err.rule)) (w.in-Err.ensures.err ∙ c.self.view_is))
+    ]
+
+pub returns-clause-ending : goal.returns-clause-ending
+returns-clause-ending c =
+    let t = c.args.self.now in
+    let n = c.args.number in
+    let d = c.args.deed.now in
+    elim c.match-hear_deed.branch [
+      | in-Ok w ↦ w.result-is ∙ ending_ok t n d (broken t d) (w.in-Ok.ensures.step ∙ ap (λ (u : Talk). verdict (broken u d)) c.self.view_is)
+      | in-Err w ↦ w.result-is ∙ ending_err t n d (broken t d) w.in-Err.rule (w.in-Err.ensures.step ∙ ap (λ (u : Talk). verdict (broken u d)) c.self.view_is)
+    ]
+
+pub returns-clause-talk : goal.returns-clause-talk
+returns-clause-talk c =
+    let t = c.args.self.now in
+    let n = c.args.number in
+    let d = c.args.deed.now in
+    elim c.match-hear_deed.branch [
+      | in-Ok w ↦
+          talk_ok t c.hear_deed.new.self n d (broken t d) (w.in-Ok.ensures.step ∙ ap (λ (u : Talk). verdict (broken u d)) c.self.view_is)
+          (w.in-Ok.ensures.after ∙ ap (λ (u : Talk). after u n d) c.self.view_is)
+      | in-Err w ↦
+          talk_err t c.hear_deed.new.self n d (broken t d) w.in-Err.rule (w.in-Err.ensures.step ∙ ap (λ (u : Talk). verdict (broken u d)) c.self.view_is)
+          (w.in-Err.ensures.err ∙ c.self.view_is)
     ]
