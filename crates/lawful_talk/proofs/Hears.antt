@@ -31,18 +31,19 @@ use Rattle.dialogue_laws.specs.Wire.{said_in, said_by}
 use Rattle.session_judge.specs.declared.deed.Deed.{Deed}
 use Rattle.session_judge.specs.declared.deed.Deed.TheVariants as deeds
 use Rattle.session_judge.specs.declared.talk.Answer.{Answer}
-use Rattle.session_judge.specs.declared.talk.Engine.{Engine as Wire}
-use Rattle.session_judge.specs.declared.talk.Engine.TheVariants as wires
+use Rattle.session_judge.specs.declared.engine.Engine.{Engine as Wire}
+use Rattle.session_judge.specs.declared.engine.Engine.TheVariants as wires
 use Rattle.session_judge.specs.declared.talk.Stage.{Stage}
 use Rattle.session_judge.specs.declared.talk.Stage.TheVariants as stages
 use Rattle.session_judge.specs.declared.talk.Talk.{Talk}
 use Rattle.session_judge.specs.Deeds.{deed_of, answer_told, shows}
 use Rattle.session_judge.specs.Rules.{broken, is_answer}
-use Rattle.session_judge.specs.Talks.{after, engine_after, stage_after, placed_after}
+use Rattle.session_judge.specs.Engines.{engine_after, gone_after, heard_of}
+use Rattle.session_judge.specs.Talks.{after, stage_after, placed_after}
 use Rattle.lawful_talk.specs.Logs.{event_marks, iface_mark}
 use Rattle.lawful_talk.proofs.Runs.{Runs, first_runs}
 use Rattle.lawful_talk.proofs.Texts.{shows_none, reply_deed}
-use Rattle.lawful_talk.proofs.Writes.{shown, Agrees}
+use Rattle.lawful_talk.proofs.Writes.{Is, Shows, Agrees}
 
 -- WHAT IS NO ORDER
 
@@ -60,47 +61,98 @@ same_place : (p : Place) (d : Deed) → is_order d ≡ false → placed_after p 
 same_place p (deeds.Writes o) n = cc
 same_place p d n = refl
 
-heard_so : (t : Talk) (e e' : Engine) (p : Place) (d : Deed) (line : ℕ) → Agrees t e p → is_order d ≡ false → engine_after (shown e) d ≡ shown e' → Agrees (after t line d) e' p
-heard_so t e e' p d line a n h = record {
-  engine = ap (λ (x : Wire). engine_after x d) a.engine ∙ h;
-  stage = same_stage t.stage d n ∙ a.stage;
-  placed = same_place t.placed d n ∙ a.placed;
+-- what is no end
+abbrev is_end : Deed → Bool
+is_end deeds.Ends = true
+is_end d = false
+
+not_end : (gone : Bool) (d : Deed) → is_end d ≡ false → gone_after gone d ≡ gone
+not_end gone deeds.Ends n = cc
+not_end gone d n = refl
+
+stays_gone : (d : Deed) → gone_after true d ≡ true
+stays_gone deeds.Ends = refl
+stays_gone d = refl
+
+-- all is heard of an engine that is there
+all_heard : (d : Deed) → heard_of d false ≡ d
+all_heard deeds.Boots = refl
+all_heard deeds.GetsReady = refl
+all_heard (deeds.Answers best) = refl
+all_heard d = refl
+
+still_no_order : (d : Deed) (gone : Bool) → is_order d ≡ false → is_order (heard_of d gone) ≡ false
+still_no_order (deeds.Writes o) gone n = cc
+still_no_order d true n = refl
+still_no_order d false n = refl
+
+heard_so : (t : Talk) (e e' : Engine) (p : Place) (d : Deed) (line : ℕ) → Agrees t e p → is_order d ≡ false → Shows (after t line d) e' → Agrees (after t line d) e' p
+heard_so t e e' p d line a n h =
+    let m = still_no_order d t.gone n in
+    record {
+      engine = h;
+      stage = same_stage t.stage (heard_of d t.gone) m ∙ a.stage;
+      placed = same_place t.placed (heard_of d t.gone) m ∙ a.placed;
+    }
+
+-- the engine as this one is, after a deed
+abbrev Hears : Engine → Deed → Engine → Type 0
+Hears e d e' = (t : Talk) (line : ℕ) → Shows t e → Shows (after t line d) e'
+
+now_is : (t : Talk) (line : ℕ) (w w' : Wire) (d : Deed) → is_end d ≡ false → engine_after w d ≡ w' → Is t w → Is (after t line d) w'
+now_is t line w w' d n h i = record {
+  engine = ap (λ (b : Bool). engine_after t.engine (heard_of d b)) i.there ∙ ap (λ (x : Deed). engine_after t.engine x) (all_heard d) ∙ ap (λ (x : Wire). engine_after x d) i.engine ∙ h;
+  there = ap (λ (b : Bool). gone_after b (heard_of d b)) i.there ∙ ap (gone_after false) (all_heard d) ∙ not_end false d n;
 }
 
-nothing_heard : (e : Engine) → engine_after (shown e) deeds.Nothing ≡ shown e
-nothing_heard talks.Boot = refl
-nothing_heard talks.Getting = refl
-nothing_heard talks.Idle = refl
-nothing_heard (talks.Search kinds.Move ticket s) = refl
-nothing_heard (talks.Search kinds.Ponder ticket s) = refl
-nothing_heard (talks.Search kinds.Analyse ticket s) = refl
-nothing_heard talks.Gone = refl
+still_gone : (d : Deed) → Hears talks.Gone d talks.Gone
+still_gone d t line g = ap (λ (b : Bool). gone_after b (heard_of d b)) g ∙ stays_gone (heard_of d true)
 
-shows_heard : (e : Engine) (m : Move) → engine_after (shown e) (deeds.Shows m) ≡ shown e
-shows_heard talks.Boot m = refl
-shows_heard talks.Getting m = refl
-shows_heard talks.Idle m = refl
-shows_heard (talks.Search kinds.Move ticket s) m = refl
-shows_heard (talks.Search kinds.Ponder ticket s) m = refl
-shows_heard (talks.Search kinds.Analyse ticket s) m = refl
-shows_heard talks.Gone m = refl
+nothing_heard : (e : Engine) → Hears e deeds.Nothing e
+nothing_heard talks.Boot t line i = now_is t line wires.Boot wires.Boot deeds.Nothing refl refl i
+nothing_heard talks.Getting t line i = now_is t line wires.Getting wires.Getting deeds.Nothing refl refl i
+nothing_heard talks.Idle t line i = now_is t line wires.Idle wires.Idle deeds.Nothing refl refl i
+nothing_heard (talks.Search k ticket s) t line i = now_is t line (wires.Search k s) (wires.Search k s) deeds.Nothing refl refl i
+nothing_heard talks.Gone t line i = still_gone deeds.Nothing t line i
+
+shows_heard : (e : Engine) (m : Move) → Hears e (deeds.Shows m) e
+shows_heard talks.Boot m t line i = now_is t line wires.Boot wires.Boot (deeds.Shows m) refl refl i
+shows_heard talks.Getting m t line i = now_is t line wires.Getting wires.Getting (deeds.Shows m) refl refl i
+shows_heard talks.Idle m t line i = now_is t line wires.Idle wires.Idle (deeds.Shows m) refl refl i
+shows_heard (talks.Search k ticket s) m t line i = now_is t line (wires.Search k s) (wires.Search k s) (deeds.Shows m) refl refl i
+shows_heard talks.Gone m t line i = still_gone (deeds.Shows m) t line i
 
 -- EVENTS
 
-ends_heard : (e : Engine) → engine_after (shown e) deeds.Ends ≡ wires.Gone
-ends_heard talks.Boot = refl
-ends_heard talks.Getting = refl
-ends_heard talks.Idle = refl
-ends_heard (talks.Search k ticket s) = refl
-ends_heard talks.Gone = refl
+boots_heard : (e : Engine) → Hears e deeds.Boots (heard e (said_in says.UciOk))
+boots_heard talks.Boot t line i = now_is t line wires.Boot wires.Idle deeds.Boots refl refl i
+boots_heard talks.Getting t line i = now_is t line wires.Getting wires.Getting deeds.Boots refl refl i
+boots_heard talks.Idle t line i = now_is t line wires.Idle wires.Idle deeds.Boots refl refl i
+boots_heard (talks.Search k ticket s) t line i = now_is t line (wires.Search k s) (wires.Search k s) deeds.Boots refl refl i
+boots_heard talks.Gone t line i = still_gone deeds.Boots t line i
 
-line_heard : (e : Engine) (m : EngineMsg) → engine_after (shown e) (answer_told m) ≡ shown (heard e (said_in m))
+ready_heard : (e : Engine) → Hears e deeds.GetsReady (heard e (said_in says.ReadyOk))
+ready_heard talks.Boot t line i = now_is t line wires.Boot wires.Boot deeds.GetsReady refl refl i
+ready_heard talks.Getting t line i = now_is t line wires.Getting wires.Idle deeds.GetsReady refl refl i
+ready_heard talks.Idle t line i = now_is t line wires.Idle wires.Idle deeds.GetsReady refl refl i
+ready_heard (talks.Search k ticket s) t line i = now_is t line (wires.Search k s) (wires.Search k s) deeds.GetsReady refl refl i
+ready_heard talks.Gone t line i = still_gone deeds.GetsReady t line i
+
+best_heard : (e : Engine) (best hint : Option Move) → Hears e (deeds.Answers best) (heard e (said_in (says.Best best hint)))
+best_heard talks.Boot best hint t line i = now_is t line wires.Boot wires.Boot (deeds.Answers best) refl refl i
+best_heard talks.Getting best hint t line i = now_is t line wires.Getting wires.Getting (deeds.Answers best) refl refl i
+best_heard talks.Idle best hint t line i = now_is t line wires.Idle wires.Idle (deeds.Answers best) refl refl i
+best_heard (talks.Search k ticket s) best hint t line i = now_is t line (wires.Search k s) wires.Idle (deeds.Answers best) refl refl i
+best_heard talks.Gone best hint t line i = still_gone (deeds.Answers best) t line i
+
+line_heard : (e : Engine) (m : EngineMsg) → Hears e (answer_told m) (heard e (said_in m))
 line_heard e (says.Name text) = nothing_heard e
 line_heard e (says.OptionLine name shape) = nothing_heard e
 line_heard e (says.Info facts) = nothing_heard e
 line_heard e says.Nothing = nothing_heard e
-line_heard (talks.Search kinds.Move ticket s) m = refl
-line_heard e m = refl
+line_heard e says.UciOk = boots_heard e
+line_heard e says.ReadyOk = ready_heard e
+line_heard e (says.Best best hint) = best_heard e best hint
 
 line_quiet : (m : EngineMsg) → is_order (answer_told m) ≡ false
 line_quiet (says.Name text) = refl
@@ -115,20 +167,18 @@ event_quiet : (ev : Event) → is_order (deed_of (Happens ev)) ≡ false
 event_quiet (events.Engine line) = line_quiet (engine_message line)
 event_quiet ev = refl
 
-abbrev dead : Engine → Engine
-dead e = heard e (said_by false events.EngineEnd)
+-- the engine is gone
+ends_heard : (e : Engine) → Hears e deeds.Ends (heard e (said_by false events.EngineEnd))
+ends_heard talks.Boot t line i = refl
+ends_heard talks.Getting t line i = refl
+ends_heard talks.Idle t line i = refl
+ends_heard (talks.Search k ticket s) t line i = refl
+ends_heard talks.Gone t line i = refl
 
-all_die : (e : Engine) → shown (dead e) ≡ wires.Gone
-all_die talks.Boot = refl
-all_die talks.Getting = refl
-all_die talks.Idle = refl
-all_die (talks.Search k ticket s) = refl
-all_die talks.Gone = refl
-
-event_heard : (e : Engine) (ev : Event) → engine_after (shown e) (deed_of (Happens ev)) ≡ shown (heard e (said_by false ev))
+event_heard : (e : Engine) (ev : Event) → Hears e (deed_of (Happens ev)) (heard e (said_by false ev))
 event_heard e (events.Engine line) = line_heard e (engine_message line)
-event_heard e events.EngineEnd = ends_heard e ∙ sym (all_die e)
-event_heard e events.EngineLost = ends_heard e ∙ sym (all_die e)
+event_heard e events.EngineEnd = ends_heard e
+event_heard e events.EngineLost = ends_heard e
 event_heard e ev = nothing_heard e
 
 answer_passes : (t : Talk) (m : EngineMsg) → broken t (answer_told m) ≡ None
@@ -154,7 +204,7 @@ pub event_runs : (t : Talk) (ev : Event) (P : Talk → Type 0) → is_open ev �
 event_runs t ev P n f = subst (λ ms. Runs t ms P) (sym (one_mark ev n)) (event_passes t ev, f)
 
 pub event_agrees : (t : Talk) (e : Engine) (p : Place) (ev : Event) (line : ℕ) → Agrees t e p → Agrees (after t line (deed_of (Happens ev))) (heard e (said_by false ev)) p
-event_agrees t e p ev line a = heard_so t e (heard e (said_by false ev)) p (deed_of (Happens ev)) line a (event_quiet ev) (event_heard e ev)
+event_agrees t e p ev line a = heard_so t e (heard e (said_by false ev)) p (deed_of (Happens ev)) line a (event_quiet ev) (event_heard e ev t line a.engine)
 
 -- REPLIES
 
@@ -174,7 +224,7 @@ quiet_runs (r ∷ rs) t P e f x =
     first_runs t (iface_mark r) (map iface_mark rs) P deeds.Nothing (reply_deed r q.first) refl (λ line. quiet_runs rs (after t line deeds.Nothing) P q.later f (f t line x))
 
 pub still_agrees : (e : Engine) (p : Place) (u : Talk) (line : ℕ) → Agrees u e p → Agrees (after u line deeds.Nothing) e p
-still_agrees e p u line a = heard_so u e e p deeds.Nothing line a refl (nothing_heard e)
+still_agrees e p u line a = heard_so u e e p deeds.Nothing line a refl (nothing_heard e u line a.engine)
 
 -- THE MOVE THAT IS SHOWN
 
@@ -225,6 +275,6 @@ move_runs (r ∷ rs) t e p m x a w l = by (front r rs m x) (λ line y. move_runs
   by : Front r rs m → ((line : ℕ) → moves_told rs ≡ m ∷ [] → Runs (after t line deeds.Nothing) (map iface_mark rs) (λ u. Agrees u e p)) → Runs t (map iface_mark (r ∷ rs)) (λ u. Agrees u e p)
   by (Front.Here i n) others =
       first_runs t (iface_mark r) (map iface_mark rs) (λ u. Agrees u e p) (deeds.Shows m) (ap (λ y. deed_of (iface_mark y)) i ∙ shown_deed m p l) (rw (answers_it t.answer m p w l) refl)
-      (λ line. quiet_runs rs (after t line (deeds.Shows m)) (λ u. Agrees u e p) n (still_agrees e p) (heard_so t e e p (deeds.Shows m) line a refl (shows_heard e m)))
+      (λ line. quiet_runs rs (after t line (deeds.Shows m)) (λ u. Agrees u e p) n (still_agrees e p) (heard_so t e e p (deeds.Shows m) line a refl (shows_heard e m t line a.engine)))
   by (Front.Later n y) others =
       first_runs t (iface_mark r) (map iface_mark rs) (λ u. Agrees u e p) deeds.Nothing (reply_deed r n) refl (λ line. others line y)

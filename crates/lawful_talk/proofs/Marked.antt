@@ -143,8 +143,8 @@ header_passed : (o : Settings) (ls : List (List ℕ)) → marks_told (header_tex
 header_passed o ls = ap (λ l. option_to_list (mark_of l) ++ marks_told ls) (header_words o)
 
 pub scripts1_are_clean : (o : Settings) → Scripts1AreClean o
-scripts1_are_clean o t log l e = logs_are_clean o t log l (e ∙ ap marks_told (script1_lines t (all_told o t l)) ∙ (script1_log o t l).told)
+scripts1_are_clean o listener t log l e = logs_are_clean o listener t log l (e ∙ ap marks_told (script1_lines t (all_told o t l)) ∙ (script1_log o t l).told)
 
 pub scripts2_are_clean : (o : Settings) → Scripts2AreClean o
-scripts2_are_clean o t log p l e =
-    logs_are_clean o t log l (e ∙ ap marks_told (script2_lines o t p (all_told o t l)) ∙ header_passed o (numbered_lines t) ∙ (script2_log o t l).told)
+scripts2_are_clean o listener t log p l e =
+    logs_are_clean o listener t log l (e ∙ ap marks_told (script2_lines o t p (all_told o t l)) ∙ header_passed o (numbered_lines t) ∙ (script2_log o t l).told)

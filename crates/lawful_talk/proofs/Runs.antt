@@ -1,12 +1,15 @@
 -- Marks that are heard one after the other, whatever the numbers of their lines.
-use Rattle.std.proofs.Common.{◌≡◌, ℕ, List, [], ◌∷◌, ◌++◌, None, sym, ap, subst, ◌∙◌}
+use Rattle.std.proofs.Common.{◌≡◌, ℕ, List, [], ◌∷◌, ◌++◌, None, refl, sym, ap, subst, ◌∙◌}
 use Rattle.script_lines.specs.Marks.{Mark}
 use Rattle.session_judge.specs.declared.deed.Deed.{Deed}
+use Rattle.session_judge.specs.declared.listener.Listener.{Listener}
+use Rattle.session_judge.specs.declared.listener.Listener.TheVariants as listeners
 use Rattle.session_judge.specs.declared.talk.Talk.{Talk}
 use Rattle.session_judge.specs.Clean.{Entry, IsClean, talk}
 use Rattle.session_judge.specs.Deeds.{deed_of}
 use Rattle.session_judge.specs.Rules.{broken}
 use Rattle.session_judge.specs.Talks.{opening, after}
+use Rattle.session_judge.proofs.Differences.{heard_by, own_passes, own_apart}
 use Rattle.lawful_talk.specs.Logs.{marks_in}
 
 -- no mark breaks a rule, and this holds of the talk then
@@ -30,10 +33,20 @@ cut_runs t (m ∷ ms) ns P r = (r.0, λ line. cut_runs (after t line (deed_of m)
 pub first_runs : (t : Talk) (m : Mark) (ms : List Mark) (P : Talk → Type 0) (d : Deed) → deed_of m ≡ d → broken t d ≡ None → ((line : ℕ) → Runs (after t line d) ms P) → Runs t (m ∷ ms) P
 first_runs t m ms P d e b f = (ap (broken t) e ∙ b, λ line. subst (λ (x : Deed). Runs (after t line x) ms P) (sym e) (f line))
 
+-- What is lawful as the bridge's own is lawful as another's, and no order crosses.
+pub apart_runs : (listener : Listener) (ms : List Mark) (t : Talk) → Runs (heard_by listeners.Bridge t) ms (λ u. Unit {0}) → Runs (heard_by listener t) ms (λ u. u.crossings ≡ t.crossings)
+apart_runs listener [] t r = refl
+apart_runs listener (m ∷ ms) t r = (
+  own_passes listener t (deed_of m) r.0,
+  λ line.
+      let u = after t line (deed_of m) in
+      more_runs (heard_by listener u) ms (λ v. v.crossings ≡ u.crossings) (λ v. v.crossings ≡ t.crossings) (apart_runs listener ms u (r.1 line)) (λ v e. e ∙ own_apart t line (deed_of m) r.0),
+)
+
 -- LOGS
 
-pub clean_runs : (log : List Entry) (P : Talk → Type 0) → Runs opening (marks_in log) P → IsClean log × P (talk log)
-clean_runs [] P r = (tt, r)
-clean_runs (entry ∷ log) P r =
-    let before = clean_runs log (λ u. Runs u (entry.mark ∷ []) P) (cut_runs opening (marks_in log) (entry.mark ∷ []) P r) in
+pub clean_runs : (listener : Listener) (log : List Entry) (P : Talk → Type 0) → Runs (opening listener) (marks_in log) P → IsClean listener log × P (talk listener log)
+clean_runs listener [] P r = (tt, r)
+clean_runs listener (entry ∷ log) P r =
+    let before = clean_runs listener log (λ u. Runs u (entry.mark ∷ []) P) (cut_runs (opening listener) (marks_in log) (entry.mark ∷ []) P r) in
     ((before.0, before.1.0), before.1.1 entry.line)

@@ -17,20 +17,23 @@ use Rattle.adapter_core.proofs.Closing.{opened_later, closed_stays}
 use Rattle.adapter_core.proofs.Traces.{lasts}
 use Rattle.dialogue_laws.proofs.Heard as hearing
 use Rattle.dialogue_laws.proofs.Places.{opening_may, opening_says}
-use Rattle.session_judge.specs.declared.talk.Engine.TheVariants as wires
+use Rattle.session_judge.specs.declared.engine.Engine.TheVariants as wires
+use Rattle.session_judge.specs.declared.listener.Listener.{Listener}
+use Rattle.session_judge.specs.declared.listener.Listener.TheVariants as listeners
 use Rattle.session_judge.specs.declared.talk.Stage.TheVariants as stages
 use Rattle.session_judge.specs.declared.talk.Talk.{Talk}
+use Rattle.session_judge.specs.Clean.{Entry, IsClean, talk}
 use Rattle.session_judge.specs.Talks.{opening}
-use Rattle.lawful_talk.specs.Logs.{step_marks, marks_of, LogsAreClean}
-use Rattle.lawful_talk.proofs.Runs.{Runs, more_runs, both_run, clean_runs}
-use Rattle.lawful_talk.proofs.Writes.{shown, Agrees}
+use Rattle.lawful_talk.specs.Logs.{NoOrderCrosses, SearchesAt, SearchesTheDesk, step_marks, marks_in, marks_of, LogsAreClean}
+use Rattle.lawful_talk.proofs.Runs.{Runs, apart_runs, more_runs, both_run, clean_runs}
+use Rattle.lawful_talk.proofs.Writes.{Is, Shows, Agrees}
 use Rattle.dialogue_laws.proofs.Games.{game_is}
-use Rattle.lawful_talk.proofs.Steps.{SearchesAt, open_parts, opening_parts, closing_parts, closed_parts}
+use Rattle.lawful_talk.proofs.Steps.{open_parts, opening_parts, closing_parts, closed_parts}
 use Rattle.lawful_talk.proofs.Settles.{settles}
 
 -- the talk goes with the trace
 record Matches (s : State) (t : Talk) : Type 0 where
-  begins : s.ends.opened ≡ false → (t.engine ≡ wires.Boot) × (t.stage ≡ stages.Start)
+  begins : s.ends.opened ≡ false → Is t wires.Boot × (t.stage ≡ stages.Start)
   goes_on : s.ends.opened ≡ true → s.ends.closed ≡ false → (p : Place) × Agrees t s.dialogue.engine p × SearchesAt s p
 
 -- THE OPENING
@@ -74,7 +77,7 @@ module _ (o : Settings) (step : Step) (trace : List Step) (l : Lawful o (step �
         begins = λ x. absurd (both_ways next.ends.opened x opened);
         goes_on = λ x c. (
           u.placed,
-          record { engine = w.0 ∙ ap shown (sym (boots n)); stage = w.1; placed = refl },
+          record { engine = subst (Shows u) (sym (boots n)) w.0; stage = w.1; placed = refl },
           λ k st e. let x = boots n in cc,
         );
       })
@@ -100,16 +103,37 @@ module _ (o : Settings) (step : Step) (trace : List Step) (l : Lawful o (step �
 
 -- EACH TRACE
 
-matches : (o : Settings) (trace : List Step) → Lawful o trace → Runs opening (marks_of trace) (Matches (state o trace))
-matches o [] l = record { begins = λ n. (refl, refl); goes_on = λ y n. absurd (cc) }
-matches o (step ∷ trace) l =
-    both_run opening (marks_of trace) (step_marks step) (Matches (state o (step ∷ trace)))
-    (more_runs opening (marks_of trace) (Matches (state o trace)) _ (matches o trace l.0) (step_matches o step trace l))
+matches : (o : Settings) (listener : Listener) (trace : List Step) → Lawful o trace → Runs (opening listener) (marks_of trace) (Matches (state o trace))
+matches o listener [] l = record { begins = λ n. (record { engine = refl; there = refl }, refl); goes_on = λ y n. absurd (cc) }
+matches o listener (step ∷ trace) l =
+    both_run (opening listener) (marks_of trace) (step_marks step) (Matches (state o (step ∷ trace)))
+    (more_runs (opening listener) (marks_of trace) (Matches (state o trace)) _ (matches o listener trace l.0) (step_matches o step trace l))
 
--- whatever the numbers of their lines
-pub trace_runs : (o : Settings) (trace : List Step) → Lawful o trace → Runs opening (marks_of trace) (λ t. Unit {0})
-trace_runs o trace l = more_runs opening (marks_of trace) (Matches (state o trace)) (λ t. Unit {0}) (matches o trace l) (λ t m. tt)
+-- whatever the numbers of their lines, and no order crosses
+pub trace_runs : (o : Settings) (listener : Listener) (trace : List Step) → Lawful o trace → Runs (opening listener) (marks_of trace) (λ t. t.crossings ≡ 0)
+trace_runs o listener trace l =
+    apart_runs listener (marks_of trace) (opening listeners.Bridge)
+    (more_runs (opening listeners.Bridge) (marks_of trace) (Matches (state o trace)) (λ t. Unit {0}) (matches o listeners.Bridge trace l) (λ t m. tt))
+
+log_matches : (o : Settings) (listener : Listener) (trace : List Step) (log : List Entry) → Lawful o trace → marks_in log ≡ marks_of trace → IsClean listener log × Matches (state o trace) (talk listener log)
+log_matches o listener trace log l e =
+    clean_runs listener log (Matches (state o trace)) (subst (λ (ms : List Mark). Runs (opening listener) ms (Matches (state o trace))) (sym e) (matches o listener trace l))
 
 pub logs_are_clean : (o : Settings) → LogsAreClean o
-logs_are_clean o trace log l e =
-    (clean_runs log (Matches (state o trace)) (subst (λ (ms : List Mark). Runs opening ms (Matches (state o trace))) (sym e) (matches o trace l))).0
+logs_are_clean o listener trace log l e = (log_matches o listener trace log l e).0
+
+pub no_order_crosses : (o : Settings) → NoOrderCrosses o
+no_order_crosses o trace log l e =
+    (clean_runs listeners.Tap log (λ t. t.crossings ≡ 0) (subst (λ (ms : List Mark). Runs (opening listeners.Tap) ms (λ t. t.crossings ≡ 0)) (sym e) (trace_runs o listeners.Tap trace l))).1
+
+-- the position of a current search
+unopened : (o : Settings) (trace : List Step) (p : Place) → Lawful o trace → (state o trace).ends.opened ≡ false → SearchesAt (state o trace) p
+unopened o trace p l n k st e = let boot = (lasts o trace l).begins n in cc
+
+pub searches_the_desk : (o : Settings) → SearchesTheDesk o
+searches_the_desk o listener trace log l e c = by (state o trace).ends.opened refl where
+  by : (b : Bool) → (state o trace).ends.opened ≡ b → SearchesAt (state o trace) (talk listener log).placed
+  by false n = unopened o trace (talk listener log).placed l n
+  by true y =
+      let f = (log_matches o listener trace log l e).1.goes_on y c in
+      subst (SearchesAt (state o trace)) (sym f.1.placed) f.2

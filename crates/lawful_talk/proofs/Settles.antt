@@ -47,13 +47,12 @@ use Rattle.adapter_core.proofs.Square.{for_owed}
 use Rattle.session_judge.specs.declared.deed.Order.TheVariants as hears
 use Rattle.session_judge.specs.declared.talk.Talk.{Talk}
 use Rattle.session_judge.specs.Deeds.{end_of}
-use Rattle.lawful_talk.specs.Logs.{engine_mark}
+use Rattle.lawful_talk.specs.Logs.{SearchesAt, engine_mark}
 use Rattle.lawful_talk.proofs.Runs.{Runs, more_runs}
 use Rattle.lawful_talk.proofs.Texts.{as_order, kind_heard}
-use Rattle.lawful_talk.proofs.Writes.{shown, Agrees, plain_runs, search_runs}
+use Rattle.lawful_talk.proofs.Writes.{Shows as Told, Agrees, plain_runs, search_runs}
 use Rattle.dialogue_laws.proofs.Games.{IsGame, played_is, effect_is}
 use Rattle.lawful_talk.proofs.Games.{line_leads}
-use Rattle.lawful_talk.proofs.Steps.{SearchesAt}
 
 -- WHAT STAYS
 
@@ -293,7 +292,7 @@ module _ (o : Settings) (step : Step) (trace : List Step) (l : Lawful o (step �
       let last : sent_all m.epoch m.engine ws ≡ talks.Search (kind_of c) m.epoch false =
       ap (sent_all m.epoch m.engine) words ∙ ap (λ (y : Engine). sent_all m.epoch y (talks.Position ∷ talks.Go (kind_of c) ∷ [])) idle in
       let runs = search_runs m.epoch (start_of (searched x.game c).start) (join_with_byte 32 (map ply_text (searched x.game c).moves)) (search_order x.clocks (on_move (searched x.game c)) (plies (searched x.game c)) (kind_of c)) (kind_of c) t p q.0.end
-      (record { engine = b.engine ∙ ap shown idle; stage = b.stage; placed = b.placed })
+      (record { engine = subst (Told t) idle b.engine; stage = b.stage; placed = b.placed })
       (ap (λ y. hears.Position (end_of y)) q.1)
       (go_heard x.clocks (on_move (searched x.game c)) (plies (searched x.game c)) (kind_of c)) in
       subst (λ (os : List Order). Runs t (map engine_mark os) Follows) (sym is)

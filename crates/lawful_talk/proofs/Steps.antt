@@ -34,15 +34,17 @@ use Rattle.dialogue_laws.proofs.Heard as hearing
 use Rattle.session_judge.specs.declared.deed.Order.TheVariants as hears
 use Rattle.session_judge.specs.declared.deed.Deed.TheVariants as deeds
 use Rattle.session_judge.specs.declared.talk.Answer.{Answer}
-use Rattle.session_judge.specs.declared.talk.Engine.TheVariants as wires
+use Rattle.session_judge.specs.declared.engine.Engine.{Engine as Wire}
+use Rattle.session_judge.specs.declared.engine.Engine.TheVariants as wires
 use Rattle.session_judge.specs.declared.talk.Stage.TheVariants as stages
 use Rattle.session_judge.specs.declared.talk.Talk.{Talk}
 use Rattle.session_judge.specs.Deeds.{deed_of, answer_told}
+use Rattle.session_judge.specs.Engines.{heard_of}
 use Rattle.session_judge.specs.Talks.{after, answer_after}
-use Rattle.lawful_talk.specs.Logs.{event_marks, iface_mark, engine_mark, step_marks}
+use Rattle.lawful_talk.specs.Logs.{SearchesAt, event_marks, iface_mark, engine_mark, step_marks}
 use Rattle.lawful_talk.proofs.Runs.{Runs, more_runs, both_run, first_runs}
 use Rattle.lawful_talk.proofs.Texts.{order_deed}
-use Rattle.lawful_talk.proofs.Writes.{shown, Agrees, quit_runs}
+use Rattle.lawful_talk.proofs.Writes.{Is, Shows as Told, Agrees, quit_runs}
 use Rattle.lawful_talk.proofs.Hears.{event_runs, event_agrees, quiet_runs, still_agrees, answered, move_runs}
 
 -- THE PARTS OF A STEP
@@ -58,10 +60,6 @@ parts_run t step A B P e r o =
     both_run t (event_marks step.event) others P (more_runs t (event_marks step.event) A (λ u. Runs u others P) e (λ u a.
     both_run u (map iface_mark step.replies) (map engine_mark step.orders) P (more_runs u (map iface_mark step.replies) B (λ v. Runs v (map engine_mark step.orders) P) (r u a) o)
     ))
-
--- the position of a current search
-abbrev pub SearchesAt : State → Place → Type 0
-SearchesAt s p = (k : GoKind) (stopped : Bool) → s.dialogue.engine ≡ talks.Search k s.dialogue.epoch stopped → p ≡ now_of (searched_by k s.desk.game s.desk.hint)
 
 -- WHAT IS SHOWN
 
@@ -126,7 +124,7 @@ module _ (o : Settings) (step : Step) (trace : List Step) (l : Lawful o (step �
   -- what is known once the event was heard
   record Heard (t u : Talk) (p : Place) : Type 0 where
     agrees : Agrees u m.engine p
-    answer : u.answer ≡ answer_after t.engine t.placed t.answer (deed_of (Happens ev))
+    answer : u.answer ≡ answer_after t.engine t.placed t.answer (heard_of (deed_of (Happens ev)) t.gone)
 
   event_known : (t : Talk) (p : Place) → is_open ev ≡ false → s.ends.closed ≡ false → Agrees t s.dialogue.engine p → Runs t (event_marks ev) (λ u. Heard t u p)
   event_known t p n c a =
@@ -137,11 +135,13 @@ module _ (o : Settings) (step : Step) (trace : List Step) (l : Lawful o (step �
 
   -- the answer that is heard before a move is shown
   shown_answer : (t u : Talk) (p : Place) (best : Move) (hint : Option Move) → closed_after s ev ≡ false → d ≡ Shows best hint → Agrees t s.dialogue.engine p
-      → u.answer ≡ answer_after t.engine t.placed t.answer (deed_of (Happens ev)) → Answers s ev best → u.answer ≡ Some (answered best p)
+      → u.answer ≡ answer_after t.engine t.placed t.answer (heard_of (deed_of (Happens ev)) t.gone) → Answers s ev best → u.answer ≡ Some (answered best p)
   shown_answer t u p best hint c e a w x =
-      w ∙ ap (λ y. answer_after t.engine t.placed t.answer (deed_of (Happens y))) x.event
-      ∙ ap (λ y. answer_after t.engine t.placed t.answer (answer_told y)) x.best
-      ∙ ap (λ y. answer_after y t.placed t.answer (deeds.Answers (Some best))) (a.engine ∙ ap shown x.current)
+      let i : Is t (wires.Search kinds.Move x.stopped) = subst (Told t) x.current a.engine in
+      w ∙ ap (λ y. answer_after t.engine t.placed t.answer (heard_of (deed_of (Happens y)) t.gone)) x.event
+      ∙ ap (λ y. answer_after t.engine t.placed t.answer (heard_of (answer_told y) t.gone)) x.best
+      ∙ ap (λ y. answer_after t.engine t.placed t.answer (heard_of (deeds.Answers (Some best)) y)) i.there
+      ∙ ap (λ (y : Wire). answer_after y t.placed t.answer (deeds.Answers (Some best))) i.engine
       ∙ ap (λ y. let z : Answer = record { kind = kinds.Move; best = Some best; at = y; told = false } in Some z) a.placed
 
   answers_in : (best : Move) (hint : Option Move) → closed_after s ev ≡ false → d ≡ Shows best hint → Answers s ev best
@@ -165,22 +165,22 @@ module _ (o : Settings) (step : Step) (trace : List Step) (l : Lawful o (step �
   -- AT THE OPENING
 
   abbrev Begins : Talk → Type 0
-  Begins u = (u.engine ≡ wires.Boot) × (u.stage ≡ stages.Start)
+  Begins u = Is u wires.Boot × (u.stage ≡ stages.Start)
 
   begins_on : (u : Talk) (line : ℕ) → Begins u → Begins (after u line deeds.Nothing)
-  begins_on u line b = (rw b.0 refl, rw b.1 refl)
+  begins_on u line b = (record { engine = rw b.0.engine refl; there = b.0.there }, rw b.1 refl)
 
   abbrev Opened : Talk → Type 0
-  Opened u = (u.engine ≡ wires.Boot) × (u.stage ≡ stages.Open)
+  Opened u = Is u wires.Boot × (u.stage ≡ stages.Open)
 
   uci_runs : (u : Talk) → Begins u → Runs u (map engine_mark (orders.Uci ∷ [])) Opened
-  uci_runs u b = first_runs u (engine_mark orders.Uci) [] Opened (deeds.Writes hears.Uci) (order_deed orders.Uci) (rw (b.1, b.0) refl) (λ line. (rw b.0 refl, rw b.1 refl))
+  uci_runs u b = first_runs u (engine_mark orders.Uci) [] Opened (deeds.Writes hears.Uci) (order_deed orders.Uci) (rw (b.1, b.0.engine, b.0.there) refl) (λ line. (record { engine = refl; there = b.0.there }, rw b.1 refl))
 
   no_event : (e : Event) → is_open e ≡ true → event_marks e ≡ []
   no_event events.Open x = refl
   no_event e x = cc
 
-  pub opening_parts : (t : Talk) → is_open ev ≡ true → t.engine ≡ wires.Boot → t.stage ≡ stages.Start → Runs t (step_marks step) Opened
+  pub opening_parts : (t : Talk) → is_open ev ≡ true → Is t wires.Boot → t.stage ≡ stages.Start → Runs t (step_marks step) Opened
   opening_parts t n e g =
       parts_run t step Begins Begins Opened
       (subst (λ (ms : List Mark). Runs t ms Begins) (sym (no_event ev n)) (e, g))

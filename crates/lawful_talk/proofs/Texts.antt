@@ -192,10 +192,10 @@ thinking_quiet depth text others e = ap told_move e ∙ digits_other (decimal de
 
 pub reply_deed : (r : Reply) → shows_none r ≡ true → deed_of (iface_mark r) ≡ deeds.Nothing
 reply_deed (told.Move m) h = absurd (cc)
-reply_deed (told.Thinking depth score time nodes hint pv) h =
+reply_deed (told.Thinking depth score time nodes spelling hint pv) h =
     let others = signed_decimal score ++ (32 ∷ (decimal time ++ (32 ∷ (decimal nodes ++ (32 ∷ (hint_text hint ++ pv)))))) in
-    let whole : reply_text (told.Thinking depth score time nodes hint pv) ≡ decimal depth ++ (32 ∷ others) = simp append_assoc in
-    thinking_quiet depth (reply_text (told.Thinking depth score time nodes hint pv)) others whole
+    let whole : reply_text (told.Thinking depth score time nodes spelling hint pv) ≡ decimal depth ++ (32 ∷ others) = simp append_assoc in
+    thinking_quiet depth (reply_text (told.Thinking depth score time nodes spelling hint pv)) others whole
 reply_deed (told.TellError tells.Position) h = refl
 reply_deed (told.Result outcomes.WhiteMates) h = refl
 reply_deed r h = refl

@@ -11,8 +11,8 @@ use Rattle.desk_rules.specs.Orders.{word_of}
 use Rattle.session_judge.specs.declared.deed.Order.{Order as Heard}
 use Rattle.session_judge.specs.declared.deed.Order.TheVariants as hears
 use Rattle.session_judge.specs.declared.deed.Deed.TheVariants as deeds
-use Rattle.session_judge.specs.declared.talk.Engine.{Engine as Wire}
-use Rattle.session_judge.specs.declared.talk.Engine.TheVariants as wires
+use Rattle.session_judge.specs.declared.engine.Engine.{Engine as Wire}
+use Rattle.session_judge.specs.declared.engine.Engine.TheVariants as wires
 use Rattle.session_judge.specs.declared.talk.Stage.TheVariants as stages
 use Rattle.session_judge.specs.declared.talk.Talk.{Talk}
 use Rattle.session_judge.specs.Rules.{broken}
@@ -21,17 +21,22 @@ use Rattle.lawful_talk.specs.Logs.{engine_mark}
 use Rattle.lawful_talk.proofs.Runs.{Runs, first_runs}
 use Rattle.lawful_talk.proofs.Texts.{as_order, order_deed}
 
--- an engine without tickets
-abbrev pub shown : Engine → Wire
-shown talks.Boot = wires.Boot
-shown talks.Getting = wires.Getting
-shown talks.Idle = wires.Idle
-shown (talks.Search k ticket s) = wires.Search k s
-shown talks.Gone = wires.Gone
+-- the engine of a talk is there, and so
+pub record Is (t : Talk) (w : Wire) : Type 0 where
+  pub engine : t.engine ≡ w
+  pub there : t.gone ≡ false
+
+-- it is this engine without its ticket, or is gone as this one
+abbrev pub Shows : Talk → Engine → Type 0
+Shows t talks.Boot = Is t wires.Boot
+Shows t talks.Getting = Is t wires.Getting
+Shows t talks.Idle = Is t wires.Idle
+Shows t (talks.Search k ticket s) = Is t (wires.Search k s)
+Shows t talks.Gone = t.gone ≡ true
 
 -- what holds of a talk between the steps of an open session
 pub record Agrees (t : Talk) (e : Engine) (p : Place) : Type 0 where
-  pub engine : t.engine ≡ shown e
+  pub engine : Shows t e
   pub stage : t.stage ≡ stages.Open
   pub placed : t.placed ≡ p
 
@@ -40,29 +45,33 @@ record Takes (t : Talk) (e : Engine) (o : Heard) : Type 0 where
   passes : broken t (deeds.Writes o) ≡ None
   leads : (line : ℕ) → Agrees (after t line (deeds.Writes o)) e t.placed
 
-setup_takes : (t : Talk) → t.engine ≡ wires.Idle → t.stage ≡ stages.Open → Takes t talks.Idle hears.Setup
-setup_takes t e s = record {
-  passes = rw (s, e) refl;
-  leads = λ line. record { engine = rw e refl; stage = rw s refl; placed = refl };
+setup_takes : (t : Talk) → Is t wires.Idle → t.stage ≡ stages.Open → Takes t talks.Idle hears.Setup
+setup_takes t i s = record {
+  passes = rw (s, i.engine, i.there) refl;
+  leads = λ line. record { engine = record { engine = rw i.engine refl; there = i.there }; stage = rw s refl; placed = refl };
 }
 
-ready_takes : (t : Talk) → t.engine ≡ wires.Idle → t.stage ≡ stages.Open → Takes t talks.Getting hears.IsReady
-ready_takes t e s = record {
-  passes = rw (s, e) refl;
-  leads = λ line. record { engine = rw e refl; stage = rw s refl; placed = refl };
+ready_takes : (t : Talk) → Is t wires.Idle → t.stage ≡ stages.Open → Takes t talks.Getting hears.IsReady
+ready_takes t i s = record {
+  passes = rw (s, i.engine, i.there) refl;
+  leads = λ line. record { engine = record { engine = refl; there = i.there }; stage = rw s refl; placed = refl };
 }
 
-stop_takes : (t : Talk) (k : GoKind) (ticket : ℕ) → t.engine ≡ wires.Search k false → t.stage ≡ stages.Open → Takes t (talks.Search k ticket true) hears.Stop
-stop_takes t k ticket e s = record {
-  passes = rw (s, e) refl;
-  leads = λ line. record { engine = rw e refl; stage = rw s refl; placed = refl };
+stop_takes : (t : Talk) (k : GoKind) (ticket : ℕ) → Is t (wires.Search k false) → t.stage ≡ stages.Open → Takes t (talks.Search k ticket true) hears.Stop
+stop_takes t k ticket i s = record {
+  passes = rw (s, i.engine, i.there) refl;
+  leads = λ line. record { engine = record { engine = rw i.engine refl; there = i.there }; stage = rw s refl; placed = refl };
 }
 
-hit_takes : (t : Talk) (ticket : ℕ) → t.engine ≡ wires.Search kinds.Ponder false → t.stage ≡ stages.Open → Takes t (talks.Search kinds.Move ticket false) hears.PonderHit
-hit_takes t ticket e s = record {
-  passes = rw (s, e) refl;
-  leads = λ line. record { engine = rw e refl; stage = rw s refl; placed = refl };
+hit_takes : (t : Talk) (ticket : ℕ) → Is t (wires.Search kinds.Ponder false) → t.stage ≡ stages.Open → Takes t (talks.Search kinds.Move ticket false) hears.PonderHit
+hit_takes t ticket i s = record {
+  passes = rw (s, i.engine, i.there) refl;
+  leads = λ line. record { engine = record { engine = rw i.engine refl; there = i.there }; stage = rw s refl; placed = refl };
 }
+
+-- of a search that is stopped or not
+search_so : (t : Talk) (k : GoKind) (a b : Bool) → a ≡ b → Is t (wires.Search k a) → Is t (wires.Search k b)
+search_so t k a b e i = subst (λ (x : Bool). Is t (wires.Search k x)) e i
 
 -- an order that is neither `uci`, `position`, `go` nor `quit`
 abbrev pub is_plain : Order → Bool
@@ -75,28 +84,28 @@ is_plain o = true
 by_idle : (n : ℕ) (e : Engine) (w : Word) (t : Talk) (o : Heard) → e ≡ talks.Idle → Takes t (sent n talks.Idle w) o → Takes t (sent n e w) o
 by_idle n e w t o i k = subst (λ (x : Engine). Takes t (sent n x w) o) (sym i) k
 
-stops_at : (n : ℕ) (e : Engine) (t : Talk) → t.engine ≡ shown e → t.stage ≡ stages.Open → MaySend e talks.Stop → Takes t (sent n e talks.Stop) hears.Stop
+stops_at : (n : ℕ) (e : Engine) (t : Talk) → Shows t e → t.stage ≡ stages.Open → MaySend e talks.Stop → Takes t (sent n e talks.Stop) hears.Stop
 stops_at n talks.Boot t e s m = absurd m
 stops_at n talks.Getting t e s m = absurd m
 stops_at n talks.Idle t e s m = absurd m
 stops_at n talks.Gone t e s m = absurd m
-stops_at n (talks.Search kinds.Move ticket x) t e s m = stop_takes t kinds.Move ticket (e ∙ ap (wires.Search kinds.Move) m) s
-stops_at n (talks.Search kinds.Ponder ticket x) t e s m = stop_takes t kinds.Ponder ticket (e ∙ ap (wires.Search kinds.Ponder) m) s
-stops_at n (talks.Search kinds.Analyse ticket x) t e s m = stop_takes t kinds.Analyse ticket (e ∙ ap (wires.Search kinds.Analyse) m) s
+stops_at n (talks.Search kinds.Move ticket x) t e s m = stop_takes t kinds.Move ticket (search_so t kinds.Move x false m e) s
+stops_at n (talks.Search kinds.Ponder ticket x) t e s m = stop_takes t kinds.Ponder ticket (search_so t kinds.Ponder x false m e) s
+stops_at n (talks.Search kinds.Analyse ticket x) t e s m = stop_takes t kinds.Analyse ticket (search_so t kinds.Analyse x false m e) s
 
-hits_at : (n : ℕ) (e : Engine) (t : Talk) → t.engine ≡ shown e → t.stage ≡ stages.Open → MaySend e talks.PonderHit → Takes t (sent n e talks.PonderHit) hears.PonderHit
+hits_at : (n : ℕ) (e : Engine) (t : Talk) → Shows t e → t.stage ≡ stages.Open → MaySend e talks.PonderHit → Takes t (sent n e talks.PonderHit) hears.PonderHit
 hits_at n talks.Boot t e s m = absurd m
 hits_at n talks.Getting t e s m = absurd m
 hits_at n talks.Idle t e s m = absurd m
 hits_at n talks.Gone t e s m = absurd m
 hits_at n (talks.Search kinds.Move ticket x) t e s m = absurd (let a = m.0 in cc)
 hits_at n (talks.Search kinds.Analyse ticket x) t e s m = absurd (let a = m.0 in cc)
-hits_at n (talks.Search kinds.Ponder ticket x) t e s m = hit_takes t n (e ∙ ap (wires.Search kinds.Ponder) m.1) s
+hits_at n (talks.Search kinds.Ponder ticket x) t e s m = hit_takes t n (search_so t kinds.Ponder x false m.1 e) s
 
-takes : (n : ℕ) (e : Engine) (o : Order) (t : Talk) → is_plain o ≡ true → t.engine ≡ shown e → t.stage ≡ stages.Open → MaySend e (word_of o) → Takes t (sent n e (word_of o)) (as_order o)
-takes n e orders.IsReady t p a s m = by_idle n e talks.IsReady t hears.IsReady m (ready_takes t (a ∙ ap shown m) s)
-takes n e orders.NewGame t p a s m = by_idle n e talks.Setup t hears.Setup m (setup_takes t (a ∙ ap shown m) s)
-takes n e (orders.SetOption name value) t p a s m = by_idle n e talks.Setup t hears.Setup m (setup_takes t (a ∙ ap shown m) s)
+takes : (n : ℕ) (e : Engine) (o : Order) (t : Talk) → is_plain o ≡ true → Shows t e → t.stage ≡ stages.Open → MaySend e (word_of o) → Takes t (sent n e (word_of o)) (as_order o)
+takes n e orders.IsReady t p a s m = by_idle n e talks.IsReady t hears.IsReady m (ready_takes t (subst (Shows t) m a) s)
+takes n e orders.NewGame t p a s m = by_idle n e talks.Setup t hears.Setup m (setup_takes t (subst (Shows t) m a) s)
+takes n e (orders.SetOption name value) t p a s m = by_idle n e talks.Setup t hears.Setup m (setup_takes t (subst (Shows t) m a) s)
 takes n e orders.Stop t p a s m = stops_at n e t a s m
 takes n e orders.PonderHit t p a s m = hits_at n e t a s m
 takes n e o t p a s m = absurd (cc)
@@ -141,15 +150,15 @@ search_runs n fen moves go k t p q a x y =
     let first = deeds.Writes (hears.Position (Some q)) in
     let second = deeds.Writes (hears.Go k) in
     let P : Talk → Type 0 = λ u. Agrees u (talks.Search k n false) q in
-    first_runs t (engine_mark (orders.Position fen moves)) (engine_mark go ∷ []) P first (order_deed (orders.Position fen moves) ∙ ap deeds.Writes x) (rw (a.stage, a.engine) refl) (λ line.
-    first_runs (after t line first) (engine_mark go) [] P second (order_deed go ∙ ap deeds.Writes y) (rw (a.stage, a.engine) refl)
-    (λ line'. record { engine = rw a.engine refl; stage = rw a.stage refl; placed = refl })
+    first_runs t (engine_mark (orders.Position fen moves)) (engine_mark go ∷ []) P first (order_deed (orders.Position fen moves) ∙ ap deeds.Writes x) (rw (a.stage, a.engine.engine, a.engine.there) refl) (λ line.
+    first_runs (after t line first) (engine_mark go) [] P second (order_deed go ∙ ap deeds.Writes y) (rw (a.stage, a.engine.engine, a.engine.there) refl)
+    (λ line'. record { engine = record { engine = refl; there = a.engine.there }; stage = rw a.stage refl; placed = refl })
     )
 
 -- `quit`
 pub quit_runs : (e : Engine) (t : Talk) (p : Place) (P : Talk → Type 0) → Agrees t e p → (e ≡ talks.Gone → ⊥) → ((u : Talk) → P u) → Runs t (map engine_mark (orders.Quit ∷ [])) P
-quit_runs talks.Boot t p P a n f = first_runs t (engine_mark orders.Quit) [] P (deeds.Writes hears.Quit) (order_deed orders.Quit) (rw (a.stage, a.engine) refl) (λ line. f _)
-quit_runs talks.Getting t p P a n f = first_runs t (engine_mark orders.Quit) [] P (deeds.Writes hears.Quit) (order_deed orders.Quit) (rw (a.stage, a.engine) refl) (λ line. f _)
-quit_runs talks.Idle t p P a n f = first_runs t (engine_mark orders.Quit) [] P (deeds.Writes hears.Quit) (order_deed orders.Quit) (rw (a.stage, a.engine) refl) (λ line. f _)
-quit_runs (talks.Search k ticket s) t p P a n f = first_runs t (engine_mark orders.Quit) [] P (deeds.Writes hears.Quit) (order_deed orders.Quit) (rw (a.stage, a.engine) refl) (λ line. f _)
+quit_runs talks.Boot t p P a n f = first_runs t (engine_mark orders.Quit) [] P (deeds.Writes hears.Quit) (order_deed orders.Quit) (rw (a.stage, a.engine.engine, a.engine.there) refl) (λ line. f _)
+quit_runs talks.Getting t p P a n f = first_runs t (engine_mark orders.Quit) [] P (deeds.Writes hears.Quit) (order_deed orders.Quit) (rw (a.stage, a.engine.engine, a.engine.there) refl) (λ line. f _)
+quit_runs talks.Idle t p P a n f = first_runs t (engine_mark orders.Quit) [] P (deeds.Writes hears.Quit) (order_deed orders.Quit) (rw (a.stage, a.engine.engine, a.engine.there) refl) (λ line. f _)
+quit_runs (talks.Search k ticket s) t p P a n f = first_runs t (engine_mark orders.Quit) [] P (deeds.Writes hears.Quit) (order_deed orders.Quit) (rw (a.stage, a.engine.engine, a.engine.there) refl) (λ line. f _)
 quit_runs talks.Gone t p P a n f = absurd (n refl)

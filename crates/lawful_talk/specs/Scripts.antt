@@ -7,6 +7,7 @@ use Rattle.policy_rules.specs.Policy.{IsProper}
 use Rattle.script_lines.specs.Marks.{Mark, mark_of}
 use Rattle.adapter_core.specs.Trace.{Step, Lawful}
 use Rattle.session_script.specs.Script.{script1, script2}
+use Rattle.session_judge.specs.declared.listener.Listener.{Listener}
 use Rattle.session_judge.specs.Clean.{Entry, IsClean}
 use Rattle.lawful_talk.specs.Logs.{marks_in}
 
@@ -21,8 +22,11 @@ IsLogOf text log = marks_in log ≡ marks_told (parts text)
 
 -- No mark of the script of a lawful trace breaks a rule, in version 1 and in version 2.
 abbrev pub Scripts1AreClean : Settings → Type 0
-Scripts1AreClean o = (trace : List Step) (log : List Entry) → Lawful o trace → IsLogOf (script1 trace) log → IsClean log
+Scripts1AreClean o =
+    (listener : Listener) (trace : List Step) (log : List Entry) → Lawful o trace → IsLogOf (script1 trace) log
+    → IsClean listener log
 
 abbrev pub Scripts2AreClean : Settings → Type 0
 Scripts2AreClean o =
-    (trace : List Step) (log : List Entry) → IsProper o → Lawful o trace → IsLogOf (script2 o trace) log → IsClean log
+    (listener : Listener) (trace : List Step) (log : List Entry) → IsProper o → Lawful o trace
+    → IsLogOf (script2 o trace) log → IsClean listener log

@@ -1,16 +1,18 @@
 //! The talk of this bridge with its engine is lawful: in the log of a lawful trace the judge finds no mark that breaks a
-//! rule.
+//! rule, whether it takes the log for the bridge's own or for a tap's.
 #![tactic(auto)]
 
-ghost use Rattle.lawful_talk.specs.Logs.{LogsAreClean};
+ghost use Rattle.lawful_talk.specs.Logs.{LogsAreClean, NoOrderCrosses, SearchesTheDesk};
 ghost use Rattle.lawful_talk.specs.Scripts.{Scripts1AreClean, Scripts2AreClean};
 
 use policy_rules::Settings;
 
-/// A law: in the log of a lawful trace no mark breaks a rule of the dialogue with the engine. So the position that an
-/// open current search was given is the desk's, with the hint if it ponders.
+/// A law: in the log of a lawful trace no mark breaks a rule of the dialogue with the engine, no order crosses a line of the
+/// engine, and the position that an open current search was given is the desk's, with the hint if it ponders.
 pub fn logs_are_clean(settings: Settings)
-    ensures { LogsAreClean settings }
+    ensures clean { LogsAreClean settings }
+    ensures apart { NoOrderCrosses settings }
+    ensures position { SearchesTheDesk settings }
 {
     let _ = settings;
 }
