@@ -99,7 +99,7 @@ impl GameWriter {
         self.stage = Stage::Plain;
     }
 
-    // Opens a session of version 2.
+    // Opens a session by its header.
     fn open_numbered(&mut self, settings: &Settings, text: &mut Out)
         requires proper { IsProper settings.now }
         requires new { Stands self.old.core.settings self.old.core [] }
