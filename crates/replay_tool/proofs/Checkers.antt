@@ -7,7 +7,6 @@ use Rattle.line_io.specs.Taken.{IsOpenStill}
 use Rattle.line_io.specs.Takers.{Then}
 use Rattle.script_lines.specs.Header.{header_of, header_text}
 use Rattle.script_lines.specs.StepLine.{step_line}
-use Rattle.script_lines.proofs.Headers.{header_spelled}
 use Rattle.script_lines.proofs.KindLemmas.{step_fed}
 use Rattle.script_lines.proofs.Scripts.{parts_line}
 use Rattle.policy_rules.specs.declared.settings.Settings.{Settings}
@@ -28,6 +27,7 @@ use Rattle.replay_tool.specs.Walked.{Fills, Heads, TakesFirst, TakesLater, Takes
 use Rattle.command_endings.specs.Streams.{Streams}
 use Rattle.command_endings.specs.Reads.{Got, IsAll, AreRead}
 use Rattle.command_endings.proofs.Readings.{whole_lines_read}
+use Rattle.replay_tool.proofs.ProperHeaders.{header_spells}
 use Rattle.replay_tool.proofs.Opens.{settings_at_first}
 use Rattle.replay_tool.proofs.StageLines.{unread_takes}
 use Rattle.script_player.proofs.VersionLines.{version_stays}
@@ -98,7 +98,7 @@ opens_plain o old core due st f =
 
 opens_numbered : (o s : Settings) (core : AnyParts) (due : List ℕ) (line : List ℕ) → header_of line ≡ Some s → Heads s core due → Standing o (Second s) core (stages.Told 0) due (Whole line ∷ [])
 opens_numbered o s core due line h f =
-    let spelled = header_spelled line s h in
+    let spelled = header_spells line s h in
     let next = f.adds.extends s [] tt f.stands in
     let x = f.step in
     let due_parts : parts due ≡ step_line 0 ∷ written_lines (iface_text x) (engine_text x) =

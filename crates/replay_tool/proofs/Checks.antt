@@ -1,5 +1,5 @@
 -- What the lines of a log show.
-use Rattle.std.proofs.Common.{◌≡◌, ◌⊎◌, inl, inr, ℕ, suc, ◌+◌, ◌≤◌, List, [], ◌∷◌, ◌++◌, map, length, length-append, true, false, Option, Some, None, refl, ap, sym, subst, ◌∙◌, arith, append_assoc, append-nil}
+use Rattle.std.proofs.Common.{◌≡◌, ◌⊎◌, inl, inr, ℕ, suc, ◌+◌, ◌≤◌, List, [], ◌∷◌, ◌++◌, map, length, length-append, Bool, true, false, Option, Some, None, refl, ap, sym, subst, ◌∙◌, arith, append_assoc, append-nil}
 use Rattle.std.proofs.lemmas.List.{map-append, append_cancel_left}
 use Rattle.line_io.specs.Event.{Event, Open}
 use Rattle.line_io.specs.Lines.{Piece, Whole, parts}
@@ -20,7 +20,7 @@ use Rattle.session_script.specs.Script.{event_told, events_in}
 use Rattle.session_script.proofs.Lines.{lines_of, event_lines, step_lines, AreTold, script1_lines}
 use Rattle.session_script.proofs.Numbered.{number_line, lines_of2, script2_lines, script2_told, numbered_added, numbered_lines_added, NextNumbered, next_numbered}
 use Rattle.session_script.proofs.Scripts.{Next, added, later_events, script_told, all_told, some_opened, events_later, goes_on, same_trace, lines_added, next_line, event_line}
-use Rattle.replay_tool.specs.Check.{lines_by, ScriptBy, BeginBy, AwaitBy, mark_in}
+use Rattle.replay_tool.specs.Check.{lines_before, lines_by, ScriptBy, BeginBy, AwaitBy, mark_in}
 use Rattle.replay_tool.specs.Replayed.{IsProperIn}
 use Rattle.script_player.specs.Versions.{Version, First, Second, settings_by, script_by, Tells, Numbers, kind_by, kind_of}
 use Rattle.replay_tool.proofs.StageLines.{some_may}
@@ -201,6 +201,12 @@ module _ (o s : Settings) (proper : IsProperIn (Second s)) (t : List Step) (l : 
             let first : p ≡ Whole (event_text n.event) = cc in
             (n.event, event_kind p n.event first shown.1, n.may_come)
 
+-- the events of the lines behind which one is awaited
+pub awaited_told : (o s : Settings) → IsProperIn (Second s) → (t : List Step) → Lawful s t → (over : Bool) → all_told_of (lines_before (Second s) over t) ≡ later_events t
+awaited_told o s proper t l true = tells o (Second s) proper t l
+awaited_told o s proper t l false =
+    both_told (lines_by (Second s) t) (Whole (step_line (step_number (length t))) ∷ []) ∙ append-nil (all_told_of (lines_by (Second s) t)) ∙ tells o (Second s) proper t l
+
 -- A number that stands behind the script of a trace: the script has all of its marks of events.
 module _ (o s : Settings) (proper : IsProperIn (Second s)) (t : List Step) (l : Lawful s t) (op : (state s t).ends.opened ≡ true) where
   numbered_told : (k : ℕ) → all_told_of (lines_by (Second s) t ++ Whole (step_line k) ∷ []) ≡ later_events t
@@ -214,17 +220,26 @@ module _ (o s : Settings) (proper : IsProperIn (Second s)) (t : List Step) (l : 
       sym (length-append (lines_by (Second s) t) (Whole (step_line k) ∷ [])) ∙ ap length (e ∙ sym a.same) ∙ ap (λ (x : List Step). length (lines_by (Second s) x)) (sym same) in
       omega arith
 
-  -- and lines of the script itself do not await an event
-  pub no_await : (before due : List Piece) → lines_by (Second s) t ≡ before ++ due → all_told_of due ≡ [] → AwaitBy o (Second s) before → ⊥
-  no_await before due e quiet a =
-      let told = told_before o (Second s) proper t l op before due e quiet in
-      let told' : all_told_of before ≡ later_events a.trace =
-      ap all_told_of (sym a.same) ∙ both_told (lines_by (Second s) a.trace) (Whole (step_line (step_number (length a.trace))) ∷ []) ∙ append-nil (all_told_of (lines_by (Second s) a.trace)) ∙ tells o (Second s) proper a.trace a.lawful in
-      let same = same_by o (Second s) proper t a.trace l a.lawful op a.opened (sym told ∙ told') in
-      let n : length (lines_by (Second s) t) + 1 ≡ length before =
-      ap (λ (x : List Step). length (lines_by (Second s) x) + 1) same ∙ sym (length-append (lines_by (Second s) a.trace) (Whole (step_line (step_number (length a.trace))) ∷ [])) ∙ ap length a.same in
-      let m : length (lines_by (Second s) t) ≡ length before + length due = ap length e ∙ length-append before due in
-      omega arith
+  -- and lines of the script itself await an event only if they are all, and both sides have ended
+  pub no_await : (before due : List Piece) → lines_by (Second s) t ≡ before ++ due → all_told_of due ≡ [] → (due ≡ [] → is_over (state s t).ends ≡ true → ⊥) → AwaitBy o (Second s) before → ⊥
+  no_await before due e quiet going a = by (is_over (state s a.trace).ends) refl a.same where
+    told : later_events t ≡ later_events a.trace
+    told =
+        sym (told_before o (Second s) proper t l op before due e quiet) ∙ ap all_told_of (sym a.same)
+        ∙ awaited_told o s proper a.trace a.lawful (is_over (state s a.trace).ends)
+
+    same : t ≡ a.trace
+    same = same_by o (Second s) proper t a.trace l a.lawful op a.opened told
+
+    by : (b : Bool) → is_over (state s a.trace).ends ≡ b → lines_before (Second s) b a.trace ≡ before → ⊥
+    by true v h =
+        going (none_missing o (Second s) proper t l op before due e quiet (record { trace = a.trace; lawful = a.lawful; opened = a.opened; same = h }))
+        (ap (λ (x : List Step). is_over (state s x).ends) same ∙ v)
+    by false v h =
+        let n : length (lines_by (Second s) t) + 1 ≡ length before =
+        ap (λ (x : List Step). length (lines_by (Second s) x) + 1) same ∙ sym (length-append (lines_by (Second s) a.trace) (Whole (step_line (step_number (length a.trace))) ∷ [])) ∙ ap length h in
+        let m : length (lines_by (Second s) t) ≡ length before + length due = ap length e ∙ length-append before due in
+        omega arith
 
   -- where an event may come they begin a script
   pub begin_number : (core : Parts) → Stands s core t → is_over core.ends ≡ false → (lines : List Piece) → lines_by (Second s) t ++ Whole (number_line (length t)) ∷ [] ≡ lines → BeginBy o (Second s) lines

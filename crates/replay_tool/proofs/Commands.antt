@@ -1,5 +1,6 @@
 -- What each command comes to.
 use Rattle.std.proofs.Common.{◌≡◌, ℕ, List, Option, Some, None, sym, subst}
+use Rattle.session_judge.specs.declared.listener.Listener.{Listener}
 use Rattle.policy_rules.specs.declared.settings.Settings.{Settings}
 use Rattle.replay_tool.specs.Checked.{Checked}
 use Rattle.replay_tool.specs.Commands.{Asked}
@@ -16,6 +17,7 @@ use Rattle.script_migration.specs.Migrated.{Migrated}
 use Rattle.revival_script.specs.Revived.{Revived}
 use Rattle.driver_script.specs.Driven.{Driven}
 use Rattle.session_games.specs.GamesWritten.{GamesWritten}
+use Rattle.session_positions.specs.PositionsWritten.{PositionsWritten}
 use Rattle.replay_tool.proofs.Answers as ran
 use Rattle.replay_tool.proofs.Verdicts as checks
 use Rattle.replay_tool.proofs.Listing as listing
@@ -50,11 +52,11 @@ module _ (unread kept silent : Type 0) (start now : Streams) (code : ℕ) where
   pub migrated_own : (command : Option Asked) → D command → (o : Settings) → command ≡ Some (asked.Migrate o) → MigratesOwnScripts o start now code
   migrated_own command d o e = migrates_own o start now code (migrated command d o e).scripts
 
-  pub judged : (command : Option Asked) → D command → command ≡ Some asked.Judge → Judged (unread × kept) start now code
-  judged command d e = subst D e d
+  pub judged : (command : Option Asked) → D command → (listener : Listener) → command ≡ Some (asked.Judge listener) → Judged listener (unread × kept) start now code
+  judged command d listener e = subst D e d
 
-  pub judged_own : (command : Option Asked) → D command → command ≡ Some asked.Judge → JudgesOwnTalk start now code
-  judged_own command d e = judges_own_talk (unread × kept) start now code (judged command d e)
+  pub judged_own : (command : Option Asked) → D command → (listener : Listener) → command ≡ Some (asked.Judge listener) → JudgesOwnTalk listener start now code
+  judged_own command d listener e = judges_own_talk listener (unread × kept) start now code (judged command d listener e)
 
   pub revived : (command : Option Asked) → D command → (lives : ℕ) → command ≡ Some (asked.Revive lives) → Revived lives (unread × kept) start now code
   revived command d lives e = subst D e d
@@ -64,6 +66,9 @@ module _ (unread kept silent : Type 0) (start now : Streams) (code : ℕ) where
 
   pub games_written : (command : Option Asked) → D command → (o : Settings) → command ≡ Some (asked.Games o) → GamesWritten o unread kept start now code
   games_written command d o e = subst D e d
+
+  pub positions_written : (command : Option Asked) → D command → (o : Settings) → command ≡ Some (asked.Positions o) → PositionsWritten o unread kept start now code
+  positions_written command d o e = subst D e d
 
   pub listed : (command : Option Asked) → D command → (text : List ℕ) → command ≡ Some (asked.Moves text) → Listed text unread kept silent start now code
   listed command d text e = let x : D (Some (asked.Moves text)) = subst D e d in listing.listed text unread kept silent start now code x.0 x.1

@@ -5,10 +5,9 @@ use Rattle.line_io.specs.Lines.{Piece, Whole, TooLong}
 use Rattle.script_lines.specs.Header.{header_of, header_text}
 use Rattle.script_lines.specs.Marks.{Mark, Happens, mark_of}
 use Rattle.script_lines.specs.StepLine.{step_line, step_number, step_of}
-use Rattle.script_lines.proofs.Headers.{header_spelled}
 use Rattle.policy_rules.specs.declared.settings.Settings.{Settings}
 use Rattle.adapter_core.specs.declared.ends.Ends.{Ends}
-use Rattle.adapter_core.specs.Ends.{may, ends_after, at_start}
+use Rattle.adapter_core.specs.Ends.{is_over, may, ends_after, at_start}
 use Rattle.adapter_core.specs.Trace.{Step, state}
 use Rattle.session_script.specs.Script.{events, event_told}
 use Rattle.session_script.proofs.Numbered.{header_quiet}
@@ -20,7 +19,8 @@ use Rattle.replay_tool.specs.Check.{lines_by, BeginBy, BeginScript, AwaitBy, Awa
 use Rattle.script_player.specs.Versions.{Kind, Tells, Writes, Numbers, HasNone, kind_by, kind_of, Version, First, Second, version_by, version_in, behind_header, header_lines, settings_by, Place, Said, Comes, Passes, Starts, HasNoMark, IsOutOfStep, Cannot, kind_says, line_says, place_said, place_over, stage_told, fault_said, or_later, first_fault, opened, beginning, fault_by, script_fault}
 use Rattle.replay_tool.specs.Replayed.{IsProperIn}
 use Rattle.script_player.proofs.VersionLines.{no_earlier, version_stays, behind_more}
-use Rattle.replay_tool.proofs.Checks.{reply_of, all_told_of, both_told, tells, lines_are}
+use Rattle.replay_tool.proofs.ProperHeaders.{header_spells}
+use Rattle.replay_tool.proofs.Checks.{reply_of, all_told_of, awaited_told, tells, lines_are}
 
 pub version_front : (before : List Piece) (line : Piece) (later : List Piece) → version_in ((before ++ line ∷ []) ++ later) ≡ version_in (before ++ line ∷ [])
 version_front [] line later = version_stays line [] later
@@ -33,7 +33,7 @@ header_begins o (Whole line) s e = by (header_of line) refl e where
   by : (h : Option Settings) → header_of line ≡ h → version_by h ≡ Second s → BeginScript o (Whole line ∷ [])
   by None h x = cc
   by (Some y) h x =
-      let spelled = header_spelled line y h in
+      let spelled = header_spells line y h in
       subst (λ (v : Version). BeginBy o v (Whole line ∷ [])) (sym (ap version_by h)) (record {
         trace = [];
         lawful = tt;
@@ -189,7 +189,7 @@ proper_in (TooLong ∷ ls) = tt
 proper_in (Whole line ∷ ls) = by (header_of line) refl where
   by : (h : Option Settings) → header_of line ≡ h → IsProperIn (version_by h)
   by None e = tt
-  by (Some s) e = (header_spelled line s e).proper
+  by (Some s) e = (header_spells line s e).proper
 
 behind_told : (o : Settings) (lines : List Piece) → all_told_of (behind_header (version_in lines) lines) ≡ all_told_of lines
 behind_told o [] = refl
@@ -197,14 +197,13 @@ behind_told o (TooLong ∷ ls) = refl
 behind_told o (Whole line ∷ ls) = by (header_of line) refl where
   by : (h : Option Settings) → header_of line ≡ h → all_told_of (behind_header (version_by h) (Whole line ∷ ls)) ≡ all_told_of (Whole line ∷ ls)
   by None e = refl
-  by (Some s) e = ap (λ es. es ++ all_told_of ls) (sym (quiet (header_spelled line s e).text)) where
+  by (Some s) e = ap (λ es. es ++ all_told_of ls) (sym (quiet (header_spells line s e).text)) where
     quiet : line ≡ header_text s → event_told (mark_of line) ≡ []
     quiet t = ap (λ l. event_told (mark_of l)) t ∙ header_quiet s
 
 told_await : (o : Settings) (v : Version) → IsProperIn v → (lines : List Piece) → (a : AwaitBy o v lines) → all_told_of lines ≡ later_events a.trace
 told_await o First p lines a = ap all_told_of (sym a.same) ∙ tells o First tt a.trace a.lawful
-told_await o (Second s) p lines a =
-    ap all_told_of (sym a.same) ∙ both_told (lines_by (Second s) a.trace) (Whole (step_line (step_number (length a.trace))) ∷ []) ∙ append-nil (all_told_of (lines_by (Second s) a.trace)) ∙ tells o (Second s) p a.trace a.lawful
+told_await o (Second s) p lines a = ap all_told_of (sym a.same) ∙ awaited_told o s p a.trace a.lawful (is_over (state s a.trace).ends)
 
 -- the event that is due may come where no line is a fault
 pub may_behind : (o : Settings) (before : List Piece) (line : Piece) (later : List Piece) (e : Event) (a : AwaitEvent o before) → (BeginScript o (before ++ line ∷ []) → ⊥) → script_fault (before ++ line ∷ later) ≡ None

@@ -1,10 +1,11 @@
 -- The version that a script tells, and its lines behind the header.
-use Rattle.std.proofs.Common.{◌≡◌, ℕ, ◌≤◌, List, [], ◌∷◌, ◌++◌, map, length, Bool, true, false, cond, nat_le, Some, None, refl, ap, sym, ◌∙◌, arith}
-use Rattle.line_io.specs.Event.{Event, Open}
+use Rattle.std.proofs.Common.{◌≡◌, ℕ, ◌≤◌, List, [], ◌∷◌, ◌++◌, map, length, Bool, true, false, cond, nat_le, Some, refl, ap, sym, ◌∙◌, arith}
+use Rattle.line_io.specs.Event.{Event}
+use Rattle.line_io.specs.Event as events
 use Rattle.line_io.specs.Lines.{Piece, Whole, TooLong, items, parts, piece_of}
 use Rattle.policy_rules.specs.declared.settings.Settings.{Settings}
 use Rattle.policy_rules.specs.Policy.{IsProper}
-use Rattle.script_lines.specs.Header.{header_of, header_text}
+use Rattle.script_lines.specs.Header.{header_text}
 use Rattle.script_lines.proofs.Headers.{header_again, header_length}
 use Rattle.adapter_core.specs.Trace.{Step, iface_text, engine_text}
 use Rattle.session_script.proofs.Lines.{AreTold, behind, event_lines, lines_of, script1_lines, step_lines, written_lines}
@@ -13,13 +14,14 @@ use Rattle.command_endings.specs.declared.ending.Ending.{Ending}
 use Rattle.script_player.specs.Versions.{Version, First, Second, version_by, version_in, behind_header, script_by, script_fault}
 use Rattle.script_player.proofs.VersionLines.{version_stays}
 use Rattle.replay_tool.specs.Replayed.{IsProperIn}
+use Rattle.replay_tool.proofs.ProperHeaders.{IsNoHeader, no_header}
 use Rattle.replay_tool.proofs.Replayed.{lines_behind, short_whole}
 
 -- IN VERSION 1 NO LINE IS A HEADER
 
 abbrev HaveNone : List (List ℕ) → Type 0
 HaveNone [] = Unit {0}
-HaveNone (l ∷ ls) = (header_of l ≡ None) × HaveNone ls
+HaveNone (l ∷ ls) = IsNoHeader l × HaveNone ls
 
 none_both : (ls ms : List (List ℕ)) → HaveNone ls → HaveNone ms → HaveNone (ls ++ ms)
 none_both [] ms a b = b
@@ -27,15 +29,22 @@ none_both (l ∷ ls) ms a b = (a.0, none_both ls ms a.1 b)
 
 none_iface : (ls : List (List ℕ)) → HaveNone (map (behind 88) ls)
 none_iface [] = tt
-none_iface (l ∷ ls) = (refl, none_iface ls)
+none_iface (l ∷ ls) = (no_header 88 (32 ∷ l) refl, none_iface ls)
 
 none_engine : (ls : List (List ℕ)) → HaveNone (map (behind 85) ls)
 none_engine [] = tt
-none_engine (l ∷ ls) = (refl, none_engine ls)
+none_engine (l ∷ ls) = (no_header 85 (32 ∷ l) refl, none_engine ls)
 
 none_event : (e : Event) → HaveNone (event_lines e)
-none_event Open = tt
-none_event e = (refl, tt)
+none_event events.Open = tt
+none_event (events.Iface line) = (no_header 120 (32 ∷ line) refl, tt)
+none_event events.IfaceLong = (no_header 120 (33 ∷ []) refl, tt)
+none_event events.IfaceEnd = (no_header 120 (46 ∷ []) refl, tt)
+none_event events.IfaceLost = (no_header 120 (63 ∷ []) refl, tt)
+none_event (events.Engine line) = (no_header 117 (32 ∷ line) refl, tt)
+none_event events.EngineLong = (no_header 117 (33 ∷ []) refl, tt)
+none_event events.EngineEnd = (no_header 117 (46 ∷ []) refl, tt)
+none_event events.EngineLost = (no_header 117 (63 ∷ []) refl, tt)
 
 none_lines : (t : List Step) → HaveNone (lines_of t)
 none_lines [] = tt
@@ -46,7 +55,7 @@ none_version : (ls : List (List ℕ)) → HaveNone ls → version_in (map (piece
 none_version [] a = refl
 none_version (l ∷ ls) a = by (nat_le (length l) 131072) where
   by : (b : Bool) → version_in (cond b (Whole l) TooLong ∷ map (piece_of 131072) ls) ≡ First
-  by true = ap version_by a.0
+  by true = ap version_by a.0.none
   by false = refl
 
 -- IN VERSION 2 THE FIRST LINE IS ONE

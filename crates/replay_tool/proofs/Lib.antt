@@ -3,7 +3,8 @@ mod Answers
 mod Listing
 mod Commands
 mod Words
-mod Given
+mod Chosen
+mod ProperHeaders
 mod StageLines
 mod Checks
 mod Places

@@ -21,11 +21,11 @@ use Rattle.command_endings.specs.declared.ending.Ending.{Ending}
 use Rattle.command_endings.specs.declared.ending.Ending.TheVariants as endings
 use Rattle.script_player.specs.declared.stage.Stage.{Stage}
 use Rattle.script_player.specs.declared.stage.Stage.TheVariants as stages
-use Rattle.replay_tool.specs.Check.{lines_by, BeginBy, AwaitBy, kind_in}
+use Rattle.replay_tool.specs.Check.{lines_before, lines_by, BeginBy, AwaitBy, kind_in}
 use Rattle.script_player.specs.Versions.{Second, Kind, Tells, Writes, Numbers, HasNone, kind_of, kind_says, Comes, Starts, HasNoMark, IsOutOfStep, Cannot}
 use Rattle.replay_tool.specs.Walked.{Fit, TakesEvent, TakesNumber, TakesDue, Fails, said_undue, undue, other_than, fit, fault_in, Followed, Standing}
 use Rattle.replay_tool.proofs.Checks.{longer_lines, next_number, next_event, no_await, number_kind, header_some}
-use Rattle.replay_tool.proofs.Places.{Taken, Goes, Unmarked, MayNot, Other, other_bytes, no_bytes, nothing, is_quiet, shows_next, by_other, written_is, written_still, tells_text, numbers_text, one_event, whole_one, ends_are}
+use Rattle.replay_tool.proofs.Places.{Taken, Goes, Unmarked, MayNot, Other, other_bytes, no_bytes, nothing, something, is_quiet, shows_next, by_other, written_is, written_still, tells_text, numbers_text, one_event, whole_one, ends_are}
 use Rattle.replay_tool.proofs.StageLines.{over_may}
 
 more_some : (before : List Piece) (p : Piece) → 1 ≤ length (before ++ p ∷ [])
@@ -46,8 +46,11 @@ module _ (o s : Settings) (core : Parts) (last : ℕ) (due : List ℕ) (before :
   next2 : (length due == 0) ≡ true → BeginBy o (Second s) (before ++ p ∷ []) → (p ≡ Whole (number_line (length st.trace))) × ((e : Event) × (may (state s st.trace).ends e ≡ true))
   next2 d b = next_number o s st.proper st.trace st.lawful st.opened before (same2 d) some p b
 
-  await2 : (e : Event) → kind_of p ≡ Tells e → AwaitBy o (Second s) before → ⊥
-  await2 e k a = no_await o s st.proper st.trace st.lawful st.opened before (map Whole (parts due)) st.at.0.same (is_quiet o (Second s) core (stages.Told last) due before st some st.at.0) a
+  -- no event is awaited if lines are due or a side has not ended
+  await2 : (map Whole (parts due) ≡ [] → is_over core.ends ≡ true → ⊥) → (e : Event) → kind_of p ≡ Tells e → AwaitBy o (Second s) before → ⊥
+  await2 going e k a =
+      no_await o s st.proper st.trace st.lawful st.opened before (map Whole (parts due)) st.at.0.same (is_quiet o (Second s) core (stages.Told last) due before st some st.at.0)
+      (λ none v. going none (ap is_over (ends_are o (Second s) core (stages.Told last) due before st some) ∙ v)) a
 
   none2 : (length due == 0) ≡ true → (k : Kind) → kind_of p ≡ k → ((n : ℕ) → k ≡ Numbers n → ⊥) → BeginBy o (Second s) (before ++ p ∷ []) → ⊥
   none2 d k e never b = never (step_number (length st.trace)) (sym e ∙ number_kind p (length st.trace) (next2 d b).0)
@@ -81,7 +84,7 @@ module _ (o s : Settings) (core : Parts) (last : ℕ) (due : List ℕ) (before :
         };
       })))
 
-  by_number : (length due == 0) ≡ true → (n : ℕ) → kind_of p ≡ Numbers n → (b : Bool) → (n == step_number (last + 1)) ≡ b → Goal2 (said_undue core.ends number (cond b (Starts n) IsOutOfStep))
+  by_number : (length due == 0) ≡ true → (n : ℕ) → kind_of p ≡ Numbers n → (b : Bool) → (n == step_number (last + 1)) ≡ b → Goal2 (said_undue core.ends number (Numbers n) (cond b (Starts n) IsOutOfStep))
   by_number d n k true e = let y : n ≡ step_number (last + 1) = grind (arith, nat_tests) in by_over d n k y (is_over core.ends) refl
   by_number d n k false e = λ answer a f.
       let differ : n ≡ step_number (last + 1) → ⊥ = λ h. other n (step_number (last + 1)) e h in
@@ -89,9 +92,26 @@ module _ (o s : Settings) (core : Parts) (last : ℕ) (due : List ℕ) (before :
         other : (x y : ℕ) → (x == y) ≡ false → x ≡ y → ⊥
         other x y e h = let z : (x == y) ≡ true = grind (arith, nat_tests) in let w = sym z ∙ e in cc
 
-  undue2 : (length due == 0) ≡ true → (k : Kind) → kind_of p ≡ k → Goal2 (said_undue core.ends number (kind_says (stages.Told last) core.ends k))
-  undue2 d (Tells e) k = λ answer a f. Other a (none2 d (Tells e) k (λ n h. cc)) (λ h. let z = sym k ∙ h in cc) await2
-  undue2 d Writes k = λ answer a f. Other a (none2 d Writes k (λ n h. cc)) (λ h. let z = sym k ∙ h in cc) await2
+  -- no event may come once both sides have ended
+  may_not2 : (e : Event) → is_over core.ends ≡ true → may (state s st.trace).ends e ≡ false
+  may_not2 e v = by (may (state s st.trace).ends e) refl where
+    by : (b : Bool) → may (state s st.trace).ends e ≡ b → b ≡ false
+    by true m = absurd (over_may (state s st.trace).ends e st.opened (ap is_over (sym (ends_are o (Second s) core (stages.Told last) due before st some)) ∙ v) m)
+    by false m = refl
+
+  -- an event out of step
+  by_astray : (length due == 0) ≡ true → (e : Event) → kind_of p ≡ Tells e → (b : Bool) → is_over core.ends ≡ b → Goal2 (Fails (cond b (endings.MayNotCome number) (endings.Differs number)))
+  by_astray d e k true v = λ answer a f.
+      let over : is_over (state s st.trace).ends ≡ true = ap is_over (sym (ends_are o (Second s) core (stages.Told last) due before st some)) ∙ v in
+      MayNot a (none2 d (Tells e) k (λ n h. cc)) e k
+      (record { trace = st.trace; lawful = st.lawful; opened = st.opened; same = ap (λ (b : Bool). lines_before (Second s) b st.trace) over ∙ same2 d ∙ append-nil before })
+      (may_not2 e v)
+  by_astray d e k false v = λ answer a f.
+      Other a (none2 d (Tells e) k (λ n h. cc)) (λ h. let z = sym k ∙ h in cc) (await2 (λ none w. let z = sym v ∙ w in cc))
+
+  undue2 : (length due == 0) ≡ true → (k : Kind) → kind_of p ≡ k → Goal2 (said_undue core.ends number k (kind_says (stages.Told last) core.ends k))
+  undue2 d (Tells e) k = by_astray d e k (is_over core.ends) refl
+  undue2 d Writes k = λ answer a f. Other a (none2 d Writes k (λ n h. cc)) (λ h. let z = sym k ∙ h in cc) (λ x h w. let z = sym k ∙ h in cc)
   undue2 d (Numbers n) k = by_number d n k (n == step_number (last + 1)) refl
   undue2 d HasNone k = λ answer a f. Unmarked a (none2 d HasNone k (λ n h. cc)) k
 
@@ -120,7 +140,7 @@ module _ (o s : Settings) (core : Parts) (last : ℕ) (due : List ℕ) (before :
     at = (shows_next o (Second s) core (stages.Told last) due before st some p number core' stage' due' st.at.0 d (ap Whole ((bytes_eq-Decides line (before_first is_feed due)).0 e)) f.2, st.at.1);
   })))
   by_same2 d false e = λ answer a f.
-      by_other o (Second s) core (stages.Told last) due before st some p number core' stage' due' st.at.0 d (λ h. other_bytes line (before_first is_feed due) e (whole_one h)) await2
+      by_other o (Second s) core (stages.Told last) due before st some p number core' stage' due' st.at.0 d (λ h. other_bytes line (before_first is_feed due) e (whole_one h)) (await2 (λ none w. let z = sym (something o (Second s) core (stages.Told last) due before st some d) ∙ none in cc))
       (kind_says (stages.Told last) core.ends (kind_of p)) (bare2 (kind_of p)) (marked2 (kind_of p)) answer a
 
   by_due2 : (b : Bool) → (length due == 0) ≡ b → Goal2 (cond b (undue (stages.Told last) core.ends number line) (cond (bytes_eq line (before_first is_feed due)) TakesDue (Fails (other_than (stages.Told last) core.ends number line))))
@@ -150,6 +170,10 @@ module _ (o s : Settings) (core : Parts) (step : ℕ) (due : List ℕ) (before :
 
   before_is : script3 ++ Whole (number_line (length st.trace)) ∷ [] ≡ before
   before_is = ap (λ (x : Piece). script3 ++ x ∷ []) (sym number_piece) ∙ st.at.same
+
+  -- a side has not ended
+  open3 : is_over (state s st.trace).ends ≡ false
+  open3 = ap (λ (w : Parts). is_over w.ends) (sym st.stands.0) ∙ st.at.not_over
 
   -- a script of version 2 has a header
   script_some : 1 ≤ length script3
@@ -188,15 +212,15 @@ module _ (o s : Settings) (core : Parts) (step : ℕ) (due : List ℕ) (before :
         );
       }))
 
-  by_may3 : (e : Event) → kind_of p3 ≡ Tells e → (b : Bool) → may core.ends e ≡ b → Goal3 (said_undue core.ends number (cond b (Comes e) Cannot))
+  by_may3 : (e : Event) → kind_of p3 ≡ Tells e → (b : Bool) → may core.ends e ≡ b → Goal3 (said_undue core.ends number (Tells e) (cond b (Comes e) Cannot))
   by_may3 e k true m = event3 e k m
   by_may3 e k false m = λ answer a f.
       let ends : core.ends ≡ (state s st.trace).ends = ap (λ (w : Parts). w.ends) st.stands.0 in
       let not : may (state s st.trace).ends e ≡ false = ap (λ (x : Ends). may x e) (sym ends) ∙ m in
       MayNot a (λ b. let n = next3 b in let same = one_event (sym n.1 ∙ k) in let z = sym n.2 ∙ ap (may (state s st.trace).ends) same ∙ not in cc) e k
-      (record { trace = st.trace; lawful = st.lawful; opened = st.opened; same = before_is }) not
+      (record { trace = st.trace; lawful = st.lawful; opened = st.opened; same = ap (λ (b : Bool). lines_before (Second s) b st.trace) open3 ∙ before_is }) not
 
-  undue3 : (k : Kind) → kind_of p3 ≡ k → Goal3 (said_undue core.ends number (kind_says stage3 core.ends k))
+  undue3 : (k : Kind) → kind_of p3 ≡ k → Goal3 (said_undue core.ends number k (kind_says stage3 core.ends k))
   undue3 (Tells e) k = by_may3 e k (may core.ends e) refl
   undue3 Writes k = λ answer a f. Other a (none3 Writes k (λ e h. cc)) (λ h. let z = sym k ∙ h in cc) (λ e h x. let z = sym k ∙ h in cc)
   undue3 (Numbers n) k = λ answer a f. Other a (none3 (Numbers n) k (λ e h. cc)) (λ h. let z = sym k ∙ h in cc) (λ e h x. let z = sym k ∙ h in cc)

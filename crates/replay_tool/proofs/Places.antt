@@ -193,7 +193,7 @@ module _ (o : Settings) (core : Parts) (due : List ℕ) (before : List Piece) (s
   none1 : (length due == 0) ≡ true → (k : Kind) → kind_of p ≡ k → ((e : Event) → k ≡ Tells e → ⊥) → BeginBy o First (before ++ p ∷ []) → ⊥
   none1 d k e never b = let n = next1 d b in never n.0 (sym e ∙ n.1)
 
-  by_may1 : (length due == 0) ≡ true → (e : Event) → kind_of p ≡ Tells e → (b : Bool) → may core.ends e ≡ b → Goal1 (said_undue core.ends number (cond b (Comes e) Cannot))
+  by_may1 : (length due == 0) ≡ true → (e : Event) → kind_of p ≡ Tells e → (b : Bool) → may core.ends e ≡ b → Goal1 (said_undue core.ends number (Tells e) (cond b (Comes e) Cannot))
   by_may1 d e k true m = event1 d e k m
   by_may1 d e k false m = λ answer a f.
       let ends = ends_are o First core stages.Plain due before st tt in
@@ -201,7 +201,7 @@ module _ (o : Settings) (core : Parts) (due : List ℕ) (before : List Piece) (s
       MayNot a (λ b. let n = next1 d b in let same = one_event (sym n.1 ∙ k) in let z = sym n.2 ∙ ap (may (state o st.trace).ends) same ∙ not in cc) e k
       (record { trace = st.trace; lawful = st.lawful; opened = st.opened; same = same1 d ∙ append-nil before }) not
 
-  undue1 : (length due == 0) ≡ true → (k : Kind) → kind_of p ≡ k → Goal1 (said_undue core.ends number (kind_says stages.Plain core.ends k))
+  undue1 : (length due == 0) ≡ true → (k : Kind) → kind_of p ≡ k → Goal1 (said_undue core.ends number k (kind_says stages.Plain core.ends k))
   undue1 d (Tells e) k = by_may1 d e k (may core.ends e) refl
   undue1 d Writes k = λ answer a f. Other a (none1 d Writes k (λ e h. cc)) (λ h. let z = ap (kind_under First) (sym k) ∙ h in cc) (λ e h x. let z = sym k ∙ h in cc)
   undue1 d (Numbers n) k = λ answer a f. Unmarked a (none1 d (Numbers n) k (λ e h. cc)) (ap (kind_under First) k)

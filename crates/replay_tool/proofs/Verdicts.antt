@@ -38,21 +38,39 @@ module _ (o : Settings) (unread kept : Type 0) (start now : Streams) where
     as_found endings.NoMemory f a k = absurd f
     as_found x f a k = (f, a, k)
 
-  pub broke : (found answer : Ending) → Finds o found start now → answer ≡ endings.WritingFailed → TakesPrefix start.output.taken now.output.taken (verdict found) → Ends answer
-  broke found answer f e p = subst Ends (sym e) (record { found = found; finds = f; part = p })
+  -- the end of the input, a failure to read it, or its length says nothing that is written
+  quiet : verdict endings.ReadingFailed ≡ []
+  quiet = refl
 
-  -- what is due was written, or a front of it
-  all_part : (x : Ending) → Finds o x start now → Appends start.output.taken now.output.taken (verdict x) → WritesPart o start now
-  all_part x f a = record { found = x; finds = f; part = (length (verdict x), subst (Appends start.output.taken now.output.taken) (sym (take_all (length (verdict x)) (verdict x) (omega arith))) a) }
+  pub broke : (found answer : Ending) → Finds o found start now → answer ≡ endings.WritingFailed → TakesPrefix start.output.taken now.output.taken (verdict found)
+      → Rose start.output.faults now.output.faults → verdict found ≢ [] → Ends answer
+  broke found answer f e p rose some = subst Ends (sym e) (record {
+    found = found;
+    finds = f;
+    reading = λ r. absurd (some (ap verdict r ∙ quiet));
+    part = p;
+    untold = inl (some, rose);
+  })
 
-  ends_part : (e : Ending) → Ends e → (unread × kept) ⊎ WritesPart o start now
-  ends_part endings.NoMemory x = inl x
-  ends_part endings.WritingFailed x = inr x
-  ends_part endings.Usage x = absurd x.0
-  ends_part (endings.Unlawful n) x = absurd x.0
-  ends_part (endings.OutOfStep n) x = absurd x.0
-  ends_part (endings.NoPosition fault) x = absurd x.0
-  ends_part e x = inr (all_part e x.0 x.1)
+  -- what is due was written, and its diagnostic could not be
+  all_part : (x : Ending) → Finds o x start now → Appends start.output.taken now.output.taken (verdict x) → (x ≡ endings.ReadingFailed → Rose start.input.faults now.input.faults) → Rose start.diag.faults now.diag.faults → WritesPart o start now
+  all_part x f a read rose = record {
+    found = x;
+    finds = f;
+    reading = read;
+    part = (length (verdict x), subst (Appends start.output.taken now.output.taken) (sym (take_all (length (verdict x)) (verdict x) (omega arith))) a);
+    untold = inr rose;
+  }
+
+  -- the ending is that writing failed, or the diagnostic of another could not be written
+  ends_part : (e : Ending) → Ends e → (e ≡ endings.ReadingFailed → Rose start.input.faults now.input.faults) → (e ≢ endings.WritingFailed → Rose start.diag.faults now.diag.faults) → (unread × kept) ⊎ WritesPart o start now
+  ends_part endings.NoMemory x read rose = inl x
+  ends_part endings.WritingFailed x read rose = inr x
+  ends_part endings.Usage x read rose = absurd x.0
+  ends_part (endings.Unlawful n) x read rose = absurd x.0
+  ends_part (endings.OutOfStep n) x read rose = absurd x.0
+  ends_part (endings.NoPosition fault) x read rose = absurd x.0
+  ends_part e x read rose = inr (all_part e x.0 x.1 read (rose (λ w. cc)))
 
   abbrev R : ℕ → Type 0
   R code = Ran Ends start now code
@@ -77,7 +95,7 @@ module _ (o : Settings) (unread kept : Type 0) (start now : Streams) where
   }
   ran code found answer f (inr w) t rose same = record {
     ending = answer;
-    ends = broke found answer f w.0 w.1;
+    ends = broke found answer f w.0 w.1 w.2 w.3;
     tells = t;
     reading = λ e. let z = sym w.0 ∙ e in cc;
     writing = λ e. w.2;
@@ -162,8 +180,17 @@ module _ (o : Settings) (unread kept : Type 0) (start now : Streams) where
     rises code e (inl x) z rose = inl (writing_of e (sym z ∙ x.0) rose)
     rises code e (inr x) z rose = inr x.1
 
+    -- the code of another ending is not 5, so its diagnostic could not be written
+    five_of : (e : Ending) → 5 ≡ code_of e → e ≡ endings.WritingFailed
+    five_of endings.WritingFailed c = refl
+    five_of e c = cc
+
+    untold : (code : ℕ) (e : Ending) → Said code e → code ≡ 5 → e ≢ endings.WritingFailed → Rose start.diag.faults now.diag.faults
+    untold code e (inl x) z other = absurd (other (five_of e (sym z ∙ x.0)))
+    untold code e (inr x) z other = x.1
+
     writing : (code : ℕ) → R code → code ≡ 5 → WritingBroke start now × ((unread × kept) ⊎ WritesPart o start now)
-    writing code r z = (rises code r.ending r.tells z r.writing, ends_part r.ending r.ends)
+    writing code r z = (rises code r.ending r.tells z r.writing, ends_part r.ending r.ends r.reading (untold code r.ending r.tells z))
 
     -- EXACT
 

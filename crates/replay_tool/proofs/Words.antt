@@ -18,7 +18,7 @@ fen_some : {Z : Type 0} (words : List (Vec ℕ Z)) (first : Vec ℕ Z) → 1 ≤
 fen_some [] first l e = absurd (omega (arith, l))
 fen_some (word ∷ words) first l e = joined (vec_items word) (texts words) ∙ ap (λ v. vec_items v ++ behind_blanks (texts words)) (sym e)
 
-all_rest : {Z : Type 0} (words : List (Vec ℕ Z)) → take (length words - 1) (drop 1 words) ≡ drop 1 words
+pub all_rest : {Z : Type 0} (words : List (Vec ℕ Z)) → take (length words - 1) (drop 1 words) ≡ drop 1 words
 all_rest [] = take_all (0 - 1) [] (omega arith)
 all_rest (word ∷ words) = take_all (length (word ∷ words) - 1) words (omega arith)
 

@@ -1,6 +1,7 @@
 -- What `check` finds.
-use Rattle.std.specs.Prelude.{◌≡◌, ◌≢◌, ℕ, ◌+◌, ◌^◌, ◌≤◌, List, [], ◌∷◌, ◌++◌, length, map, true, false, Option, None}
+use Rattle.std.specs.Prelude.{◌≡◌, ◌≢◌, ℕ, ◌+◌, ◌^◌, ◌≤◌, List, [], ◌∷◌, ◌++◌, length, map, Bool, true, false, ◌⊎◌, Option, None}
 use Rattle.std.specs.Io.KnownBytes.{Appends}
+use Rattle.line_io.specs.Causes.{Rose}
 use Rattle.line_io.specs.Event.{Event}
 use Rattle.line_io.specs.Lines.{Piece, Whole, TooLong, Held, IsWaiting, items, parts}
 use Rattle.script_lines.specs.Marks.{Mark, mark_of}
@@ -8,7 +9,7 @@ use Rattle.script_lines.specs.StepLine.{step_line, step_number}
 use Rattle.line_io.specs.Runs.{Runs, whole}
 use Rattle.line_io.specs.Source.{TakesPrefix}
 use Rattle.policy_rules.specs.declared.settings.Settings.{Settings}
-use Rattle.adapter_core.specs.Ends.{may}
+use Rattle.adapter_core.specs.Ends.{is_over, may}
 use Rattle.adapter_core.specs.Trace.{Step, Lawful, state}
 use Rattle.command_endings.specs.declared.ending.Ending.{Ending}
 use Rattle.command_endings.specs.declared.ending.Ending.TheVariants as endings
@@ -36,18 +37,20 @@ pub record BeginBy (o : Settings) (version : Version) (lines : List Piece) : Typ
   pub later : List Piece
   pub goes_on : lines_by version trace ≡ lines ++ later
 
--- the lines behind which the event of the next step stands: in version 2 those with its number
-abbrev pub lines_before : Version → List Step → List Piece
-lines_before First trace = lines_by First trace
-lines_before (Second settings) trace =
+-- the lines behind which the event of the next step stands: in version 2 those with its number, but no number comes once both
+-- sides have ended
+abbrev pub lines_before : Version → Bool → List Step → List Piece
+lines_before First over trace = lines_by First trace
+lines_before (Second settings) true trace = lines_by (Second settings) trace
+lines_before (Second settings) false trace =
     lines_by (Second settings) trace ++ Whole (step_line (step_number (length trace))) ∷ []
 
--- Behind the lines the event of the next step stands in the script of a lawful trace.
+-- Behind the lines of the script of a lawful trace the event of the next step stands, or would stand.
 pub record AwaitBy (o : Settings) (version : Version) (lines : List Piece) : Type 0 where
   pub trace : List Step
   pub lawful : Lawful (settings_by version o) trace
   pub opened : (state (settings_by version o) trace).ends.opened ≡ true
-  pub same : lines_before version trace ≡ lines
+  pub same : lines_before version (is_over (state (settings_by version o) trace).ends) trace ≡ lines
 
 -- the same for the version that the first line states
 abbrev pub AreScript : Settings → List Piece → Type 0
@@ -88,7 +91,7 @@ pub record PartsUnmarked (o : Settings) (number : ℕ) (start now : Streams) : T
   pub parts : Parts o number start now
   pub unmarked : kind_in (version_in parts.before) parts.line ≡ HasNone
 
--- an event is due, and this one may not come
+-- an event is due, or both sides have ended, and this event may not come
 pub record PartsByEvent (o : Settings) (number : ℕ) (start now : Streams) : Type 0 where
   pub parts : Parts o number start now
   pub event : Event
@@ -149,11 +152,19 @@ Finds o endings.ReadingFailed start now = BeginsWhole o start now
 Finds o endings.TooLong start now = BeginsMuch o start now
 Finds o ending start now = ⊥
 
+-- what is to be written of this could not be written, or its diagnostic could not
+abbrev pub IsUntold : Ending → Streams → Streams → Type 0
+IsUntold found start now =
+    ((verdict found ≢ []) × Rose start.output.faults now.output.faults)
+    ⊎ Rose start.diag.faults now.diag.faults
+
 -- what was found could not be written, or not be reported
 pub record WritesPart (o : Settings) (start now : Streams) : Type 0 where
   pub found : Ending
   pub finds : Finds o found start now
+  pub reading : found ≡ endings.ReadingFailed → Rose start.input.faults now.input.faults
   pub part : TakesPrefix start.output.taken now.output.taken (verdict found)
+  pub untold : IsUntold found start now
 
 -- how a check ended: if nothing is to be written, the output is untouched
 abbrev pub ChecksAs : Settings → Type 0 → Type 0 → Ending → Streams → Streams → Type 0

@@ -4,23 +4,27 @@ use Rattle.std.specs.Option.{option_map}
 use Rattle.std.specs.Str.{bytes_eq}
 use Rattle.replay_tool.specs.declared.command.Command.{Command}
 use Rattle.replay_tool.specs.declared.command.Command.TheVariants as commands
+use Rattle.session_judge.specs.declared.listener.Listener.{Listener}
+use Rattle.session_judge.specs.declared.listener.Listener.TheVariants as listeners
 use Rattle.policy_rules.specs.declared.settings.Settings.{Settings}
 use Rattle.policy_rules.specs.Policy.{IsProper}
 use Rattle.replay_tool.specs.Moves.{fen_of}
-use Rattle.replay_tool.specs.Words.{number_of, settings_of}
+use Rattle.policy_rules.specs.Words.{number_in}
+use Rattle.replay_tool.specs.Words.{settings_of}
 use Rattle.drill.specs.declared.generator.TheConstants.{MODULUS}
 use Rattle.drill.specs.declared.run.TheConstants.{MOST_ROUNDS}
 
--- what is asked for: a replay, a check, a migration or the games with settings, a judgement, a script played to an
--- engine of so many lives or to a driver, a drill, or the moves of what a text spells
+-- what is asked for: a replay, a check, a migration, the games or the positions with settings, a judgement of the log that this
+-- one wrote, a script played to an engine of so many lives or to a driver, a drill, or the moves of what a text spells
 pub data Asked : Type 0 where
   Replay : (settings : Settings) → Asked
   Check : (settings : Settings) → Asked
   Migrate : (settings : Settings) → Asked
-  Judge : Asked
+  Judge : (listener : Listener) → Asked
   Revive : (lives : ℕ) → Asked
   Drive : Asked
   Games : (settings : Settings) → Asked
+  Positions : (settings : Settings) → Asked
   Drill : (number : ℕ) → (count : ℕ) → Asked
   Moves : (text : List ℕ) → Asked
 
@@ -34,14 +38,20 @@ drill_by number count = None
 
 -- a number of the generator and a count of rounds
 abbrev pub drill_of : List (List ℕ) → Option Asked
-drill_of (number ∷ count ∷ []) = drill_by (number_of 10 0 (MODULUS - 1) number)
-    (number_of 10 0 MOST_ROUNDS count)
+drill_of (number ∷ count ∷ []) = drill_by (number_in 10 0 (MODULUS - 1) number)
+    (number_in 10 0 MOST_ROUNDS count)
 drill_of words = None
 
 -- how many lives may be begun: one digit from 1 to 9
 abbrev pub revive_of : List (List ℕ) → Option Asked
-revive_of (lives ∷ []) = option_map (λ n. Revive n) (number_of 1 1 9 lives)
+revive_of (lives ∷ []) = option_map (λ n. Revive n) (number_in 1 1 9 lives)
 revive_of words = None
+
+-- who wrote the log that is judged: the bridge, or a tap
+abbrev pub judge_of : List (List ℕ) → Option Asked
+judge_of [] = Some (Judge listeners.Bridge)
+judge_of (word ∷ []) = if bytes_eq word (codes "tap") then Some (Judge listeners.Tap) else None
+judge_of words = None
 
 -- a command that takes no words
 abbrev pub alone : Asked → List (List ℕ) → Option Asked
@@ -49,20 +59,21 @@ alone command [] = Some command
 alone command (word ∷ words) = None
 
 -- the command of this name with these words: settings stand behind `replay`, `check`,
--- `migrate` and `games`, none behind `judge` and `drive`, one digit behind `revive`, one or more words
--- behind `moves`, and two numbers behind `drill`
+-- `migrate`, `games` and `positions`, nothing or `tap` behind `judge`, nothing behind `drive`, one digit behind `revive`, one
+-- or more words behind `moves`, and two numbers behind `drill`
 abbrev pub command_named : List ℕ → List (List ℕ) → Option Asked
 command_named name words =
     if bytes_eq name (codes "replay") then option_map (λ s. Replay s) (settings_of words)
     else (if bytes_eq name (codes "check") then option_map (λ s. Check s) (settings_of words)
     else (if bytes_eq name (codes "migrate") then option_map (λ s. Migrate s) (settings_of words)
-    else (if bytes_eq name (codes "judge") then alone Judge words
+    else (if bytes_eq name (codes "judge") then judge_of words
     else (if bytes_eq name (codes "revive") then revive_of words
     else (if bytes_eq name (codes "drive") then alone Drive words
     else (if bytes_eq name (codes "games") then option_map (λ s. Games s) (settings_of words)
+    else (if bytes_eq name (codes "positions") then option_map (λ s. Positions s) (settings_of words)
     else (if bytes_eq name (codes "drill") then drill_of words
     else (if bytes_eq name (codes "moves") && nat_lt 0 (length words) then Some (Moves
-    (fen_of words)) else None))))))))
+    (fen_of words)) else None)))))))))
 
 -- the command of the words, if they fit one
 abbrev pub command_of : List (List ℕ) → Option Asked
@@ -74,10 +85,11 @@ abbrev pub asked : Command → Asked
 asked (commands.Replay s) = Replay s
 asked (commands.Check s) = Check s
 asked (commands.Migrate s) = Migrate s
-asked commands.Judge = Judge
+asked (commands.Judge listener) = Judge listener
 asked (commands.Revive lives) = Revive lives
 asked commands.Drive = Drive
 asked (commands.Games s) = Games s
+asked (commands.Positions s) = Positions s
 asked (commands.Drill number count) = Drill number count
 asked (commands.Moves words) = Moves (fen_of (texts words.now))
 
@@ -87,5 +99,6 @@ HasProper (commands.Replay s) = IsProper s
 HasProper (commands.Check s) = IsProper s
 HasProper (commands.Migrate s) = IsProper s
 HasProper (commands.Games s) = IsProper s
+HasProper (commands.Positions s) = IsProper s
 HasProper (commands.Drill number count) = count ≤ MOST_ROUNDS
 HasProper command = Unit {0}

@@ -15,6 +15,7 @@ use Rattle.judge_report.specs.Judged.{Judged}
 use Rattle.revival_script.specs.Revived.{Revived}
 use Rattle.driver_script.specs.Driven.{Driven}
 use Rattle.session_games.specs.GamesWritten.{GamesWritten}
+use Rattle.session_positions.specs.PositionsWritten.{PositionsWritten}
 
 abbrev pub Does : Option Asked → Type 0 → Type 0 → Type 0 → Streams → Streams → ℕ → Type 0
 Does None unread kept silent before after code = Refused unread kept before after code
@@ -23,10 +24,12 @@ Does (Some (asked.Replay o)) unread kept silent before after code =
 Does (Some (asked.Check o)) unread kept silent before after code =
     HaveLaws o × Ran (λ e. ChecksAs o unread kept e before after) before after code
 Does (Some (asked.Migrate o)) unread kept silent before after code = Migrated o unread kept before after code
-Does (Some asked.Judge) unread kept silent before after code = Judged (unread × kept) before after code
+Does (Some (asked.Judge listener)) unread kept silent before after code =
+    Judged listener (unread × kept) before after code
 Does (Some (asked.Revive lives)) unread kept silent before after code = Revived lives (unread × kept) before after code
 Does (Some asked.Drive) unread kept silent before after code = Driven (unread × kept) before after code
 Does (Some (asked.Games o)) unread kept silent before after code = GamesWritten o unread kept before after code
+Does (Some (asked.Positions o)) unread kept silent before after code = PositionsWritten o unread kept before after code
 Does (Some (asked.Moves text)) unread kept silent before after code =
     unread × Lists (position_of text) kept silent code before.output after.output before.diag
     after.diag

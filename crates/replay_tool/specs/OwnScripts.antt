@@ -1,37 +1,47 @@
 -- What the commands `judge` and `migrate` do with the script of a lawful session.
 use Rattle.std.specs.Prelude.{◌≡◌, ◌⊎◌, ℕ, ◌^◌, ◌<◌, List, ◌++◌, length, Some}
 use Rattle.std.specs.Io.KnownBytes.{Appends}
+use Rattle.line_io.specs.Lines.{items}
+use Rattle.line_io.specs.declared.limits.TheConstants.{SCRIPT_LINE}
 use Rattle.policy_rules.specs.declared.settings.Settings.{Settings}
 use Rattle.adapter_core.specs.Trace.{Step, Lawful}
 use Rattle.session_script.specs.OneWay.{IsOpened}
 use Rattle.session_script.specs.Script.{script1, script2}
 use Rattle.command_endings.specs.Streams.{Streams, IsSteady}
-use Rattle.judge_report.specs.Texts.{lawful_line}
+use Rattle.session_judge.specs.declared.listener.Listener.{Listener}
+use Rattle.judge_report.specs.Reports.{report}
+use Rattle.judge_report.specs.Texts.{lawful_line, searched}
 use Rattle.script_player.specs.Versions.{Version, script_by, settings_by}
 use Rattle.replay_tool.specs.Replayed.{IsProperIn}
 
 -- JUDGING
 
--- The output took the lines of searches, and behind them `lawful talk`.
-pub record FoundLawful (before after : Streams) : Type 0 where
-  pub searches : List ℕ
-  pub written : Appends before.output.taken after.output.taken (searches ++ lawful_line)
+-- the lines of the searches in a script, one for each `go`
+abbrev pub searches : Listener → List ℕ → List ℕ
+searches listener script =
+    (report listener (items SCRIPT_LINE script)).text
+    ++ searched (report listener (items SCRIPT_LINE script)).talk.search
 
--- What each status says of a script of this size.
-pub record NoFaultFound (size : ℕ) (before after : Streams) (code : ℕ) : Type 0 where
-  pub lawful : code ≡ 0 → FoundLawful before after
+-- The output took the lines of the script's searches, and behind them `lawful talk`: no order crosses.
+abbrev pub FoundLawful : Listener → List ℕ → Streams → Streams → Type 0
+FoundLawful listener script before after =
+    Appends before.output.taken after.output.taken (searches listener script ++ lawful_line)
+
+-- What each status says of a script.
+pub record NoFaultFound (listener : Listener) (script : List ℕ) (before after : Streams) (code : ℕ) : Type 0 where
+  pub lawful : code ≡ 0 → FoundLawful listener script before after
   pub not_unlawful : code ≡ 1 → ⊥
   pub no_line_without_mark : code ≡ 2 → ⊥
   -- it is judged to its end, or there was no memory
-  pub complete : size < 2 ^ 32 → IsSteady before after → (code ≡ 0) ⊎ (code ≡ 3)
+  pub complete : length script < 2 ^ 32 → IsSteady before after → (code ≡ 0) ⊎ (code ≡ 3)
 
 -- No fault is found if the input is the script, of either version, of a lawful trace.
-abbrev pub JudgesOwnTalk : Streams → Streams → ℕ → Type 0
-JudgesOwnTalk before after code =
+abbrev pub JudgesOwnTalk : Listener → Streams → Streams → ℕ → Type 0
+JudgesOwnTalk listener before after code =
     (version : Version) (o : Settings) (trace : List Step) → IsProperIn version
     → Lawful (settings_by version o) trace
     → before.input.left ≡ Some (script_by version trace)
-    → NoFaultFound (length (script_by version trace)) before after code
+    → NoFaultFound listener (script_by version trace) before after code
 
 -- MIGRATING
 

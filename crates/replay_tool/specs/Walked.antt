@@ -24,7 +24,7 @@ use Rattle.replay_tool.specs.Replayed.{IsProperIn}
 use Rattle.script_player.specs.Playing.{Adds}
 use Rattle.command_endings.specs.Streams.{Streams}
 use Rattle.command_endings.specs.Reads.{AreRead}
-use Rattle.script_player.specs.Versions.{Said, Comes, Passes, Starts, HasNoMark, IsOutOfStep, Cannot, Version, First, Second, kind_of, kind_says, settings_by, stage_started, stage_told, version_in}
+use Rattle.script_player.specs.Versions.{Kind, Tells, Said, Comes, Passes, Starts, HasNoMark, IsOutOfStep, Cannot, Version, First, Second, kind_of, kind_says, settings_by, stage_started, stage_told, version_in}
 
 -- what a line is: the event that may come if nothing is due, the number of the next step, the line that is due, or another
 pub data Fit : Type 0 where
@@ -37,17 +37,23 @@ pub data Fit : Type 0 where
 abbrev pub number_undue : Ends → ℕ → ℕ → Fit
 number_undue ends n number = if is_over ends then Fails (endings.Differs n) else TakesNumber number
 
-abbrev pub said_undue : Ends → ℕ → Said → Fit
-said_undue ends n (Comes e) = TakesEvent e
-said_undue ends n (Starts number) = number_undue ends n number
-said_undue ends n HasNoMark = Fails (endings.NoMark n)
-said_undue ends n Cannot = Fails (endings.MayNotCome n)
-said_undue ends n Passes = Fails (endings.Differs n)
-said_undue ends n IsOutOfStep = Fails (endings.Differs n)
+-- a line out of step: an event may not come once both sides have ended, and any other such line differs
+abbrev pub astray : Ends → ℕ → Kind → Ending
+astray ends n (Tells e) = if is_over ends then endings.MayNotCome n else endings.Differs n
+astray ends n kind = endings.Differs n
+
+abbrev pub said_undue : Ends → ℕ → Kind → Said → Fit
+said_undue ends n kind (Comes e) = TakesEvent e
+said_undue ends n kind (Starts number) = number_undue ends n number
+said_undue ends n kind HasNoMark = Fails (endings.NoMark n)
+said_undue ends n kind Cannot = Fails (endings.MayNotCome n)
+said_undue ends n kind Passes = Fails (endings.Differs n)
+said_undue ends n kind IsOutOfStep = Fails (astray ends n kind)
 
 -- a line if none is due
 abbrev pub undue : Stage → Ends → ℕ → List ℕ → Fit
-undue stage ends n line = said_undue ends n (kind_says stage ends (kind_of (Whole line)))
+undue stage ends n line =
+    said_undue ends n (kind_of (Whole line)) (kind_says stage ends (kind_of (Whole line)))
 
 abbrev pub said_other : ℕ → Said → Ending
 said_other n HasNoMark = endings.NoMark n

@@ -2,7 +2,8 @@
 ghost use Rattle.std.specs.Prelude.{◌≡◌, ◌≢◌, ◌<◌, [], IfOk, true};
 ghost use Rattle.line_io.specs.Causes.{Rose};
 ghost use Rattle.line_io.specs.Event.{event_of};
-ghost use Rattle.line_io.specs.Lines.{unread};
+ghost use Rattle.line_io.specs.Lines.{Whole, unread};
+ghost use Rattle.script_player.specs.Versions.{kind_of};
 ghost use Rattle.script_lines.specs.Header.{header_of};
 ghost use Rattle.policy_rules.specs.Policy.{IsProper};
 ghost use Rattle.policy_rules.specs.declared.settings.Settings.{Settings as AnySettings};
@@ -11,7 +12,7 @@ ghost use Rattle.adapter_core.specs.Stands.{Stands};
 ghost use Rattle.command_endings.specs.declared.ending.Ending.TheVariants as endings;
 ghost use Rattle.replay_tool.specs.Check.{Finds};
 ghost use Rattle.command_endings.specs.Streams.{Streams, with_input};
-ghost use Rattle.replay_tool.specs.Walked.{EndsAt, Fills, Followed, Heads, IsOpen, IsUnread, MayTake, TakesAny, TakesFirst, fault_in, fit, number_undue, undue};
+ghost use Rattle.replay_tool.specs.Walked.{EndsAt, Fills, astray, Followed, Heads, IsOpen, IsUnread, MayTake, TakesAny, TakesFirst, fault_in, fit, number_undue, undue};
 ghost use Rattle.line_io.specs.declared.limits.TheConstants.{SCRIPT_LINE};
 
 use crate::expected_lines::ExpectedLines;
@@ -19,7 +20,7 @@ use adapter_core::Core;
 use command_endings::Ending;
 use line_io::{Event, Lines, LinesEnd, NoMemory, SCRIPT_LINE, Source, TakesLines, take_lines};
 use policy_rules::Settings;
-use script_lines::read_header;
+use script_lines::{Mark, read_header, read_mark};
 use script_player::{Said, Stage};
 use std::alloc::Global;
 
@@ -53,6 +54,16 @@ fn open_numbered(core: &mut Core, settings: &Settings, due: &mut ExpectedLines)
     due.fill_first(lines.iface, lines.engine);
 }
 
+// A line out of step: an event may not come once both sides have ended, and any other such line differs.
+fn astray(core: &Core, number: u64, line: &[u8]) -> Ending
+    ensures { result ≡ astray core.now.ends number (kind_of (Whole line.now)) }
+{
+    match read_mark(line) {
+        Ok(Mark::Event(_)) if core.over() => Ending::MayNotCome(number),
+        _ => Ending::Differs(number),
+    }
+}
+
 // Takes a line if none is due.
 fn take_undue(
     core: &mut Core,
@@ -83,7 +94,8 @@ fn take_undue(
         }
         Said::HasNoMark => Some(Ending::NoMark(number)),
         Said::Cannot => Some(Ending::MayNotCome(number)),
-        Said::Passes | Said::IsOutOfStep => Some(Ending::Differs(number)),
+        Said::Passes => Some(Ending::Differs(number)),
+        Said::IsOutOfStep => Some(astray(core, number, line)),
     }
 }
 

@@ -1,11 +1,12 @@
 // The commands of the program.
 ghost use Rattle.std.specs.Prelude.{◌≡◌, IfSome};
 ghost use Rattle.std.specs.Option.{option_map};
-ghost use Rattle.replay_tool.specs.Commands.{Drive, Judge, HasProper, alone, asked, command_of, command_named, drill_of, revive_of, texts};
+ghost use Rattle.replay_tool.specs.Commands.{Drive, HasProper, alone, asked, command_of, command_named, drill_of, judge_of, revive_of, texts};
 
-use crate::settings::{read_number, read_settings};
+use crate::settings::read_settings;
 use drill::{MODULUS, MOST_ROUNDS};
-use policy_rules::Settings;
+use policy_rules::{Settings, read_number};
+use session_judge::Listener;
 
 /// What the words of the program command.
 #[derive(Clone, Copy)]
@@ -14,16 +15,18 @@ pub enum Command<'a> {
     Replay(Settings),
     /// Compares the input with the lawful script of its events.
     Check(Settings),
-    /// Turns the input, a script of version 1, into one of version 2 with these settings.
+    /// Turns the input, a script of version 1, into one with a header of these settings.
     Migrate(Settings),
-    /// Judges the log of any bridge.
-    Judge,
+    /// Judges the log of any bridge, which this one wrote.
+    Judge(Listener),
     /// Plays the input to an engine that is started again, of which so many lives may be begun.
     Revive { lives: u32 },
     /// Plays the input to a driver between a UCI interface and a CECP engine.
     Drive,
     /// Writes the games of the session in the input, with these settings.
     Games(Settings),
+    /// Writes the positions of the session in the input, with these settings.
+    Positions(Settings),
     /// Plays the drill of a number, with so many rounds.
     Drill { number: u32, count: u32 },
     /// Lists the legal moves of the position that these words spell.
@@ -43,13 +46,14 @@ fn read_drill(words: &[Vec<u8>]) -> Option<Command>
     })
 }
 
-/// The command `judge`, which takes no words.
+/// The command `judge`, which takes no words, or `tap` for the log of a tap.
 fn read_judge<'a>(words: &[Vec<u8>]) -> Option<Command<'a>>
-    ensures value { option_map asked result ≡ alone Judge (texts words.now) }
+    ensures value { option_map asked result ≡ judge_of (texts words.now) }
     ensures proper { IfSome result (λ command. HasProper command) }
 {
     match words {
-        [] => Some(Command::Judge),
+        [] => Some(Command::Judge(Listener::Bridge)),
+        [word] if word.as_slice() == b"tap".as_slice() => Some(Command::Judge(Listener::Tap)),
         _ => None,
     }
 }
@@ -95,6 +99,8 @@ fn read_named<'a>(name: &[u8], words: &'a [Vec<u8>]) -> Option<Command<'a>>
         read_drive(words)
     } else if name == b"games".as_slice() {
         Some(Command::Games(read_settings(words)?))
+    } else if name == b"positions".as_slice() {
+        Some(Command::Positions(read_settings(words)?))
     } else if name == b"drill".as_slice() {
         read_drill(words)
     } else if name == b"moves".as_slice() && !words.is_empty() {

@@ -4,6 +4,7 @@ ghost use Rattle.line_io.specs.Lines.{unread};
 ghost use Rattle.line_io.specs.Out.{empty};
 ghost use Rattle.policy_rules.specs.Policy.{IsProper};
 ghost use Rattle.policy_rules.specs.declared.settings.Settings.{Settings as AnySettings};
+ghost use Rattle.session_judge.specs.declared.listener.Listener.{Listener as AnyListener};
 ghost use Rattle.replay_tool.specs.Check.{ChecksAs};
 ghost use Rattle.replay_tool.specs.Checked.{Checked};
 ghost use Rattle.replay_tool.specs.Commands as asked;
@@ -24,6 +25,7 @@ ghost use Rattle.script_migration.specs.Migrated.{Migrated};
 ghost use Rattle.revival_script.specs.Revived.{Revived};
 ghost use Rattle.driver_script.specs.Driven.{Driven};
 ghost use Rattle.session_games.specs.GamesWritten.{GamesWritten};
+ghost use Rattle.session_positions.specs.PositionsWritten.{PositionsWritten};
 ghost use Rattle.line_io.specs.declared.limits.TheConstants.{SCRIPT_LINE};
 
 use crate::check::Audit;
@@ -40,6 +42,7 @@ use policy_rules::Settings;
 use revival_script::run_revive;
 use script_migration::migrate;
 use session_games::write_games;
+use session_positions::write_positions;
 use std::alloc::Global;
 
 // What holds of every session with these settings, and with those of a header.
@@ -127,10 +130,13 @@ fn run_words<I: Source, O: Sink, D: Sink>(
             run_check(alloc, &settings, input, output, diag)
         }
         Some(Command::Migrate(settings)) => migrate(alloc, &settings, input, output, diag),
-        Some(Command::Judge) => run_judge(alloc, input, output, diag),
+        Some(Command::Judge(listener)) => run_judge(alloc, listener, input, output, diag),
         Some(Command::Revive { lives }) => run_revive(alloc, lives, input, output, diag),
         Some(Command::Drive) => run_drive(alloc, input, output, diag),
         Some(Command::Games(settings)) => write_games(alloc, &settings, input, output, diag),
+        Some(Command::Positions(settings)) => {
+            write_positions(alloc, &settings, input, output, diag)
+        }
         Some(Command::Drill { number, count }) => play_drill(alloc, number, count, output, diag),
         Some(Command::Moves(words)) => list_moves(alloc, words, output, diag),
         None => tell_short(Ending::Usage, diag),
@@ -141,19 +147,22 @@ fn run_words<I: Source, O: Sink, D: Sink>(
 ///
 /// The word `replay` reads a script from the input, ignores its header, its step lines and the
 /// lines that were written, and writes the script of the session in the same version, with the
-/// settings of the header, or of the words behind it if there is no header: `Resign` and
-/// `ShowPonder` are `true` or `false`, `ResignMoves` is 1 to 1,000, `ResignScore` 0 to 100,000.
+/// settings of the header, or of the words NAME=VALUE behind it if there is no header.
 ///
-/// The word `check`, with the same words behind it, reads a log of either version and writes
+/// The word `check`, with the same words behind it, reads a log of any version and writes
 /// `lawful` if its lines are the script of a lawful session, else the first line that differs, with
 /// status 1.
 ///
 /// The word `migrate`, with the same words behind it, reads a script of version 1 and writes it as
-/// one of version 2 with the settings of the words. No core runs: the script need not be lawful.
+/// one with a header of the settings of the words. No core runs: the script need not be lawful.
 ///
 /// The word `games`, with the same words behind it, reads a script as `replay` does and writes the
 /// games of the session, one a line, each when the interface begins another or the session ends: its
 /// movetext (PGN standard, section 8.2), and before it the `FEN` tag, if it has another beginning.
+///
+/// The word `positions`, with the same words behind it, reads a script as `replay` does and writes
+/// the standard start behind the number 0, and each position that an event leaves and that has
+/// another text than the one before, behind the number of the event's line in the input.
 ///
 /// The word `revive` with one digit from 1 to 9 reads a script of version 1 and plays it to an
 /// engine of which so many lives may be begun; the word `drive` plays it to a driver between a UCI
@@ -161,7 +170,8 @@ fn run_words<I: Source, O: Sink, D: Sink>(
 /// them.
 ///
 /// The word `judge` reads the log of any bridge and writes the report of the judge, with status 1 if
-/// a mark breaks a rule.
+/// a mark breaks a rule. With the word `tap` behind it the log is that of a tap between the bridge and
+/// its engine, in which an order may cross a line of the engine.
 ///
 /// The word `moves` joins the words behind it by blanks, as the text of a position (PGN standard,
 /// section 16.1), and writes its legal moves, one a line, in the byte order of their texts; it reads
@@ -205,12 +215,14 @@ pub fn replay_main<I: Source, O: Sink, D: Sink>(
         → MigratesOwnScripts settings
         (streams (I.state input.old) (O.state output.old) (D.state diag.old))
         (streams (I.state input.new) (O.state output.new) (D.state diag.new)) result.code }
-    ensures judge { command_of (texts words.now) ≡ Some asked.Judge
-        → Judged ((input.new ≡ input.old) × (output.new ≡ output.old))
+    ensures judge { (listener : AnyListener)
+        → command_of (texts words.now) ≡ Some (asked.Judge listener)
+        → Judged listener ((input.new ≡ input.old) × (output.new ≡ output.old))
         (streams (I.state input.old) (O.state output.old) (D.state diag.old))
         (streams (I.state input.new) (O.state output.new) (D.state diag.new)) result.code }
-    ensures judge_own { command_of (texts words.now) ≡ Some asked.Judge
-        → JudgesOwnTalk
+    ensures judge_own { (listener : AnyListener)
+        → command_of (texts words.now) ≡ Some (asked.Judge listener)
+        → JudgesOwnTalk listener
         (streams (I.state input.old) (O.state output.old) (D.state diag.old))
         (streams (I.state input.new) (O.state output.new) (D.state diag.new)) result.code }
     ensures revive { (lives : ℕ) → command_of (texts words.now) ≡ Some (asked.Revive lives)
@@ -224,6 +236,11 @@ pub fn replay_main<I: Source, O: Sink, D: Sink>(
     ensures games { (settings : AnySettings)
         → command_of (texts words.now) ≡ Some (asked.Games settings)
         → GamesWritten settings (input.new ≡ input.old) (output.new ≡ output.old)
+        (streams (I.state input.old) (O.state output.old) (D.state diag.old))
+        (streams (I.state input.new) (O.state output.new) (D.state diag.new)) result.code }
+    ensures positions { (settings : AnySettings)
+        → command_of (texts words.now) ≡ Some (asked.Positions settings)
+        → PositionsWritten settings (input.new ≡ input.old) (output.new ≡ output.old)
         (streams (I.state input.old) (O.state output.old) (D.state diag.old))
         (streams (I.state input.new) (O.state output.new) (D.state diag.new)) result.code }
     ensures moves { (text : List ℕ)

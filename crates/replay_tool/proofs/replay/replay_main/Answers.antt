@@ -34,6 +34,9 @@ returns-clause-drive g c = does.driven _ _ _ _ _ _ _ (does.at_code _ _ _ _ _ _ _
 pub returns-clause-games : goal.returns-clause-games
 returns-clause-games g c = does.games_written _ _ _ _ _ _ _ (does.at_code _ _ _ _ _ _ _ _ c.code.ensures c.run_words.ensures)
 
+pub returns-clause-positions : goal.returns-clause-positions
+returns-clause-positions g c = does.positions_written _ _ _ _ _ _ _ (does.at_code _ _ _ _ _ _ _ _ c.code.ensures c.run_words.ensures)
+
 pub returns-clause-moves : goal.returns-clause-moves
 returns-clause-moves g c = does.listed _ _ _ _ _ _ _ (does.at_code _ _ _ _ _ _ _ _ c.code.ensures c.run_words.ensures)
 

@@ -47,6 +47,12 @@ returns-in-Some-Games g c =
     (sym c.read_command.ensures.value ∙ ap (option_map asked) (c.in-Some-Games.is ∙ ap (λ (k : Command). Some k) c.in-Some-Games.field-0-is))
     c.write_games.ensures
 
+pub returns-in-Some-Positions : goal.returns-in-Some-Positions
+returns-in-Some-Positions g c =
+    is_done _ _ _ _ _ _ _ _
+    (sym c.read_command.ensures.value ∙ ap (option_map asked) (c.in-Some-Positions.is ∙ ap (λ (k : Command). Some k) c.in-Some-Positions.field-0-is))
+    c.write_positions.ensures
+
 pub returns-in-Some-Drill : goal.returns-in-Some-Drill
 returns-in-Some-Drill g c =
     is_done _ _ _ _ _ _ _ _

@@ -1,30 +1,27 @@
-use Rattle.std.proofs.Common.{◌≡◌, ◌+◌, IfSome, sym, ◌∙◌, drop, subst, Option, arith}
-use Rattle.replay_tool.specs.declared.settings.Setting.{Setting}
-use Rattle.replay_tool.specs.declared.settings.Given.{Given}
-use Rattle.policy_rules.specs.Policy.{IsProper}
+use Rattle.std.proofs.Common.{IfSome, sym, ap, ◌∙◌, subst, Option, ◌-◌, length, take, drop}
+use Rattle.policy_rules.specs.declared.settings.Settings.{Settings}
+use Rattle.policy_rules.specs.declared.table.Choice.{Choice}
+use Rattle.policy_rules.specs.Table.{IsWithin, range_of}
+use Rattle.policy_rules.specs.Words.{name_in}
 use Rattle.replay_tool.specs.Commands.{texts}
-use Rattle.replay_tool.specs.Words.{IsWithin}
-use Rattle.replay_tool.proofs.Given.{nothing, after, at_bad, at_twice, at_next, proper_added}
+use Rattle.replay_tool.specs.Words.{settings_after, settings_of}
+use Rattle.replay_tool.proofs.Chosen.{at_bad, at_next}
 use Rattle.replay_tool.proofs.settings.read_settings.Goals as goal
 
-pub returns-in_err-setting-clause-value : goal.returns-in_err-setting-clause-value
-returns-in_err-setting-clause-value c =
+pub returns-in_err-read_choice-clause-value : goal.returns-in_err-read_choice-clause-value
+returns-in_err-read_choice-clause-value c =
     c.from_residual.ensures
-    ∙ at_bad c.args.words.now c.loop-word.word-index c.word-item.result (omega arith) c.word-item.is c.as_slice.result.now c.as_slice.ensures.value c.loop-word.given c.loop-word.invariant.same
-    (sym c.read_setting.ensures.value ∙ c.in_err-setting.was)
+    ∙ at_bad c.loop-rest.settings c.loop-rest.rest.now c.word-item.result _ c.in-len1-up.len_at_least c.word-item.is c.loop-rest.invariant.same
+    c.as_slice-in-len1-up.result.now c.as_slice-in-len1-up.ensures.value
+    (sym c.read_choice.ensures.value ∙ c.in_err-read_choice.was)
 
-pub returns-then-has-clause-value : goal.returns-then-has-clause-value
-returns-then-has-clause-value c =
-    at_twice c.args.words.now c.loop-word.word-index c.word-item.result (omega arith) c.word-item.is c.as_slice.result.now c.as_slice.ensures.value c.loop-word.given c.loop-word.invariant.same
-    c.in_ok-setting.setting (sym c.read_setting.ensures.value ∙ c.in_ok-setting.was) (sym c.has.ensures ∙ c.if-has.true)
-
-pub loop-word-preserved : goal.loop-word-preserved
-loop-word-preserved c =
-    let is = sym c.with-given.ensures in
-    record {
-      same = subst (λ (g : Given). after g (texts (drop (c.loop-word.word-index + 1) c.args.words.now)) ≡ after nothing (texts c.args.words.now)) is
-          (at_next c.args.words.now c.loop-word.word-index c.word-item.result (omega arith) c.word-item.is c.as_slice.result.now c.as_slice.ensures.value c.loop-word.given c.loop-word.invariant.same
-          c.in_ok-setting.setting (sym c.read_setting.ensures.value ∙ c.in_ok-setting.was) (sym c.has.ensures ∙ c.if-has.false));
-      proper = subst (λ (g : Given). IsProper g.settings) is
-          (proper_added c.loop-word.given c.in_ok-setting.setting c.loop-word.invariant.proper (subst (λ (s : Option Setting). IfSome s (λ x. IsWithin x)) c.in_ok-setting.was c.read_setting.ensures.range));
-    }
+pub loop-rest-preserved : goal.loop-rest-preserved
+loop-rest-preserved c = record {
+  same = ap (λ (s : Settings). settings_after s (texts (take (length c.loop-rest.rest.now - 1) (drop 1 c.loop-rest.rest.now)))) c.with-settings.ensures.chosen
+      ∙ at_next c.loop-rest.settings c.loop-rest.rest.now c.word-item.result (settings_of (texts c.args.words.now)) c.in-len1-up.len_at_least c.word-item.is c.loop-rest.invariant.same
+      c.as_slice-in-len1-up.result.now c.name_in.result.now c.in_ok-read_choice.field-0
+      c.as_slice-in-len1-up.ensures.value (sym c.read_choice.ensures.value ∙ c.in_ok-read_choice.was)
+      (c.name_in.ensures ∙ ap name_in c.as_slice.ensures.value) (sym c.has_name.ensures ∙ c.if-has_name.false);
+  proper = c.with-settings.ensures.proper c.loop-rest.invariant.proper
+      (subst (λ (x : Option Choice). IfSome x (λ choice. IsWithin (range_of choice.setting) choice.value)) c.in_ok-read_choice.was c.read_choice.ensures.within);
+}

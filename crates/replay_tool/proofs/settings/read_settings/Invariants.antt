@@ -1,12 +1,15 @@
--- What is left of the words completes what was given.
-use Rattle.std.proofs.Common.{◌≡◌, drop}
+-- What is left of the words completes what they gave.
+use Rattle.std.proofs.Common.{◌≡◌, length}
 use Rattle.policy_rules.specs.Policy.{IsProper}
 use Rattle.replay_tool.specs.Commands.{texts}
-use Rattle.replay_tool.proofs.Given.{nothing, after}
+use Rattle.replay_tool.specs.Words.{settings_after, settings_of}
 use Rattle.replay_tool.proofs.settings.read_settings.Given as goal
 
-abbrev pub invariant-loop-word : goal.invariant-loop-word
-invariant-loop-word l = record {
-  same : after l.given (texts (drop l.word-index l.words)) ≡ after nothing (texts l.words);
-  proper : IsProper l.given.settings;
+abbrev pub invariant-loop-rest : goal.invariant-loop-rest
+invariant-loop-rest l = record {
+  same : settings_after l.settings (texts l.rest) ≡ settings_of (texts l.words);
+  proper : IsProper l.settings;
 }
+
+abbrev pub decreases-loop-rest : goal.decreases-loop-rest
+decreases-loop-rest l = length l.rest

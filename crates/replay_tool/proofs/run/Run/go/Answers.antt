@@ -67,3 +67,15 @@ returns-in-ReadFailed-clause-causes g c =
     let t : Taken (replays see) 131072 ends.ReadFailed old new = subst (λ (e : LinesEnd Ending). Taken (replays see) 131072 e old new) c.in-ReadFailed.is taken in
     causes_by o t.pieces endings.ReadingFailed c.end-in-ReadFailed.result old.input new.input (see old.output) (see c.end-in-ReadFailed.new.output)
     (c.end-in-ReadFailed.ensures.finished o t.pieces (see old.output) (t.ends.took o fresh)) (λ _. t.ends.fault) (λ n. absurd (n refl)) (λ e. cc)
+
+pub returns-in-Endless-clause-causes : goal.returns-in-Endless-clause-causes
+returns-in-Endless-clause-causes g c =
+    let o = c.args.self.now.player.core.settings in
+    let fresh = c.requires.player in
+    let see = λ (x : g.row.O.Denot). g.O.Sink.state x in
+    let old = place c.args.self.now.player c.args.output.now (g.I.Source.state c.args.input.now) in
+    let new = place c.take_lines.new.taker c.take_lines.new.output (g.I.Source.state c.take_lines.new.input) in
+    let taken : Taken (replays see) 131072 c.take_lines.result old new = subst (λ (k : ℕ). Taken (replays see) k c.take_lines.result old new) (ap (λ (h : Held). h.limit) c.requires.lines) c.take_lines.ensures in
+    let t : Taken (replays see) 131072 ends.Endless old new = subst (λ (e : LinesEnd Ending). Taken (replays see) 131072 e old new) c.in-Endless.is taken in
+    causes_by o t.pieces endings.TooLong c.end-in-Endless.result old.input new.input (see old.output) (see c.end-in-Endless.new.output)
+    (c.end-in-Endless.ensures.finished o t.pieces (see old.output) (t.ends.took o fresh)) (λ e. cc) (λ n. t.ends.no_fault) (λ e. cc)
