@@ -1,5 +1,5 @@
 -- What a host counts, and what it reports of the parts that were closed.
-use Rattle.std.specs.Prelude.{◌≡◌, ℕ, ◌+◌, ◌<◌, ◌≤◌, List, [], ◌∷◌, ◌++◌, Option, IfSome, Result, IfErr, OnOk}
+use Rattle.std.specs.Prelude.{◌≡◌, ℕ, ◌+◌, ◌<◌, ◌≤◌, Bool, if◌then◌else◌, List, [], ◌∷◌, ◌++◌, Option, Some, None, option_map, Result, IfErr, OnOk}
 use Rattle.line_io.specs.Causes.{Rose, HasCause}
 use Rattle.line_io.specs.Source.{Supplied, Received}
 use Rattle.child_engine.specs.declared.host.Faults.{Faults}
@@ -15,13 +15,25 @@ pub record Told : Type 0 where
 abbrev pub told_by : Supplied → Received → Told
 told_by source sink = record { given = source.given; left = source.left; taken = sink.taken }
 
--- How many runs and logs were handed out, and what those showed that were closed, in the order of
--- closing.
+-- What a host tells of its parts, how many runs and logs were handed out, and what those showed that were
+-- closed, in the order of closing.
 pub record Books : Type 0 where
+  -- what each engine says, if the sources tell what they give and have left
+  pub says : Option (List ℕ)
+  -- whether the engines' inputs and the logs tell what they take
+  pub tells : Bool
   pub runs_out : ℕ
   pub logs_out : ℕ
   pub runs : List Told
   pub logs : List (Option (List ℕ))
+
+-- the books of a host that tells this much, and handed out nothing
+abbrev pub unused : Option (List ℕ) → Bool → Books
+unused says tells = record { says = says; tells = tells; runs_out = 0; logs_out = 0; runs = []; logs = [] }
+
+-- nothing was handed out
+abbrev pub IsUnused : Books → Type 0
+IsUnused books = books ≡ unused books.says books.tells
 
 -- the books after a run or a log was handed out
 abbrev pub with_run : Books → Books
@@ -30,6 +42,10 @@ with_run books = record books { runs_out = books.runs_out + 1 }
 abbrev pub with_log : Books → Books
 with_log books = record books { logs_out = books.logs_out + 1 }
 
+-- one run was handed out, and nothing else
+abbrev pub IsStarted : Books → Type 0
+IsStarted books = books ≡ with_run (unused books.says books.tells)
+
 -- the books after one was closed
 abbrev pub with_closed_run : Books → Supplied → Received → Books
 with_closed_run books source sink = record books { runs = books.runs ++ told_by source sink ∷ [] }
@@ -37,19 +53,13 @@ with_closed_run books source sink = record books { runs = books.runs ++ told_by 
 abbrev pub with_closed_log : Books → Received → Books
 with_closed_log books log = record books { logs = books.logs ++ log.taken ∷ [] }
 
--- if it reports its bytes, there is none
-abbrev pub IsFresh : Option (List ℕ) → Type 0
-IsFresh told = IfSome told (λ bytes. bytes ≡ [])
+-- what a source shows that is handed out: it gave nothing, has left all that the engine says, and never failed
+abbrev pub fresh_source : Option (List ℕ) → Supplied
+fresh_source says = record { given = option_map (λ _. []) says; left = says; faults = 0 }
 
--- it gave nothing and never failed
-pub record IsUnread (source : Supplied) : Type 0 where
-  pub given : IsFresh source.given
-  pub faults : source.faults ≡ 0
-
--- it took nothing and never failed
-pub record IsUnwritten (sink : Received) : Type 0 where
-  pub taken : IsFresh sink.taken
-  pub faults : sink.faults ≡ 0
+-- what a sink or a log shows that is handed out: it took nothing, and never failed
+abbrev pub fresh_sink : Bool → Received
+fresh_sink tells = record { taken = if tells then Some [] else None; faults = 0 }
 
 -- it was shown by a sink that let go
 abbrev pub WasLetGo : {K : Type 0} → (K → Received) → (K → Type 0) → Received → Type 0

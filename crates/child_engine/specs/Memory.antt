@@ -1,5 +1,5 @@
 -- What a host in memory keeps.
-use Rattle.std.specs.Prelude.{ℕ, List, Bool, Some, map}
+use Rattle.std.specs.Prelude.{ℕ, List, Bool, true, Some, map}
 use Rattle.line_io.specs.Memory.{supply_of, store_of}
 use Rattle.line_io.specs.Source.{Supplied, Received}
 use Rattle.line_io.specs.declared.memory.MemSource.{MemSource}
@@ -17,6 +17,8 @@ shown_by_sink s = record { taken = Some (store_of s).taken; faults = (store_of s
 abbrev pub books_of : MemHost → Books
 books_of h =
     record {
+      says = Some h.engine.items;
+      tells = true;
       runs_out = h.runs_out;
       logs_out = h.logs_out;
       runs = map (λ run. told_by (shown_by_source run.src) (shown_by_sink run.snk)) h.runs.items;

@@ -1,5 +1,5 @@
 -- What the host of real programs keeps: it reports nothing of what its parts gave and took.
-use Rattle.std.specs.Prelude.{ℕ, zero, suc, List, [], ◌∷◌, ◌++◌, None}
+use Rattle.std.specs.Prelude.{ℕ, zero, suc, false, List, [], ◌∷◌, ◌++◌, None}
 use Rattle.line_io.specs.Source.{Supplied, Received}
 use Rattle.child_engine.specs.Hosts.{Told, Books, told_by}
 use Rattle.child_engine.specs.Steady.{untold_logs}
@@ -23,6 +23,8 @@ untold_runs (suc n) = untold_runs n ++ untold ∷ []
 abbrev pub books_of : {R S : Type 0} → RealHost R S → Books
 books_of h =
     record {
+      says = None;
+      tells = false;
       runs_out = h.runs_out;
       logs_out = h.logs_out;
       runs = untold_runs h.runs_closed;

@@ -1,5 +1,5 @@
 -- What a host that never fails keeps.
-use Rattle.std.specs.Prelude.{ℕ, zero, suc, List, [], ◌∷◌, ◌++◌, Option, Some, None, map}
+use Rattle.std.specs.Prelude.{ℕ, zero, suc, false, List, [], ◌∷◌, ◌++◌, Option, Some, None, map}
 use Rattle.line_io.specs.Memory.{steady_of}
 use Rattle.line_io.specs.Source.{Supplied, Received}
 use Rattle.line_io.specs.declared.memory.SteadySource.{SteadySource}
@@ -26,6 +26,8 @@ untold_logs (suc n) = untold_logs n ++ None ∷ []
 abbrev pub books_of : SteadyHost → Books
 books_of h =
     record {
+      says = Some h.engine.items;
+      tells = false;
       runs_out = h.runs_out;
       logs_out = h.logs_out;
       runs = map (λ source. told_by (shown_by_source source) untold_sink) h.runs.items;

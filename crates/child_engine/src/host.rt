@@ -1,6 +1,6 @@
 // Where engines and logs come from.
 ghost use Rattle.std.specs.Prelude.{◌≡◌, ◌<◌, ◌≤◌, length, IfOk, OnOk, OnErr};
-ghost use Rattle.child_engine.specs.Hosts.{Books, with_run, with_log, with_closed_run, with_closed_log, IsUnread, IsUnwritten, StartsBy, OpensBy, ClosesBy, ClosesLogBy, RisesBy};
+ghost use Rattle.child_engine.specs.Hosts.{Books, with_run, with_log, with_closed_run, with_closed_log, fresh_source, fresh_sink, StartsBy, OpensBy, ClosesBy, ClosesLogBy, RisesBy};
 
 use line_io::{Failed, NoMemory, Sink, Source};
 use std::alloc::Global;
@@ -67,7 +67,7 @@ pub trait Host {
     /// How often each kind of call failed.
     ghost faults: { Self → Faults };
 
-    /// What was handed out, and what was shown by that which was closed.
+    /// What the parts tell, what was handed out, and what was shown by that which was closed.
     ghost books: { Self → Books };
 
     /// Starts the engine that the words name, the first being its program.
@@ -79,8 +79,10 @@ pub trait Host {
         requires words { 0 < length words.now }
         requires few { (books self.old).runs_out < 10 }
         ensures out { OnOk result (books self.new ≡ with_run (books self.old)) }
-        ensures source { IfOk result (λ run. IsUnread (Self.Src.state run.src)) }
-        ensures sink { IfOk result (λ run. IsUnwritten (Self.Snk.state run.snk)) }
+        ensures source { IfOk result (λ run.
+            Self.Src.state run.src ≡ fresh_source (books self.old).says) }
+        ensures sink { IfOk result (λ run.
+            Self.Snk.state run.snk ≡ fresh_sink (books self.old).tells) }
         ensures err { OnErr result (books self.new ≡ books self.old) }
         ensures cause { StartsBy (faults self.old) (faults self.new) result };
 
@@ -88,7 +90,8 @@ pub trait Host {
     fn open_log(&mut self, alloc: Global, name: &str) -> Result<Self::Log, HostFault>
         requires few { (books self.old).logs_out < 10 }
         ensures out { OnOk result (books self.new ≡ with_log (books self.old)) }
-        ensures log { IfOk result (λ log. IsUnwritten (Self.Log.state log)) }
+        ensures log { IfOk result (λ log.
+            Self.Log.state log ≡ fresh_sink (books self.old).tells) }
         ensures err { OnErr result (books self.new ≡ books self.old) }
         ensures cause { OpensBy (faults self.old) (faults self.new) result };
 

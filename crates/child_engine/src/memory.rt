@@ -49,6 +49,8 @@ pub struct MemHost {
 }
 
 impl MemHost {
+    ghost use Rattle.std.specs.Prelude.{true};
+    ghost use Rattle.child_engine.specs.Hosts.{unused};
     ghost use Rattle.child_engine.specs.Memory.{books_of, means_of};
     ghost use Rattle.child_engine.specs.Steady.{no_faults};
 
@@ -63,7 +65,7 @@ impl MemHost {
     ) -> Result<MemHost, NoMemory>
         requires { 0 < piece }
         ensures books { IfOk result (λ h. books_of h
-            ≡ record { runs_out = 0; logs_out = 0; runs = []; logs = [] }) }
+            ≡ unused (Some engine.now) true) }
         ensures faults { IfOk result (λ h. h.faults ≡ no_faults) }
         ensures means { IfOk result (λ h. means_of h ≡ record {
           engine = engine.now;

@@ -71,6 +71,8 @@ fn command_of(alloc: Global, words: &[String], shares_diag: bool) -> Result<Comm
 }
 
 impl<R, S> RealHost<R, S> {
+    ghost use Rattle.std.specs.Prelude.{None, false};
+    ghost use Rattle.child_engine.specs.Hosts.{unused};
     ghost use Rattle.child_engine.specs.Real.{books_of};
     ghost use Rattle.child_engine.specs.Steady.{no_faults};
 
@@ -78,7 +80,7 @@ impl<R, S> RealHost<R, S> {
     /// else have the null device.
     pub fn new(rt: R, shares_diag: bool) -> RealHost<R, S>
         ensures books { books_of result
-            ≡ record { runs_out = 0; logs_out = 0; runs = []; logs = [] } }
+            ≡ unused None false }
         ensures faults { result.faults ≡ no_faults }
         ensures diag { result.shares_diag ≡ shares_diag }
     {

@@ -21,6 +21,8 @@ pub struct SteadyHost {
 }
 
 impl SteadyHost {
+    ghost use Rattle.std.specs.Prelude.{Some, false};
+    ghost use Rattle.child_engine.specs.Hosts.{unused};
     ghost use Rattle.child_engine.specs.Steady.{books_of, says_of};
 
     /// A host that has handed out nothing. Each engine says these bytes, as many at a read as the
@@ -28,7 +30,7 @@ impl SteadyHost {
     pub fn make(alloc: Global, engine: &[u8], piece: usize) -> Result<SteadyHost, NoMemory>
         requires { 0 < piece }
         ensures books { IfOk result (λ h. books_of h
-            ≡ record { runs_out = 0; logs_out = 0; runs = []; logs = [] }) }
+            ≡ unused (Some engine.now) false) }
         ensures says { IfOk result (λ h. says_of h
             ≡ record { engine = engine.now; piece = piece }) }
     {

@@ -3,6 +3,7 @@ use Rattle.std.proofs.Common.{◌≡◌, ◌∙◌, ◌⊎◌, ℕ, Bool, true, 
 use Rattle.host_run.specs.declared.failures.Failures.{Failures}
 use Rattle.host_run.specs.declared.ending.Ending.{Ending}
 use Rattle.host_run.specs.declared.ending.Ending.TheVariants as endings
+use Rattle.host_run.specs.Early.{no_failure}
 use Rattle.host_run.specs.Endings.{ending_of, ending_for, code_of}
 use Rattle.host_run.specs.Outside.{Outside, AreTold, HaveNotRisen, AreAsBefore}
 use Rattle.host_run.specs.Program.{DoesNothing, RunEnds, Ends, StatusSays}
@@ -103,6 +104,17 @@ quiet before after false false false false false false true h t n = absurd (n.lo
 quiet before after false false false false false false false true t n = absurd (n.waits (t.engine_wait.rose refl))
 quiet before after false false false false false false false false t n = inl refl
 
+none_failed : (a b c d e f g h : Bool) → ending_of (failures a b c d e f g h) ≡ endings.Done → failures a b c d e f g h ≡ no_failure
+none_failed true b c d e f g h z = cc
+none_failed false true c d e f g h z = cc
+none_failed false false true d e f g h z = cc
+none_failed false false false true e f g h z = cc
+none_failed false false false false true f g h z = cc
+none_failed false false false false false true g h z = cc
+none_failed false false false false false false true h z = cc
+none_failed false false false false false false false true z = cc
+none_failed false false false false false false false false z = refl
+
 -- no failure is that of the words
 never_usage : (a b c d e f g h : Bool) → ending_of (failures a b c d e f g h) ≡ endings.Usage → ⊥
 never_usage true b c d e f g h z = cc
@@ -161,6 +173,14 @@ module _ (Taken : Type 0) (Left : Failures → Type 0) (before after : Outside) 
   unstarted ends z p =
       let e = coded ending 8 z in
       failed endings.EngineStartFailed (λ u. cc) (λ m. cc) ends e (λ r. p r.failures r.left (there endings.EngineStartFailed r e))
+
+  -- a run in which nothing failed
+  pub fine : {P : Type 0} → Ends Taken Left before after ending → code_of ending ≡ 0 → ((f : Failures) → Left f → f ≡ no_failure → P) → P
+  fine ends z p =
+      let e = coded ending 0 z in
+      failed endings.Done (λ u. cc) (λ m. cc) ends e
+      (λ r. let f = r.failures in
+      p f r.left (none_failed f.memory f.iface_read f.iface_write f.engine_read f.engine_write f.engine_start f.log f.engine_wait (sym r.first ∙ e)))
 
   done : Ends Taken Left before after ending → code_of ending ≡ 0 → AreAsBefore before after
   done ends z =

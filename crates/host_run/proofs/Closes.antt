@@ -3,16 +3,17 @@ use Rattle.std.proofs.Common.{◌≡◌, ◌∙◌, ◌⊎◌, ℕ, ◌≤◌, B
 use Rattle.std.specs.Prelude.{is_some}
 use Rattle.std.proofs.lemmas.Bool.{or_cases, or_parts}
 use Rattle.line_io.specs.Source.{Supplied, Received}
-use Rattle.child_engine.specs.Hosts.{Told, Books, with_run, with_closed_run, told_by}
+use Rattle.child_engine.specs.Hosts.{Told, Books, IsStarted, with_closed_run, told_by}
 use Rattle.child_engine.specs.declared.host.HostFault.{HostFault}
 use Rattle.child_engine.specs.declared.host.HostFault.TheVariants as faults
 use Rattle.sink_offers.specs.Streams.{log_state}
-use Rattle.host_run.specs.Logs.{log_count, logs_told, is_failed, is_no_memory}
-use Rattle.host_run.specs.Outside.{IsClosed, unused}
+use Rattle.host_run.specs.Logs.{log_count, closed_logs, logs_told, is_failed, is_no_memory}
+use Rattle.host_run.specs.Outside.{IsClosed}
 use Rattle.host_run.specs.declared.failures.Failures.{Failures}
 
-abbrev pub books : ℕ → ℕ → List Told → List (Option (List ℕ)) → Books
-books a b rs ls = record { runs_out = a; logs_out = b; runs = rs; logs = ls }
+-- the books of the same host, with these counts and lists
+abbrev pub books : Books → ℕ → ℕ → List Told → List (Option (List ℕ)) → Books
+books of a b rs ls = record of { runs_out = a; logs_out = b; runs = rs; logs = ls }
 
 -- whether there is a log
 pub same_count : {L : Type 0} (l l' : Option L) → is_some l' ≡ is_some l → log_count l' ≡ log_count l
@@ -29,13 +30,18 @@ pub few_logs : {L : Type 0} (l : Option L) → log_count l ≤ 1
 few_logs None = omega arith
 few_logs (Some x) = omega arith
 
+-- what the host reports of a log, by whether there is one
+pub told_as : {L : Type 0} (f : L → Received) (l : Option L) → logs_told f l ≡ closed_logs (log_count l) (log_state f l)
+told_as f None = refl
+told_as f (Some x) = refl
+
 pub told_or_none : {L : Type 0} (f : L → Received) (l : Option L) (ls : List (Option (List ℕ))) → ls ≡ logs_told f l → (ls ≡ (log_state f l).taken ∷ []) ⊎ (ls ≡ [])
 told_or_none f None ls e = inr e
 told_or_none f (Some x) ls e = inl e
 
 -- the books at the end
-pub all_closed : (b0 b1 b2 b3 : Books) (source : Supplied) (sink : Received) (n : ℕ) (ls : List (Option (List ℕ))) → b0 ≡ with_run unused → b1 ≡ record b0 { logs_out = n }
-    → b2 ≡ with_closed_run b1 source sink → b3 ≡ record b2 { logs = b2.logs ++ ls } → b3 ≡ books 1 n (told_by source sink ∷ []) ls
+pub all_closed : (b0 b1 b2 b3 : Books) (source : Supplied) (sink : Received) (n : ℕ) (ls : List (Option (List ℕ))) → IsStarted b0 → b1 ≡ record b0 { logs_out = n }
+    → b2 ≡ with_closed_run b1 source sink → b3 ≡ record b2 { logs = b2.logs ++ ls } → b3 ≡ books b0 1 n (told_by source sink ∷ []) ls
 all_closed b0 b1 b2 b3 source sink n ls e0 e1 e2 e3 =
     e3 ∙ ap (λ (b : Books). record b { logs = b.logs ++ ls })
     (e2 ∙ ap (λ (b : Books). with_closed_run b source sink) (e1 ∙ ap (λ (b : Books). record b { logs_out = n }) e0))
@@ -67,9 +73,9 @@ lacked m o o' r a a' b b' y u z e f p x = which o o' r a a' b b' u e f z p (or_c
 pub log_opened : {L : Type 0} (l : Option L) (o : Option HostFault) → (o ≡ None → log_count l ≡ 1) → is_failed o ≡ false → is_no_memory o ≡ false → log_count l ≡ 1
 log_opened l o some e f = some (fault_none o e f)
 
-pub is_closed : (b : Books) (told : Told) (n : ℕ) (ls : List (Option (List ℕ))) (failures : Failures) → b ≡ books 1 n (told ∷ []) ls → length ls ≡ n → n ≤ 1
+pub is_closed : (b b0 : Books) (told : Told) (n : ℕ) (ls : List (Option (List ℕ))) (failures : Failures) → b ≡ books b0 1 n (told ∷ []) ls → length ls ≡ n → n ≤ 1
     → (failures.memory ≡ false → failures.log ≡ false → n ≡ 1) → IsClosed b failures
-is_closed b told n ls failures e k few one =
+is_closed b b0 told n ls failures e k few one =
     let runs_out = ap (λ (x : Books). x.runs_out) e in
     let logs_out = ap (λ (x : Books). x.logs_out) e in
     record {

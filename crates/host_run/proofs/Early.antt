@@ -1,12 +1,12 @@
 -- What a run leaves whose engine was not started, seen from before the start.
-use Rattle.std.proofs.Common.{◌≡◌, ◌∙◌, ◌⊎◌, true, false, refl, sym, ap, subst, arith, inl, inr}
+use Rattle.std.proofs.Common.{◌≡◌, ◌∙◌, ◌⊎◌, ℕ, Bool, true, false, List, Option, refl, sym, ap, subst, arith, inl, inr}
 use Rattle.line_io.specs.Source.{Supplied, Received}
 use Rattle.event_pipe.specs.Counts.{Tells}
-use Rattle.child_engine.specs.Hosts.{Books}
+use Rattle.child_engine.specs.Hosts.{Books, unused}
 use Rattle.child_engine.specs.declared.host.Faults.{Faults}
 use Rattle.host_run.specs.declared.failures.Failures.{Failures}
 use Rattle.host_run.specs.Early.{only_memory, only_start}
-use Rattle.host_run.specs.Outside.{Outside, outside, unused, AreTold, IsClosed}
+use Rattle.host_run.specs.Outside.{Outside, outside, AreTold, IsClosed}
 use Rattle.host_run.proofs.Counts.{same_told}
 
 pub told_from : (i : Supplied) (o : Received) (f : Faults) (b b' : Books) (after : Outside) (failures : Failures)
@@ -48,8 +48,8 @@ early_told i o f f' b b' e failures t (inr w) =
       engine_wait = same_told f.waits f'.waits (ap (λ (x : Faults). x.waits) e);
     })
 
-pub none_closed : (failures : Failures) → (failures ≡ only_memory) ⊎ (failures ≡ only_start) → IsClosed unused failures
-none_closed failures (inl w) =
+pub none_closed : (says : Option (List ℕ)) (tells : Bool) (failures : Failures) → (failures ≡ only_memory) ⊎ (failures ≡ only_start) → IsClosed (unused says tells) failures
+none_closed says tells failures (inl w) =
     record {
       runs = refl;
       logs = refl;
@@ -58,7 +58,7 @@ none_closed failures (inl w) =
       run = λ m s. let z : true ≡ false = ap (λ (x : Failures). x.memory) (sym w) ∙ m in cc;
       log = λ m s l. let z : true ≡ false = ap (λ (x : Failures). x.memory) (sym w) ∙ m in cc;
     }
-none_closed failures (inr w) =
+none_closed says tells failures (inr w) =
     record {
       runs = refl;
       logs = refl;

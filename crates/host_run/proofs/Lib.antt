@@ -2,4 +2,6 @@ pub mod Causes
 pub mod Closes
 pub mod Counts
 mod Tells
+pub mod Telling
 pub mod Early
+pub mod Logs

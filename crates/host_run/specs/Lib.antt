@@ -4,3 +4,4 @@ pub mod Logs
 pub mod Outside
 pub mod Program
 pub mod Readers
+pub mod Telling

@@ -1,5 +1,5 @@
 -- What a run sees of the outside, and what its failures say of it.
-use Rattle.std.specs.Prelude.{◌≡◌, ◌≤◌, false, [], length}
+use Rattle.std.specs.Prelude.{◌≡◌, ◌≤◌, false, length}
 use Rattle.line_io.specs.Causes.{Rose}
 use Rattle.line_io.specs.Source.{Supplied, Received}
 use Rattle.event_pipe.specs.Counts.{Tells}
@@ -27,10 +27,6 @@ pub record AreTold (before after : Outside) (failures : Failures) : Type 0 where
   pub engine_start : Tells before.faults.starts after.faults.starts failures.engine_start
   pub log : Tells before.faults.logs after.faults.logs failures.log
   pub engine_wait : Tells before.faults.waits after.faults.waits failures.engine_wait
-
--- nothing was handed out
-abbrev pub unused : Books
-unused = record { runs_out = 0; logs_out = 0; runs = []; logs = [] }
 
 -- no count of faults rose
 pub record HaveNotRisen (before after : Outside) : Type 0 where

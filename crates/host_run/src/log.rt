@@ -1,9 +1,9 @@
 // A log that may be missing.
 ghost use Rattle.std.specs.Prelude.{◌≡◌, ◌+◌, ◌++◌, length, true, None};
 ghost use Rattle.event_pipe.specs.Counts.{Tells};
-ghost use Rattle.child_engine.specs.Hosts.{IsUnwritten, RisesBy};
+ghost use Rattle.child_engine.specs.Hosts.{RisesBy};
 ghost use Rattle.sink_offers.specs.Streams.{log_state};
-ghost use Rattle.host_run.specs.Logs.{log_count, logs_told, is_failed, is_no_memory};
+ghost use Rattle.host_run.specs.Logs.{log_count, fresh_log, logs_told, is_failed, is_no_memory};
 
 use child_engine::{Host, HostFault};
 use std::alloc::Global;
@@ -19,7 +19,8 @@ pub fn open_log<H: Host>(host: &mut H, alloc: Global, name: &str) -> Opened<H::L
     requires { (H.books host.old).logs_out ≡ 0 }
     ensures books { H.books host.new
         ≡ record (H.books host.old) { logs_out = log_count result.log } }
-    ensures fresh { IsUnwritten (log_state H.Log.state result.log) }
+    ensures fresh { log_state H.Log.state result.log
+        ≡ fresh_log (H.books host.old).tells (log_count result.log) }
     ensures cause { Tells (H.faults host.old).logs (H.faults host.new).logs
         (is_failed result.fault) }
     ensures others { H.faults host.new

@@ -1,8 +1,7 @@
 // The start of an engine.
 ghost use Rattle.std.specs.Prelude.{◌≡◌, ◌<◌, length, IfOk, IfErr, OnOk, OnErr};
-ghost use Rattle.child_engine.specs.Hosts.{IsUnread, IsUnwritten, with_run};
+ghost use Rattle.child_engine.specs.Hosts.{IsUnused, fresh_source, fresh_sink, with_run};
 ghost use Rattle.host_run.specs.Early.{AreEarly};
-ghost use Rattle.host_run.specs.Outside.{unused};
 
 use crate::{Failures, TriedThreads, only_memory, only_start};
 use child_engine::{Host, HostFault, Started};
@@ -17,12 +16,14 @@ pub fn start_engine<H: Host, R: Threads>(
     host: &mut H,
 ) -> Result<Started<H::Src, H::Snk, H::Kid>, Failures>
     requires words { 0 < length words.now }
-    requires unused { H.books host.old ≡ unused }
-    ensures source { IfOk result (λ run. IsUnread (H.Src.state run.src)) }
-    ensures sink { IfOk result (λ run. IsUnwritten (H.Snk.state run.snk)) }
-    ensures books { OnOk result (H.books host.new ≡ with_run unused) }
+    requires unused { IsUnused (H.books host.old) }
+    ensures source { IfOk result (λ run.
+        H.Src.state run.src ≡ fresh_source (H.books host.old).says) }
+    ensures sink { IfOk result (λ run.
+        H.Snk.state run.snk ≡ fresh_sink (H.books host.old).tells) }
+    ensures books { OnOk result (H.books host.new ≡ with_run (H.books host.old)) }
     ensures faults { OnOk result (H.faults host.new ≡ H.faults host.old) }
-    ensures unstarted { OnErr result (H.books host.new ≡ unused) }
+    ensures unstarted { OnErr result (H.books host.new ≡ H.books host.old) }
     ensures early { IfErr result (AreEarly (H.faults host.old) (H.faults host.new)) }
 {
     let threads = TriedThreads::ask(rt);

@@ -1,0 +1,101 @@
+-- What the books of a host that tells its bytes say of a run.
+use Rattle.std.proofs.Common.{◌≡◌, ◌∙◌, ℕ, zero, suc, Bool, true, false, refl, sym, ap, subst, List, [], ◌∷◌, ◌++◌, append-nil, Option, Some, None, IfSome}
+use Rattle.std.specs.Io.KnownBytes.{Appends, Consumes, IsAtEnd}
+use Rattle.line_io.specs.Source.{Supplied, Received}
+use Rattle.line_io.specs.Event.{Event}
+use Rattle.line_io.specs.Lines.{Piece, Whole, TooLong, items}
+use Rattle.event_pipe.specs.declared.message.Peer.TheVariants as peers
+use Rattle.event_pipe.specs.declared.reader.ReadEnd.{ReadEnd}
+use Rattle.event_pipe.specs.declared.reader.ReadEnd.TheVariants as read_ends
+use Rattle.event_pipe.specs.Rule.{sent_by}
+use Rattle.event_pipe.specs.Arrivals.{arrivals, closed, line_limit, failed, Arrived}
+use Rattle.sink_offers.specs.Streams.{TookFront}
+use Rattle.sink_offers.specs.Took.{LogTook}
+use Rattle.child_engine.specs.Hosts.{Told, fresh_source, fresh_sink}
+use Rattle.host_run.specs.declared.failures.Failures.{Failures}
+use Rattle.host_run.specs.Logs.{fresh_log, closed_logs}
+use Rattle.host_run.specs.Readers.{lacked_memory}
+use Rattle.host_run.specs.Telling.{Gave}
+
+-- what was taken of nothing
+pub taken_is : (o : Option (List ℕ)) (bs : List ℕ) → Appends (Some []) o bs → o ≡ Some bs
+taken_is None bs a = absurd a
+taken_is (Some xs) bs a = ap (λ (ys : List ℕ). Some ys) a
+
+pub sink_took : (tells : Bool) (o : Option (List ℕ)) (bs : List ℕ) → tells ≡ true → Appends (fresh_sink tells).taken o bs → o ≡ Some bs
+sink_took false o bs e a = cc
+sink_took true o bs e a = taken_is o bs a
+
+pub log_took : (tells : Bool) (n : ℕ) (log : Received) (bs : List ℕ) (ls : List (Option (List ℕ))) → tells ≡ true → n ≡ 1 → ls ≡ closed_logs n log
+    → Appends (fresh_log tells n).taken log.taken bs → ls ≡ Some bs ∷ []
+log_took tells zero log bs ls e one l a = cc
+log_took tells (suc n) log bs ls e one l a = l ∙ ap (λ (o : Option (List ℕ)). o ∷ []) (sink_took tells log.taken bs e a)
+
+-- the log took a front of the text, or all of it
+pub front_of : (text : List ℕ) (failed : Bool) (old new : Received) → LogTook text failed old new → TookFront text old.taken new.taken
+front_of text true old new t = t.front refl
+front_of text false old new t = record { front = text; rest = []; is = sym (append-nil text); took = t.whole refl }
+
+-- an engine's lines end with its end
+closes : (lines : List Piece) → closed (arrivals peers.Engine lines) ≡ true
+closes [] = refl
+closes (Whole line ∷ lines) = closes lines
+closes (TooLong ∷ lines) = closes lines
+
+-- a source that had these bytes left
+pub left_is : (bytes got : List ℕ) (left : Option (List ℕ)) → Consumes (Some bytes) left got → (rest : List ℕ) × (bytes ≡ got ++ rest) × (left ≡ Some rest)
+left_is bytes got None c = absurd c
+left_is bytes got (Some rest) c = (rest, c, refl)
+
+pub none_left : (left : Option (List ℕ)) (rest : List ℕ) → left ≡ Some rest → IsAtEnd left → rest ≡ []
+none_left None rest e end = cc
+none_left (Some xs) rest e end = let same : rest ≡ xs = cc in same ∙ end
+
+pub is_done : (end : ReadEnd) → failed end ≡ false → lacked_memory end ≡ false → end ≡ read_ends.Done
+is_done read_ends.Done f m = refl
+is_done (read_ends.Fault f) e m = cc
+is_done read_ends.NoMemory f m = cc
+
+fault_of : {P : Type 0} (end : ReadEnd) → failed end ≡ true → ((f : _) → end ≡ read_ends.Fault f → P) → P
+fault_of read_ends.Done e p = cc
+fault_of (read_ends.Fault f) e p = p f refl
+fault_of read_ends.NoMemory e p = cc
+
+pub gave_by : (bytes : List ℕ) (last : Supplied) (taken : Option (List ℕ)) (sent : List Event) (end : ReadEnd) (failures : Failures) → Arrived peers.Engine (fresh_source (Some bytes)) last sent end
+    → failures.engine_read ≡ failed end → (failures.memory ≡ false → lacked_memory end ≡ false) → Gave bytes (record { given = last.given; left = last.left; taken = taken }) sent failures
+gave_by bytes last taken sent end failures a r m =
+    let l = left_is bytes a.got last.left a.reads.left in
+    record {
+      got = a.got;
+      rest = l.0;
+      is = l.1;
+      given = taken_is last.given a.got a.reads.given;
+      left = l.2;
+      all = λ no_fault some_memory.
+          let done = is_done end (sym r ∙ no_fault) (m some_memory) in
+          let arrived = a.all done in
+          (none_left last.left l.0 l.2 (a.at_end done (ap closed arrived ∙ closes (items line_limit a.got))), arrived);
+      at_fault = λ fault. fault_of end (sym r ∙ fault) (λ f e. a.at_fault f e);
+    }
+
+pub fresh_faults : (tells : Bool) (n : ℕ) (log : Received) → log ≡ fresh_log tells n → log.faults ≡ 0
+fresh_faults tells zero log e = ap (λ (x : Received). x.faults) e
+fresh_faults tells (suc n) log e = ap (λ (x : Received). x.faults) e
+
+pub if_some : (P : List ℕ → Type 0) (o : Option (List ℕ)) → ((bytes : List ℕ) → o ≡ Some bytes → P bytes) → IfSome o P
+if_some P None h = tt
+if_some P (Some bytes) h = h bytes refl
+
+pub told_is : (run : Told) (given left taken : Option (List ℕ)) → run.given ≡ given → run.left ≡ left → run.taken ≡ taken → run ≡ record { given = given; left = left; taken = taken }
+told_is run given left taken e f h =
+    ap (λ (x : Option (List ℕ)). record { given = x; left = run.left; taken = run.taken }) e
+    ∙ ap (λ (x : Option (List ℕ)). record { given = given; left = x; taken = run.taken }) f
+    ∙ ap (λ (x : Option (List ℕ)). record { given = given; left = left; taken = x }) h
+
+-- what arrived of the interface, whose reader came to its end
+pub arrived_is : (i j i' : Supplied) (es fs : List Event) (r : ReadEnd) → fs ≡ es → j ≡ i' → r ≡ read_ends.Done → Arrived peers.Iface i j (sent_by peers.Iface es) r
+    → Arrived peers.Iface i i' (sent_by peers.Iface fs) read_ends.Done
+arrived_is i j i' es fs r e f h a =
+    subst (λ (x : Supplied). Arrived peers.Iface i x (sent_by peers.Iface fs) read_ends.Done) f
+    (subst (λ (x : ReadEnd). Arrived peers.Iface i j (sent_by peers.Iface fs) x) h
+    (subst (λ (x : List Event). Arrived peers.Iface i j (sent_by peers.Iface x) r) (sym e) a))
