@@ -1,0 +1,5 @@
+pub mod Loops
+mod Joins
+mod Opens
+mod Runs
+pub mod Firsts

@@ -1,0 +1,6 @@
+pub mod Turns
+pub mod Meaning
+pub mod First
+pub mod Looped
+pub mod Reached
+pub mod Ran

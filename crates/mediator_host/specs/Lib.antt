@@ -1,0 +1,3 @@
+pub mod Parts
+pub mod Mediated
+pub mod Recorded

@@ -1,0 +1,7 @@
+//! One run of any mediator over any host.
+#![tactic(auto)]
+
+mod parts;
+mod run;
+
+pub use run::run_mediator;

@@ -1,0 +1,165 @@
+// One run of a mediator over a host.
+ghost use Rattle.std.specs.Prelude.{◌≡◌, ◌<◌, length, IfOk, IfErr, OnOk, OnErr};
+ghost use Rattle.child_engine.specs.Hosts.{IsUnused, IsStarted, fresh_source, fresh_sink, with_run};
+ghost use Rattle.host_run.specs.Early.{AreEarly};
+ghost use Rattle.host_run.specs.Outside.{outside};
+ghost use Rattle.mediator.specs.First.{AreOpening};
+ghost use Rattle.mediator_host.specs.Mediated.{Leaves};
+ghost use Rattle.mediator_host.specs.Parts.{AreReady};
+
+use crate::parts::{Parts, make_parts};
+use child_engine::{Host, Started};
+use host_run::{
+    Failures, Opened, close_log, either, has_failed, has_lacked_memory, is_open_failure,
+    is_open_memory, only_memory, open_log, start_engine,
+};
+use line_io::{Sink, Source};
+use mediator::{Handed, Mediator, run_pipes};
+use std::alloc::Global;
+use std::sync::Wait;
+use std::thread::Threads;
+
+// What a run needs, and the engine that was started.
+struct Ready<M, S, K, P> {
+    parts: Parts<M>,
+    run: Started<S, K, P>,
+}
+
+// The run of an engine that was started.
+fn run_started<
+    M: Mediator + Send + Drop,
+    I: Source + Send,
+    O: Sink + Send,
+    H: Host,
+    R: Threads + Wait + Sync,
+>(
+    rt: &R,
+    alloc: Global,
+    ready: Ready<M, H::Src, H::Snk, H::Kid>,
+    first: &[u8],
+    log_name: &str,
+    input: &mut I,
+    output: &mut O,
+    host: &mut H,
+) -> Failures
+    requires parts { AreReady M.means ready.parts }
+    requires first { AreOpening first.now }
+    requires source { H.Src.state ready.run.src ≡ fresh_source (H.books host.old).says }
+    requires sink { H.Snk.state ready.run.snk ≡ fresh_sink (H.books host.old).tells }
+    requires books { IsStarted (H.books host.old) }
+    ensures { Leaves M.means ready.parts.mediator first.now
+        (outside (I.state input.old) (O.state output.old) (H.faults host.old) (H.books host.old))
+        (outside (I.state input.new) (O.state output.new) (H.faults host.new) (H.books host.new))
+        result }
+{
+    let Ready { parts, run } = ready;
+    let Parts {
+        mut mediator,
+        mut text,
+        channel,
+    } = parts;
+    let Started { src, snk, kid } = run;
+    let Opened { log, fault } = open_log(host, alloc, log_name);
+    let mut handed = Handed {
+        source: src,
+        engine: snk,
+        log,
+    };
+    let end = run_pipes(
+        rt,
+        alloc,
+        &mut mediator,
+        first,
+        channel,
+        input,
+        output,
+        &mut handed,
+        &mut text,
+    );
+    let Handed {
+        source: src,
+        engine: snk,
+        log,
+    } = handed;
+    let waited = host.close(Started { src, snk, kid });
+    close_log(host, log);
+    Failures {
+        memory: either(
+            is_open_memory(fault),
+            either(has_lacked_memory(end.iface), has_lacked_memory(end.engine)),
+        ),
+        iface_read: has_failed(end.iface),
+        iface_write: end.done.output,
+        engine_read: has_failed(end.engine),
+        engine_write: end.done.engine,
+        engine_start: false,
+        log: either(is_open_failure(fault), end.done.log),
+        engine_wait: waited.is_err(),
+    }
+}
+
+// Takes the memory of a run, and starts the engine.
+fn start<M: Mediator + Drop, H: Host, R: Threads>(
+    rt: &R,
+    alloc: Global,
+    mediator: M,
+    words: &[String],
+    host: &mut H,
+) -> Result<Ready<M, H::Src, H::Snk, H::Kid>, Failures>
+    requires fresh { M.means.fresh mediator }
+    requires words { 0 < length words.now }
+    requires unused { IsUnused (H.books host.old) }
+    ensures parts { IfOk result (λ ready. AreReady M.means ready.parts) }
+    ensures same { IfOk result (λ ready. ready.parts.mediator ≡ mediator) }
+    ensures source { IfOk result (λ ready.
+        H.Src.state ready.run.src ≡ fresh_source (H.books host.old).says) }
+    ensures sink { IfOk result (λ ready.
+        H.Snk.state ready.run.snk ≡ fresh_sink (H.books host.old).tells) }
+    ensures books { OnOk result (H.books host.new ≡ with_run (H.books host.old)) }
+    ensures faults { OnOk result (H.faults host.new ≡ H.faults host.old) }
+    ensures unstarted { OnErr result (H.books host.new ≡ H.books host.old) }
+    ensures early { IfErr result (AreEarly (H.faults host.old) (H.faults host.new)) }
+{
+    let Ok(parts) = make_parts(alloc, mediator) else {
+        return Err(only_memory());
+    };
+    match start_engine(rt, alloc, words, host) {
+        Ok(run) => Ok(Ready { parts, run }),
+        Err(failures) => Err(failures),
+    }
+}
+
+/// Starts the engine, opens the log, runs both pipes, and closes the run and the log. A log that
+/// cannot be opened is left out. The mediator takes the first lines as the interface's, before all
+/// that comes from either peer.
+pub fn run_mediator<
+    M: Mediator + Send + Drop,
+    I: Source + Send,
+    O: Sink + Send,
+    H: Host,
+    R: Threads + Wait + Sync,
+>(
+    rt: &R,
+    alloc: Global,
+    mediator: M,
+    first: &[u8],
+    log_name: &str,
+    words: &[String],
+    input: &mut I,
+    output: &mut O,
+    host: &mut H,
+) -> Failures
+    requires fresh { M.means.fresh mediator }
+    requires first { AreOpening first.now }
+    requires words { 0 < length words.now }
+    requires unused { IsUnused (H.books host.old) }
+    ensures { Leaves M.means mediator first.now
+        (outside (I.state input.old) (O.state output.old) (H.faults host.old) (H.books host.old))
+        (outside (I.state input.new) (O.state output.new) (H.faults host.new) (H.books host.new))
+        result }
+{
+    match start(rt, alloc, mediator, words, host) {
+        Ok(ready) => run_started(rt, alloc, ready, first, log_name, input, output, host),
+        Err(failures) => failures,
+    }
+}

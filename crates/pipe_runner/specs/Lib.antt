@@ -1,4 +1,0 @@
-pub mod Texts
-pub mod Looped
-pub mod Reached
-pub mod Ran
