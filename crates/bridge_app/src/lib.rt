@@ -2,5 +2,7 @@
 #![tactic(auto)]
 
 mod main_call;
+mod running;
 
 pub use main_call::{bridge_main, refuse_for_memory};
+pub use running::run_bridge;

@@ -1,2 +1,5 @@
+pub mod Texts
+pub mod Plays
+pub mod Recorded
 pub mod Bridged
-pub mod Parts
+pub mod Laws

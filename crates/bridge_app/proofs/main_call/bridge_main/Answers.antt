@@ -1,5 +1,6 @@
 use Rattle.std.proofs.Common.{◌∙◌, sym}
 use Rattle.host_run.proofs.Causes as causes
+use Rattle.bridge_app.proofs.Whole.{whole_by}
 use Rattle.bridge_app.proofs.main_call.bridge_main.Goals as goal
 
 pub returns-clause-answers : goal.returns-clause-answers
@@ -13,6 +14,9 @@ returns-clause-answers g c =
 
 pub returns-clause-status : goal.returns-clause-status
 returns-clause-status g c = causes.status_says _ _ _ _ _ _ c.code.ensures c.end_of-ending.ensures
+
+pub returns-clause-whole : goal.returns-clause-whole
+returns-clause-whole g c z tells = causes.fine _ _ _ _ _ c.end_of-ending.ensures (sym c.code.ensures ∙ z) (λ f run e. whole_by _ _ _ _ f run e tells)
 
 pub returns-clause-unstarted : goal.returns-clause-unstarted
 returns-clause-unstarted g c z =

@@ -5,10 +5,10 @@ pub returns-in-Ok : goal.returns-in-Ok
 returns-in-Ok g c =
     causes.ran _ _ _ _ _ c.in-Ok.ensures.taken
     (record {
-      failures = c.run.result;
+      failures = c.run_bridge.result;
       first = c.of.ensures;
-      told = c.run.ensures.leaves.told;
-      left = record { settings = c.in-Ok.request.settings; asked = c.in-Ok.ensures.asked.settings; runs = c.run.ensures };
+      told = c.run_bridge.ensures.leaves.told;
+      left = record { settings = c.in-Ok.request.settings; asked = c.in-Ok.ensures.asked.settings; runs = c.run_bridge.ensures };
     })
 
 pub returns-in-Err : goal.returns-in-Err

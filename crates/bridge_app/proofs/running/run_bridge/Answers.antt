@@ -1,4 +1,4 @@
-use Rattle.bridge_app.proofs.main_call.run.Goals as goal
+use Rattle.bridge_app.proofs.running.run_bridge.Goals as goal
 
 pub returns : goal.returns
 returns g c =

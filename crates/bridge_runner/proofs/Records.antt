@@ -1,0 +1,134 @@
+-- What a run of the bridge leaves.
+use Rattle.std.proofs.Common.{◌≡◌, ◌∙◌, ℕ, true, false, refl, sym, ap, subst, arith, List, [], ◌∷◌, ◌++◌, filter, Some}
+use Rattle.line_io.specs.Source.{Supplied, Received}
+use Rattle.line_io.specs.Event.{Event}
+use Rattle.policy_rules.specs.declared.settings.Settings.{Settings}
+use Rattle.adapter_core.specs.Trace.{Step, Lawful, iface_text, engine_text}
+use Rattle.adapter_core.proofs.Unique.{unique}
+use Rattle.session_script.specs.Script.{script2}
+use Rattle.event_pipe.specs.declared.message.Peer.{Peer}
+use Rattle.event_pipe.specs.declared.message.Peer.TheVariants as peers
+use Rattle.event_pipe.specs.declared.reader.ReadEnd.TheVariants as read_ends
+use Rattle.event_pipe.specs.Rule.{sent_by}
+use Rattle.child_engine.specs.Hosts.{Books, IsUnused}
+use Rattle.child_engine.specs.declared.host.Faults.{Faults}
+use Rattle.host_run.specs.declared.failures.Failures.{Failures}
+use Rattle.host_run.specs.Early.{no_failure, only_memory}
+use Rattle.host_run.specs.Outside.{Outside, outside}
+use Rattle.mediator.specs.Turns.{Turn, given, logged}
+use Rattle.mediator.specs.Turns as turns
+use Rattle.mediator.specs.First.{first_events, ArrivedBehind}
+use Rattle.mediator.proofs.Firsts.{by_engine, by_iface, arrived_behind}
+use Rattle.mediator_host.specs.Mediated.{Mediated}
+use Rattle.mediator_host.specs.Mediated as hosts
+use Rattle.mediator_host.specs.Recorded.{RecordedAs}
+use Rattle.mediator_host.proofs.Wholes.{recorded_as, whole_as, when_whole, nothing_left}
+use Rattle.bridge_runner.specs.declared.session.Session.{Session}
+use Rattle.bridge_runner.specs.Texts.{received, texts}
+use Rattle.bridge_runner.specs.Plays.{turns_of, IsNew, plays}
+use Rattle.bridge_runner.specs.Recorded.{Recorded, IsWhole}
+use Rattle.bridge_runner.specs.Bridged.{Bridged, Leaves}
+use Rattle.bridge_runner.proofs.Plays.{received_same, script_is}
+
+filter_all : (es : List Event) → filter (λ e. true) es ≡ es
+filter_all [] = refl
+filter_all (e ∷ es) = ap (λ (l : List Event). e ∷ l) (filter_all es)
+
+abbrev text_to : Peer → Step → List ℕ
+text_to peers.Iface s = iface_text s
+text_to peers.Engine s = engine_text s
+
+texts_same : (p : Peer) (o : Settings) (t : List Step) → turns.texts (given p) (turns_of o t) ≡ texts (text_to p) t
+texts_same p o [] = refl
+texts_same peers.Iface o (s ∷ []) = refl
+texts_same peers.Engine o (s ∷ []) = refl
+texts_same peers.Iface o (s ∷ r ∷ t) = ap (λ (l : List ℕ). l ++ iface_text s) (texts_same peers.Iface o (r ∷ t))
+texts_same peers.Engine o (s ∷ r ∷ t) = ap (λ (l : List ℕ). l ++ engine_text s) (texts_same peers.Engine o (r ∷ t))
+
+module _ (session : Session) (first : List ℕ) (before after : Outside) (failures : Failures) (x : Mediated plays session first before after failures) where
+  abbrev o : Settings
+  o = session.core.settings
+
+  abbrev trace : List Step
+  trace = x.ran.looped.did.trace
+
+  turns_are : x.ran.looped.turns ≡ turns_of o trace
+  turns_are = x.ran.looped.did.turns_are
+
+  came : received trace ≡ first_events first ++ x.ran.later
+  came = sym (received_same o trace) ∙ ap turns.received (sym turns_are) ∙ x.ran.looped.received_is ∙ filter_all (first_events first ++ x.ran.later)
+
+  of_engine : sent_by peers.Engine (received trace) ≡ sent_by peers.Engine x.ran.later
+  of_engine = ap (λ (es : List Event). sent_by peers.Engine es) came ∙ by_engine first x.ran.later
+
+  of_iface : sent_by peers.Iface (received trace) ≡ first_events first ++ sent_by peers.Iface x.ran.later
+  of_iface = ap (λ (es : List Event). sent_by peers.Iface es) came ∙ by_iface first x.ran.later
+
+  put_is : turns.texts logged x.ran.looped.turns ≡ script2 o trace
+  put_is = ap (λ (ts : List Turn). turns.texts logged ts) turns_are ∙ script_is o trace x.ran.looped.did.begun
+
+  down_is : turns.texts (given peers.Engine) x.ran.looped.turns ≡ texts engine_text trace
+  down_is = ap (λ (ts : List Turn). turns.texts (given peers.Engine) ts) turns_are ∙ texts_same peers.Engine o trace
+
+  up_is : turns.texts (given peers.Iface) x.ran.looped.turns ≡ texts iface_text trace
+  up_is = ap (λ (ts : List Turn). turns.texts (given peers.Iface) ts) turns_are ∙ texts_same peers.Iface o trace
+
+  recorded : Recorded o trace before.books after.books failures
+  recorded =
+      subst (λ (es : List Event). RecordedAs (script2 o trace) (texts engine_text trace) es before.books after.books failures) (sym of_engine)
+      (recorded_as plays session first before after failures x (script2 o trace) (texts engine_text trace) (texts iface_text trace) put_is down_is up_is)
+
+  pub bridged_by : (s : Settings) → IsNew s session → Bridged s first before after failures
+  bridged_by s new =
+      record {
+        session = session;
+        new = new;
+        mediated = x;
+        only = λ other m e. unique s other trace m (subst (λ (t : Settings). Lawful t trace) new.settings_are x.ran.looped.did.lawful) e;
+        recorded = subst (λ (t : Settings). Recorded t trace before.books after.books failures) new.settings_are recorded;
+      }
+
+  whole_run : failures ≡ no_failure → after.books.logs_out ≡ 1 → before.books.tells ≡ true → (bytes : List ℕ) → before.books.says ≡ Some bytes → IsWhole o first bytes before after
+  whole_run e one tells bytes says =
+      let w = whole_as plays session first before after failures x (script2 o trace) (texts engine_text trace) (texts iface_text trace) put_is down_is up_is e one tells bytes says in
+      record {
+        trace = trace;
+        lawful = x.ran.looped.did.lawful;
+        log = w.log;
+        later = x.ran.later;
+        begins = came;
+        engine = of_engine ∙ w.engine;
+        iface =
+            subst (λ (es : List Event). ArrivedBehind (first_events first) peers.Iface before.input after.input es read_ends.Done) (sym of_iface)
+            (arrived_behind (first_events first) before.input after.input (sent_by peers.Iface x.ran.later) read_ends.Done w.iface);
+        run = w.run;
+        output = w.output;
+      }
+
+  pub whole_by : (s : Settings) → IsNew s session → failures ≡ no_failure → after.books.logs_out ≡ 1 → before.books.tells ≡ true → (bytes : List ℕ) → before.books.says ≡ Some bytes → IsWhole s first bytes before after
+  whole_by s new e one tells bytes says = subst (λ (t : Settings). IsWhole t first bytes before after) new.settings_are (whole_run e one tells bytes says)
+
+pub leaves_by : (s : Settings) (session : Session) (first : List ℕ) (before after : Outside) (failures : Failures) → IsNew s session → hosts.Leaves plays session first before after failures → Leaves s first before after failures
+leaves_by s session first before after failures new x =
+    record {
+      told = x.told;
+      closed = x.closed;
+      nothing = x.nothing;
+      unstarted = x.unstarted;
+      bridged = λ some. bridged_by session first before after failures (x.mediated some) s new;
+      whole = λ e tells.
+          when_whole (λ bytes. IsWhole s first bytes before after) before after failures x.closed x.mediated e
+          (λ m one bytes says. whole_by session first before after failures m s new e one tells bytes says);
+    }
+
+pub leaves_nothing : (s : Settings) (first : List ℕ) (i : Supplied) (o : Received) (f : Faults) (b : Books) (failures : Failures) → IsUnused b → failures ≡ only_memory → Leaves s first (outside i o f b) (outside i o f b) failures
+leaves_nothing s first i o f b failures u e =
+    let x = nothing_left i o f b failures u e in
+    record {
+      told = x.told;
+      closed = x.closed;
+      nothing = λ _. x.same;
+      unstarted = λ _. x.none;
+      bridged = λ some. absurd (omega (arith, some, x.none));
+      whole = λ w. let z : true ≡ false = ap (λ (g : Failures). g.memory) (sym e ∙ w) in cc;
+    }

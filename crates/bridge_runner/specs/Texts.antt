@@ -1,0 +1,21 @@
+-- The events and the texts of a trace, whose newest step stands first.
+use Rattle.std.specs.Prelude.{ℕ, List, [], ◌∷◌, ◌++◌, Bool, true, false, if◌then◌else◌}
+use Rattle.line_io.specs.Event.{Event, Open, IfaceLost, EngineLost}
+use Rattle.adapter_core.specs.Trace.{Step}
+
+-- the loop's own events
+abbrev pub is_own : Event → Bool
+is_own Open = true
+is_own IfaceLost = true
+is_own EngineLost = true
+is_own e = false
+
+-- the events that were received, the oldest first
+abbrev pub received : List Step → List Event
+received [] = []
+received (s ∷ t) = received t ++ (if is_own s.event then [] else s.event ∷ [])
+
+-- what the steps wrote, in order
+abbrev pub texts : (Step → List ℕ) → List Step → List ℕ
+texts text [] = []
+texts text (s ∷ t) = texts text t ++ text s
