@@ -1,11 +1,13 @@
 // The program over any host.
-ghost use Rattle.std.specs.Prelude.{◌≡◌};
+ghost use Rattle.std.specs.Prelude.{◌≡◌, true, IfSome};
+ghost use Rattle.child_engine.specs.Hosts.{IsUnused};
 ghost use Rattle.host_run.specs.Endings.{code_of, diagnostic};
-ghost use Rattle.host_run.specs.Outside.{outside, unused};
+ghost use Rattle.host_run.specs.Outside.{outside};
 ghost use Rattle.host_run.specs.Program.{Answers, Ends, IsToldTo, StatusSays};
 ghost use Rattle.host_run.specs.declared.ending.Ending.TheVariants as endings;
 ghost use Rattle.program_words.specs.Words.{AreTaken, bytes_of};
 ghost use Rattle.driver_runner.specs.Driven.{Leaves};
+ghost use Rattle.driver_runner.specs.Recorded.{IsWhole};
 ghost use Rattle.driver_app.specs.Program.{program};
 
 use child_engine::Host;
@@ -26,7 +28,7 @@ fn end_of<I: Source + Send, O: Sink + Send, H: Host, R: Threads + Wait + Sync>(
     output: &mut O,
     host: &mut H,
 ) -> Ending
-    requires { H.books host.old ≡ unused }
+    requires { IsUnused (H.books host.old) }
     ensures { Ends (AreTaken (bytes_of words.now)) (Leaves
         (outside (I.state input.old) (O.state output.old) (H.faults host.old) (H.books host.old))
         (outside (I.state input.new) (O.state output.new) (H.faults host.new) (H.books host.new)))
@@ -73,7 +75,7 @@ pub fn drive_main<I: Source + Send, O: Sink + Send, H: Host, D: Sink, R: Threads
     host: &mut H,
     diag: &mut D,
 ) -> Status
-    requires { H.books host.old ≡ unused }
+    requires { IsUnused (H.books host.old) }
     ensures answers { Answers program (AreTaken (bytes_of words.now)) (Leaves
         (outside (I.state input.old) (O.state output.old) (H.faults host.old) (H.books host.old))
         (outside (I.state input.new) (O.state output.new) (H.faults host.new) (H.books host.new)))
@@ -84,6 +86,10 @@ pub fn drive_main<I: Source + Send, O: Sink + Send, H: Host, D: Sink, R: Threads
         (outside (I.state input.old) (O.state output.old) (H.faults host.old) (H.books host.old))
         (outside (I.state input.new) (O.state output.new) (H.faults host.new) (H.books host.new))
         result.code }
+    ensures whole { result.code ≡ 0 → (H.books host.old).tells ≡ true
+        → IfSome (H.books host.old).says (λ bytes. IsWhole bytes
+        (outside (I.state input.old) (O.state output.old) (H.faults host.old) (H.books host.old))
+        (outside (I.state input.new) (O.state output.new) (H.faults host.new) (H.books host.new))) }
     ensures unstarted { result.code ≡ 8
         → (I.state input.new ≡ I.state input.old) × (O.state output.new ≡ O.state output.old) }
 {

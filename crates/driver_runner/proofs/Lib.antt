@@ -1,5 +1,5 @@
+mod Drives
 mod Gone
-mod Loops
-mod Runs
-mod Starts
+mod Records
 mod Told
+mod Refused

@@ -1,5 +1,6 @@
 -- Which events a driver takes.
-use Rattle.std.proofs.Common.{◌≡◌, ◌≢◌, ◌≤◌, ℕ, ℤ, Bool, true, false, not, cond, nat_le, List, [], ◌∷◌, length, Option, Some, None, refl, sym, ap, ◌∙◌, arith}
+use mathlib.Core.Bool.{or-false, or-true}
+use Rattle.std.proofs.Common.{◌||◌, ◌≡◌, ◌≤◌, ℕ, ℤ, Bool, true, false, not, cond, nat_le, List, [], ◌∷◌, length, Option, Some, None, refl, sym, ap, ◌∙◌, arith}
 use Rattle.std.proofs.lemmas.Bool.Decides.{nat_tests}
 use Rattle.std.proofs.lemmas.Bool.{and_parts}
 use Rattle.chess_board.specs.declared.board.Move.{Move}
@@ -9,16 +10,13 @@ use Rattle.event_pipe.specs.Rule.{of, ended, Follows}
 use Rattle.driver_talk.specs.declared.talk.Stage.{Stage}
 use Rattle.driver_talk.specs.declared.talk.Stage.TheVariants as stages
 use Rattle.driver_talk.specs.declared.talk.Call.{Call}
-use Rattle.driver_talk.specs.declared.talk.Call.TheVariants as calls
 use Rattle.driver_lines.specs.declared.words.Ordered.{Ordered}
 use Rattle.driver_lines.specs.declared.words.Ordered.TheVariants as orders
 use Rattle.driver_lines.specs.Says.{Says, Move as SaysMove, Over, Pong, Report, Feature, Other as SaysOther}
 use Rattle.cecp_driver.specs.declared.driver.Parts.{Parts}
 use Rattle.cecp_driver.specs.Driver.{cleared, placed_if, acted, IsAsked, IsHeard, thought_call, features_at, OrdersBy, HeardBy}
 use Rattle.cecp_driver.specs.Script.{Comes, IsShort, may_come}
-use Rattle.driver_runner.specs.declared.looping.Sides.{Sides}
-use Rattle.driver_runner.specs.Looped.{is_told}
-use Rattle.driver_runner.specs.Reached.{ended_by}
+use Rattle.driver_runner.specs.Told.{is_told}
 use Rattle.driver_runner.proofs.Gone.{is_ended, turn_stays, turn_ends}
 
 -- no order and no line of the engine is its end
@@ -67,12 +65,12 @@ line_gone (Pong n) v v' h = said_gone (Pong n) v v' h.0 h.1.0 h.1.1
 line_gone (Report depth score time nodes moves) v v' h = said_gone (Report depth score time nodes moves) v v' h.0 h.1.0 h.1.1
 line_gone SaysOther v v' h = said_gone SaysOther v v' h.0 h.1.0 h.1.1
 
-pub gone_next : (e : Event) (v v' : Parts) (sides : Sides) → Comes e v v' → v.talk.gone ≡ sides.engine_ended → v'.talk.gone ≡ (ended_by sides e).engine_ended
-gone_next (Iface line) v v' sides c g = order_gone _ line v v' c ∙ g
-gone_next IfaceEnd v v' sides c g = order_gone _ _ v v' c ∙ g
-gone_next (Engine line) v v' sides c g = line_gone _ (cleared v) v' c ∙ g
-gone_next EngineEnd v v' sides c g = ap (λ (p : Parts). p.talk.gone) c ∙ turn_ends v.talk
-gone_next e v v' sides c g = absurd c
+pub gone_next : (e : Event) (v v' : Parts) → Comes e v v' → v'.talk.gone ≡ (v.talk.gone || ended (of 2 (e ∷ [])))
+gone_next (Iface line) v v' c = order_gone _ line v v' c ∙ sym (or-false v.talk.gone)
+gone_next IfaceEnd v v' c = order_gone _ _ v v' c ∙ sym (or-false v.talk.gone)
+gone_next (Engine line) v v' c = line_gone _ (cleared v) v' c ∙ sym (or-false v.talk.gone)
+gone_next EngineEnd v v' c = ap (λ (p : Parts). p.talk.gone) c ∙ turn_ends v.talk ∙ sym (or-true v.talk.gone)
+gone_next e v v' c = absurd c
 
 -- A long line is passed over, and what else is received may come.
 pub may_is : (e : Event) (v : Parts) (received : List Event) → v.talk.gone ≡ ended (of 2 received) → Follows received e → may_come v e ≡ is_told e

@@ -1,49 +1,22 @@
 -- What a run of the driver leaves.
-use Rattle.std.specs.Prelude.{◌≡◌, ◌<◌, ◌⊎◌, true, false, [], ◌∷◌}
-use Rattle.event_pipe.specs.Arrivals.{failed}
-use Rattle.child_engine.specs.Hosts.{Books, IsUnread, IsUnwritten, told_by}
-use Rattle.sink_offers.specs.Streams.{Streams}
+use Rattle.std.specs.Prelude.{◌≡◌, ◌<◌, true, [], IfSome}
+use Rattle.event_pipe.specs.declared.message.Peer.TheVariants as peers
+use Rattle.event_pipe.specs.Rule.{sent_by}
 use Rattle.host_run.specs.declared.failures.Failures.{Failures}
-use Rattle.host_run.specs.Readers.{lacked_memory}
+use Rattle.host_run.specs.Early.{no_failure}
 use Rattle.host_run.specs.Outside.{Outside, AreTold, IsClosed}
-use Rattle.driver_runner.specs.declared.run.RunEnd.{RunEnd}
-use Rattle.driver_runner.specs.Ran.{Ran}
+use Rattle.mediator.specs.Turns.{received}
+use Rattle.mediator_host.specs.Mediated.{Mediated}
+use Rattle.driver_runner.specs.declared.driving.Driving.{Driving}
+use Rattle.driver_runner.specs.Drives.{drives}
+use Rattle.driver_runner.specs.Recorded.{Recorded, IsWhole}
 
--- what the readers and the loop answered is reported
-pub record TellsRun (run : RunEnd) (failures : Failures) : Type 0 where
-  pub iface_read : failures.iface_read ≡ failed run.iface
-  pub iface_write : failures.iface_write ≡ run.done.output
-  pub engine_read : failures.engine_read ≡ failed run.engine
-  pub engine_write : failures.engine_write ≡ run.done.engine
-  pub iface_memory : failures.memory ≡ false → lacked_memory run.iface ≡ false
-  pub engine_memory : failures.memory ≡ false → lacked_memory run.engine ≡ false
-  pub log : failures.log ≡ false → run.done.log ≡ false
-
--- the log stands in the books, or there is none
-abbrev pub LogTold : Books → Streams → Type 0
-LogTold books last = (books.logs ≡ last.into.log.taken ∷ []) ⊎ (books.logs ≡ [])
-
--- why a run that was made reports no memory: a reader had none for a line, or the log was not opened
-abbrev pub LackedMemory : Books → RunEnd → Type 0
-LackedMemory books run =
-    (lacked_memory run.iface ≡ true) ⊎ ((lacked_memory run.engine ≡ true) ⊎ (books.logs_out ≡ 0))
-
--- What was read and written is that of one run of both pipes, whose engine's streams and whose log
--- were fresh, and are in the books as they were at its end.
+-- What was read and written is that of one run of a new driver, whose turns are those of its script.
 pub record Driven (before after : Outside) (failures : Failures) : Type 0 where
-  pub first : Streams
-  pub last : Streams
-  pub end : RunEnd
-  pub ran : Ran first last end
-  pub told : TellsRun end failures
-  pub memory : failures.memory ≡ true → LackedMemory after.books end
-  pub input : (first.input ≡ before.input) × (last.input ≡ after.input)
-  pub output : (first.into.output ≡ before.output) × (last.into.output ≡ after.output)
-  pub source : IsUnread first.source
-  pub engine : IsUnwritten first.into.engine
-  pub log : IsUnwritten first.into.log
-  pub run_told : after.books.runs ≡ told_by last.source last.into.engine ∷ []
-  pub log_told : LogTold after.books last
+  pub driving : Driving
+  pub mediated : Mediated drives driving [] before after failures
+  -- what the books say of the events that the driver took
+  pub recorded : Recorded (received mediated.ran.looped.turns) mediated.ran.looped.did.states (sent_by peers.Engine mediated.ran.later) before.books after.books failures
 
 -- what a run leaves, whether an engine was started or not
 pub record Leaves (before after : Outside) (failures : Failures) : Type 0 where
@@ -54,3 +27,6 @@ pub record Leaves (before after : Outside) (failures : Failures) : Type 0 where
       → (after.input ≡ before.input) × (after.output ≡ before.output)
   pub unstarted : failures.engine_start ≡ true → after.books.runs_out ≡ 0
   pub driven : 0 < after.books.runs_out → Driven before after failures
+  -- if nothing failed, over a host that tells its bytes
+  pub whole : failures ≡ no_failure → before.books.tells ≡ true
+      → IfSome before.books.says (λ bytes. IsWhole bytes before after)

@@ -1,5 +1,5 @@
-pub mod Looped
-pub mod Reached
-pub mod Ran
-pub mod Parts
+pub mod Told
+pub mod Drives
+pub mod Recorded
 pub mod Driven
+pub mod Laws

@@ -1,0 +1,74 @@
+-- The driver keeps what a mediator has to keep.
+use Rattle.std.proofs.Common.{◌≡◌, ℕ, List, [], ◌∷◌, ◌++◌, true, false, cond, ◌||◌, refl, sym, ap, subst, ◌∙◌, append-nil}
+use Rattle.line_io.specs.Event.{Event, Open, IfaceLost, EngineLost}
+use Rattle.line_io.specs.Out.{Text, with}
+use Rattle.event_pipe.specs.declared.message.Peer.{Peer}
+use Rattle.event_pipe.specs.declared.message.Peer.TheVariants as peers
+use Rattle.event_pipe.specs.Rule.{of, ended}
+use Rattle.event_pipe.proofs.Roles.{more_ended}
+use Rattle.cecp_driver.specs.declared.driver.Parts.{Parts}
+use Rattle.cecp_driver.specs.Driver.{opening}
+use Rattle.cecp_driver.specs.Script.{Takes, Goes, may_come, last_of, given_marks, script_text}
+use Rattle.cecp_driver.proofs.Scripts.{goes_more, last_more, text_more, up_more, down_more}
+use Rattle.mediator.specs.Turns.{received, is_own, loss}
+use Rattle.mediator.specs.Meaning.{Allows, Opens, Steps, turn_of}
+use Rattle.driver_runner.specs.declared.driving.Driving.{Driving}
+use Rattle.driver_runner.specs.Drives.{drives}
+use Rattle.driver_runner.proofs.Told.{gone_next, may_is}
+
+-- the loop's own events may not come
+not_own : (v : Parts) (e : Event) → may_come v e ≡ true → is_own e ≡ false
+not_own v Open h = cc
+not_own v IfaceLost h = cc
+not_own v EngineLost h = cc
+not_own v e h = refl
+
+never_lost : (v : Parts) (p : Peer) → may_come v (loss p) ≡ true → ⊥
+never_lost v peers.Iface h = cc
+never_lost v peers.Engine h = cc
+
+pub allows : (d : Driving) (e : Event) → Allows drives d e
+allows d e =
+    record {
+      follows = λ d0 turns x f. may_is e d.driver (received turns) x.gone f;
+      owed = λ p d0 turns x h hears g n. cc;
+      once = λ p d0 turns x h m. absurd (never_lost d.driver p (ap (λ (z : Event). may_come d.driver z) (sym h) ∙ m));
+    }
+
+pub steps : (old new : Driving) (e : Event) (held held' : Text) → Takes e old.driver new.driver → held' ≡ with held (given_marks e new.driver) → Steps drives e old held new held'
+steps old new e held held' t put =
+    let own = not_own old.driver e t.may in
+    record {
+      piece = given_marks e new.driver;
+      put = put;
+      goes = λ d0 turns x.
+          let more : received turns ++ e ∷ [] ≡ received (turn_of drives e new (given_marks e new.driver) ∷ turns) = ap (λ b. received turns ++ cond b [] (e ∷ [])) (sym own) in
+          let takes : Takes e (last_of opening x.states) new.driver = subst (λ (v : Parts). Takes e v new.driver) x.now t in
+          record {
+            states = x.states ++ new.driver ∷ [];
+            goes = subst (λ (es : List Event). Goes opening es (x.states ++ new.driver ∷ [])) more (goes_more opening (received turns) x.states e new.driver x.goes takes);
+            now = sym (last_more opening x.states new.driver);
+            gone = gone_next e old.driver new.driver t.comes ∙ ap (λ b. b || ended (of 2 (e ∷ []))) x.gone ∙ sym (more_ended 2 (received turns) (e ∷ [])) ∙ ap (λ (es : List Event). ended (of 2 es)) more;
+            up = ap (λ (l : List ℕ). l ++ new.driver.up.text) x.up ∙ sym (up_more x.states new.driver);
+            down = ap (λ (l : List ℕ). l ++ new.driver.down.text) x.down ∙ sym (down_more x.states new.driver);
+            log = ap (λ (l : List ℕ). l ++ given_marks e new.driver) x.log ∙ sym (text_more opening (received turns) x.states e new.driver x.goes)
+                ∙ ap (λ (es : List Event). script_text es (x.states ++ new.driver ∷ [])) more;
+          };
+    }
+
+pub opens : (old new : Driving) (held held' : Text) → old.driver ≡ opening → new.driver ≡ old.driver → held' ≡ held → Opens drives old held new held'
+opens old new held held' fresh same e =
+    let v : new.driver ≡ opening = same ∙ fresh in
+    record {
+      piece = [];
+      put = e ∙ ap (λ (l : List ℕ). record { text = l; room = held.room }) (sym (append-nil held.text));
+      did = record {
+        states = [];
+        goes = tt;
+        now = v;
+        gone = ap (λ (p : Parts). p.talk.gone) v;
+        up = ap (λ (p : Parts). p.up.text) v;
+        down = ap (λ (p : Parts). p.down.text) v;
+        log = refl;
+      };
+    }
