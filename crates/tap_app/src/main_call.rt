@@ -1,12 +1,13 @@
 // The program over any host.
-ghost use Rattle.std.specs.Prelude.{◌≡◌};
-ghost use Rattle.child_engine.specs.Hosts.{WasLetGo};
+ghost use Rattle.std.specs.Prelude.{◌≡◌, true, IfSome};
+ghost use Rattle.child_engine.specs.Hosts.{IsUnused, WasLetGo};
 ghost use Rattle.host_run.specs.Endings.{code_of, diagnostic};
-ghost use Rattle.host_run.specs.Outside.{outside, unused};
+ghost use Rattle.host_run.specs.Outside.{outside};
 ghost use Rattle.host_run.specs.Program.{Answers, Ends, IsToldTo, StatusSays};
 ghost use Rattle.host_run.specs.declared.ending.Ending.TheVariants as endings;
 ghost use Rattle.program_words.specs.Words.{AreTaken, bytes_of};
 ghost use Rattle.tap_app.specs.Program.{program};
+ghost use Rattle.tap_runner.specs.Recorded.{IsWhole};
 ghost use Rattle.tap_runner.specs.Tapped.{Leaves};
 
 use child_engine::{Host, LetGo};
@@ -29,7 +30,7 @@ fn end_of<I: Source + Send, O: LetGo + Send, H: Host, R: Threads + Wait + Sync>(
 ) -> Ending
 where
     H::Snk: LetGo,
-    requires { H.books host.old ≡ unused }
+    requires { IsUnused (H.books host.old) }
     ensures { Ends (AreTaken (bytes_of words.now))
         (Leaves (O.is_let_go output.new) (WasLetGo H.Snk.state H.Snk.is_let_go)
         (outside (I.state input.old) (O.state output.old) (H.faults host.old) (H.books host.old))
@@ -79,7 +80,7 @@ pub fn tap_main<I: Source + Send, O: LetGo + Send, H: Host, D: Sink, R: Threads 
 ) -> Status
 where
     H::Snk: LetGo,
-    requires { H.books host.old ≡ unused }
+    requires { IsUnused (H.books host.old) }
     ensures answers { Answers program (AreTaken (bytes_of words.now))
         (Leaves (O.is_let_go output.new) (WasLetGo H.Snk.state H.Snk.is_let_go)
         (outside (I.state input.old) (O.state output.old) (H.faults host.old) (H.books host.old))
@@ -91,6 +92,10 @@ where
         (outside (I.state input.old) (O.state output.old) (H.faults host.old) (H.books host.old))
         (outside (I.state input.new) (O.state output.new) (H.faults host.new) (H.books host.new))
         result.code }
+    ensures whole { result.code ≡ 0 → (H.books host.old).tells ≡ true
+        → IfSome (H.books host.old).says (λ bytes. IsWhole bytes
+        (outside (I.state input.old) (O.state output.old) (H.faults host.old) (H.books host.old))
+        (outside (I.state input.new) (O.state output.new) (H.faults host.new) (H.books host.new))) }
     ensures unstarted { result.code ≡ 8
         → (I.state input.new ≡ I.state input.old) × (O.state output.new ≡ O.state output.old) }
 {

@@ -1,5 +1,7 @@
 mod Splits
 mod Quits
+mod Records
+mod Refused
 mod Logs
 mod Passes
 mod Runs

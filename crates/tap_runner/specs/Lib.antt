@@ -4,5 +4,7 @@ pub mod Hearing
 pub mod Passing
 pub mod Logging
 pub mod Ran
+pub mod Recorded
 pub mod Parts
 pub mod Tapped
+pub mod Laws

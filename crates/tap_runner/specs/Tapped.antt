@@ -1,12 +1,16 @@
 -- What a run of the tap leaves.
-use Rattle.std.specs.Prelude.{◌≡◌, ◌<◌, ◌⊎◌, true, false, [], ◌∷◌}
+use Rattle.std.specs.Prelude.{◌≡◌, ◌<◌, ◌⊎◌, true, false, [], ◌∷◌, IfSome}
 use Rattle.line_io.specs.Source.{Received}
-use Rattle.child_engine.specs.Hosts.{Books, IsUnread, IsUnwritten, told_by}
+use Rattle.child_engine.specs.Hosts.{Books, told_by}
 use Rattle.sink_offers.specs.Streams.{Streams}
 use Rattle.host_run.specs.declared.failures.Failures.{Failures}
+use Rattle.host_run.specs.Early.{no_failure}
+use Rattle.host_run.specs.Logs.{closed_logs}
 use Rattle.host_run.specs.Outside.{Outside, AreTold, IsClosed}
+use Rattle.host_run.specs.Telling.{first_streams}
 use Rattle.tap_runner.specs.declared.run.TapEnd.{TapEnd}
 use Rattle.tap_runner.specs.Ran.{Ran}
+use Rattle.tap_runner.specs.Recorded.{Recorded, IsWhole}
 
 -- what a run answered is reported
 pub record TellsRun (end : TapEnd) (failures : Failures) : Type 0 where
@@ -18,34 +22,28 @@ pub record TellsRun (end : TapEnd) (failures : Failures) : Type 0 where
   pub engine_memory : failures.memory ≡ false → end.engine.has_lacked_memory ≡ false
   pub log : failures.log ≡ false → end.log_failed ≡ false
 
--- the log stands in the books, or there is none
-abbrev pub LogTold : Books → Streams → Type 0
-LogTold books last = (books.logs ≡ last.into.log.taken ∷ []) ⊎ (books.logs ≡ [])
-
 -- why a run that was made reports no memory: there was none for a mark, or the log was not opened
 abbrev pub LackedMemory : Books → TapEnd → Type 0
 LackedMemory books end =
     (end.bridge.has_lacked_memory ≡ true)
     ⊎ ((end.engine.has_lacked_memory ≡ true) ⊎ (books.logs_out ≡ 0))
 
--- What was read and written is that of one run of both directions, whose engine's streams and whose log were fresh,
--- and are in the books as they were at its end. `OutputGone` says that the output was let go, and `EngineGone` of what an
+-- What was read and written is that of one run of both directions, which began with fresh streams of the engine and a
+-- fresh log; they are in the books as they were at its end. `OutputGone` says that the output was let go, and `EngineGone` of what an
 -- engine's input showed that it was.
 pub record Tapped (OutputGone : Type 0) (EngineGone : Received → Type 0) (before after : Outside)
     (failures : Failures) : Type 0 where
-  pub first : Streams
   pub last : Streams
   pub end : TapEnd
-  pub ran : Ran first last end
+  pub ran : Ran (first_streams before after.books) last end
   pub told : TellsRun end failures
   pub memory : failures.memory ≡ true → LackedMemory after.books end
-  pub input : (first.input ≡ before.input) × (last.input ≡ after.input)
-  pub output : (first.into.output ≡ before.output) × (last.into.output ≡ after.output)
-  pub source : IsUnread first.source
-  pub engine : IsUnwritten first.into.engine
-  pub log : IsUnwritten first.into.log
+  pub input : last.input ≡ after.input
+  pub output : last.into.output ≡ after.output
   pub run_told : after.books.runs ≡ told_by last.source last.into.engine ∷ []
-  pub log_told : LogTold after.books last
+  pub logs_told : after.books.logs ≡ closed_logs after.books.logs_out last.into.log
+  pub recorded : Recorded ran.from_bridge.got ran.from_engine.got ran.events
+      before.books after.books failures
   -- the ends were handed on
   pub output_gone : OutputGone
   pub engine_gone : EngineGone last.into.engine
@@ -60,3 +58,6 @@ pub record Leaves (OutputGone : Type 0) (EngineGone : Received → Type 0) (befo
       → (after.input ≡ before.input) × (after.output ≡ before.output)
   pub unstarted : failures.engine_start ≡ true → after.books.runs_out ≡ 0
   pub tapped : 0 < after.books.runs_out → Tapped OutputGone EngineGone before after failures
+  -- if nothing failed, over a host that tells its bytes
+  pub whole : failures ≡ no_failure → before.books.tells ≡ true
+      → IfSome before.books.says (λ bytes. IsWhole bytes before after)

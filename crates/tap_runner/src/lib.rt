@@ -2,6 +2,7 @@
 //! through one channel into a log.
 #![tactic(auto)]
 
+mod laws;
 mod logging;
 mod part;
 mod parts;
@@ -9,6 +10,7 @@ mod passing;
 mod run;
 mod tap;
 
+pub use laws::logs_are_whole;
 pub use logging::{LOG_ROOM, keep_log};
 pub use part::Part;
 pub use passing::{PassEnd, hand_on};

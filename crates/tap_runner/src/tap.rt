@@ -1,8 +1,8 @@
 // One run of the tap over a host.
 ghost use Rattle.std.specs.Prelude.{◌≡◌, ◌<◌, length, IfOk, IfErr, OnOk, OnErr};
-ghost use Rattle.child_engine.specs.Hosts.{IsUnread, IsUnwritten, WasLetGo, with_run};
+ghost use Rattle.child_engine.specs.Hosts.{IsUnused, IsStarted, fresh_source, fresh_sink, WasLetGo, with_run};
 ghost use Rattle.host_run.specs.Early.{AreEarly};
-ghost use Rattle.host_run.specs.Outside.{outside, unused};
+ghost use Rattle.host_run.specs.Outside.{outside};
 ghost use Rattle.tap_runner.specs.Parts.{AreReady};
 ghost use Rattle.tap_runner.specs.Tapped.{Leaves};
 
@@ -37,9 +37,9 @@ fn run_started<I: Source + Send, O: LetGo + Send, H: Host, R: Threads + Wait + S
 where
     H::Snk: LetGo,
     requires parts { AreReady ready.parts }
-    requires source { IsUnread (H.Src.state ready.run.src) }
-    requires sink { IsUnwritten (H.Snk.state ready.run.snk) }
-    requires books { H.books host.old ≡ with_run unused }
+    requires source { H.Src.state ready.run.src ≡ fresh_source (H.books host.old).says }
+    requires sink { H.Snk.state ready.run.snk ≡ fresh_sink (H.books host.old).tells }
+    requires books { IsStarted (H.books host.old) }
     ensures { Leaves (O.is_let_go output.new) (WasLetGo H.Snk.state H.Snk.is_let_go)
         (outside (I.state input.old) (O.state output.old) (H.faults host.old)
         (H.books host.old))
@@ -88,13 +88,15 @@ fn start<H: Host, R: Threads>(
     host: &mut H,
 ) -> Result<Ready<H::Src, H::Snk, H::Kid>, Failures>
     requires words { 0 < length words.now }
-    requires unused { H.books host.old ≡ unused }
+    requires unused { IsUnused (H.books host.old) }
     ensures parts { IfOk result (λ ready. AreReady ready.parts) }
-    ensures source { IfOk result (λ ready. IsUnread (H.Src.state ready.run.src)) }
-    ensures sink { IfOk result (λ ready. IsUnwritten (H.Snk.state ready.run.snk)) }
-    ensures books { OnOk result (H.books host.new ≡ with_run unused) }
+    ensures source { IfOk result (λ ready.
+        H.Src.state ready.run.src ≡ fresh_source (H.books host.old).says) }
+    ensures sink { IfOk result (λ ready.
+        H.Snk.state ready.run.snk ≡ fresh_sink (H.books host.old).tells) }
+    ensures books { OnOk result (H.books host.new ≡ with_run (H.books host.old)) }
     ensures faults { OnOk result (H.faults host.new ≡ H.faults host.old) }
-    ensures unstarted { OnErr result (H.books host.new ≡ unused) }
+    ensures unstarted { OnErr result (H.books host.new ≡ H.books host.old) }
     ensures early { IfErr result (AreEarly (H.faults host.old) (H.faults host.new)) }
 {
     let Ok(parts) = make_parts(alloc) else {
@@ -120,7 +122,7 @@ pub fn tap_run<I: Source + Send, O: LetGo + Send, H: Host, R: Threads + Wait + S
 where
     H::Snk: LetGo,
     requires words { 0 < length words.now }
-    requires unused { H.books host.old ≡ unused }
+    requires unused { IsUnused (H.books host.old) }
     ensures { Leaves (O.is_let_go output.new) (WasLetGo H.Snk.state H.Snk.is_let_go)
         (outside (I.state input.old) (O.state output.old) (H.faults host.old)
         (H.books host.old))
