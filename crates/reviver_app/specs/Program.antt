@@ -3,6 +3,7 @@ use Rattle.std.specs.Prelude.{◌≡◌, ℕ, ◌≤◌, List, [], ◌∷◌, co
 use Rattle.host_run.specs.declared.failures.Failures.{Failures}
 use Rattle.host_run.specs.Outside.{Outside}
 use Rattle.reviver_runner.specs.Ran.{Leaves}
+use Rattle.reviver_runner.specs.Recorded.{IsWhole}
 use Rattle.reviver_app.specs.Words.{digit_of}
 
 -- the name of the program, which stands in a diagnostic
@@ -20,3 +21,10 @@ pub record LeavesFor (words : List (List ℕ)) (before after : Outside) (failure
   pub given : GivesLives words lives
   pub few : lives ≤ 9
   pub left : Leaves lives before after failures
+
+-- The whole run of as many lives at most as the words say, in which nothing failed, over a host whose engines say these
+-- bytes.
+pub record RunsWhole (words : List (List ℕ)) (bytes : List ℕ) (before after : Outside) : Type 0 where
+  pub lives : ℕ
+  pub given : GivesLives words lives
+  pub whole : IsWhole lives bytes before after

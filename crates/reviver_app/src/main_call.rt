@@ -1,11 +1,12 @@
 // The program over any host.
-ghost use Rattle.std.specs.Prelude.{◌≡◌};
+ghost use Rattle.std.specs.Prelude.{◌≡◌, true, IfSome};
+ghost use Rattle.child_engine.specs.Hosts.{IsUnused};
 ghost use Rattle.host_run.specs.Endings.{code_of, diagnostic};
-ghost use Rattle.host_run.specs.Outside.{outside, unused};
+ghost use Rattle.host_run.specs.Outside.{outside};
 ghost use Rattle.host_run.specs.Program.{Answers, Ends, IsToldTo, StatusSays};
 ghost use Rattle.host_run.specs.declared.ending.Ending.TheVariants as endings;
 ghost use Rattle.program_words.specs.Words.{bytes_of};
-ghost use Rattle.reviver_app.specs.Program.{program, LeavesFor};
+ghost use Rattle.reviver_app.specs.Program.{program, LeavesFor, RunsWhole};
 ghost use Rattle.reviver_app.specs.Words.{AreTaken};
 
 use crate::{Request, read_words};
@@ -30,7 +31,7 @@ where
     H::Src: Drop,
     H::Snk: LetGo + Drop,
     H::Kid: Drop + Send,
-    requires { H.books host.old ≡ unused }
+    requires { IsUnused (H.books host.old) }
     ensures { Ends (AreTaken (bytes_of words.now)) (LeavesFor (bytes_of words.now)
         (outside (I.state input.old) (O.state output.old) (H.faults host.old) (H.books host.old))
         (outside (I.state input.new) (O.state output.new) (H.faults host.new) (H.books host.new)))
@@ -95,7 +96,7 @@ where
     H::Src: Drop,
     H::Snk: LetGo + Drop,
     H::Kid: Drop + Send,
-    requires { H.books host.old ≡ unused }
+    requires { IsUnused (H.books host.old) }
     ensures answers { Answers program (AreTaken (bytes_of words.now)) (LeavesFor (bytes_of words.now)
         (outside (I.state input.old) (O.state output.old) (H.faults host.old) (H.books host.old))
         (outside (I.state input.new) (O.state output.new) (H.faults host.new) (H.books host.new)))
@@ -106,6 +107,10 @@ where
         (outside (I.state input.old) (O.state output.old) (H.faults host.old) (H.books host.old))
         (outside (I.state input.new) (O.state output.new) (H.faults host.new) (H.books host.new))
         result.code }
+    ensures whole { result.code ≡ 0 → (H.books host.old).tells ≡ true
+        → IfSome (H.books host.old).says (λ bytes. RunsWhole (bytes_of words.now) bytes
+        (outside (I.state input.old) (O.state output.old) (H.faults host.old) (H.books host.old))
+        (outside (I.state input.new) (O.state output.new) (H.faults host.new) (H.books host.new))) }
 {
     let ending = end_of(rt, alloc, words, input, output, host);
     tell(b"reviver", ending, diag);

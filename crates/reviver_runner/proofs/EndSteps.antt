@@ -1,7 +1,5 @@
 -- What was heard of both sides, once both readers have ended.
-use Rattle.std.proofs.Common.{◌≡◌, ◌∙◌, ℕ, suc, ◌+◌, ◌≤◌, List, [], ◌∷◌, ◌++◌, map, codes, length, Bool, true, false, cond, ◌||◌, ◌&&◌, Option, Some, None, refl, sym, ap, subst, arith, append-nil, append_assoc}
-use Rattle.std.proofs.lemmas.List.{length-append}
-use Rattle.std.specs.List.{AllByRecursion}
+use Rattle.std.proofs.Common.{◌≡◌, ◌∙◌, ℕ, suc, ◌≤◌, List, [], ◌∷◌, ◌++◌, map, codes, length, Bool, true, false, cond, ◌||◌, ◌&&◌, Option, Some, None, refl, sym, ap, arith, append-nil}
 use mathlib.Core.Bool.{or-false, or-true}
 use Rattle.line_io.specs.Event.{Event, Iface, IfaceLong, IfaceEnd, Engine, EngineLong, EngineEnd}
 use Rattle.line_io.specs.Lines.{Piece, Whole, TooLong, items}
@@ -16,7 +14,7 @@ use Rattle.engine_revival.specs.declared.words.DialogueState.{DialogueState}
 use Rattle.engine_revival.specs.Dialogue.{said_in}
 use Rattle.engine_revival.specs.Lists.{can_join}
 use Rattle.engine_revival.specs.Steps.{opening, ending, beginning, closing, may_begin, keeping, with_value, with_button, accepting, accepted, reading, ordering, with_quit, hearing, settled}
-use Rattle.engine_revival.specs.Calls.{Begin, Over, after, turned}
+use Rattle.engine_revival.specs.Calls.{Begin, Over, after}
 use Rattle.engine_revival.specs.Script.{state_after, state_behind}
 use Rattle.event_pipe.specs.declared.message.Peer.TheVariants as peers
 use Rattle.event_pipe.specs.declared.reader.ReadEnd.{ReadEnd}
@@ -27,11 +25,12 @@ use Rattle.event_pipe.specs.Ends.{Came}
 use Rattle.event_pipe.specs.Arrivals.{Arrived, line_limit}
 use Rattle.event_pipe.proofs.Keeps.{of-append}
 use Rattle.event_pipe.proofs.Reading.{any_append}
+use Rattle.child_engine.specs.Hosts.{fresh_source}
 use Rattle.host_run.specs.Outside.{Outside}
 use Rattle.sink_offers.specs.declared.offering.LoopEnd.{LoopEnd}
 use Rattle.life_runner.specs.Played.{as_long, told_of, ends_in}
 use Rattle.life_runner.specs.Reading.{line_events, LinesOf}
-use Rattle.reviver_runner.specs.Lives.{Life, IsLife, AreLives, life_events, Lived}
+use Rattle.reviver_runner.specs.Lives.{Life, AreLives, life_events, Lived}
 use Rattle.reviver_runner.specs.Ran.{Heard}
 use Rattle.reviver_runner.proofs.LifeSteps.{ends_append}
 use Rattle.reviver_runner.proofs.SettledSteps.{settled_quit}
@@ -92,13 +91,13 @@ lines_no_end b a lines read_ends.NoMemory x =
     let parts = ends_append lines cut.rest in
     omega (arith, all, parts)
 
-lives_ends : (lives : List Life) → AreLives lives → ends_in (life_events lives) ≡ length lives
-lives_ends [] a = refl
-lives_ends (l ∷ lives) a =
-    let none = lines_no_end l.source l.read l.lines l.end a.0.lines in
+lives_ends : (says : Option (List ℕ)) (tells : Bool) (lives : List Life) → AreLives says tells lives → ends_in (life_events lives) ≡ length lives
+lives_ends says tells [] a = refl
+lives_ends says tells (l ∷ lives) a =
+    let none = lines_no_end (fresh_source says) l.read l.lines l.end a.0.lines in
     let own = ends_append l.lines (EngineLong ∷ []) in
     let all = ends_append (l.lines ++ EngineLong ∷ []) (life_events lives) in
-    let more = lives_ends lives a.1 in
+    let more = lives_ends says tells lives a.1 in
     omega (arith, none, own, all, more)
 
 -- ONE SIDE
@@ -135,7 +134,7 @@ iface_told (Iface line ∷ es) = ap (λ (l : List Event). Iface line ∷ l) (ifa
 iface_told (IfaceEnd ∷ es) = ap (λ (l : List Event). IfaceEnd ∷ l) (iface_told es)
 iface_told (x ∷ es) = iface_told es
 
-ended_told : (es : List Event) → ended (told_of es) ≡ ended es
+pub ended_told : (es : List Event) → ended (told_of es) ≡ ended es
 ended_told [] = refl
 ended_told (Iface line ∷ es) = ap (λ (b : Bool). is_quit line || b) (ended_told es)
 ended_told (IfaceEnd ∷ es) = refl
@@ -199,8 +198,8 @@ quit_behind s (e ∷ es) =
 
 -- BOTH SIDES HAVE ENDED
 
-module _ (number : ℕ) (s : State) (sent sent_up taken : List Event) (lives : List Life) (refused : Bool) (o o' l l' : Received) (f f' : LoopEnd)
-    (lived : Lived (opening number) s sent taken lives [] refused o o' l l' f f') (up : Came peers.Iface taken sent_up) (engine : Came peers.Engine taken sent) (some : 1 ≤ length lives) (quit : s.quit ≡ true) where
+module _ (number : ℕ) (says : Option (List ℕ)) (tells : Bool) (s : State) (sent sent_up taken : List Event) (lives : List Life) (refused : Bool) (o o' l l' : Received) (f f' : LoopEnd)
+    (lived : Lived says tells (opening number) s sent taken lives [] refused o o' l l' f f') (up : Came peers.Iface taken sent_up) (engine : Came peers.Engine taken sent) (some : 1 ≤ length lives) (quit : s.quit ≡ true) where
   last : (ls : List Life) → 1 ≤ length ls → ends_long (life_events ls) ≡ true
   last [] h = absurd (omega (arith, h))
   last (x ∷ ls) h = last_of_lives x ls
@@ -208,7 +207,7 @@ module _ (number : ℕ) (s : State) (sent sent_up taken : List Event) (lives : L
   all_taken : sent ≡ of 2 taken
   all_taken =
       let none = nothing_left sent (of 2 taken) engine.left engine.front (ap ends_long lived.sent_are ∙ last lives some)
-      (ap ends_in lived.sent_are ∙ lives_ends lives lived.lived ∙ sym lived.ends ∙ sym (ends_of taken)) in
+      (ap ends_in lived.sent_are ∙ lives_ends says tells lives lived.lived ∙ sym lived.ends ∙ sym (ends_of taken)) in
       engine.front ∙ ap (λ (x : List Event). of 2 taken ++ x) none ∙ append-nil (of 2 taken)
 
   pub marks : map as_long (of 2 lived.events) ≡ life_events lives

@@ -5,4 +5,6 @@ mod CountSteps
 mod CloseSteps
 mod TurnSteps
 mod EndSteps
+mod Records
 mod RunSteps
+mod Refused

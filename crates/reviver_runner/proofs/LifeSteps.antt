@@ -1,5 +1,5 @@
 -- One more life among those that have ended, and what is heard behind the last.
-use Rattle.std.proofs.Common.{◌≡◌, ◌∙◌, ℕ, suc, ◌+◌, List, [], ◌∷◌, ◌++◌, map, filter, length, Bool, true, false, cond, ◌||◌, refl, sym, ap, subst, arith, append-nil, append_assoc}
+use Rattle.std.proofs.Common.{◌≡◌, ◌∙◌, ℕ, ◌+◌, List, [], ◌∷◌, ◌++◌, map, length, Bool, true, false, ◌||◌, Option, refl, sym, ap, subst, arith, append-nil, append_assoc}
 use Rattle.std.proofs.lemmas.List.{map-append, length-append}
 use Rattle.std.proofs.lemmas.List.Elements.{filter-append}
 use Rattle.std.proofs.lemmas.List.Folds.{list_any-append}
@@ -9,6 +9,7 @@ use Rattle.std.proofs.lemmas.Bool.{or_parts}
 use mathlib.Core.Bool.{or-false}
 use Rattle.line_io.specs.Event.{Event, Open, Iface, IfaceEnd, Engine, EngineLong, EngineEnd}
 use Rattle.line_io.specs.Source.{Supplied, Received}
+use Rattle.child_engine.specs.Hosts.{Books, fresh_sink}
 use Rattle.child_engine.specs.declared.host.HostFault.{HostFault}
 use Rattle.engine_revival.specs.declared.state.State.{State}
 use Rattle.engine_revival.specs.Script.{state_after, state_behind}
@@ -21,10 +22,10 @@ use Rattle.reviver_runner.specs.declared.lives.Run.{Run}
 use Rattle.reviver_runner.specs.declared.lives.Tally.{Tally}
 use Rattle.reviver_runner.specs.declared.turns.Next.{Next}
 use Rattle.reviver_runner.specs.declared.turns.Next.TheVariants as nexts
-use Rattle.life_runner.specs.Played.{event_child, lines_to_child, is_heard, heard_of, is_close, has_close, is_refusal, has_refusal, as_long, is_told, told_of, ends_in}
+use Rattle.life_runner.specs.Played.{event_child, lines_to_child, heard_of, is_close, has_close, is_refusal, has_refusal, as_long, is_told, told_of, ends_in}
 use Rattle.life_runner.specs.Looped.{LoopedLife}
-use Rattle.life_runner.specs.Reading.{ReadLife}
-use Rattle.reviver_runner.specs.Lives.{IsBegun, Life, IsLife, AreLives, life_events, told_of_lives, Tallies, ToLives, to_none, to_next, to_lives, Lived, HasLived, GoesOn, LivesOn, mark_of, is_refused, IsNext, Ended}
+use Rattle.life_runner.specs.Reading.{ReadLife, LinesOf}
+use Rattle.reviver_runner.specs.Lives.{IsBegun, Life, IsLife, life_events, ToLives, to_none, to_next, to_lives, Lived, HasLived, GoesOn, LivesOn, mark_of, is_refused, IsNext, Ended}
 use Rattle.reviver_runner.specs.Closing.{told_of_runs}
 use Rattle.reviver_runner.specs.Drained.{Drained}
 use Rattle.life_runner.proofs.Appends.{offered_both, took, up_of_all, up_both}
@@ -127,17 +128,17 @@ got_told es next h =
 pub got_one : (es : List Event) → has_close es ≡ false → ends_in (es ++ EngineLong ∷ []) ≡ 1
 got_one es h = let none = no_ends es h in let more = ends_append es (EngineLong ∷ []) in omega (arith, none, more)
 
-next_from : {S K : Type 0} (source : S → Supplied) (sink : K → Received) (s s' : State) (next : Next S K) (o o' l l' : Received) (f g : LoopEnd) (z : State) → s ≡ z → Ended source sink s s' next o o' l l' f g
-    → IsNext source sink (event_child z (mark_of next)) next g.engine
-next_from source sink s s' next o o' l l' f g z e x = subst (λ (y : State). IsNext source sink (event_child y (mark_of next)) next g.engine) e x.next_is
+next_from : {S K : Type 0} (source : S → Supplied) (sink : K → Received) (says : Option (List ℕ)) (tells : Bool) (s s' : State) (next : Next S K) (o o' l l' : Received) (f g : LoopEnd) (z : State) → s ≡ z → Ended source sink says tells s s' next o o' l l' f g
+    → IsNext source sink says tells (event_child z (mark_of next)) next g.engine
+next_from source sink says tells s s' next o o' l l' f g z e x = subst (λ (y : State). IsNext source sink says tells (event_child y (mark_of next)) next g.engine) e x.next_is
 
 -- a life, and what follows of its end
-pub lives_on : {S K : Type 0} (source : S → Supplied) (sink : K → Received) (s s1 s2 : State) (sent sent' taken taken' : List Event) (run last : Run S K) (runs runs' : List (Run S K)) (tally tally' : Tally) (next : Next S K)
-    (b a : Sinks) (o l : Received) (f f1 f2 : LoopEnd) (end : ReadEnd) → LoopedLife s s1 taken taken' b a f f1 → Ended source sink s1 s2 next a.output o a.log l f1 f2
+pub lives_on : {S K : Type 0} (source : S → Supplied) (sink : K → Received) (says : Option (List ℕ)) (tells : Bool) (s s1 s2 : State) (sent sent' taken taken' : List Event) (run last : Run S K) (runs runs' : List (Run S K)) (tally tally' : Tally) (next : Next S K)
+    (b a : Sinks) (o l : Received) (f f1 f2 : LoopEnd) (end : ReadEnd) → LoopedLife s s1 taken taken' b a f f1 → Ended source sink says tells s1 s2 next a.output o a.log l f1 f2
     → ReadLife (source run.src) (source last.src) sent sent' end → runs' ≡ runs ++ last ∷ [] → b.engine ≡ sink run.snk → a.engine ≡ sink last.snk
     → tally'.engine_read ≡ (tally.engine_read || failed end) → tally'.engine_write ≡ (tally.engine_write || f1.engine) → tally'.memory ≡ (tally.memory || lacked_memory end)
-    → LivesOn source sink s s2 sent sent' taken taken' run runs runs' tally tally' next b.output o b.log l f f2
-lives_on source sink s s1 s2 sent sent' taken taken' run last runs runs' tally tally' next b a o l f f1 f2 end looped ended read more first written reads writes memory =
+    → LivesOn source sink says tells s s2 sent sent' taken taken' run runs runs' tally tally' next b.output o b.log l f f2
+lives_on source sink says tells s s1 s2 sent sent' taken taken' run last runs runs' tally tally' next b a o l f f1 f2 end looped ended read more first written reads writes memory =
     record {
       events = heard_of looped.events;
       unended = no_mark_heard looped.events;
@@ -159,23 +160,32 @@ lives_on source sink s s1 s2 sent sent' taken taken' run last runs runs' tally t
       reads = reads;
       writes = writes;
       memory = memory;
-      next_is = next_from source sink s1 s2 next a.output o a.log l f1 f2 (state_behind s (heard_of looped.events)) looped.played.state_is ended;
+      next_is = next_from source sink says tells s1 s2 next a.output o a.log l f1 f2 (state_behind s (heard_of looped.events)) looped.played.state_is ended;
     }
+
+-- a host's books of more runs tell as much
+pub lives_as : {S K : Type 0} (source : S → Supplied) (sink : K → Received) (b0 b : Books) (s s' : State) (sent sent' taken taken' : List Event) (run : Run S K) (runs runs' : List (Run S K)) (tally tally' : Tally) (next : Next S K) (o o' l l' : Received) (f g : LoopEnd) (n : ℕ)
+    → b ≡ record b0 { runs_out = n } → LivesOn source sink b.says b.tells s s' sent sent' taken taken' run runs runs' tally tally' next o o' l l' f g
+    → LivesOn source sink b0.says b0.tells s s' sent sent' taken taken' run runs runs' tally tally' next o o' l l' f g
+lives_as source sink b0 b s s' sent sent' taken taken' run runs runs' tally tally' next o o' l l' f g n e x =
+    subst (λ (y : Books). LivesOn source sink y.says y.tells s s' sent sent' taken taken' run runs runs' tally tally' next o o' l l' f g) e x
+
+pub begun_as : (b0 b : Books) (source : Supplied) (sink : Received) (failed : Bool) (text : List ℕ) (n : ℕ) → b ≡ record b0 { runs_out = n } → IsBegun b0.says b0.tells source sink failed text
+    → IsBegun b.says b.tells source sink failed text
+begun_as b0 b source sink failed text n e x = subst (λ (y : Books). IsBegun y.says y.tells source sink failed text) (sym e) x
 
 -- ONE MORE LIFE
 
-module _ {S K : Type 0} (source : S → Supplied) (sink : K → Received) (s0 s s' : State) (sent sent' taken taken' : List Event) (run : Run S K) (runs runs' : List (Run S K))
+module _ {S K : Type 0} (source : S → Supplied) (sink : K → Received) (says : Option (List ℕ)) (tells : Bool) (s0 s s' : State) (sent sent' taken taken' : List Event) (run : Run S K) (runs runs' : List (Run S K))
     (tally tally' : Tally) (next : Next S K) (o o' o'' l l' l'' : Received) (f0 f g : LoopEnd)
-    (goes : GoesOn source sink s0 s sent taken runs run tally o o' l l' f0 f)
-    (more : LivesOn source sink s s' sent sent' taken taken' run runs runs' tally tally' next o' o'' l' l'' f g) where
+    (goes : GoesOn source sink says tells s0 s sent taken runs run tally o o' l l' f0 f)
+    (more : LivesOn source sink says tells s s' sent sent' taken taken' run runs runs' tally tally' next o' o'' l' l'' f g) where
   abbrev pub text : List ℕ
   text = goes.text ++ lines_to_child s more.events
 
   abbrev pub life_now : Life
   life_now = record {
-    source = source run.src;
     read = source more.last.src;
-    sink = goes.begun.fresh;
     written = sink more.last.snk;
     lines = more.lines;
     text = text;
@@ -183,18 +193,16 @@ module _ {S K : Type 0} (source : S → Supplied) (sink : K → Received) (s0 s 
     broken = more.broken;
   }
 
-  is_life : IsLife life_now
+  is_life : IsLife says tells life_now
   is_life = record {
-    unread = goes.begun.unread;
-    unwritten = goes.begun.unwritten;
-    lines = more.read;
-    text = took more.broken goes.begun.fresh (sink more.last.snk) text (offered_both false f.engine more.broken _ _ _ goes.text (lines_to_child s more.events) goes.begun.offered more.offered);
+    lines = subst (λ (x : Supplied). LinesOf x (source more.last.src) more.lines more.end) goes.begun.unread more.read;
+    text = took more.broken (fresh_sink tells) (sink more.last.snk) text (offered_both false f.engine more.broken _ _ _ goes.text (lines_to_child s more.events) goes.begun.offered more.offered);
   }
 
   abbrev pub lives : List Life
   lives = goes.lived.lives
 
-  abbrev pub so_far : Lived s0 s sent taken goes.lived.lives goes.text false o o' l l' f0 f
+  abbrev pub so_far : Lived says tells s0 s sent taken goes.lived.lives goes.text false o o' l l' f0 f
   so_far = goes.lived.so_far
 
   abbrev pub events' : List Event
@@ -241,7 +249,7 @@ module _ {S K : Type 0} (source : S → Supplied) (sink : K → Received) (s0 s 
       ∙ ap (λ (x : List Event). life_events lives ++ x) (sym (append-nil (more.lines ++ EngineLong ∷ [])))
       ∙ sym (flat_map-append (λ (x : Life). x.lines ++ EngineLong ∷ []) lives (life_now ∷ []))
 
-  lived_next : Lived s0 s' sent' taken' (lives ++ life_now ∷ []) next_text (is_refused next) o o'' l l'' f0 g
+  lived_next : Lived says tells s0 s' sent' taken' (lives ++ life_now ∷ []) next_text (is_refused next) o o'' l l'' f0 g
   lived_next = record {
     events = so_far.events ++ events';
     played = up_both _ _ _ _ _ _ _ _ _ _ _ _ _ _ so_far.played more.played;
@@ -250,10 +258,10 @@ module _ {S K : Type 0} (source : S → Supplied) (sink : K → Received) (s0 s 
     taken_are = taken_next;
     ends = ends_next;
     sent_are = sent_next;
-    lived = all_append IsLife lives life_now so_far.lived is_life;
+    lived = all_append (IsLife says tells) lives life_now so_far.lived is_life;
   }
 
-  pub has_lived_next : HasLived source sink s0 s' sent' taken' runs' tally' next_text (is_refused next) o o'' l l'' f0 g
+  pub has_lived_next : HasLived source sink says tells s0 s' sent' taken' runs' tally' next_text (is_refused next) o o'' l l'' f0 g
   has_lived_next = record {
     lives = lives ++ life_now ∷ [];
     told =
@@ -267,30 +275,30 @@ module _ {S K : Type 0} (source : S → Supplied) (sink : K → Received) (s0 s 
     so_far = lived_next;
   }
 
-  pub goes_next : (begun : Run S K) → next ≡ nexts.Life begun → GoesOn source sink s0 s' sent' taken' runs' begun tally' o o'' l l'' f0 g
+  pub goes_next : (begun : Run S K) → next ≡ nexts.Life begun → GoesOn source sink says tells s0 s' sent' taken' runs' begun tally' o o'' l l'' f0 g
   goes_next begun e = record {
     text = next_text;
-    lived = subst (λ (b : Bool). HasLived source sink s0 s' sent' taken' runs' tally' next_text b o o'' l l'' f0 g) (ap is_refused e) has_lived_next;
-    begun = subst (λ (n : Next S K). IsNext source sink next_text n g.engine) e more.next_is;
+    lived = subst (λ (b : Bool). HasLived source sink says tells s0 s' sent' taken' runs' tally' next_text b o o'' l l'' f0 g) (ap is_refused e) has_lived_next;
+    begun = subst (λ (n : Next S K). IsNext source sink says tells next_text n g.engine) e more.next_is;
   }
 
-  pub is_over : next_text ≡ [] → (refused : Bool) → is_refused next ≡ refused → HasLived source sink s0 s' sent' taken' runs' tally' [] refused o o'' l l'' f0 g
+  pub is_over : next_text ≡ [] → (refused : Bool) → is_refused next ≡ refused → HasLived source sink says tells s0 s' sent' taken' runs' tally' [] refused o o'' l l'' f0 g
   is_over z refused e =
-      subst (λ (t : List ℕ). HasLived source sink s0 s' sent' taken' runs' tally' t refused o o'' l l'' f0 g) z
-      (subst (λ (b : Bool). HasLived source sink s0 s' sent' taken' runs' tally' next_text b o o'' l l'' f0 g) e has_lived_next)
+      subst (λ (t : List ℕ). HasLived source sink says tells s0 s' sent' taken' runs' tally' t refused o o'' l l'' f0 g) z
+      (subst (λ (b : Bool). HasLived source sink says tells s0 s' sent' taken' runs' tally' next_text b o o'' l l'' f0 g) e has_lived_next)
 
-  pub ends_over : next ≡ nexts.Over → HasLived source sink s0 s' sent' taken' runs' tally' [] false o o'' l l'' f0 g
-  ends_over e = is_over (subst (λ (n : Next S K). IsNext source sink next_text n g.engine) e more.next_is) false (ap is_refused e)
+  pub ends_over : next ≡ nexts.Over → HasLived source sink says tells s0 s' sent' taken' runs' tally' [] false o o'' l l'' f0 g
+  ends_over e = is_over (subst (λ (n : Next S K). IsNext source sink says tells next_text n g.engine) e more.next_is) false (ap is_refused e)
 
-  pub ends_refused : (fault : HostFault) → next ≡ nexts.Refused fault → HasLived source sink s0 s' sent' taken' runs' tally' [] true o o'' l l'' f0 g
-  ends_refused fault e = is_over (subst (λ (n : Next S K). IsNext source sink next_text n g.engine) e more.next_is) true (ap is_refused e)
+  pub ends_refused : (fault : HostFault) → next ≡ nexts.Refused fault → HasLived source sink says tells s0 s' sent' taken' runs' tally' [] true o o'' l l'' f0 g
+  ends_refused fault e = is_over (subst (λ (n : Next S K). IsNext source sink says tells next_text n g.engine) e more.next_is) true (ap is_refused e)
 
 -- BEHIND THE LAST LIFE
 
-pub lived_drained : {S K : Type 0} (source : S → Supplied) (sink : K → Received) (s0 s s' : State) (sent taken taken' : List Event) (runs : List (Run S K)) (tally : Tally) (refused : Bool)
-    (o o' o'' l l' l'' : Received) (f0 f g : LoopEnd) → HasLived source sink s0 s sent taken runs tally [] refused o o' l l' f0 f → Drained s s' taken taken' o' o'' l' l'' f g
-    → HasLived source sink s0 s' sent taken' runs tally [] refused o o'' l l'' f0 g
-lived_drained source sink s0 s s' sent taken taken' runs tally refused o o' o'' l l' l'' f0 f g x d =
+pub lived_drained : {S K : Type 0} (source : S → Supplied) (sink : K → Received) (says : Option (List ℕ)) (tells : Bool) (s0 s s' : State) (sent taken taken' : List Event) (runs : List (Run S K)) (tally : Tally) (refused : Bool)
+    (o o' o'' l l' l'' : Received) (f0 f g : LoopEnd) → HasLived source sink says tells s0 s sent taken runs tally [] refused o o' l l' f0 f → Drained s s' taken taken' o' o'' l' l'' f g
+    → HasLived source sink says tells s0 s' sent taken' runs tally [] refused o o'' l l'' f0 g
+lived_drained source sink says tells s0 s s' sent taken taken' runs tally refused o o' o'' l l' l'' f0 f g x d =
     let was = x.so_far in
     let to : ToLives = record { ended = map (λ (x : Life). x.text) x.lives; present = [] } in
     record {

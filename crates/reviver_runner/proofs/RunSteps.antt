@@ -3,13 +3,14 @@ use Rattle.std.proofs.Common.{◌≡◌, ◌∙◌, ◌⊎◌, ℕ, suc, ◌+◌
 use mathlib.Core.Bool.{or-true}
 use Rattle.line_io.specs.Source.{Supplied, Received}
 use Rattle.event_pipe.specs.Counts.{Tells}
-use Rattle.child_engine.specs.Hosts.{Books, Told, RisesBy, with_run, told_by}
+use Rattle.child_engine.specs.Hosts.{Books, Told, RisesBy, IsUnused, IsStarted, with_run, told_by}
 use Rattle.child_engine.specs.declared.host.Faults.{Faults}
 use Rattle.child_engine.specs.declared.host.HostFault.{HostFault}
 use Rattle.host_run.specs.declared.failures.Failures.{Failures}
 use Rattle.host_run.specs.Early.{AreEarly, only_memory, only_start}
-use Rattle.host_run.specs.Logs.{is_failed}
-use Rattle.host_run.specs.Outside.{Outside, outside, unused, AreTold}
+use Rattle.host_run.specs.Logs.{is_failed, fresh_log}
+use Rattle.sink_offers.specs.Took.{LogTook}
+use Rattle.host_run.specs.Outside.{Outside, outside, AreTold}
 use Rattle.host_run.proofs.Counts.{told_by as counts_told_by, log_told, same_told}
 use Rattle.line_io.specs.Event.{Event}
 use Rattle.child_engine.specs.declared.host.HostFault.TheVariants as faults
@@ -29,15 +30,16 @@ use Rattle.reviver_runner.specs.declared.turns.Next.TheVariants as nexts
 use Rattle.reviver_runner.specs.Closing.{ClosesAll, HasClosed, told_of_runs}
 use Rattle.life_runner.specs.Looped.{PlayedUp}
 use Rattle.life_runner.specs.Played.{told_of, ends_in}
-use Rattle.reviver_runner.specs.Lives.{AreReady, AreTallied, Life, told_of_lives, IsBegun, Tallies, HasLived, GoesOn, Continues, Hands, lives_in, none_failed}
+use Rattle.reviver_runner.specs.Lives.{AreReady, AreTallied, Life, AreLives, told_of_lives, IsBegun, Tallies, HasLived, GoesOn, Continues, Hands, lives_in, none_failed}
 use Rattle.life_runner.proofs.Appends.{up_none}
-use Rattle.reviver_runner.specs.Ran.{HandsOut, KeepsEnds, Revived, Leaves}
+use Rattle.reviver_runner.specs.Ran.{HandsOut, HasFirst, KeepsEnds, Revived, Leaves}
+use Rattle.reviver_runner.proofs.Records.{leaves_by}
 
 moved : (a b c d : ℕ) (f : Bool) → b ≡ a → d ≡ c → Tells b c f → Tells a d f
 moved a b c d f p q t = subst (λ n. Tells n d f) p (subst (λ n. Tells b n f) (sym q) t)
 
 module _ (lives n ended rs ws : ℕ) (i i' : Supplied) (o o' l l' : Received) (h0 h1 h2 h3 h4 : Faults) (b0 b1 b2 b3 b4 : Books) (ls : List (Option (List ℕ))) (fault start : Option HostFault) (failures : Failures) (done : Bool)
-    (books : b0 ≡ with_run unused) (opened : b1 ≡ record b0 { logs_out = n }) (few : n ≤ 1) (open_counts : h1 ≡ record h0 { logs = h1.logs }) (open_told : Tells h0.logs h1.logs (is_failed fault))
+    (books : IsStarted b0) (opened : b1 ≡ record b0 { logs_out = n }) (few : n ≤ 1) (open_counts : h1 ≡ record h0 { logs = h1.logs }) (open_told : Tells h0.logs h1.logs (is_failed fault))
     (handed : HandsOut lives ended b1 b2 h1 h2 start) (rt : List Told) (closed : HasClosed b2 b3 rt) (closes : ClosesAll h2 h3 rs ws failures.engine_wait)
     (logged : b4 ≡ record b3 { logs = b3.logs ++ ls }) (many : length ls ≡ n) (log_counts : h4 ≡ record h3 { logs = h4.logs }) (log_rises : RisesBy l'.faults h3.logs h4.logs) (fresh : l.faults ≡ 0)
     (input : Tells i.faults i'.faults failures.iface_read) (output : Tells o.faults o'.faults failures.iface_write) (log : Tells l.faults l'.faults done)
@@ -70,23 +72,23 @@ module _ (lives n ended rs ws : ℕ) (i i' : Supplied) (o o' l l' : Received) (h
   logs_are : b4.logs ≡ ls
   logs_are = ap (λ (b : Books). b.logs) logged ∙ ap (λ (x : List (Option (List ℕ))). x ++ ls) logs_first
 
-  pub ran : (b4.runs ≡ rt → b4.logs ≡ ls → b4.runs_out ≡ ended → Revived lives (outside i o h0 b0) (outside i' o' h4 b4) failures) → (failures.memory ≡ false → failures.log ≡ false → n ≡ 1) → Leaves lives (outside i o h0 b0) (outside i' o' h4 b4) failures
-  ran revived one = record {
-    told = told;
-    runs = ap (λ (b : Books). length b.runs) logged ∙ closed.all ∙ ap (λ (b : Books). b.runs_out) (sym logged);
-    logs = ap (λ (b : Books). length b.logs) logged ∙ ap (λ (x : List (Option (List ℕ))). length (x ++ ls)) logs_first ∙ many ∙ sym logs_out_is;
-    few_runs = let few_runs = handed.few in let k = out_is in omega (arith, few_runs, k);
-    few_logs = let k = logs_out_is in omega (arith, k, few);
-    some_run = λ _ _. let some = handed.some in let k = out_is in omega (arith, some, k);
-    some_log = λ m l _. logs_out_is ∙ one m l;
-    nothing = λ z. let some = handed.some in let k = out_is in absurd (omega (arith, some, k, z));
-    revived = λ _. revived runs_are logs_are out_is;
-  }
+  pub ran : (b4.runs ≡ rt → b4.logs ≡ ls → b4.runs_out ≡ ended → b4.logs_out ≡ n → Revived lives (outside i o h0 b0) (outside i' o' h4 b4) failures) → (failures.memory ≡ false → failures.log ≡ false → n ≡ 1)
+      → Leaves lives (outside i o h0 b0) (outside i' o' h4 b4) failures
+  ran revived one =
+      leaves_by lives (outside i o h0 b0) (outside i' o' h4 b4) failures told
+      (ap (λ (b : Books). length b.runs) logged ∙ closed.all ∙ ap (λ (b : Books). b.runs_out) (sym logged))
+      (ap (λ (b : Books). length b.logs) logged ∙ ap (λ (x : List (Option (List ℕ))). length (x ++ ls)) logs_first ∙ many ∙ sym logs_out_is)
+      (let few_runs = handed.few in let k = out_is in omega (arith, few_runs, k))
+      (let k = logs_out_is in omega (arith, k, few))
+      (λ _ _. let some = handed.some in let k = out_is in omega (arith, some, k))
+      (λ m l _. logs_out_is ∙ one m l)
+      (λ z. let some = handed.some in let k = out_is in absurd (omega (arith, some, k, z)))
+      (λ _. revived runs_are logs_are out_is logs_out_is)
 
 -- the same, seen from before the engine was started
-revived_from : (lives : ℕ) (i : Supplied) (o : Received) (f f' : Faults) (b b' : Books) (after : Outside) (failures : Failures)
-    → Revived lives (outside i o f' b') after failures → Revived lives (outside i o f b) after failures
-revived_from lives i o f f' b b' after failures x =
+revived_from : (lives : ℕ) (i : Supplied) (o : Received) (f f' : Faults) (b : Books) (after : Outside) (failures : Failures)
+    → Revived lives (outside i o f' (with_run b)) after failures → Revived lives (outside i o f b) after failures
+revived_from lives i o f f' b after failures x =
     record {
       upper = x.upper;
       runs = x.runs;
@@ -104,59 +106,50 @@ revived_from lives i o f f' b b' after failures x =
       each = x.each;
       refused = x.refused;
       up = x.up;
-      opened = x.opened;
       log = x.log;
-      unwritten = x.unwritten;
       log_failed = x.log_failed;
       logged = x.logged;
       failure = x.failure;
-      log_told = x.log_told;
+      logs_told = x.logs_told;
       runs_told = x.runs_told;
       runs_out = x.runs_out;
+      recorded = record { log = x.recorded.log; front = x.recorded.front; texts = x.recorded.texts; gave = x.recorded.gave; all = x.recorded.all };
     }
 
 pub ran_from : (lives : ℕ) (i : Supplied) (o : Received) (f f' : Faults) (b b' : Books) (after : Outside) (failures : Failures)
-    → f' ≡ f → Leaves lives (outside i o f' b') after failures → Leaves lives (outside i o f b) after failures
-ran_from lives i o f f' b b' after failures e x =
-    record {
-      told = subst (λ (h : Faults). AreTold (outside i o h b) after failures) e (record {
-        iface_read = x.told.iface_read;
-        iface_write = x.told.iface_write;
-        engine_read = x.told.engine_read;
-        engine_write = x.told.engine_write;
-        engine_start = x.told.engine_start;
-        log = x.told.log;
-        engine_wait = x.told.engine_wait;
-      });
-      runs = x.runs;
-      logs = x.logs;
-      few_runs = x.few_runs;
-      few_logs = x.few_logs;
-      some_run = x.some_run;
-      some_log = x.some_log;
-      nothing = x.nothing;
-      revived = λ some. revived_from lives i o f f' b b' after failures (x.revived some);
-    }
+    → f' ≡ f → b' ≡ with_run b → Leaves lives (outside i o f' b') after failures → Leaves lives (outside i o f b) after failures
+ran_from lives i o f f' b b' after failures e w x =
+    leaves_by lives (outside i o f b) after failures
+    (subst (λ (h : Faults). AreTold (outside i o h b) after failures) e (record {
+      iface_read = x.told.iface_read;
+      iface_write = x.told.iface_write;
+      engine_read = x.told.engine_read;
+      engine_write = x.told.engine_write;
+      engine_start = x.told.engine_start;
+      log = x.told.log;
+      engine_wait = x.told.engine_wait;
+    }))
+    x.runs x.logs x.few_runs x.few_logs x.some_run x.some_log x.nothing
+    (λ some. revived_from lives i o f f' b after failures (subst (λ (y : Books). Revived lives (outside i o f' y) after failures) w (x.revived some)))
 
 neither : (failures : Failures) → (failures ≡ only_memory) ⊎ (failures ≡ only_start) → failures.memory ≡ false → failures.engine_start ≡ false → ⊥
 neither failures (inl w) m g = let z : true ≡ false = ap (λ (x : Failures). x.memory) (sym w) ∙ m in cc
 neither failures (inr w) m g = let z : true ≡ false = ap (λ (x : Failures). x.engine_start) (sym w) ∙ g in cc
 
-pub unstarted : (lives : ℕ) (i : Supplied) (o : Received) (f f' : Faults) (b b' : Books) (failures : Failures) → AreEarly f f' failures → b' ≡ unused → Leaves lives (outside i o f b) (outside i o f' b') failures
-unstarted lives i o f f' b b' failures early e =
-    let none = ap (λ (x : Books). x.runs_out) e in
-    let no_log = ap (λ (x : Books). x.logs_out) e in
-    record {
-      told = early_told i o f f' b b' early.others failures early.starts early.why;
-      runs = ap (λ (x : Books). length x.runs) e ∙ sym none;
-      logs = ap (λ (x : Books). length x.logs) e ∙ sym no_log;
-      few_runs = omega (arith, none);
-      few_logs = omega (arith, no_log);
-      some_run = λ m g. absurd (neither failures early.why m g);
-      some_log = λ _ _ some. absurd (omega (arith, none, some));
-      nothing = λ _. (refl, refl);
-      revived = λ some. absurd (omega (arith, none, some));
-    }
+pub unstarted : (lives : ℕ) (i : Supplied) (o : Received) (f f' : Faults) (b b' : Books) (failures : Failures) → AreEarly f f' failures → IsUnused b → b' ≡ b → Leaves lives (outside i o f b) (outside i o f' b') failures
+unstarted lives i o f f' b b' failures early u e =
+    let none = ap (λ (x : Books). x.runs_out) (e ∙ u) in
+    let no_log = ap (λ (x : Books). x.logs_out) (e ∙ u) in
+    leaves_by lives (outside i o f b) (outside i o f' b') failures
+    (early_told i o f f' b b' early.others failures early.starts early.why)
+    (ap (λ (x : Books). length x.runs) (e ∙ u) ∙ sym none)
+    (ap (λ (x : Books). length x.logs) (e ∙ u) ∙ sym no_log)
+    (omega (arith, none))
+    (omega (arith, no_log))
+    (λ m g. absurd (neither failures early.why m g))
+    (λ _ _ some. absurd (omega (arith, none, some)))
+    (λ _. (refl, refl))
+    (λ some. absurd (omega (arith, none, some)))
 
 -- THE LIVES
 
@@ -194,14 +187,14 @@ one_more b0 b b' d d' e out more books =
 
 -- BEFORE AND BEHIND THE LIVES
 
-pub close_may : (lives n d : ℕ) (runs_len : ℕ) (b0 b1 b2 : Books) (h1 h2 : Faults) (start : Option HostFault) → b0 ≡ with_run unused → b1 ≡ record b0 { logs_out = n } → HandsOut lives d b1 b2 h1 h2 start
+pub close_may : (lives n d : ℕ) (runs_len : ℕ) (b0 b1 b2 : Books) (h1 h2 : Faults) (start : Option HostFault) → IsStarted b0 → b1 ≡ record b0 { logs_out = n } → HandsOut lives d b1 b2 h1 h2 start
     → d ≡ runs_len → length b2.runs + runs_len ≡ b2.runs_out
 close_may lives n d runs_len b0 b1 b2 h1 h2 start e f x k =
     let runs : length b2.runs ≡ 0 = ap (λ (b : Books). length b.runs) x.others ∙ ap (λ (b : Books). length b.runs) f ∙ ap (λ (b : Books). length b.runs) e in
     let out = x.out in
     omega (arith, runs, out, k)
 
-pub log_may : (lives n d count : ℕ) (b0 b1 b2 : Books) (h1 h2 : Faults) (start : Option HostFault) → b0 ≡ with_run unused → b1 ≡ record b0 { logs_out = n } → HandsOut lives d b1 b2 h1 h2 start
+pub log_may : (lives n d count : ℕ) (b0 b1 b2 : Books) (h1 h2 : Faults) (start : Option HostFault) → IsStarted b0 → b1 ≡ record b0 { logs_out = n } → HandsOut lives d b1 b2 h1 h2 start
     → count ≡ n → length b2.logs + count ≡ b2.logs_out
 log_may lives n d count b0 b1 b2 h1 h2 start e f x k =
     let logs : length b2.logs ≡ 0 = ap (λ (b : Books). length b.logs) x.others ∙ ap (λ (b : Books). length b.logs) f ∙ ap (λ (b : Books). length b.logs) e in
@@ -225,9 +218,9 @@ empty [] n e z = refl
 empty (x ∷ xs) n e z = absurd (omega (arith, e, z))
 
 -- before the first life has ended
-pub goes_first : {S K : Type 0} (source : S → Supplied) (sink : K → Received) (s : State) (sent taken : List Event) (runs : List (Run S K)) (run : Run S K) (tally : Tally) (o l : Received) (f : LoopEnd)
-    → sent ≡ [] → taken ≡ [] → runs ≡ [] → Tallies [] tally → IsBegun (source run.src) (sink run.snk) false [] → f ≡ none_failed → GoesOn source sink s s sent taken runs run tally o o l l none_failed f
-goes_first source sink s sent taken runs run tally o l f e t r ts b z =
+pub goes_first : {S K : Type 0} (source : S → Supplied) (sink : K → Received) (says : Option (List ℕ)) (tells : Bool) (s : State) (sent taken : List Event) (runs : List (Run S K)) (run : Run S K) (tally : Tally) (o l : Received) (f : LoopEnd)
+    → sent ≡ [] → taken ≡ [] → runs ≡ [] → Tallies [] tally → IsBegun says tells (source run.src) (sink run.snk) false [] → f ≡ none_failed → GoesOn source sink says tells s s sent taken runs run tally o o l l none_failed f
+goes_first source sink says tells s sent taken runs run tally o l f e t r ts b z =
     record {
       text = [];
       lived = record {
@@ -245,7 +238,7 @@ goes_first source sink s sent taken runs run tally o l f e t r ts b z =
           lived = tt;
         };
       };
-      begun = subst (λ (x : LoopEnd). IsBegun (source run.src) (sink run.snk) x.engine []) (sym z) b;
+      begun = subst (λ (x : LoopEnd). IsBegun says tells (source run.src) (sink run.snk) x.engine []) (sym z) b;
     }
 
 pub next_as : {S K : Type 0} (s : State) (n : ℕ) (x y : Next S K) → x ≡ y → Continues s n x → Continues s n y
@@ -315,10 +308,22 @@ pub room_for : (k room room0 d lives lives0 : ℕ) → k ≡ d + 1 → room ≡ 
 room_for k room room0 d lives lives0 e f g h i j = omega (arith, e, f, g, h, i, j)
 
 -- the same of a state that is the first one
-pub lived_from : {S K : Type 0} (source : S → Supplied) (sink : K → Received) (s0 z s : State) (sent taken : List Event) (runs : List (Run S K)) (tally : Tally) (text : List ℕ) (refused : Bool) (o o' l l' : Received) (f0 f : LoopEnd)
-    → s0 ≡ z → HasLived source sink s0 s sent taken runs tally text refused o o' l l' f0 f → HasLived source sink z s sent taken runs tally text refused o o' l l' f0 f
-lived_from source sink s0 z s sent taken runs tally text refused o o' l l' f0 f e x = subst (λ (y : State). HasLived source sink y s sent taken runs tally text refused o o' l l' f0 f) e x
+pub lived_from : {S K : Type 0} (source : S → Supplied) (sink : K → Received) (says : Option (List ℕ)) (tells : Bool) (s0 z s : State) (sent taken : List Event) (runs : List (Run S K)) (tally : Tally) (text : List ℕ) (refused : Bool) (o o' l l' : Received) (f0 f : LoopEnd)
+    → s0 ≡ z → HasLived source sink says tells s0 s sent taken runs tally text refused o o' l l' f0 f → HasLived source sink says tells z s sent taken runs tally text refused o o' l l' f0 f
+lived_from source sink says tells s0 z s sent taken runs tally text refused o o' l l' f0 f e x = subst (λ (y : State). HasLived source sink says tells y s sent taken runs tally text refused o o' l l' f0 f) e x
 
 -- of as many lives, seen from before the engine was started
-pub ran_as : (n m : ℕ) (i : Supplied) (o : Received) (f f' : Faults) (b b' : Books) (after : Outside) (failures : Failures) → f' ≡ f → n ≡ m → Leaves n (outside i o f' b') after failures → Leaves m (outside i o f b) after failures
-ran_as n m i o f f' b b' after failures e h x = ran_from m i o f f' b b' after failures e (subst (λ (k : ℕ). Leaves k (outside i o f' b') after failures) h x)
+pub ran_as : (n m : ℕ) (i : Supplied) (o : Received) (f f' : Faults) (b b' : Books) (after : Outside) (failures : Failures) → f' ≡ f → b' ≡ with_run b → n ≡ m → Leaves n (outside i o f' b') after failures → Leaves m (outside i o f b) after failures
+ran_as n m i o f f' b b' after failures e w h x = ran_from m i o f f' b b' after failures e w (subst (λ (k : ℕ). Leaves k (outside i o f' b') after failures) h x)
+
+-- the log's books tell as much
+pub first_as : {S K : Type 0} (source : S → Supplied) (sink : K → Received) (b0 b : Books) (first : Option (Run S K)) (n : ℕ) → b ≡ record b0 { logs_out = n } → HasFirst source sink b0.says b0.tells first
+    → HasFirst source sink b.says b.tells first
+first_as source sink b0 b first n e x = subst (λ (y : Books). HasFirst source sink y.says y.tells first) (sym e) x
+
+pub each_as : (b0 b : Books) (lives : List Life) (n : ℕ) → b ≡ record b0 { logs_out = n } → AreLives b.says b.tells lives → AreLives b0.says b0.tells lives
+each_as b0 b lives n e x = subst (λ (y : Books). AreLives y.says y.tells lives) e x
+
+-- the log was fresh
+pub logged_as : (text : List ℕ) (failed tells : Bool) (n n' : ℕ) (opened log : Received) → opened ≡ fresh_log tells n → n' ≡ n → LogTook text failed opened log → LogTook text failed (fresh_log tells n') log
+logged_as text failed tells n n' opened log e h x = subst (λ (y : Received). LogTook text failed y log) (e ∙ ap (fresh_log tells) (sym h)) x

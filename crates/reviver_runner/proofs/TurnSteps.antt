@@ -1,5 +1,5 @@
 -- From one life to the next.
-use Rattle.std.proofs.Common.{◌≡◌, ◌∙◌, ℕ, suc, ◌<◌, ◌≤◌, ◌+◌, List, true, ◌&&◌, not, nat_lt, sym, ap, subst, arith}
+use Rattle.std.proofs.Common.{◌≡◌, ◌∙◌, ℕ, suc, ◌<◌, ◌+◌, List, true, ◌&&◌, not, nat_lt, sym, ap, subst, arith}
 use Rattle.std.proofs.lemmas.Bool.{ltb-true, and_parts}
 use Rattle.line_io.specs.Event.{Event}
 use Rattle.engine_revival.specs.declared.state.State.{State}

@@ -1,4 +1,6 @@
 pub mod Closing
 pub mod Lives
 pub mod Drained
+pub mod Recorded
 pub mod Ran
+pub mod Laws

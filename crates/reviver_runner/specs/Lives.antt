@@ -9,13 +9,12 @@ use Rattle.event_pipe.specs.Arrivals.{failed as failed_of}
 use Rattle.event_pipe.specs.Counts.{Tells}
 use Rattle.event_pipe.specs.Ends.{IsSender, IsTaker, sent}
 use Rattle.event_pipe.specs.Rule.{ended}
-use Rattle.child_engine.specs.Hosts.{Books, Told, IsUnread, IsUnwritten, told_by, with_run}
+use Rattle.child_engine.specs.Hosts.{Books, Told, fresh_source, fresh_sink, told_by, with_run}
 use Rattle.child_engine.specs.declared.host.Faults.{Faults}
-use Rattle.child_engine.specs.declared.host.HostFault.{HostFault}
 use Rattle.engine_revival.specs.declared.state.State.{State}
 use Rattle.engine_revival.specs.declared.words.LifeState.TheVariants as life
 use Rattle.engine_revival.specs.Steps.{opening, may_begin, is_alive}
-use Rattle.engine_revival.specs.Script.{AllMayHappen, state_after, state_behind, texts_from, may_happen}
+use Rattle.engine_revival.specs.Script.{state_after, state_behind}
 use Rattle.engine_revival.specs.declared.script.TheConstants.{EVENT_ROOM}
 use Rattle.host_run.specs.Logs.{is_failed}
 use Rattle.host_run.specs.Readers.{lacked_memory}
@@ -29,7 +28,7 @@ use Rattle.reviver_runner.specs.declared.turns.Next.{Next}
 use Rattle.reviver_runner.specs.declared.turns.Next.TheVariants as nexts
 use Rattle.reviver_runner.specs.Closing.{read_faults, write_faults, told_of_runs}
 use Rattle.life_runner.specs.Looped.{PlayedUp}
-use Rattle.life_runner.specs.Played.{event_child, lines_up, lines_to_child, is_close, has_close, has_refusal, as_long, told_of, ends_in}
+use Rattle.life_runner.specs.Played.{event_child, lines_to_child, is_close, has_close, has_refusal, as_long, told_of, ends_in}
 use Rattle.life_runner.specs.Reading.{LinesOf}
 
 -- the ends of the channel, and room for the text of an event
@@ -50,12 +49,11 @@ pub record Goes (s : State) (ended : ℕ) : Type 0 where
   pub begun : s.begun ≡ suc ended
   pub few : suc ended ≤ s.lives
 
--- The run of a life that goes on: nothing was read, and its sink, which had taken nothing, was offered this text.
-pub record IsBegun (source : Supplied) (sink : Received) (failed : Bool) (text : List ℕ) : Type 0 where
-  pub unread : IsUnread source
-  pub fresh : Received
-  pub unwritten : IsUnwritten fresh
-  pub offered : Offered false failed fresh sink text
+-- The run of a life that goes on, of a host that tells this much: nothing was read, and its sink, which had taken
+-- nothing, was offered this text.
+pub record IsBegun (says : Option (List ℕ)) (tells : Bool) (source : Supplied) (sink : Received) (failed : Bool) (text : List ℕ) : Type 0 where
+  pub unread : source ≡ fresh_source says
+  pub offered : Offered false failed (fresh_sink tells) sink text
 
 -- whether reading or writing failed in a life that has ended is what the runs' counts say
 pub record AreTallied {S K : Type 0} (source : S → Supplied) (sink : K → Received) (runs : List (Run S K)) (tally : Tally) : Type 0 where
@@ -64,28 +62,24 @@ pub record AreTallied {S K : Type 0} (source : S → Supplied) (sink : K → Rec
 
 -- A LIFE THAT HAS ENDED
 
--- What a life shows: its streams before and behind it, the lines that were sent of it, the text that it was offered, how its
--- reader ended, and whether a write to it failed.
+-- What a life shows: its streams behind it, the lines that were sent of it, the text that it was offered, how its reader
+-- ended, and whether a write to it failed.
 pub record Life : Type 0 where
-  pub source : Supplied
   pub read : Supplied
-  pub sink : Received
   pub written : Received
   pub lines : List Event
   pub text : List ℕ
   pub end : ReadEnd
   pub broken : Bool
 
--- Nothing was read of it or written to it before. Its lines are those that its source gave, and its sink took its text, or a
--- front of it, if a write failed.
-pub record IsLife (l : Life) : Type 0 where
-  pub unread : IsUnread l.source
-  pub unwritten : IsUnwritten l.sink
-  pub lines : LinesOf l.source l.read l.lines l.end
-  pub text : LogTook l.text l.broken l.sink l.written
+-- A life of a host that tells this much, of which nothing was read or taken before. Its lines are those that its source
+-- gave, and its sink took its text, or a front of it, if a write failed.
+pub record IsLife (says : Option (List ℕ)) (tells : Bool) (l : Life) : Type 0 where
+  pub lines : LinesOf (fresh_source says) l.read l.lines l.end
+  pub text : LogTook l.text l.broken (fresh_sink tells) l.written
 
-abbrev pub AreLives : List Life → Type 0
-AreLives lives = AllByRecursion IsLife lives
+abbrev pub AreLives : Option (List ℕ) → Bool → List Life → Type 0
+AreLives says tells lives = AllByRecursion (IsLife says tells) lives
 
 -- of each life its lines, and then the mark of its end
 abbrev pub life_events : List Life → List Event
@@ -123,7 +117,7 @@ to_lives to s (event ∷ events) = to_lives (to_next (is_close event) to (event_
 -- SO FAR
 
 -- So many lives have ended since this state, and the next one, if there is one, was offered this text.
-pub record Lived (s0 s : State) (sent taken : List Event) (lives : List Life) (text : List ℕ) (refused : Bool)
+pub record Lived (says : Option (List ℕ)) (tells : Bool) (s0 s : State) (sent taken : List Event) (lives : List Life) (text : List ℕ) (refused : Bool)
     (output output' log log' : Received) (failed failed' : LoopEnd) : Type 0 where
   pub events : List Event
   pub played : PlayedUp s0 s events output output' log log' failed failed'
@@ -132,27 +126,27 @@ pub record Lived (s0 s : State) (sent taken : List Event) (lives : List Life) (t
   pub taken_are : map as_long events ≡ told_of taken
   pub ends : ends_in taken ≡ length lives
   pub sent_are : sent ≡ life_events lives
-  pub lived : AreLives lives
+  pub lived : AreLives says tells lives
 
 abbrev pub none_failed : LoopEnd
 none_failed = record { output = false; engine = false; log = false }
 
 -- the same of the runs of the lives that have ended
-pub record HasLived {S K : Type 0} (source : S → Supplied) (sink : K → Received) (s0 s : State) (sent taken : List Event)
+pub record HasLived {S K : Type 0} (source : S → Supplied) (sink : K → Received) (says : Option (List ℕ)) (tells : Bool) (s0 s : State) (sent taken : List Event)
     (runs : List (Run S K)) (tally : Tally) (text : List ℕ) (refused : Bool)
     (output output' log log' : Received) (failed failed' : LoopEnd) : Type 0 where
   pub lives : List Life
   pub told : told_of_runs source sink runs ≡ told_of_lives lives
   pub tallies : Tallies lives tally
-  pub so_far : Lived s0 s sent taken lives text refused output output' log log' failed failed'
+  pub so_far : Lived says tells s0 s sent taken lives text refused output output' log log' failed failed'
 
 -- the same, if another life goes on
-pub record GoesOn {S K : Type 0} (source : S → Supplied) (sink : K → Received) (s0 s : State) (sent taken : List Event)
+pub record GoesOn {S K : Type 0} (source : S → Supplied) (sink : K → Received) (says : Option (List ℕ)) (tells : Bool) (s0 s : State) (sent taken : List Event)
     (runs : List (Run S K)) (run : Run S K) (tally : Tally)
     (output output' log log' : Received) (failed failed' : LoopEnd) : Type 0 where
   pub text : List ℕ
-  pub lived : HasLived source sink s0 s sent taken runs tally text false output output' log log' failed failed'
-  pub begun : IsBegun (source run.src) (sink run.snk) failed'.engine text
+  pub lived : HasLived source sink says tells s0 s sent taken runs tally text false output output' log log' failed failed'
+  pub begun : IsBegun says tells (source run.src) (sink run.snk) failed'.engine text
 
 -- FROM ONE LIFE TO THE NEXT
 
@@ -176,19 +170,19 @@ lives_in (nexts.Life run) = 1
 lives_in next = 0
 
 -- the next life was offered this text, or there is none and no text
-abbrev pub IsNext : {S K : Type 0} → (S → Supplied) → (K → Received) → List ℕ → Next S K → Bool → Type 0
-IsNext source sink text (nexts.Life run) failed = IsBegun (source run.src) (sink run.snk) failed text
-IsNext source sink text next failed = text ≡ []
+abbrev pub IsNext : {S K : Type 0} → (S → Supplied) → (K → Received) → Option (List ℕ) → Bool → List ℕ → Next S K → Bool → Type 0
+IsNext source sink says tells text (nexts.Life run) failed = IsBegun says tells (source run.src) (sink run.snk) failed text
+IsNext source sink says tells text next failed = text ≡ []
 
 -- what follows of a life's end
-pub record Ended {S K : Type 0} (source : S → Supplied) (sink : K → Received) (s s' : State) (next : Next S K)
+pub record Ended {S K : Type 0} (source : S → Supplied) (sink : K → Received) (says : Option (List ℕ)) (tells : Bool) (s s' : State) (next : Next S K)
     (output output' log log' : Received) (failed failed' : LoopEnd) : Type 0 where
   pub played : PlayedUp s s' (mark_of next ∷ []) output output' log log' failed failed'
-  pub next_is : IsNext source sink (event_child s (mark_of next)) next failed'.engine
+  pub next_is : IsNext source sink says tells (event_child s (mark_of next)) next failed'.engine
   pub follows : Follows s s' next
 
 -- One life that went on in this state, on a run that was offered a text: it ended, and this follows.
-pub record LivesOn {S K : Type 0} (source : S → Supplied) (sink : K → Received) (s s' : State) (sent sent' taken taken' : List Event)
+pub record LivesOn {S K : Type 0} (source : S → Supplied) (sink : K → Received) (says : Option (List ℕ)) (tells : Bool) (s s' : State) (sent sent' taken taken' : List Event)
     (run : Run S K) (runs runs' : List (Run S K)) (tally tally' : Tally) (next : Next S K)
     (output output' log log' : Received) (failed failed' : LoopEnd) : Type 0 where
   -- what the revival heard of it
@@ -212,7 +206,7 @@ pub record LivesOn {S K : Type 0} (source : S → Supplied) (sink : K → Receiv
   pub writes : tally'.engine_write ≡ (tally.engine_write || broken)
   pub memory : tally'.memory ≡ (tally.memory || lacked_memory end)
   -- the next one
-  pub next_is : IsNext source sink (event_child (state_behind s events) (mark_of next)) next failed'.engine
+  pub next_is : IsNext source sink says tells (event_child (state_behind s events) (mark_of next)) next failed'.engine
 
 -- one more life has ended
 abbrev pub Continues : {S K : Type 0} → State → ℕ → Next S K → Type 0

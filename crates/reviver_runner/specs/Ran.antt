@@ -1,5 +1,5 @@
 -- What a run of all lives leaves.
-use Rattle.std.specs.Prelude.{◌≡◌, ◌⊎◌, ℕ, ◌<◌, ◌≤◌, List, [], ◌∷◌, map, length, Option, Some, None, Bool, true, false}
+use Rattle.std.specs.Prelude.{◌≡◌, ◌⊎◌, ℕ, ◌<◌, ◌≤◌, List, [], map, length, Option, Some, None, IfSome, Bool, true, false}
 use Rattle.std.specs.List.{list_any}
 use Rattle.std.specs.VecDeque.{deque_len, deque_capacity}
 use Rattle.line_io.specs.Event.{Event}
@@ -10,12 +10,13 @@ use Rattle.event_pipe.specs.Arrivals.{Arrived, failed}
 use Rattle.event_pipe.specs.Counts.{Tells}
 use Rattle.event_pipe.specs.Ends.{KeepsSender, KeepsTaker, sent, taken}
 use Rattle.event_pipe.specs.Rule.{sent_by}
-use Rattle.child_engine.specs.Hosts.{Books, IsUnwritten}
+use Rattle.child_engine.specs.Hosts.{Books}
 use Rattle.child_engine.specs.declared.host.Faults.{Faults}
 use Rattle.child_engine.specs.declared.host.HostFault.{HostFault}
 use Rattle.engine_revival.specs.Script.{AllMayHappen, state_behind, revival_script}
 use Rattle.engine_revival.specs.Steps.{opening}
-use Rattle.host_run.specs.Logs.{is_failed}
+use Rattle.host_run.specs.Early.{no_failure}
+use Rattle.host_run.specs.Logs.{is_failed, fresh_log, closed_logs}
 use Rattle.host_run.specs.Readers.{lacked_memory}
 use Rattle.host_run.specs.Outside.{Outside, AreTold}
 use Rattle.host_run.specs.declared.failures.Failures.{Failures}
@@ -23,8 +24,9 @@ use Rattle.sink_offers.specs.Took.{LogTook}
 use Rattle.reviver_runner.specs.declared.lives.Run.{Run}
 use Rattle.reviver_runner.specs.declared.parts.Parts.{Parts}
 use Rattle.reviver_runner.specs.declared.run.Runs.{Runs}
-use Rattle.reviver_runner.specs.Lives.{AreReady, Goes, IsBegun, Life, AreLives, life_events, told_of_lives, ToLives, to_none, to_lives}
+use Rattle.reviver_runner.specs.Lives.{AreReady, Goes, IsBegun, Life, AreLives, life_events, told_of_lives, to_none, to_lives}
 use Rattle.life_runner.specs.Played.{lines_up, as_long, told_of, has_refusal}
+use Rattle.reviver_runner.specs.Recorded.{Recorded, IsWhole}
 
 -- Runs were handed out, one for each of these lives that have ended, and the last start may have been refused.
 pub record HandsOut (lives ended : ℕ) (books books' : Books) (counts counts' : Faults) (refused : Option HostFault) : Type 0 where
@@ -36,9 +38,9 @@ pub record HandsOut (lives ended : ℕ) (books books' : Books) (counts counts' :
   pub other_counts : counts' ≡ record counts { starts = counts'.starts }
 
 -- the run of the first life is there, and was not touched yet
-abbrev pub HasFirst : {S K : Type 0} → (S → Supplied) → (K → Received) → Option (Run S K) → Type 0
-HasFirst source sink (Some run) = IsBegun (source run.src) (sink run.snk) false []
-HasFirst source sink None = ⊥
+abbrev pub HasFirst : {S K : Type 0} → (S → Supplied) → (K → Received) → Option (List ℕ) → Bool → Option (Run S K) → Type 0
+HasFirst source sink says tells (Some run) = IsBegun says tells (source run.src) (sink run.snk) false []
+HasFirst source sink says tells None = ⊥
 
 -- The first of at most nine lives may go on, none has ended, nothing was sent or taken yet, and there is room for what all of
 -- them are waited for by.
@@ -49,7 +51,7 @@ pub record MayRun {S K : Type 0} (source : S → Supplied) (sink : K → Receive
   pub unsent : sent parts.to ≡ []
   pub untaken : taken parts.from ≡ []
   pub goes : Goes parts.revival.state 0
-  pub first : HasFirst source sink runs.first
+  pub first : HasFirst source sink books.says books.tells runs.first
   pub none : deque_len runs.ended ≡ 0
   pub space : 9 ≤ deque_capacity runs.ended
   pub one_kid : kids ≡ 1
@@ -90,20 +92,21 @@ pub record Revived (lives : ℕ) (before after : Outside) (failures : Failures) 
   pub events : List Event
   pub heard : Heard lives before after upper runs events
   pub told : TellsRun upper runs failures
-  pub each : AreLives runs
+  pub each : AreLives before.books.says before.books.tells runs
   pub refused : has_refusal events ≡ true → (failures.engine_start ≡ true) ⊎ (failures.memory ≡ true)
   pub up : LogTook (lines_up (opening lives) events) failures.iface_write before.output after.output
   -- the log, which was fresh, and is in the books as it is at the end
-  pub opened : Received
   pub log : Received
-  pub unwritten : IsUnwritten opened
   pub log_failed : Bool
-  pub logged : LogTook (revival_script lives events) log_failed opened log
+  pub logged : LogTook (revival_script lives events) log_failed
+      (fresh_log before.books.tells after.books.logs_out) log
   pub failure : failures.log ≡ false → log_failed ≡ false
-  pub log_told : (after.books.logs ≡ log.taken ∷ []) ⊎ (after.books.logs ≡ [])
+  pub logs_told : after.books.logs ≡ closed_logs after.books.logs_out log
   -- so is each run
   pub runs_told : after.books.runs ≡ told_of_lives runs
   pub runs_out : after.books.runs_out ≡ length runs
+  -- what the books say of these lives and events
+  pub recorded : Recorded lives runs events before.books after.books failures
 
 -- What a run leaves, whether an engine was started or not: each count of faults rose if its failure is reported, and is as
 -- before else; each run that was handed out is closed, of so many lives at most, and the log if one was.
@@ -119,3 +122,6 @@ pub record Leaves (lives : ℕ) (before after : Outside) (failures : Failures) :
   pub nothing : after.books.runs_out ≡ 0
       → (after.input ≡ before.input) × (after.output ≡ before.output)
   pub revived : 0 < after.books.runs_out → Revived lives before after failures
+  -- if nothing failed, over a host that tells its bytes
+  pub whole : failures ≡ no_failure → before.books.tells ≡ true
+      → IfSome before.books.says (λ bytes. IsWhole lives bytes before after)

@@ -3,10 +3,12 @@
 
 mod closing;
 mod drain;
+mod laws;
 mod lives;
 mod parts;
 mod run;
 mod starting;
 mod turns;
 
+pub use laws::logs_are_whole;
 pub use run::revive_run;

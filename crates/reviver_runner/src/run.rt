@@ -1,12 +1,12 @@
 // One run of all lives over a host.
 ghost use Rattle.std.specs.Prelude.{◌≡◌, ◌≤◌, ◌<◌, [], length, is_some, false, true};
 ghost use Rattle.std.specs.VecDeque.{deque_len, deque_capacity};
-ghost use Rattle.child_engine.specs.Hosts.{with_run};
+ghost use Rattle.child_engine.specs.Hosts.{IsUnused, IsStarted};
 ghost use Rattle.engine_revival.specs.declared.words.LifeState.TheVariants as life;
 ghost use Rattle.event_pipe.specs.Arrivals.{Arrived};
 ghost use Rattle.event_pipe.specs.Ends.{IsFreshSender, KeepsSender, KeepsTaker, AreOne, sent, taken};
 ghost use Rattle.event_pipe.specs.declared.message.Peer.TheVariants as peers;
-ghost use Rattle.host_run.specs.Outside.{outside, unused};
+ghost use Rattle.host_run.specs.Outside.{outside};
 ghost use Rattle.sink_offers.specs.Streams.{log_state};
 ghost use Rattle.reviver_runner.specs.Lives.{AreReady, AreTallied, Goes, IsBegun, HasLived, Tallies, begins, none_failed};
 ghost use Rattle.reviver_runner.specs.Ran.{HandsOut, KeepsEnds, MayRun, Leaves};
@@ -77,7 +77,8 @@ where
     requires unsent { sent parts.old.to ≡ [] }
     requires untaken { taken parts.old.from ≡ [] }
     requires goes { Goes parts.old.revival.state 0 }
-    requires begun { IsBegun (H.Src.state first.src) (H.Snk.state first.snk) false [] }
+    requires begun { IsBegun (H.books host.old).says (H.books host.old).tells
+        (H.Src.state first.src) (H.Snk.state first.snk) false [] }
     requires unfailed { failed.old ≡ none_failed }
     requires tallied { AreTallied H.Src.state H.Snk.state runs.old.items tally.old }
     requires tallies { Tallies [] tally.old }
@@ -88,6 +89,7 @@ where
     ensures kept { is_some log.new ≡ is_some log.old }
     ensures tallied { AreTallied H.Src.state H.Snk.state runs.new.items tally.new }
     ensures lived { HasLived H.Src.state H.Snk.state
+        (H.books host.old).says (H.books host.old).tells
         parts.old.revival.state parts.new.revival.state
         (sent parts.new.to) (taken parts.new.from)
         runs.new.items tally.new [] (is_some result)
@@ -135,6 +137,7 @@ where
     ensures kept { is_some log.new ≡ is_some log.old }
     ensures tallied { AreTallied H.Src.state H.Snk.state runs.new.ended.items result.tally }
     ensures lived { HasLived H.Src.state H.Snk.state
+        (H.books host.old).says (H.books host.old).tells
         parts.old.revival.state parts.new.revival.state
         (sent parts.new.to) (taken parts.new.from)
         runs.new.ended.items result.tally [] (is_some result.start)
@@ -212,6 +215,7 @@ where
     ensures kept { is_some log.new ≡ is_some log.old }
     ensures tallied { AreTallied H.Src.state H.Snk.state runs.new.ended.items result.1.tally }
     ensures lived { HasLived H.Src.state H.Snk.state
+        (H.books host.old).says (H.books host.old).tells
         parts.old.revival.state parts.new.revival.state
         (sent parts.new.to) (taken parts.new.from)
         runs.new.ended.items result.1.tally [] (is_some result.1.start)
@@ -253,7 +257,7 @@ where
     requires begins { begins ready.made.parts.revival.state.lives ready.made.parts.revival.state }
     requires may { MayRun H.Src.state H.Snk.state (H.books host.old)
         ready.made.parts ready.runs (deque_len ready.kids) (deque_capacity ready.kids) }
-    requires books { H.books host.old ≡ with_run unused }
+    requires books { IsStarted (H.books host.old) }
     ensures { Leaves ready.made.parts.revival.state.lives
         (outside (I.state input.old) (O.state output.old) (H.faults host.old) (H.books host.old))
         (outside (I.state input.new) (O.state output.new) (H.faults host.new) (H.books host.new))
@@ -320,7 +324,7 @@ where
     requires words { 0 < length words.items }
     requires some { 1 ≤ lives }
     requires few { lives ≤ 9 }
-    requires unused { H.books host.old ≡ unused }
+    requires unused { IsUnused (H.books host.old) }
     ensures { Leaves lives
         (outside (I.state input.old) (O.state output.old) (H.faults host.old) (H.books host.old))
         (outside (I.state input.new) (O.state output.new) (H.faults host.new) (H.books host.new))

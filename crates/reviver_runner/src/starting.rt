@@ -1,11 +1,10 @@
 // The start of a run: its memory, and the first engine.
 ghost use Rattle.std.specs.Prelude.{◌≡◌, ◌≤◌, ◌<◌, [], length, IfOk, IfErr, OnOk, OnErr};
 ghost use Rattle.std.specs.VecDeque.{deque_len, deque_capacity};
-ghost use Rattle.child_engine.specs.Hosts.{with_run};
+ghost use Rattle.child_engine.specs.Hosts.{IsUnused, with_run};
 ghost use Rattle.event_pipe.specs.Ends.{IsFreshSender, AreOne, sent, taken};
 ghost use Rattle.event_pipe.specs.declared.message.Peer.TheVariants as peers;
 ghost use Rattle.host_run.specs.Early.{AreEarly};
-ghost use Rattle.host_run.specs.Outside.{unused};
 ghost use Rattle.reviver_runner.specs.Lives.{AreReady, begins};
 ghost use Rattle.reviver_runner.specs.Ran.{MayRun};
 
@@ -70,16 +69,16 @@ where
     requires words { 0 < length words.items }
     requires some { 1 ≤ lives }
     requires few { lives ≤ 9 }
-    requires unused { H.books host.old ≡ unused }
+    requires unused { IsUnused (H.books host.old) }
     ensures iface { IfOk result (λ ready. IsFreshSender ready.made.iface peers.Iface) }
     ensures one { IfOk result (λ ready. AreOne ready.made.iface ready.made.parts.to ready.made.parts.from) }
     ensures begins { IfOk result (λ ready. begins lives ready.made.parts.revival.state) }
     ensures lives { IfOk result (λ ready. ready.made.parts.revival.state.lives ≡ lives) }
     ensures may { IfOk result (λ ready. MayRun H.Src.state H.Snk.state (H.books host.new)
         ready.made.parts ready.runs (deque_len ready.kids) (deque_capacity ready.kids)) }
-    ensures books { OnOk result (H.books host.new ≡ with_run unused) }
+    ensures books { OnOk result (H.books host.new ≡ with_run (H.books host.old)) }
     ensures faults { OnOk result (H.faults host.new ≡ H.faults host.old) }
-    ensures unstarted { OnErr result (H.books host.new ≡ unused) }
+    ensures unstarted { OnErr result (H.books host.new ≡ H.books host.old) }
     ensures early { IfErr result (AreEarly (H.faults host.old) (H.faults host.new)) }
 {
     let Ok(room) = make_room(alloc, lives) else {

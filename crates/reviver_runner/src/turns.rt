@@ -108,7 +108,9 @@ fn after_life<O: Sink, H: Host>(
     ensures kids { deque_len kids.new ≡ deque_len kids.old + lives_in result }
     ensures room { text.new.room ≡ text.old.room }
     ensures kept { is_some log.new ≡ is_some log.old }
-    ensures ended { Ended H.Src.state H.Snk.state revival.old.state revival.new.state result
+    ensures ended { Ended H.Src.state H.Snk.state
+        (H.books host.old).says (H.books host.old).tells
+        revival.old.state revival.new.state result
         (O.state output.old) (O.state output.new)
         (log_state H.Log.state log.old) (log_state H.Log.state log.new)
         failed.old failed.new }
@@ -170,10 +172,12 @@ where
     ensures kids_space { deque_capacity kids.new ≡ deque_capacity kids.old }
     ensures kids { deque_len kids.new ≡ deque_len kids.old + lives_in result }
     ensures tallied { (text : List ℕ)
-        → IsBegun (H.Src.state run.src) (H.Snk.state run.snk) failed.old.engine text
+        → IsBegun (H.books host.old).says (H.books host.old).tells
+        (H.Src.state run.src) (H.Snk.state run.snk) failed.old.engine text
         → AreTallied H.Src.state H.Snk.state runs.old.items tally.old
         → AreTallied H.Src.state H.Snk.state runs.new.items tally.new }
     ensures lived { LivesOn H.Src.state H.Snk.state
+        (H.books host.old).says (H.books host.old).tells
         parts.old.revival.state parts.new.revival.state
         (sent parts.old.to) (sent parts.new.to) (taken parts.old.from) (taken parts.new.from)
         run runs.old.items runs.new.items tally.old tally.new result

@@ -1,4 +1,10 @@
+use Rattle.std.proofs.Common.{◌≡◌, ◌∙◌, ℕ, List, Option, None, Some, IfSome, true, sym}
+use Rattle.host_run.specs.Early.{no_failure}
+use Rattle.host_run.specs.Outside.{Outside}
+use Rattle.host_run.specs.declared.failures.Failures.{Failures}
 use Rattle.host_run.proofs.Causes as causes
+use Rattle.reviver_runner.specs.Recorded.{IsWhole}
+use Rattle.reviver_app.specs.Program.{LeavesFor, RunsWhole}
 use Rattle.reviver_app.proofs.main_call.revive_main.Goals as goal
 
 pub returns-clause-answers : goal.returns-clause-answers
@@ -12,3 +18,16 @@ returns-clause-answers g c =
 
 pub returns-clause-status : goal.returns-clause-status
 returns-clause-status g c = causes.status_says _ _ _ _ _ _ c.code.ensures c.end_of-ending.ensures
+
+if_some : (P Q : List ℕ → Type 0) (o : Option (List ℕ)) → ((bytes : List ℕ) → P bytes → Q bytes) → IfSome o P → IfSome o Q
+if_some P Q None h x = tt
+if_some P Q (Some bytes) h x = h bytes x
+
+whole_by : (words : List (List ℕ)) (before after : Outside) (f : Failures) → LeavesFor words before after f → f ≡ no_failure → before.books.tells ≡ true
+    → IfSome before.books.says (λ bytes. RunsWhole words bytes before after)
+whole_by words before after f run e tells =
+    if_some (λ bytes. IsWhole run.lives bytes before after) (λ bytes. RunsWhole words bytes before after) before.books.says
+    (λ bytes w. record { lives = run.lives; given = run.given; whole = w }) (run.left.whole e tells)
+
+pub returns-clause-whole : goal.returns-clause-whole
+returns-clause-whole g c z tells = causes.fine _ _ _ _ _ c.end_of-ending.ensures (sym c.code.ensures ∙ z) (λ f run e. whole_by _ _ _ f run e tells)

@@ -1,4 +1,4 @@
-use Rattle.std.proofs.Common.{◌≡◌, ◌∙◌, List, Bool, ◌||◌, refl, ap, sym, subst, arith}
+use Rattle.std.proofs.Common.{◌∙◌, List, Bool, ◌||◌, refl, ap, sym, subst, arith}
 use Rattle.child_engine.specs.Hosts.{Books, RisesBy}
 use Rattle.reviver_runner.specs.declared.lives.Run.{Run}
 use Rattle.reviver_runner.specs.Closing.{read_faults, write_faults}

@@ -1,4 +1,3 @@
-use Rattle.std.proofs.Common.{◌≡◌, ◌∙◌, List, Option, ℕ, length, ap, refl}
 use Rattle.reviver_runner.proofs.CloseSteps.{log_still}
 use Rattle.reviver_runner.proofs.closing.close_everything.Goals as goal
 

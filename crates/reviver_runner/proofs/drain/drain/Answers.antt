@@ -1,4 +1,4 @@
-use Rattle.std.proofs.Common.{◌≡◌, ◌∙◌, refl}
+use Rattle.std.proofs.Common.{◌∙◌, refl}
 use Rattle.reviver_runner.proofs.DrainSteps.{drained_none, drained_both}
 use Rattle.reviver_runner.proofs.drain.drain.Goals as goal
 

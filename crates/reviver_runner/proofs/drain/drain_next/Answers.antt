@@ -1,4 +1,4 @@
-use Rattle.std.proofs.Common.{◌≡◌, ◌∙◌, ◌++◌, ◌∷◌, [], ap, sym, refl}
+use Rattle.std.proofs.Common.{◌∙◌, ◌++◌, ◌∷◌, [], ap, sym}
 use Rattle.line_io.specs.Event.{Event, event_of}
 use Rattle.event_pipe.specs.Ends.{taken}
 use Rattle.event_pipe.specs.Message.{is_good}

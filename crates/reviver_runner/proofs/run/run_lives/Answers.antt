@@ -1,6 +1,6 @@
-use Rattle.std.proofs.Common.{◌≡◌, ◌∙◌, ◌+◌, [], ap, refl, subst, sym, arith}
+use Rattle.std.proofs.Common.{◌∙◌, ◌+◌, ap, refl, subst, sym}
 use Rattle.reviver_runner.specs.Lives.{Goes}
-use Rattle.reviver_runner.proofs.LifeSteps.{goes_next, ends_over, ends_refused}
+use Rattle.reviver_runner.proofs.LifeSteps.{goes_next, ends_over, ends_refused, lives_as, begun_as}
 use Rattle.reviver_runner.proofs.RunSteps.{hands_none, hands_refused, hands_as, next_as, one_more, keeps_both, keeps_same, goes_first, empty, few_as, more_kids, same_kids, room_for}
 use Rattle.reviver_runner.proofs.run.run_lives.Goals as goal
 
@@ -19,7 +19,7 @@ loop-init g c =
       goes = subst (λ n. Goes c.args.parts.now.revival.state n) (sym c.requires.none) c.requires.goes;
       kept = refl;
       tallied = c.requires.tallied;
-      going = goes_first g.H.Src.Source.state g.H.Snk.Sink.state _ _ _ _ _ _ _ _ _ c.requires.unsent c.requires.untaken none c.requires.tallies c.requires.begun c.requires.unfailed;
+      going = goes_first g.H.Src.Source.state g.H.Snk.Sink.state _ _ _ _ _ _ _ _ _ _ _ c.requires.unsent c.requires.untaken none c.requires.tallies c.requires.begun c.requires.unfailed;
     }
 
 pub life_turn-requires-clause-kids : goal.life_turn-requires-clause-kids
@@ -42,8 +42,8 @@ loop-preserved g c =
       keeps = keeps_both _ _ _ was.keeps turn.keeps;
       goes = next_as _ _ _ _ c.in-Life.is turn.next;
       kept = turn.kept ∙ was.kept;
-      tallied = turn.tallied was.going.text was.going.begun was.tallied;
-      going = goes_next _ _ _ _ _ _ _ _ _ _ _ _ _ _ _ _ _ _ _ _ _ _ _ _ was.going turn.lived _ c.in-Life.is;
+      tallied = turn.tallied was.going.text (begun_as (g.H.Host.books c.args.host.now) (g.H.Host.books c.loop.host) _ _ _ _ _ was.books was.going.begun) was.tallied;
+      going = goes_next _ _ _ _ _ _ _ _ _ _ _ _ _ _ _ _ _ _ _ _ _ _ _ _ _ _ was.going (lives_as g.H.Src.Source.state g.H.Snk.Sink.state (g.H.Host.books c.args.host.now) (g.H.Host.books c.loop.host) _ _ _ _ _ _ _ _ _ _ _ _ _ _ _ _ _ _ _ was.books turn.lived) _ c.in-Life.is;
     }
 
 pub returns-in-Over-clause-keeps : goal.returns-in-Over-clause-keeps
@@ -59,10 +59,10 @@ pub returns-in-Over-clause-kids : goal.returns-in-Over-clause-kids
 returns-in-Over-clause-kids g c = same_kids _ _ _ _ _ c.in-Over.is refl c.life_turn.ensures.kids c.loop.invariant.kids c.life_turn.ensures.more
 
 pub returns-in-Over-clause-tallied : goal.returns-in-Over-clause-tallied
-returns-in-Over-clause-tallied g c = c.life_turn.ensures.tallied c.loop.invariant.going.text c.loop.invariant.going.begun c.loop.invariant.tallied
+returns-in-Over-clause-tallied g c = c.life_turn.ensures.tallied c.loop.invariant.going.text (begun_as (g.H.Host.books c.args.host.now) (g.H.Host.books c.loop.host) _ _ _ _ _ c.loop.invariant.books c.loop.invariant.going.begun) c.loop.invariant.tallied
 
 pub returns-in-Over-clause-lived : goal.returns-in-Over-clause-lived
-returns-in-Over-clause-lived g c = ends_over _ _ _ _ _ _ _ _ _ _ _ _ _ _ _ _ _ _ _ _ _ _ _ _ c.loop.invariant.going c.life_turn.ensures.lived c.in-Over.is
+returns-in-Over-clause-lived g c = ends_over _ _ _ _ _ _ _ _ _ _ _ _ _ _ _ _ _ _ _ _ _ _ _ _ _ _ c.loop.invariant.going (lives_as g.H.Src.Source.state g.H.Snk.Sink.state (g.H.Host.books c.args.host.now) (g.H.Host.books c.loop.host) _ _ _ _ _ _ _ _ _ _ _ _ _ _ _ _ _ _ _ c.loop.invariant.books c.life_turn.ensures.lived) c.in-Over.is
 
 pub returns-in-Over-clause-host : goal.returns-in-Over-clause-host
 returns-in-Over-clause-host g c =
@@ -83,10 +83,10 @@ pub returns-in-Refused-clause-kids : goal.returns-in-Refused-clause-kids
 returns-in-Refused-clause-kids g c = same_kids _ _ _ _ _ c.in-Refused.is refl c.life_turn.ensures.kids c.loop.invariant.kids c.life_turn.ensures.more
 
 pub returns-in-Refused-clause-tallied : goal.returns-in-Refused-clause-tallied
-returns-in-Refused-clause-tallied g c = c.life_turn.ensures.tallied c.loop.invariant.going.text c.loop.invariant.going.begun c.loop.invariant.tallied
+returns-in-Refused-clause-tallied g c = c.life_turn.ensures.tallied c.loop.invariant.going.text (begun_as (g.H.Host.books c.args.host.now) (g.H.Host.books c.loop.host) _ _ _ _ _ c.loop.invariant.books c.loop.invariant.going.begun) c.loop.invariant.tallied
 
 pub returns-in-Refused-clause-lived : goal.returns-in-Refused-clause-lived
-returns-in-Refused-clause-lived g c = ends_refused _ _ _ _ _ _ _ _ _ _ _ _ _ _ _ _ _ _ _ _ _ _ _ _ c.loop.invariant.going c.life_turn.ensures.lived _ c.in-Refused.is
+returns-in-Refused-clause-lived g c = ends_refused _ _ _ _ _ _ _ _ _ _ _ _ _ _ _ _ _ _ _ _ _ _ _ _ _ _ c.loop.invariant.going (lives_as g.H.Src.Source.state g.H.Snk.Sink.state (g.H.Host.books c.args.host.now) (g.H.Host.books c.loop.host) _ _ _ _ _ _ _ _ _ _ _ _ _ _ _ _ _ _ _ c.loop.invariant.books c.life_turn.ensures.lived) _ c.in-Refused.is
 
 pub returns-in-Refused-clause-host : goal.returns-in-Refused-clause-host
 returns-in-Refused-clause-host g c =

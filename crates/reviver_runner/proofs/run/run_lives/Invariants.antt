@@ -21,6 +21,6 @@ invariant-loop g l = record {
   goes : Goes l.parts.revival.state (deque_len l.runs);
   kept : is_some l.log ≡ is_some l.fn.log;
   tallied : AreTallied g.H.Src.Source.state g.H.Snk.Sink.state l.runs.items l.tally;
-  going : GoesOn g.H.Src.Source.state g.H.Snk.Sink.state l.fn.parts.revival.state l.parts.revival.state (sent l.parts.to) (taken l.parts.from) l.runs.items l.run l.tally
+  going : GoesOn g.H.Src.Source.state g.H.Snk.Sink.state (g.H.Host.books l.fn.host).says (g.H.Host.books l.fn.host).tells l.fn.parts.revival.state l.parts.revival.state (sent l.parts.to) (taken l.parts.from) l.runs.items l.run l.tally
       (g.O.Sink.state l.fn.output) (g.O.Sink.state l.output) (log_state g.H.Log.Sink.state l.fn.log) (log_state g.H.Log.Sink.state l.log) none_failed l.failed;
 }

@@ -1,5 +1,5 @@
-use Rattle.std.proofs.Common.{◌≡◌, ◌∙◌, ℕ, refl, subst}
-use Rattle.event_pipe.specs.Counts.{Tells}
+use Rattle.std.proofs.Common.{ap, refl}
+use Rattle.line_io.specs.Source.{Supplied}
 use Rattle.life_runner.proofs.Appends.{offered_both}
 use Rattle.reviver_runner.proofs.CountSteps.{tallied_more}
 use Rattle.reviver_runner.proofs.LifeSteps.{lives_on}
@@ -13,12 +13,12 @@ returns-clause-lives g c =
 
 pub returns-clause-tallied : goal.returns-clause-tallied
 returns-clause-tallied g c text begun t =
-    tallied_more g.H.Src.Source.state g.H.Snk.Sink.state _ _ _ _ _ _ _ c.push_back_reserved.ensures.items (reads_told _ _ _ begun.unread.faults c.one_life-end.ensures.read.read.count)
-    (subst (λ (n : ℕ). Tells n _ _) begun.unwritten.faults ((offered_both _ _ _ _ _ _ _ _ begun.offered c.one_life-end.ensures.looped.played.offers.engine).count refl)) c.with.ensures.read c.with.ensures.write t
+    tallied_more g.H.Src.Source.state g.H.Snk.Sink.state _ _ _ _ _ _ _ c.push_back_reserved.ensures.items (reads_told _ _ _ (ap (λ (x : Supplied). x.faults) begun.unread) c.one_life-end.ensures.read.read.count)
+    ((offered_both _ _ _ _ _ _ _ _ begun.offered c.one_life-end.ensures.looped.played.offers.engine).count refl) c.with.ensures.read c.with.ensures.write t
 
 pub returns-clause-lived : goal.returns-clause-lived
 returns-clause-lived g c =
-    lives_on g.H.Src.Source.state g.H.Snk.Sink.state _ _ _ _ _ _ _ _ _ _ _ _ _ _ _ _ _ _ _ _ _ _ c.one_life-end.ensures.looped c.after_life.ensures.ended c.one_life-end.ensures.read
+    lives_on g.H.Src.Source.state g.H.Snk.Sink.state _ _ _ _ _ _ _ _ _ _ _ _ _ _ _ _ _ _ _ _ _ _ _ _ c.one_life-end.ensures.looped c.after_life.ensures.ended c.one_life-end.ensures.read
     c.push_back_reserved.ensures.items refl refl c.with.ensures.read c.with.ensures.write c.with.ensures.memory
 
 pub returns-clause-next : goal.returns-clause-next
