@@ -1,17 +1,18 @@
 // What the words ask for.
-ghost use Rattle.std.specs.Prelude.{◌≡◌, ◌<◌, ◌≤◌, [], ◌++◌, length, Err, IfSome, map, option_map, string_bytes, IfOk, OnOk};
-ghost use Rattle.clap.specs.Words.{first_of, one_of, all_of, rows_of, found_of};
+ghost use Rattle.std.specs.Prelude.{◌≡◌, ◌<◌, [], length, Err, map, string_bytes, IfOk, OnOk};
+ghost use Rattle.clap.specs.Words.{rows_of, found_of};
 ghost use Rattle.clap.specs.declared.error.kind.ErrorKind.TheVariants as kinds;
 ghost use Rattle.policy_rules.specs.Policy.{IsProper};
-ghost use Rattle.program_words.specs.Words.{bytes_of, AreUtf8};
+ghost use Rattle.program_words.specs.Words.{bytes_of};
 ghost use Rattle.program_words.specs.declared.refusal.Refusal.TheVariants as refusals;
-ghost use Rattle.bridge_words.specs.Words.{faults_found, values_found, AreTaken, AreAsked, IsAsked, IsNumberOf, engine_words, all_values, is_true, number_within, text_or_empty};
+ghost use Rattle.bridge_words.specs.Words.{faults_found, values_found, AreTaken, IsAsked, engine_words};
 
 use crate::command::bridge_command;
 use clap::ArgMatches;
 use clap::error::ErrorKind;
-use policy_rules::{MOST_MOVES, MOST_SCORE, Settings, USUAL_MOVES, USUAL_SCORE};
+use policy_rules::Settings;
 use program_words::Refusal;
+use setting_words::{copied_value, policy_of, put_values, texts};
 use std::alloc::{AllocError, Global};
 
 /// What the words ask for.
@@ -21,24 +22,6 @@ pub struct Request {
     pub log_name: String,
     /// The engine's program and its arguments.
     pub engine: Vec<String>,
-}
-
-// The words as texts. A word that is not UTF-8 is refused.
-fn texts<'a>(alloc: Global, words: &'a [Vec<u8>]) -> Result<Vec<&'a str>, Refusal>
-    ensures texts { IfOk result (λ v. map (λ s. s.now) v.items ≡ bytes_of words.now) }
-    ensures utf8 { OnOk result (AreUtf8 (bytes_of words.now)) }
-    ensures usage { result ≡ Err refusals.Usage → ¬ (AreUtf8 (bytes_of words.now)) }
-{
-    let mut texts: Vec<&'a str> = Vec::new(alloc);
-    for word in words {
-        let Ok(text) = str::from_utf8(word.as_slice()) else {
-            return Err(Refusal::Usage);
-        };
-        if texts.push(text).is_err() {
-            return Err(Refusal::NoMemory);
-        }
-    }
-    Ok(texts)
 }
 
 fn refusal_of(kind: ErrorKind) -> Refusal
@@ -66,70 +49,6 @@ fn find_in<'a>(alloc: Global, texts: &'a [&'a str]) -> Result<ArgMatches<'a>, Re
     }
 }
 
-// The first value that an argument has.
-fn value<'a>(found: &ArgMatches<'a>, name: &str) -> Option<&'a str>
-    ensures { option_map (λ s. s.now) result ≡ first_of name.now (rows_of (found_of found.now)) }
-{
-    found.get_str(name)
-}
-
-// All values that an argument has.
-fn values<'f, 'a>(found: &'f ArgMatches<'a>, name: &str) -> Option<&'f [&'a str]>
-    ensures { option_map (λ v. map (λ s. s.now) v.now) result
-        ≡ all_of name.now (rows_of (found_of found.now)) }
-{
-    found.get_strs(name)
-}
-
-// Whether an option's value is `true`.
-fn flag(found: &ArgMatches, name: &str) -> bool
-    ensures { result ≡ is_true (first_of name.now (rows_of (found_of found.now))) }
-{
-    match value(found, name) {
-        Some(text) => text == "true",
-        None => false,
-    }
-}
-
-fn copied(alloc: Global, text: &str) -> Result<String, AllocError>
-    ensures { IfOk result (λ s. string_bytes s ≡ text.now) }
-{
-    String::from_str(alloc, text)
-}
-
-// Puts copies of the texts at the end.
-fn put_copies(alloc: Global, texts: &[&str], copies: &mut Vec<String>) -> Result<(), AllocError>
-    ensures { OnOk result (map string_bytes copies.new.items
-        ≡ map string_bytes copies.old.items ++ map (λ s. s.now) texts.now) }
-{
-    for text in texts {
-        copies.push(copied(alloc, text)?)?;
-    }
-    Ok(())
-}
-
-// Puts copies of the arguments at the end, if there are any.
-fn put_args(alloc: Global, args: Option<&[&str]>, words: &mut Vec<String>) -> Result<(), AllocError>
-    ensures { OnOk result (map string_bytes words.new.items ≡ map string_bytes words.old.items
-        ++ all_values (option_map (λ v. map (λ s. s.now) v.now) args.entry)) }
-{
-    let Some(args) = args else {
-        return Ok(());
-    };
-    put_copies(alloc, args, words)
-}
-
-// A copy of the first value that an argument has.
-fn copied_value(alloc: Global, found: &ArgMatches, name: &str) -> Result<String, AllocError>
-    ensures { IfOk result (λ s. string_bytes s
-        ≡ text_or_empty (first_of name.now (rows_of (found_of found.now)))) }
-{
-    match value(found, name) {
-        Some(text) => copied(alloc, text),
-        None => Ok(String::new(alloc)),
-    }
-}
-
 // The engine's program and its arguments.
 fn engine_of(alloc: Global, found: &ArgMatches) -> Result<Vec<String>, AllocError>
     ensures words { IfOk result (λ v. map string_bytes v.items
@@ -138,48 +57,8 @@ fn engine_of(alloc: Global, found: &ArgMatches) -> Result<Vec<String>, AllocErro
 {
     let mut engine: Vec<String> = Vec::new(alloc);
     engine.push(copied_value(alloc, found, "ENGINE")?)?;
-    put_args(alloc, values(found, "ARG"), &mut engine)?;
+    put_values(alloc, found, "ARG", &mut engine)?;
     Ok(engine)
-}
-
-// The number that an option's value spells. The command lets none pass that is not within its
-// bounds, and the usual number stands in for such a one.
-fn number(found: &ArgMatches, name: &str, least: u32, most: u32, usual: u32) -> u32
-    requires { (least ≤ usual) × (usual ≤ most) }
-    ensures value { IfSome (one_of name.now (rows_of (found_of found.now)))
-        (λ text. IsNumberOf least most usual text result) }
-    ensures bounds { (least ≤ result) × (result ≤ most) }
-{
-    within(found.get_one::<u32>(name), least, most, usual)
-}
-
-fn within(number: Option<u32>, least: u32, most: u32, usual: u32) -> u32
-    requires { (least ≤ usual) × (usual ≤ most) }
-    ensures value { result ≡ number_within least most usual number }
-    ensures bounds { (least ≤ result) × (result ≤ most) }
-{
-    match number {
-        Some(number) => {
-            if least <= number && number <= most {
-                number
-            } else {
-                usual
-            }
-        }
-        None => usual,
-    }
-}
-
-fn settings_of(found: &ArgMatches) -> Settings
-    ensures asked { AreAsked (rows_of (found_of found.now)) result }
-    ensures proper { IsProper result }
-{
-    Settings {
-        resign: flag(found, "Resign"),
-        resign_moves: number(found, "ResignMoves", 1, MOST_MOVES, USUAL_MOVES),
-        resign_score: number(found, "ResignScore", 0, MOST_SCORE, USUAL_SCORE),
-        show_ponder: flag(found, "ShowPonder"),
-    }
 }
 
 fn request_of(alloc: Global, found: &ArgMatches) -> Result<Request, AllocError>
@@ -188,7 +67,7 @@ fn request_of(alloc: Global, found: &ArgMatches) -> Result<Request, AllocError>
     ensures some { IfOk result (λ r. 0 < length r.engine.items) }
 {
     Ok(Request {
-        settings: settings_of(found),
+        settings: policy_of(found),
         log_name: copied_value(alloc, found, "LogFile")?,
         engine: engine_of(alloc, found)?,
     })

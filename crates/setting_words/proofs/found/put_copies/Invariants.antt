@@ -1,6 +1,6 @@
 -- What is left of the texts completes the copies.
 use Rattle.std.proofs.Common.{◌≡◌, ◌++◌, drop, map, string_bytes}
-use Rattle.bridge_words.proofs.request.put_copies.Given as goal
+use Rattle.setting_words.proofs.found.put_copies.Given as goal
 
 abbrev pub invariant-loop-text : goal.invariant-loop-text
 invariant-loop-text l = record {

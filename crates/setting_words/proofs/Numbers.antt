@@ -3,7 +3,7 @@ use Rattle.std.proofs.Common.{◌≡◌, ℕ, Option, Some, None, refl, subst}
 use Rattle.std.specs.Prelude.{IfSome}
 use Rattle.std.specs.Str.Parse.{ParsesUnsigned, ExplainsUnsignedError, HasUnsignedDigitsIfOk}
 use Rattle.clap.specs.Words.{Text, ReadsOne}
-use Rattle.bridge_words.specs.Words.{IsNumberOf, number_within}
+use Rattle.setting_words.specs.Values.{IsNumberOf, number_within}
 
 number_read : (least most usual : ℕ) (o : Option Text) (read : Option ℕ) (n : ℕ)
     → ((t : Text) → o ≡ Some t → ReadsOne (λ t r. ParsesUnsigned 32 10 t r × ExplainsUnsignedError 10 t r × HasUnsignedDigitsIfOk t r) t read)

@@ -1,7 +1,7 @@
 use Rattle.clap.specs.Words.{found_of}
 use Rattle.clap.proofs.WalkLemmas.{one_text-rows}
-use Rattle.bridge_words.proofs.Numbers.{number_of}
-use Rattle.bridge_words.proofs.request.number.Goals as goal
+use Rattle.setting_words.proofs.Numbers.{number_of}
+use Rattle.setting_words.proofs.found.number.Goals as goal
 
 pub returns-clause-value : goal.returns-clause-value
 returns-clause-value c =

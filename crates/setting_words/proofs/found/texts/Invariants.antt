@@ -1,7 +1,7 @@
 -- What is left of the words completes the texts.
 use Rattle.std.proofs.Common.{◌≡◌, ◌++◌, drop, map}
 use Rattle.program_words.specs.Words.{bytes_of, AreUtf8}
-use Rattle.bridge_words.proofs.request.texts.Given as goal
+use Rattle.setting_words.proofs.found.texts.Given as goal
 
 abbrev pub invariant-loop-word : goal.invariant-loop-word
 invariant-loop-word l = record {

@@ -1,0 +1,2 @@
+pub mod Chain
+mod Numbers

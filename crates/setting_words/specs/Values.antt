@@ -1,0 +1,48 @@
+-- What values of arguments ask for.
+use Rattle.std.specs.Prelude.{◌≡◌, ℕ, Bool, false, ◌&&◌, nat_le, if◌then◌else◌, IfSome, List, [], Option, Some, None, codes}
+use Rattle.std.specs.Str.{bytes_eq}
+use Rattle.clap.specs.Words.{Row, Text, first_of, one_of, ReadsOne}
+use Rattle.std.specs.Str.Parse.{ParsesUnsigned, ExplainsUnsignedError, HasUnsignedDigitsIfOk}
+use Rattle.policy_rules.specs.declared.settings.Settings.{Settings}
+use Rattle.policy_rules.specs.declared.settings.TheConstants.{MOST_MOVES, USUAL_MOVES, MOST_SCORE, USUAL_SCORE}
+use Rattle.policy_rules.specs.Policy.{usual}
+
+abbrev pub is_true : Option Text → Bool
+is_true (Some text) = bytes_eq text (codes "true")
+is_true None = false
+
+abbrev pub text_or_empty : Option Text → Text
+text_or_empty (Some text) = text
+text_or_empty None = []
+
+abbrev pub all_values : Option (List Text) → List Text
+all_values (Some texts) = texts
+all_values None = []
+
+-- the number if it is within the bounds
+abbrev pub number_within : ℕ → ℕ → ℕ → Option ℕ → ℕ
+number_within least most usual (Some n) = if nat_le least n && nat_le n most then n else usual
+number_within least most usual None = usual
+
+-- n is the number that the text spells, as std reads a `u32`
+pub record IsNumberOf (least most usual : ℕ) (text : Text) (n : ℕ) : Type 0 where
+  pub read : Option ℕ
+  pub reads : ReadsOne (λ t r. ParsesUnsigned 32 10 t r × ExplainsUnsignedError 10 t r × HasUnsignedDigitsIfOk t r) text read
+  pub number : n ≡ number_within least most usual read
+
+-- The settings that say when a game is resigned, and whether pondering is shown, have the values that were found.
+pub record AsksPolicy (rows : List Row) (s : Settings) : Type 0 where
+  pub resign : s.resign ≡ is_true (first_of (codes "Resign") rows)
+  pub show_ponder : s.show_ponder ≡ is_true (first_of (codes "ShowPonder") rows)
+  pub resign_moves : IfSome (one_of (codes "ResignMoves") rows) (λ t. IsNumberOf 1 MOST_MOVES USUAL_MOVES t s.resign_moves)
+  pub resign_score : IfSome (one_of (codes "ResignScore") rows) (λ t. IsNumberOf 0 MOST_SCORE USUAL_SCORE t s.resign_score)
+
+-- the other settings are the usual ones
+abbrev pub HasUsualOthers : Settings → Type 0
+HasUsualOthers s =
+    s ≡ record usual {
+      resign = s.resign;
+      resign_moves = s.resign_moves;
+      resign_score = s.resign_score;
+      show_ponder = s.show_ponder;
+    }
