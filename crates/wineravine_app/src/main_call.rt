@@ -1,0 +1,155 @@
+// The program over any host.
+ghost use Rattle.std.specs.Prelude.{◌≡◌, ◌≢◌, true, IfSome};
+ghost use Rattle.child_engine.specs.Hosts.{IsUnused};
+ghost use Rattle.program_words.specs.Words.{bytes_of};
+ghost use Rattle.host_run.specs.Endings.{code_of, diagnostic};
+ghost use Rattle.host_run.specs.Outside.{outside};
+ghost use Rattle.host_run.specs.Program.{IsToldTo, StatusSays};
+ghost use Rattle.host_run.specs.declared.ending.Ending.TheVariants as endings;
+ghost use Rattle.bridge_app.specs.Program.{RunsWhole};
+ghost use Rattle.wineravine_words.specs.Words.{AreAsked, AreTaken, IsRunnable, first_lines, values_found};
+ghost use Rattle.wineravine_app.specs.Program.{Did, Does, Fit, engine_named, not_started, program};
+
+use crate::telling::{not_started_line, refuse, show, write_once};
+use bridge_app::run_bridge;
+use child_engine::Host;
+use host_run::{Ending, tell};
+use line_io::{Sink, Source, Status};
+use program_texts::version_line;
+use std::alloc::Global;
+use std::sync::Wait;
+use std::thread::Threads;
+use wineravine_words::{Asked, HELP, Request, Wrong, read_words};
+
+/// How a program ends that has no memory for its words.
+pub fn refuse_for_memory<D: Sink>(diag: &mut D) -> Status
+    ensures status { result.code ≡ code_of endings.NoMemory }
+    ensures told { IsToldTo (D.state diag.old) (D.state diag.new)
+        (diagnostic program endings.NoMemory) }
+{
+    tell(b"wineravine", Ending::NoMemory, diag);
+    Status {
+        code: Ending::NoMemory.code(),
+    }
+}
+
+// Reports how a run ended. If its engine was not started, the interface shows that to its user.
+fn report<O: Sink, D: Sink>(ending: Ending, line: &[u8], output: &mut O, diag: &mut D) -> Status
+    ensures code { result.code ≡ code_of ending }
+    ensures told { IsToldTo (D.state diag.old) (D.state diag.new) (diagnostic program ending) }
+    ensures unstarted { result.code ≡ 8
+        → IsToldTo (O.state output.old) (O.state output.new) line.now }
+    ensures quiet { result.code ≢ 8 → output.new ≡ output.old }
+{
+    tell(b"wineravine", ending, diag);
+    let code = ending.code();
+    if code == 8 {
+        write_once(line, output);
+    }
+    Status { code }
+}
+
+// Makes the run that the words ask for, and reports it.
+fn run_asked<I: Source + Send, O: Sink + Send, H: Host, D: Sink, R: Threads + Wait + Sync>(
+    rt: &R,
+    alloc: Global,
+    words: &[Vec<u8>],
+    request: &Request,
+    input: &mut I,
+    output: &mut O,
+    host: &mut H,
+    diag: &mut D,
+) -> Status
+    requires runnable { IsRunnable (bytes_of words.now) request.now }
+    requires unused { IsUnused (H.books host.old) }
+    ensures { Did (bytes_of words.now)
+        (outside (I.state input.old) (O.state output.old) (H.faults host.old) (H.books host.old))
+        (outside (I.state input.new) (O.state output.new) (H.faults host.new) (H.books host.new))
+        (D.state diag.old) (D.state diag.new) result.code }
+{
+    let Ok(line) = not_started_line(alloc, request.engine[0].as_str()) else {
+        return refuse_for_memory(diag);
+    };
+    let failures = run_bridge(
+        rt,
+        alloc,
+        &request.settings,
+        request.first.as_slice(),
+        request.log_name.as_str(),
+        request.engine.as_slice(),
+        input,
+        output,
+        host,
+    );
+    report(Ending::of(failures), line.as_slice(), output, diag)
+}
+
+// Does what the words ask for.
+fn answer<I: Source + Send, O: Sink + Send, H: Host, D: Sink, R: Threads + Wait + Sync>(
+    rt: &R,
+    alloc: Global,
+    words: &[Vec<u8>],
+    input: &mut I,
+    output: &mut O,
+    host: &mut H,
+    diag: &mut D,
+) -> Status
+    requires unused { IsUnused (H.books host.old) }
+    ensures { Did (bytes_of words.now)
+        (outside (I.state input.old) (O.state output.old) (H.faults host.old) (H.books host.old))
+        (outside (I.state input.new) (O.state output.new) (H.faults host.new) (H.books host.new))
+        (D.state diag.old) (D.state diag.new) result.code }
+{
+    match read_words(alloc, words) {
+        Ok(Asked::Run(request)) => {
+            run_asked(rt, alloc, words, &request, input, output, host, diag)
+        }
+        Ok(Asked::Help) => show(HELP.as_bytes(), output, diag),
+        Ok(Asked::Version) => match version_line(alloc, "wineravine") {
+            Ok(line) => show(line.as_slice(), output, diag),
+            Err(_) => refuse_for_memory(diag),
+        },
+        Err(Wrong::Words(reason)) => refuse(reason.as_str(), output, diag),
+        Err(Wrong::NoMemory) => refuse_for_memory(diag),
+    }
+}
+
+/// The program: a bridge between an interface, whose lines come from `input` and go to `output`,
+/// and the engine that the host starts; or a text that the words ask for. The words do not have
+/// the program's name. What cannot be written of a diagnostic, or of a line that the interface is to
+/// show its user, changes no status.
+pub fn wineravine_main<
+    I: Source + Send,
+    O: Sink + Send,
+    H: Host,
+    D: Sink,
+    R: Threads + Wait + Sync,
+>(
+    rt: &R,
+    alloc: Global,
+    words: &[Vec<u8>],
+    input: &mut I,
+    output: &mut O,
+    host: &mut H,
+    diag: &mut D,
+) -> Status
+    requires { IsUnused (H.books host.old) }
+    ensures does { Does (bytes_of words.now)
+        (outside (I.state input.old) (O.state output.old) (H.faults host.old) (H.books host.old))
+        (outside (I.state input.new) (O.state output.new) (H.faults host.new) (H.books host.new))
+        (D.state diag.old) (D.state diag.new) result.code }
+    ensures status { StatusSays (Fit (bytes_of words.now))
+        (outside (I.state input.old) (O.state output.old) (H.faults host.old) (H.books host.old))
+        (outside (I.state input.new) (O.state output.new) (H.faults host.new) (H.books host.new))
+        result.code }
+    ensures unstarted { result.code ≡ 8 → (I.state input.new ≡ I.state input.old)
+        × IsToldTo (O.state output.old) (O.state output.new)
+        (not_started (engine_named (bytes_of words.now))) }
+    ensures whole { result.code ≡ 0 → AreTaken (bytes_of words.now) → (H.books host.old).tells ≡ true
+        → IfSome (H.books host.old).says (λ bytes. RunsWhole
+        (AreAsked (values_found (bytes_of words.now))) (first_lines (values_found (bytes_of words.now))) bytes
+        (outside (I.state input.old) (O.state output.old) (H.faults host.old) (H.books host.old))
+        (outside (I.state input.new) (O.state output.new) (H.faults host.new) (H.books host.new))) }
+{
+    answer(rt, alloc, words, input, output, host, diag)
+}

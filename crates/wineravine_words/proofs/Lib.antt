@@ -1,0 +1,2 @@
+mod OneFault
+mod Reading

@@ -1,0 +1,11 @@
+//! The words of the program `wineravine`.
+#![tactic(auto)]
+
+mod command;
+mod help;
+mod lines;
+mod request;
+
+pub use command::wineravine_command;
+pub use help::HELP;
+pub use request::{Asked, Request, Wrong, read_words};
