@@ -5,7 +5,18 @@ use child_engine::{EngineInput, RealHost};
 use driver_app::{drive_main, refuse_for_memory};
 use line_io::{ReadAdapter, WriteAdapter};
 use program_edges::{ClosedStreams, WORDS_ROOM, words_of};
+use program_texts::{About, answer_about};
 use std::process::{ChildStdin, ExitCode};
+
+const ABOUT: About = About {
+    name: "driver",
+    help: "A CECP engine, as XBoard has them, under an interface that speaks UCI.
+
+Usage: driver LOG ENGINE [ARG..]
+
+LOG is made anew by each run. driver(1) says more.
+",
+};
 
 fn main(rt: HostRuntime) -> ExitCode {
     let closed = ClosedStreams::fill(&rt);
@@ -14,15 +25,18 @@ fn main(rt: HostRuntime) -> ExitCode {
     let mut diag = WriteAdapter::new(closed.diag(rt.stderr()));
     let mut host = RealHost::<_, EngineInput<ChildStdin>>::new(&rt, closed.has_own_diag(&rt));
     let status = match words_of(&rt, rt.alloc(), WORDS_ROOM) {
-        Ok(words) => drive_main(
-            &rt,
-            rt.alloc(),
-            words.as_slice(),
-            &mut input,
-            &mut output,
-            &mut host,
-            &mut diag,
-        ),
+        Ok(words) => match answer_about(rt.alloc(), words.as_slice(), &ABOUT, &mut output) {
+            Some(status) => status,
+            None => drive_main(
+                &rt,
+                rt.alloc(),
+                words.as_slice(),
+                &mut input,
+                &mut output,
+                &mut host,
+                &mut diag,
+            ),
+        },
         Err(_) => refuse_for_memory(&mut diag),
     };
     ExitCode::from(status.code)

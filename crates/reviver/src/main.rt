@@ -5,8 +5,19 @@
 use child_engine::{EngineInput, RealHost};
 use line_io::{ReadAdapter, WriteAdapter};
 use program_edges::{ClosedStreams, WORDS_ROOM, words_of};
+use program_texts::{About, answer_about};
 use reviver_app::{refuse_for_memory, revive_main};
 use std::process::{ChildStdin, ExitCode};
+
+const ABOUT: About = About {
+    name: "reviver",
+    help: "A UCI engine that is started again when it dies.
+
+Usage: reviver LIVES LOG ENGINE [ARG..]
+
+LIVES is how often it is started at most, one digit. reviver(1) says more.
+",
+};
 
 fn main(rt: HostRuntime) -> ExitCode {
     let closed = ClosedStreams::fill(&rt);
@@ -15,15 +26,18 @@ fn main(rt: HostRuntime) -> ExitCode {
     let mut diag = WriteAdapter::new(closed.diag(rt.stderr()));
     let mut host = RealHost::<_, EngineInput<ChildStdin>>::new(&rt, closed.has_own_diag(&rt));
     let status = match words_of(&rt, rt.alloc(), WORDS_ROOM) {
-        Ok(words) => revive_main(
-            &rt,
-            rt.alloc(),
-            words.as_slice(),
-            &mut input,
-            &mut output,
-            &mut host,
-            &mut diag,
-        ),
+        Ok(words) => match answer_about(rt.alloc(), words.as_slice(), &ABOUT, &mut output) {
+            Some(status) => status,
+            None => revive_main(
+                &rt,
+                rt.alloc(),
+                words.as_slice(),
+                &mut input,
+                &mut output,
+                &mut host,
+                &mut diag,
+            ),
+        },
         Err(_) => refuse_for_memory(&mut diag),
     };
     ExitCode::from(status.code)

@@ -3,6 +3,7 @@
 
 use line_io::{ReadAdapter, WriteAdapter};
 use program_edges::{ClosedStreams, words_of};
+use program_texts::{About, answer_about};
 use scripted_engine::scripted_main;
 use std::fs::File;
 use std::io::{ErrorKind, Read};
@@ -43,18 +44,31 @@ fn name_in(words: &[Vec<u8>]) -> &[u8] {
     }
 }
 
+const ABOUT: About = About {
+    name: "scripted",
+    help: "An engine whose answers stand in a file.
+
+Usage: scripted FILE
+
+scripted(1) says how FILE is written.
+",
+};
+
 fn main(rt: HostRuntime) -> ExitCode {
     let closed = ClosedStreams::fill(&rt);
     let Ok(words) = words_of(&rt, rt.alloc(), usize::MAX) else {
         return ExitCode::from(NO_MEMORY);
     };
+    let mut output = WriteAdapter::new(closed.output(rt.stdout()));
+    if let Some(status) = answer_about(rt.alloc(), words.as_slice(), &ABOUT, &mut output) {
+        return ExitCode::from(status.code);
+    }
     let mut file = ReadAdapter::new(OpenedLate {
         rt: &rt,
         name: name_in(words.as_slice()),
         file: None,
     });
     let mut input = ReadAdapter::new(closed.input(rt.stdin()));
-    let mut output = WriteAdapter::new(closed.output(rt.stdout()));
     let status = scripted_main(
         rt.alloc(),
         words.as_slice(),

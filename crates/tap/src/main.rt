@@ -5,6 +5,7 @@ use child_engine::{Closing, RealHost};
 use line_io::{ReadAdapter, WriteAdapter};
 use os::FromRawFd;
 use program_edges::{ClosedStreams, IfOpen, WORDS_ROOM, words_of};
+use program_texts::{About, answer_about};
 use std::os::fd::OwnedFd;
 use std::process::{ChildStdin, ExitCode};
 use tap_app::{refuse_for_memory, tap_main};
@@ -21,6 +22,16 @@ fn own_output(closed: &mut ClosedStreams) -> IfOpen<ChildStdin> {
     }
 }
 
+const ABOUT: About = About {
+    name: "tap",
+    help: "Stands between any bridge and its UCI engine, and logs what both say.
+
+Usage: tap LOG ENGINE [ARG..]
+
+LOG is made anew by each run. tap(1) says more.
+",
+};
+
 fn main(rt: HostRuntime) -> ExitCode {
     let mut closed = ClosedStreams::fill(&rt);
     let mut output = Closing::new(own_output(&mut closed));
@@ -28,15 +39,18 @@ fn main(rt: HostRuntime) -> ExitCode {
     let mut diag = WriteAdapter::new(closed.diag(rt.stderr()));
     let mut host = RealHost::<_, Closing<ChildStdin>>::new(&rt, closed.has_diag());
     let status = match words_of(&rt, rt.alloc(), WORDS_ROOM) {
-        Ok(words) => tap_main(
-            &rt,
-            rt.alloc(),
-            words.as_slice(),
-            &mut input,
-            &mut output,
-            &mut host,
-            &mut diag,
-        ),
+        Ok(words) => match answer_about(rt.alloc(), words.as_slice(), &ABOUT, &mut output) {
+            Some(status) => status,
+            None => tap_main(
+                &rt,
+                rt.alloc(),
+                words.as_slice(),
+                &mut input,
+                &mut output,
+                &mut host,
+                &mut diag,
+            ),
+        },
         Err(_) => refuse_for_memory(&mut diag),
     };
     ExitCode::from(status.code)
