@@ -1,11 +1,11 @@
 -- What a run over both pipes needs.
-use Rattle.std.specs.Prelude.{◌≤◌, []}
+use Rattle.std.specs.Prelude.{◌≤◌}
 use Rattle.line_io.specs.declared.out.Out.{Out}
-use Rattle.adapter_core.specs.Stands.{Stands}
-use Rattle.adapter_core.specs.declared.session.Core.{Core}
-use Rattle.pipe_runner.specs.declared.looping.TheConstants.{TEXT_ROOM}
+use Rattle.mediator.specs.declared.mediator.TheConstants.{TURN_ROOM}
+use Rattle.bridge_runner.specs.declared.session.Session.{Session}
+use Rattle.bridge_runner.specs.Plays.{plays}
 
--- nothing was stepped yet, and the text of any step has room
-pub record IsReady (core : Core) (text : Out) : Type 0 where
-  pub stands : Stands core.settings core []
-  pub room : TEXT_ROOM ≤ text.room
+-- nothing was stepped yet, and what is put into the log for any turn has room
+pub record IsReady (session : Session) (text : Out) : Type 0 where
+  pub fresh : plays.fresh session
+  pub room : TURN_ROOM ≤ text.room

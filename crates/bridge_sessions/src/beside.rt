@@ -10,7 +10,7 @@ use crate::waiting_host::WaitingHost;
 use bridge_app::bridge_main;
 use event_pipe::{Pipe, ReadEnd};
 use line_io::{MemSink, NoMemory, NullSink};
-use pipe_runner::{RunEnd, run_pipes};
+use mediator::{Channel, Handed, RunEnd, run_pipes};
 use std::alloc::Global;
 use std::process::Abort;
 use std::sync::Wait;
@@ -24,24 +24,29 @@ fn run_talk<R: Threads + Wait + Sync>(
     ready: &mut Ready,
     took: &AtomicU64,
 ) -> Result<RunEnd, NoMemory>
-    requires { IsReady ready.old.core ready.old.text }
+    requires { IsReady ready.old.session ready.old.text }
 {
-    let (iface, child, taker) = Pipe::make(alloc)?;
-    let mut input = Waiting::new(took, IFACE.as_slice());
-    let mut source = Waiting::new(took, ENGINE.as_slice());
-    let mut log: Option<NullSink> = None;
+    let (iface, engine, taker) = Pipe::make(alloc)?;
+    let channel = Channel {
+        iface,
+        engine,
+        taker,
+    };
+    let log: Option<NullSink> = None;
+    let mut handed = Handed {
+        source: Waiting::new(took, ENGINE.as_slice()),
+        engine: Telling::new(took),
+        log,
+    };
     Ok(run_pipes(
         rt,
         alloc,
-        &mut ready.core,
-        iface,
-        child,
-        taker,
-        &mut input,
-        &mut source,
+        &mut ready.session,
+        b"",
+        channel,
+        &mut Waiting::new(took, IFACE.as_slice()),
         &mut NullSink::new(),
-        &mut Telling::new(took),
-        &mut log,
+        &mut handed,
         &mut ready.text,
     ))
 }

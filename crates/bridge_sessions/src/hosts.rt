@@ -1,7 +1,7 @@
 // The hosts' calls, and a program that a real host starts.
 ghost use Rattle.std.specs.Prelude.{◌≡◌, ◌<◌, [], length, IfOk};
 ghost use Rattle.child_engine.specs.Memory.{books_of};
-ghost use Rattle.host_run.specs.Outside.{unused};
+ghost use Rattle.child_engine.specs.Hosts.{IsUnused};
 
 use crate::expected::expect_bytes;
 use child_engine::{EngineInput, Fails, Host, HostFault, MemHost, RealHost, SteadyHost};
@@ -27,7 +27,7 @@ type Answers = (
 // Starts an engine, writes this to it, reads twice and closes it.
 fn run_once<H: Host>(host: &mut H, alloc: Global, piece: &[u8]) -> Result<Answers, HostFault>
     requires piece { 0 < length piece.now }
-    requires unused { H.books host.old ≡ unused }
+    requires unused { IsUnused (H.books host.old) }
     ensures runs { IfOk result (λ _. length (H.books host.new).runs ≡ 1) }
     ensures logs { IfOk result (λ _. (H.books host.new).logs ≡ []) }
     ensures logs_out { IfOk result (λ _. (H.books host.new).logs_out ≡ 0) }
@@ -69,7 +69,7 @@ fn a_host_in_memory_keeps_what_was_written(rt: HostRuntime) -> Result<(), HostFa
 
 // Whether the host starts no engine.
 fn starts_nothing(host: &mut MemHost, alloc: Global) -> Result<bool, NoMemory>
-    requires { books_of host.old ≡ unused }
+    requires { IsUnused (books_of host.old) }
     ensures { (books_of host.new).logs_out ≡ 0 }
 {
     let words = engine_words(alloc)?;

@@ -4,6 +4,8 @@
 #[cfg(test)]
 mod beside;
 #[cfg(test)]
+mod exact_log;
+#[cfg(test)]
 mod expected;
 #[cfg(test)]
 mod hosts;
@@ -21,5 +23,7 @@ mod refused_calls;
 mod talk;
 #[cfg(test)]
 mod waiting_host;
+#[cfg(test)]
+mod whole_log;
 #[cfg(test)]
 mod words;

@@ -7,7 +7,7 @@ use crate::expected::{expect_bytes, expect_log};
 use crate::ready::{Ready, make_ready};
 use event_pipe::{Pipe, PipeSend, PipeTake, read_pipe};
 use line_io::{MemSink, MemSource, NoMemory};
-use pipe_runner::core_loop;
+use mediator::mediate;
 use sink_offers::LoopEnd;
 use std::alloc::Global;
 use std::process::Abort;
@@ -54,15 +54,16 @@ fn read_lines<R: Wait + Abort>(rt: &R, alloc: Global, lines: &[u8], to: &mut Pip
     let _end = read_pipe(rt, alloc, &mut source, to);
 }
 
-// Steps the core by what is in the channel.
+// Steps the session by what is in the channel.
 fn step_all<R: Wait>(rt: &R, ready: &mut Ready, taker: PipeTake, sinks: &mut Sinks) -> LoopEnd
-    requires ready { IsReady ready.old.core ready.old.text }
+    requires ready { IsReady ready.old.session ready.old.text }
     requires taker { IsFreshTaker taker }
 {
     let mut taker = taker;
-    core_loop(
+    mediate(
         rt,
-        &mut ready.core,
+        &mut ready.session,
+        b"",
         &mut taker,
         &mut sinks.output,
         &mut sinks.engine,

@@ -1,6 +1,5 @@
 // The program over hosts in memory.
-ghost use Rattle.std.specs.Prelude.{◌≡◌};
-ghost use Rattle.host_run.specs.Outside.{unused};
+ghost use Rattle.child_engine.specs.Hosts.{IsUnused};
 
 use crate::expected::expect_bytes;
 use bridge_app::bridge_main;
@@ -60,7 +59,7 @@ pub fn run_over<H: Host, R: Threads + Wait + Sync + Abort>(
     host: &mut H,
     failing: &[u64],
 ) -> Told
-    requires { H.books host.old ≡ unused }
+    requires { IsUnused (H.books host.old) }
 {
     let words = words_of(alloc, words).expect(rt, "memory for the words");
     let mut input = MemSource::make(alloc, INPUT, 5, &[]).expect(rt, "memory for the input");

@@ -1,7 +1,7 @@
 // A host in memory that shows what its engine and its log took.
-ghost use Rattle.std.specs.Prelude.{◌≡◌, IfOk};
+ghost use Rattle.std.specs.Prelude.{IfOk};
 ghost use Rattle.child_engine.specs.Memory.{books_of};
-ghost use Rattle.host_run.specs.Outside.{unused};
+ghost use Rattle.child_engine.specs.Hosts.{IsUnused};
 
 use child_engine::{Fails, Host, HostFault, MemHost, Started};
 use line_io::{Failed, MemSink, MemSource, NoMemory};
@@ -18,7 +18,7 @@ pub struct Recorder {
 impl Recorder {
     /// A host that has handed out nothing. Each engine says these bytes, at most five at a read.
     pub fn make(alloc: Global, engine: &[u8], fails: &Fails) -> Result<Recorder, NoMemory>
-        ensures { IfOk result (λ r. books_of r.host ≡ unused) }
+        ensures { IfOk result (λ r. IsUnused (books_of r.host)) }
     {
         Ok(Recorder {
             host: MemHost::make(alloc, engine, 5, 10_000, fails)?,

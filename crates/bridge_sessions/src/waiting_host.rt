@@ -1,7 +1,6 @@
 // A host whose engine waits for what its input brings.
-ghost use Rattle.std.specs.Prelude.{◌≡◌};
-ghost use Rattle.child_engine.specs.Hosts.{RisesBy};
-ghost use Rattle.host_run.specs.Outside.{unused};
+ghost use Rattle.std.specs.Prelude.{◌≡◌, None, false};
+ghost use Rattle.child_engine.specs.Hosts.{RisesBy, unused};
 ghost use Rattle.bridge_sessions.specs.Waiting.{books_with};
 
 use crate::talk::{ENGINE, Telling, Waiting};
@@ -25,7 +24,7 @@ impl<'a> WaitingHost<'a> {
     /// A host that has handed out nothing.
     pub fn new(took: &'a AtomicU64) -> WaitingHost<'a>
         ensures { books_with result.runs_out result.logs_out result.runs_closed result.logs_closed
-            ≡ unused }
+            ≡ unused None false }
     {
         WaitingHost {
             took,

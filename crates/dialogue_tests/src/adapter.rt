@@ -33,13 +33,13 @@ const GO_AFTER_E4: &str =
     "position startpos moves e2e4\ngo wtime 300000 btime 300000 winc 0 binc 0\n";
 
 /// A mark, and the lines to the interface and to the engine after it.
-type Step = (&'static str, &'static str, &'static str);
+pub type Step = (&'static str, &'static str, &'static str);
 
 /// The state of the engine at the end, the plies of the game, and whether the session is over.
-type End = (EngineState, u32, bool);
+pub type End = (EngineState, u32, bool);
 
 /// Lets a core go. That is proved here once, and not in each function that makes one.
-fn end_core(_core: Core) {}
+pub fn end_core(_core: Core) {}
 
 fn quits(event: &Event) -> bool
     ensures { result ≡ quits_by (event_of event.now) }
@@ -51,7 +51,7 @@ fn quits(event: &Event) -> bool
 }
 
 /// Takes an event that may come, and compares the lines to both peers.
-fn check_event(rt: &impl Abort, core: &mut Core, event: &Event, iface: &str, engine: &str) {
+pub fn check_event(rt: &impl Abort, core: &mut Core, event: &Event, iface: &str, engine: &str) {
     assert!(rt; core.may(event), "{iface}{engine}");
     let step = core.step(event);
     expect_text(rt, step.iface, iface, iface);
@@ -59,14 +59,14 @@ fn check_event(rt: &impl Abort, core: &mut Core, event: &Event, iface: &str, eng
 }
 
 /// Takes the event of each mark, and compares the lines to the interface and to the engine.
-fn check_steps(rt: &impl Abort, core: &mut Core, steps: &[Step]) {
+pub fn check_steps(rt: &impl Abort, core: &mut Core, steps: &[Step]) {
     for (mark, iface, engine) in steps {
         check_event(rt, core, &event_in(rt, mark), iface, engine);
     }
 }
 
 /// Plays a session, and compares the state of the engine and the plies of the game at its end.
-fn check_session(
+pub fn check_session(
     rt: &impl Abort,
     alloc: Global,
     settings: Settings,

@@ -20,18 +20,32 @@ use desk_rules::{Context, Desk, Effect, Mode, Pings, Ruling, is_gone};
 use line_io::{Event, NoMemory, Out, SCRIPT_LINE};
 use option_map::Held;
 use peer_words::GoKind;
+use policy_rules::Settings;
 use search_epochs::{Call, EngineState};
 use std::alloc::Global;
 use std::process::Abort;
 
+/// The usual settings.
+const USUAL: Settings = Settings {
+    resign: false,
+    resign_moves: 3,
+    resign_score: 600,
+    show_ponder: true,
+    early_settings: false,
+    resign_when_gone: false,
+    handle_draws: true,
+    show_san: false,
+    strength_options: false,
+};
+
 /// Nothing is said of the engine yet, and the policy neither resigns nor accepts a draw.
 const SIGHT: Context = Context {
+    settings: USUAL,
     closed: false,
     engine: EngineState::Boot,
     spent: false,
     resigns: false,
     accepts: false,
-    show_ponder: true,
 };
 
 const PONDER_IS_OPTION: &str = "u option name Ponder type check default false";
@@ -124,6 +138,7 @@ fn word_of(effect: &Effect) -> &'static str {
         Effect::LongLine => "long line",
         Effect::Refuses { .. } => "refuses",
         Effect::Accepts(_) => "accepts",
+        Effect::Defers(_) => "defers",
         Effect::Names(_) => "names",
         Effect::Declares(_) => "declares",
         Effect::Boots => "boots",

@@ -4,6 +4,8 @@
 #[cfg(test)]
 mod adapter;
 #[cfg(test)]
+mod chosen;
+#[cfg(test)]
 mod desk;
 #[cfg(test)]
 mod drills;

@@ -1,11 +1,11 @@
 -- What a run over both pipes needs.
-use Rattle.std.specs.Prelude.{◌≡◌, ◌≤◌}
+use Rattle.std.specs.Prelude.{◌≤◌}
 use Rattle.line_io.specs.declared.out.Out.{Out}
-use Rattle.cecp_driver.specs.Driver.{opening}
-use Rattle.cecp_driver.specs.declared.driver.Driver.{Driver}
-use Rattle.cecp_driver.specs.declared.script.TheConstants.{EVENT_ROOM}
+use Rattle.mediator.specs.declared.mediator.TheConstants.{TURN_ROOM}
+use Rattle.driver_runner.specs.declared.driving.Driving.{Driving}
+use Rattle.driver_runner.specs.Drives.{drives}
 
--- nothing was written yet, and the marks of any event have room
-pub record IsReady (driver : Driver) (text : Out) : Type 0 where
-  pub driver_is : driver ≡ opening
-  pub room : EVENT_ROOM ≤ text.room
+-- nothing was written yet, and what is put into the log for any turn has room
+pub record IsReady (driving : Driving) (text : Out) : Type 0 where
+  pub fresh : drives.fresh driving
+  pub room : TURN_ROOM ≤ text.room

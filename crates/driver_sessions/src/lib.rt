@@ -4,6 +4,8 @@
 #[cfg(test)]
 mod calls;
 #[cfg(test)]
+mod exact_log;
+#[cfg(test)]
 mod expected;
 #[cfg(test)]
 mod loops;

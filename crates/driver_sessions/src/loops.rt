@@ -5,9 +5,9 @@ ghost use Rattle.driver_sessions.specs.Ready.{IsReady};
 
 use crate::expected::expect_bytes;
 use crate::ready::{Ready, make_ready};
-use driver_runner::{RunEnd, drive_loop, run_driver_pipes};
 use event_pipe::{Pipe, PipeSend, PipeTake, ReadEnd, read_pipe};
 use line_io::{MemSink, MemSource};
+use mediator::{Channel, Handed, RunEnd, mediate, run_pipes};
 use sink_offers::LoopEnd;
 use std::alloc::Global;
 use std::process::Abort;
@@ -83,17 +83,18 @@ fn read_lines<R: Wait>(
 
 // Has the driver take what is in the channel.
 fn drive_all<R: Wait>(rt: &R, ready: Ready, taker: PipeTake, sinks: &mut Sinks) -> LoopEnd
-    requires ready { IsReady ready.driver ready.text }
+    requires ready { IsReady ready.driving ready.text }
     requires taker { IsFreshTaker taker }
 {
     let Ready {
-        mut driver,
+        mut driving,
         mut text,
     } = ready;
     let mut taker = taker;
-    drive_loop(
+    mediate(
         rt,
-        &mut driver,
+        &mut driving,
+        b"",
         &mut taker,
         &mut sinks.output,
         &mut sinks.engine,
@@ -142,30 +143,42 @@ fn long_lines_are_passed_over(rt: HostRuntime) -> Result<(), Fail> {
 }
 
 // Reads both pipes beside the loop.
-fn run_pipes<R: Threads + Wait + Sync>(
+fn run_both<R: Threads + Wait + Sync>(
     rt: &R,
     alloc: Global,
     input: &mut MemSource,
-    source: &mut MemSource,
-    sinks: &mut Sinks,
+    source: MemSource,
+    sinks: Sinks,
 ) -> Result<RunEnd, Fail> {
     let Ready {
-        mut driver,
+        mut driving,
         mut text,
     } = make_ready(alloc)?;
-    let (iface, child, taker) = Pipe::make(alloc)?;
-    Ok(run_driver_pipes(
+    let (iface, engine, taker) = Pipe::make(alloc)?;
+    let channel = Channel {
+        iface,
+        engine,
+        taker,
+    };
+    let Sinks {
+        mut output,
+        engine,
+        log,
+    } = sinks;
+    let mut handed = Handed {
+        source,
+        engine,
+        log,
+    };
+    Ok(run_pipes(
         rt,
         alloc,
-        &mut driver,
-        iface,
-        child,
-        taker,
+        &mut driving,
+        b"",
+        channel,
         input,
-        source,
-        &mut sinks.output,
-        &mut sinks.engine,
-        &mut sinks.log,
+        &mut output,
+        &mut handed,
         &mut text,
     ))
 }
@@ -174,9 +187,9 @@ fn run_pipes<R: Threads + Wait + Sync>(
 fn both_pipes_are_read(rt: HostRuntime) -> Result<(), Fail> {
     let alloc = rt.alloc();
     let mut input = MemSource::make(alloc, b"uci\nquit\n", 3, &[])?;
-    let mut source = MemSource::make(alloc, b"", 3, &[])?;
-    let mut sinks = make_sinks(alloc, &[], None)?;
-    let end = run_pipes(&rt, alloc, &mut input, &mut source, &mut sinks)?;
+    let source = MemSource::make(alloc, b"", 3, &[])?;
+    let sinks = make_sinks(alloc, &[], None)?;
+    let end = run_both(&rt, alloc, &mut input, source, sinks)?;
     let wanted = RunEnd {
         iface: ReadEnd::Done,
         engine: ReadEnd::Done,

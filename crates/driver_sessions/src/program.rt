@@ -1,6 +1,5 @@
 // The program over hosts in memory.
-ghost use Rattle.std.specs.Prelude.{◌≡◌};
-ghost use Rattle.host_run.specs.Outside.{unused};
+ghost use Rattle.child_engine.specs.Hosts.{IsUnused};
 
 use crate::expected::{expect_bytes, expect_code};
 use child_engine::{Fails, Host, MemHost, SteadyHost};
@@ -47,7 +46,7 @@ fn run_over<H: Host, R: Threads + Wait + Sync>(
     words: &[&[u8]],
     host: &mut H,
 ) -> Result<Told, Fail>
-    requires { H.books host.old ≡ unused }
+    requires { IsUnused (H.books host.old) }
 {
     let words = words_of(alloc, words)?;
     let mut input = MemSource::make(alloc, INPUT, 5, &[])?;

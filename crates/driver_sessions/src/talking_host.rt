@@ -1,7 +1,6 @@
 // A host whose engine waits for what is written, and which keeps its log.
-ghost use Rattle.std.specs.Prelude.{◌≡◌, IfOk};
-ghost use Rattle.child_engine.specs.Hosts.{RisesBy};
-ghost use Rattle.host_run.specs.Outside.{unused};
+ghost use Rattle.std.specs.Prelude.{◌≡◌, IfOk, None, false};
+ghost use Rattle.child_engine.specs.Hosts.{RisesBy, unused};
 ghost use Rattle.driver_sessions.specs.Talking.{books_with};
 
 use crate::talk::{Due, Telling, Waiting};
@@ -48,7 +47,7 @@ impl<'a> TalkingHost<'a> {
         engine: &'static [Due],
     ) -> Result<TalkingHost<'a>, NoMemory>
         ensures { IfOk result (λ h.
-            books_with h.runs_out h.logs_out h.runs_closed h.logs_closed ≡ unused) }
+            books_with h.runs_out h.logs_out h.runs_closed h.logs_closed ≡ unused None false) }
     {
         Ok(TalkingHost {
             written,

@@ -1,7 +1,7 @@
 // What no clause says: that the definitions mean the lines that real engines write.
 use super::expect::{expect_holds, expect_text};
 use cecp_iface_side::{read_reply, write_iface, written_messages_are_read_again};
-use cecp_lines::{IfaceMsg, Outcome, Reason, Reply, UserError};
+use cecp_lines::{IfaceMsg, Outcome, Reason, Reply, Spelling, UserError};
 use chess_board::{Kind, Move, Square};
 use line_io::Out;
 use std::process::Abort;
@@ -93,6 +93,7 @@ fn expect_reports(rt: &impl Abort) {
             score: -35,
             time: 1518,
             nodes: 456_789,
+            spelling: Spelling::Coordinates,
             hint: None,
             pv: b"e2e4 a7a8n",
         },
@@ -105,7 +106,8 @@ fn expect_reports(rt: &impl Abort) {
             score: 0,
             time: 0,
             nodes: 20,
-            hint: Some(E2E4),
+            spelling: Spelling::Coordinates,
+            hint: Some(b"e2e4"),
             pv: b"e1g1",
         },
     );
@@ -135,6 +137,68 @@ fn expect_reports(rt: &impl Abort) {
     );
 }
 
+/// A thinking line in standard algebraic notation, its hint and its moves.
+type San = (&'static str, Option<&'static [u8]>, &'static [u8]);
+
+const SANS: [San; 6] = [
+    ("1 0 0 20 O-O O-O-O Rf8", None, b"O-O O-O-O Rf8"),
+    ("1 0 0 20 (Nf3) Nc6 Bb5", Some(b"Nf3"), b"Nc6 Bb5"),
+    (
+        "1 0 0 20 a8=Q+ Ke7 h8=N axb1=B",
+        None,
+        b"a8=Q+ Ke7 h8=N axb1=B",
+    ),
+    (
+        "1 0 0 20 Qh5d5 Qad5 Q1d5 Qhe5+",
+        None,
+        b"Qh5d5 Qad5 Q1d5 Qhe5+",
+    ),
+    (
+        "1 0 0 20 (exd5) Qf6+ Kg8 Qd8#",
+        Some(b"exd5"),
+        b"Qf6+ Kg8 Qd8#",
+    ),
+    (
+        "1 0 0 20 Rxa8+ R1xh8 Qa1xb2+ O-O-O#",
+        None,
+        b"Rxa8+ R1xh8 Qa1xb2+ O-O-O#",
+    ),
+];
+
+fn expect_sans(rt: &impl Abort) {
+    for (line, hint, pv) in SANS {
+        expect_read(
+            rt,
+            line,
+            Reply::Thinking {
+                depth: 1,
+                score: 0,
+                time: 0,
+                nodes: 20,
+                spelling: Spelling::San,
+                hint,
+                pv,
+            },
+        );
+    }
+}
+
+/// Thinking lines in neither spelling: both are mixed, or a text is not as it is written.
+const NO_SANS: [&str; 12] = [
+    "1 0 0 20 e2e4 Nf6",
+    "1 0 0 20 (e2e4) Nf6",
+    "1 0 0 20 (e4) g8f6",
+    "1 0 0 20 0-0",
+    "1 0 0 20 Nf3!",
+    "1 0 0 20 Nf3+#",
+    "1 0 0 20 e8Q",
+    "1 0 0 20 e8",
+    "1 0 0 20 e5=Q",
+    "1 0 0 20 ed5",
+    "1 0 0 20 Kfg1",
+    "1 0 0 20 Nf3  Nc6",
+];
+
 const NO_REPLIES: [&str; 6] = [
     "pong 01",
     "pong 4294967296",
@@ -154,7 +218,9 @@ fn expect_no_replies(rt: &impl Abort, lines: &[&'static str]) {
 fn lines_of_engines(rt: HostRuntime) {
     expect_answers(&rt);
     expect_reports(&rt);
+    expect_sans(&rt);
     expect_no_replies(&rt, &NO_REPLIES);
+    expect_no_replies(&rt, &NO_SANS);
 }
 
 #[test]

@@ -5,9 +5,9 @@ use super::expect::{expect_holds, expect_text};
 use line_io::{Event, Out};
 use policy_rules::Settings;
 use script_lines::{
-    Mark, STEP_ROOM, lines_are_of_one_kind, next_number, put_numbered_step, put_step, put_written,
-    read_header, read_mark, read_step, scripts_are_read_back, write_header, write_mark,
-    write_mark_line, write_step,
+    HEADER_ROOM, Mark, STEP_ROOM, lines_are_of_one_kind, next_number, put_numbered_step, put_step,
+    put_written, read_header, read_mark, read_step, scripts_are_read_back, write_header,
+    write_mark, write_mark_line, write_step,
 };
 use std::alloc::Global;
 use std::process::Abort;
@@ -142,6 +142,11 @@ const LONGEST: Settings = Settings {
     resign_moves: 1000,
     resign_score: 100_000,
     show_ponder: false,
+    early_settings: false,
+    resign_when_gone: false,
+    handle_draws: false,
+    show_san: false,
+    strength_options: false,
 };
 
 const LEAST: &str = "#2 Resign=true ResignMoves=1 ResignScore=0 ShowPonder=false";
@@ -151,9 +156,46 @@ const LEAST_SETTINGS: Settings = Settings {
     resign_moves: 1,
     resign_score: 0,
     show_ponder: false,
+    early_settings: false,
+    resign_when_gone: false,
+    handle_draws: true,
+    show_san: false,
+    strength_options: false,
 };
 
-const NO_HEADERS: [&str; 22] = [
+const ALL_TURNED: &str =
+    "#3 Resign=true ResignMoves=7 ResignScore=0 ShowPonder=false EarlySettings=true ResignWhenGone=true HandleDraws=false ShowSan=true StrengthOptions=true";
+
+const ALL_TURNED_SETTINGS: Settings = Settings {
+    resign: true,
+    resign_moves: 7,
+    resign_score: 0,
+    show_ponder: false,
+    early_settings: true,
+    resign_when_gone: true,
+    handle_draws: false,
+    show_san: true,
+    strength_options: true,
+};
+
+/// One of the last five settings alone is not usual.
+const ONE_TURNED: [&str; 5] = [
+    "#3 Resign=false ResignMoves=3 ResignScore=600 ShowPonder=true EarlySettings=true ResignWhenGone=false HandleDraws=true ShowSan=false StrengthOptions=false",
+    "#3 Resign=false ResignMoves=3 ResignScore=600 ShowPonder=true EarlySettings=false ResignWhenGone=true HandleDraws=true ShowSan=false StrengthOptions=false",
+    "#3 Resign=false ResignMoves=3 ResignScore=600 ShowPonder=true EarlySettings=false ResignWhenGone=false HandleDraws=false ShowSan=false StrengthOptions=false",
+    "#3 Resign=false ResignMoves=3 ResignScore=600 ShowPonder=true EarlySettings=false ResignWhenGone=false HandleDraws=true ShowSan=true StrengthOptions=false",
+    "#3 Resign=false ResignMoves=3 ResignScore=600 ShowPonder=true EarlySettings=false ResignWhenGone=false HandleDraws=true ShowSan=false StrengthOptions=true",
+];
+
+const NO_HEADERS: [&str; 30] = [
+    "#3",
+    "#3 Resign=false ResignMoves=3 ResignScore=600 ShowPonder=true",
+    "#3 Resign=false ResignMoves=3 ResignScore=600 ShowPonder=true EarlySettings=false ResignWhenGone=false HandleDraws=true ShowSan=false StrengthOptions=false",
+    "#2 Resign=false ResignMoves=3 ResignScore=600 ShowPonder=true EarlySettings=true ResignWhenGone=false HandleDraws=true ShowSan=false StrengthOptions=false",
+    "#4 Resign=false ResignMoves=3 ResignScore=600 ShowPonder=true EarlySettings=true ResignWhenGone=false HandleDraws=true ShowSan=false StrengthOptions=false",
+    "#3 Resign=false ResignMoves=3 ResignScore=600 ShowPonder=true ResignWhenGone=false EarlySettings=true HandleDraws=true ShowSan=false StrengthOptions=false",
+    "#3 Resign=false ResignMoves=3 ResignScore=600 ShowPonder=true EarlySettings=true ResignWhenGone=false HandleDraws=true ShowSan=false",
+    "#3 Resign=false ResignMoves=3 ResignScore=600 ShowPonder=true EarlySettings=true ResignWhenGone=false HandleDraws=true ShowSan=false StrengthOptions=false ShowSan=false",
     "",
     "#2",
     "#2 ",
@@ -189,7 +231,7 @@ fn write(settings: &Settings, out: &mut Out)
     requires { IsProper settings.now }
 {
     out.clear();
-    if out.spare() >= 68 {
+    if out.spare() >= HEADER_ROOM {
         write_header(settings, out);
     }
 }
@@ -212,12 +254,28 @@ fn expect_least(rt: &impl Abort) {
     expect_holds(rt, read == Some(LEAST_SETTINGS), LEAST);
 }
 
+fn expect_turned(rt: &impl Abort, out: &mut Out) {
+    write(&ALL_TURNED_SETTINGS, out);
+    expect_text(rt, out.bytes(), ALL_TURNED);
+    let read = read_header(ALL_TURNED.as_bytes());
+    expect_holds(rt, read == Some(ALL_TURNED_SETTINGS), ALL_TURNED);
+    for text in &ONE_TURNED {
+        let read = read_header(text.as_bytes());
+        expect_holds(
+            rt,
+            read.is_some_and(|settings| !settings.has_usual_rest()),
+            text,
+        );
+    }
+}
+
 #[test]
 fn reads_what_headers_spell(rt: HostRuntime) -> Result<(), Fail> {
-    let mut out = Out::make(rt.alloc(), 68)?;
+    let mut out = Out::make(rt.alloc(), HEADER_ROOM)?;
     expect_usual(&rt, &mut out);
     expect_longest(&rt, &mut out);
     expect_least(&rt);
+    expect_turned(&rt, &mut out);
     expect_no_headers(&rt, &NO_HEADERS);
     Ok(())
 }

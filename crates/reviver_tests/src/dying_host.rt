@@ -1,7 +1,6 @@
 // A host whose engines end in mid-search.
-ghost use Rattle.std.specs.Prelude.{◌≡◌};
-ghost use Rattle.child_engine.specs.Hosts.{RisesBy};
-ghost use Rattle.host_run.specs.Outside.{unused};
+ghost use Rattle.std.specs.Prelude.{◌≡◌, None, false};
+ghost use Rattle.child_engine.specs.Hosts.{RisesBy, unused};
 ghost use Rattle.reviver_tests.specs.Waiting.{books_with};
 
 use crate::talk::{FIRST, SECOND, Telling, Waiting};
@@ -27,7 +26,7 @@ impl<'a> DyingHost<'a> {
     /// A host that has handed out nothing.
     pub fn new(alloc: Global, pieces: &'a AtomicU64, starts: u8) -> DyingHost<'a>
         ensures { books_with result.runs_out result.logs_out result.runs_closed result.logs_closed
-            ≡ unused }
+            ≡ unused None false }
     {
         DyingHost {
             pieces,

@@ -6,6 +6,8 @@ mod calls;
 #[cfg(test)]
 mod dying_host;
 #[cfg(test)]
+mod exact_log;
+#[cfg(test)]
 mod lives;
 #[cfg(test)]
 mod program;

@@ -2,7 +2,7 @@
 use chess_board::read_move;
 use peer_words::GoKind;
 use script_lines::read_mark;
-use session_judge::{Judge, Rule, Search};
+use session_judge::{Judge, Listener, Rule, Search, crossings_are_the_difference};
 use std::process::Abort;
 
 /// Hears the lines of a log, which stand between bars, and gives the line that breaks a rule.
@@ -91,7 +91,7 @@ const ROWS: [Row; 22] = [
 ];
 
 fn expect_broken(rt: &impl Abort, log: &str, want: Option<(u64, Rule)>) -> Judge {
-    let mut judge = Judge::new();
+    let mut judge = Judge::new(Listener::Bridge);
     assert!(rt; heard(rt, &mut judge, log) == want, "{log}");
     judge
 }
@@ -122,4 +122,91 @@ fn a_search_is_told(rt: HostRuntime) {
         shown: read_move(b"g1f3"),
     };
     assert!(rt; judge.search() == Some(search));
+}
+
+// A log of a tap, how many of its orders crossed, and the line that breaks a rule, if one does.
+type Tapped = (&'static str, u64, Option<(u64, Rule)>);
+
+const TAPPED: [Tapped; 10] = [
+    (
+        "U uci|u uciok|U position startpos|U go|u bestmove e2e4|U stop|U position startpos moves e2e4|U go infinite|U stop",
+        1,
+        None,
+    ),
+    (
+        "U uci|u uciok|U position startpos|U go ponder|u bestmove e2e4|U ponderhit|U stop|U position startpos|U go",
+        2,
+        None,
+    ),
+    (
+        "U uci|u uciok|U position startpos|U go|u bestmove e2e4|u.|U stop|U quit",
+        2,
+        None,
+    ),
+    (
+        "U uci|u uciok|U position startpos|U go|u.|U stop|U quit",
+        2,
+        None,
+    ),
+    (
+        "U uci|u uciok|u.|U position startpos|U go|U position startpos|U go",
+        2,
+        Some((6, Rule::Busy)),
+    ),
+    (
+        "U uci|u uciok|U position startpos|U go|u bestmove e2e4|U ponderhit",
+        0,
+        Some((6, Rule::Hit)),
+    ),
+    (
+        "U uci|u uciok|U position startpos|U go|u bestmove e2e4|U isready|u readyok|U stop",
+        0,
+        Some((8, Rule::Stop)),
+    ),
+    (
+        "U uci|u uciok|U position startpos|U go|U stop|u bestmove e2e4|U stop",
+        0,
+        Some((7, Rule::Stop)),
+    ),
+    (
+        "U uci|u uciok|U position startpos|U go|u bestmove e2e4|U stop|U stop",
+        1,
+        Some((7, Rule::Stop)),
+    ),
+    (
+        "U uci|u uciok|U position startpos|U go|U stop|u bestmove e2e4|X move e2e4|U quit",
+        0,
+        None,
+    ),
+];
+
+fn expect_tapped(rt: &impl Abort, rows: &[Tapped]) {
+    for (log, crossings, broken) in rows {
+        let mut judge = Judge::new(Listener::Tap);
+        assert!(rt; heard(rt, &mut judge, log) == *broken, "{log}");
+        assert_eq!(rt; judge.crossings(), *crossings);
+    }
+}
+
+#[test]
+fn orders_cross(rt: HostRuntime) {
+    expect_tapped(&rt, &TAPPED);
+}
+
+// The search that has ended stays as it was told.
+#[test]
+fn a_crossing_stops_no_search(rt: HostRuntime) {
+    let mut judge = Judge::new(Listener::Tap);
+    let log = "U uci|u uciok|U position startpos|U go ponder|u bestmove e2e4|U ponderhit|U stop";
+    assert!(rt; heard(&rt, &mut judge, log) == None, "{log}");
+    let search = Search {
+        number: 1,
+        kind: GoKind::Ponder,
+        begun: 4,
+        ended: Some(5),
+        stopped: false,
+        shown: None,
+    };
+    assert!(rt; judge.search() == Some(search));
+    crossings_are_the_difference();
 }

@@ -16,6 +16,8 @@ mod migrated;
 #[cfg(test)]
 mod played;
 #[cfg(test)]
+mod positions;
+#[cfg(test)]
 mod reports;
 #[cfg(test)]
 mod revived;

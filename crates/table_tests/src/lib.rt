@@ -12,4 +12,6 @@ mod options;
 #[cfg(test)]
 mod policy;
 #[cfg(test)]
+mod settings;
+#[cfg(test)]
 mod thinking;

@@ -31,6 +31,11 @@ const USUAL: Settings = Settings {
     resign_moves: 3,
     resign_score: 600,
     show_ponder: true,
+    early_settings: false,
+    resign_when_gone: false,
+    handle_draws: true,
+    show_san: false,
+    strength_options: false,
 };
 
 const TWO_LOST: Settings = Settings {

@@ -1,12 +1,17 @@
 //! Lines of engines, and what the interface is shown of them.
-ghost use Rattle.std.specs.Prelude.{IfSome};
+ghost use Rattle.std.specs.Prelude.{◌≡◌, IfSome};
+ghost use Rattle.chess_board.specs.Place.{legal};
 ghost use Rattle.cecp_lines.specs.Replies.{IsWritable};
+ghost use Rattle.think_text.specs.Line.{IsPlayable};
 
 use crate::expect::{expect_holds, expect_text, room};
+use cecp_lines::Spelling;
 use chess_board::{Move, Position, Square, read_move};
 use line_io::Out;
 use std::process::Abort;
-use think_text::{Seen, current_stays_writable, stat01, thinking, thinking_lines_are_short};
+use think_text::{
+    Pondered, Seen, current_stays_writable, stat01, thinking, thinking_lines_are_short,
+};
 use uci_lines::{EngineMsg, read_engine};
 
 /// The position after moves from the standard start. None if one is illegal.
@@ -22,17 +27,45 @@ fn after(moves: &[&'static str]) -> Option<Position> {
     Some(at)
 }
 
+fn is_legal(at: &Position, m: Move) -> bool
+    ensures { result ≡ legal at.now m }
+{
+    at.legal(m)
+}
+
+/// The move that is pondered on, if there is one: the last move, and the position before it.
+fn pondered(moves: &[&'static str], hint: &str) -> Option<Pondered>
+    ensures { IsPlayable result }
+{
+    let hint = read_move(hint.as_bytes())?;
+    let [earlier @ .., _] = moves else {
+        return None;
+    };
+    let before = after(earlier)?;
+    if is_legal(&before, hint) {
+        Some(Pondered { before, hint })
+    } else {
+        None
+    }
+}
+
 /// Writes the thinking line of an engine's line, and whether there is one.
-fn show(moves: &[&'static str], hint: &str, line: &str, out: &mut Out) -> Option<bool> {
+fn show(
+    spelling: Spelling,
+    moves: &[&'static str],
+    hint: &str,
+    line: &str,
+    out: &mut Out,
+) -> Option<bool> {
     out.clear();
     let at = after(moves)?;
-    let hint = read_move(hint.as_bytes());
-    if line.len() > 800 || out.spare() < 928 {
+    let hint = pondered(moves, hint);
+    if line.len() > 800 || out.spare() < 1_408 {
         return None;
     }
     thinking_lines_are_short();
     match read_engine(line.as_bytes()) {
-        EngineMsg::Info(info) => Some(thinking(&info, &at, hint, out)),
+        EngineMsg::Info(info) => Some(thinking(spelling, &info, &at, hint, out)),
         _ => None,
     }
 }
@@ -188,9 +221,58 @@ const UNSHOWN: [Shown; 5] = [
     (&[], "", "info depth 0 score mate 0", ""),
 ];
 
-fn expect_shown(rt: &impl Abort, rows: &[Shown], out: &mut Out) {
+/// Variations in standard algebraic notation.
+const SANS: [Shown; 7] = [
+    (
+        &["e2e4"],
+        "",
+        "info depth 8 score cp -20 time 350 nodes 51000 pv e7e5 g1f3 b8c6 f1b5 a7a6 b5c6 d7c6 f3e5 e1g1",
+        "8 -20 35 51000 e5 Nf3 Nc6 Bb5 a6 Bxc6 dxc6 Nxe5",
+    ),
+    // a hint, in the position before it
+    (
+        &["e2e4", "e7e5", "g1f3"],
+        "g1f3",
+        "info depth 9 score cp 13 pv b8c6 f1b5",
+        "9 13 0 0 (Nf3) Nc6 Bb5",
+    ),
+    // mate and check
+    (
+        &["f2f3", "e7e5", "g2g4"],
+        "",
+        "info depth 2 score mate 1 time 9 nodes 31 pv d8h4 e1f2",
+        "2 100001 0 31 Qh4#",
+    ),
+    (
+        &[],
+        "",
+        "info depth 10 score cp 0 pv e2e4 e7e5 g1f3 d8h4 f1c4 h4f2 e1g1",
+        "10 0 0 0 e4 e5 Nf3 Qh4 Bc4 Qxf2+",
+    ),
+    // castling, en passant, a promotion
+    (
+        &[],
+        "",
+        "info depth 10 score cp 0 pv e2e4 e7e5 g1f3 b8c6 f1c4 f8c5 e1g1",
+        "10 0 0 0 e4 e5 Nf3 Nc6 Bc4 Bc5 O-O",
+    ),
+    (
+        &[],
+        "",
+        "info depth 10 score cp 0 pv e2e4 a7a6 e4e5 d7d5 e5d6 c7d6",
+        "10 0 0 0 e4 a6 e5 d5 exd6 cxd6",
+    ),
+    (
+        &[],
+        "",
+        "info depth 10 score cp 0 pv a2a4 b7b5 a4b5 a7a6 b5a6 b8c6 a6a7 a8b8 a7b8Q c6b8",
+        "10 0 0 0 a4 b5 axb5 a6 bxa6 Nc6 a7 Rb8 axb8=Q Nxb8",
+    ),
+];
+
+fn expect_shown(rt: &impl Abort, spelling: Spelling, rows: &[Shown], out: &mut Out) {
     for (moves, hint, line, want) in rows {
-        let told = show(moves, hint, line, out);
+        let told = show(spelling, moves, hint, line, out);
         expect_holds(rt, told == Some(!want.is_empty()), line);
         expect_text(rt, out.bytes(), want, line);
     }
@@ -198,20 +280,26 @@ fn expect_shown(rt: &impl Abort, rows: &[Shown], out: &mut Out) {
 
 #[test]
 fn shows_what_engines_tell(rt: HostRuntime) {
-    let mut out = room(&rt, rt.alloc(), 928);
-    expect_shown(&rt, &SHOWN, &mut out);
+    let mut out = room(&rt, rt.alloc(), 1_408);
+    expect_shown(&rt, Spelling::Coordinates, &SHOWN, &mut out);
 }
 
 #[test]
 fn shows_moves_as_long_as_they_are_legal(rt: HostRuntime) {
-    let mut out = room(&rt, rt.alloc(), 928);
-    expect_shown(&rt, &VARIATIONS, &mut out);
+    let mut out = room(&rt, rt.alloc(), 1_408);
+    expect_shown(&rt, Spelling::Coordinates, &VARIATIONS, &mut out);
+}
+
+#[test]
+fn shows_moves_in_standard_algebraic_notation(rt: HostRuntime) {
+    let mut out = room(&rt, rt.alloc(), 1_408);
+    expect_shown(&rt, Spelling::San, &SANS, &mut out);
 }
 
 #[test]
 fn shows_nothing(rt: HostRuntime) {
-    let mut out = room(&rt, rt.alloc(), 928);
-    expect_shown(&rt, &UNSHOWN, &mut out);
+    let mut out = room(&rt, rt.alloc(), 1_408);
+    expect_shown(&rt, Spelling::Coordinates, &UNSHOWN, &mut out);
 }
 
 fn hear(seen: &mut Seen, line: &str, at: &Position)

@@ -4,4 +4,6 @@
 #[cfg(test)]
 mod directions;
 #[cfg(test)]
+mod exact_log;
+#[cfg(test)]
 mod program;

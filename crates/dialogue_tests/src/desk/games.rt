@@ -1,12 +1,13 @@
 // Games at a desk: moves, ends, pondering, analysis and pings.
 use super::{
-    Bench, PONDER_IS_OPTION, SIGHT, Turn, check_turns, expect_mode, expect_move, expect_none_held,
-    expect_pings, expect_plies,
+    Bench, PONDER_IS_OPTION, SIGHT, Turn, USUAL, check_turns, expect_mode, expect_move,
+    expect_none_held, expect_pings, expect_plies,
 };
 use crate::rows::{G1F3, expect};
 use chess_board::{Side, read_move};
 use desk_rules::{Context, Desk, Mode};
 use line_io::NoMemory;
+use policy_rules::Settings;
 use std::alloc::Global;
 use std::process::Abort;
 use std::test::Fail;
@@ -284,7 +285,10 @@ fn ponders_on_the_hint(rt: HostRuntime) -> Result<(), Fail> {
     bench.check_held(&rt, "setoption name Ponder value true\n");
     check_turns(&rt, &mut bench, SIGHT, &PONDERED);
     let hidden = Context {
-        show_ponder: false,
+        settings: Settings {
+            show_ponder: false,
+            ..USUAL
+        },
         ..SIGHT
     };
     check_turns(&rt, &mut bench, hidden, &PONDERED_UNSEEN);

@@ -1,0 +1,63 @@
+// The log of a run over a host in memory is the script of the run's trace.
+ghost use Rattle.std.specs.Prelude.{IfOk, IfSome};
+ghost use Rattle.program_words.specs.Words.{bytes_of};
+ghost use Rattle.child_engine.specs.Hosts.{IsUnused};
+ghost use Rattle.child_engine.specs.Memory.{books_of, means_of};
+ghost use Rattle.bridge_sessions.specs.Scripts.{IsScript};
+
+use crate::program::{ENGINE, words_of};
+use bridge_app::bridge_main;
+use child_engine::{Fails, MemHost};
+use line_io::{MemSink, MemSource, NoMemory};
+use std::alloc::Global;
+use std::process::Abort;
+use std::sync::Wait;
+use std::thread::Threads;
+
+// The program with these words over a host in memory, and what its log took, if nothing failed.
+fn log_of<R: Threads + Wait + Sync>(
+    rt: &R,
+    alloc: Global,
+    words: &[Vec<u8>],
+    input: &mut MemSource,
+    output: &mut MemSink,
+    diag: &mut MemSink,
+    host: &mut MemHost,
+) -> Result<Option<Vec<u8>>, NoMemory>
+    requires { IsUnused (books_of host.old) }
+    ensures { IfOk result (λ log. IfSome log (λ log.
+        IsScript (bytes_of words.now) (means_of host.old).engine log.items)) }
+{
+    let status = bridge_main(rt, alloc, words, input, output, host, diag);
+    if status.code != 0 {
+        return Ok(None);
+    }
+    Ok(Some(Vec::from_slice(alloc, host.logged(0))?))
+}
+
+// For an interface that asks for an answer and quits.
+fn log_of_a_ping<R: Threads + Wait + Sync + Abort>(
+    rt: &R,
+    alloc: Global,
+) -> Result<Option<Vec<u8>>, NoMemory> {
+    let words = words_of(alloc, &["toy"])?;
+    let mut input = MemSource::make(alloc, b"ping 3\nquit\n", 5, &[])?;
+    let mut output = MemSink::make(alloc, 1_000, &[])?;
+    let mut diag = MemSink::make(alloc, 1_000, &[])?;
+    let mut host = MemHost::make(alloc, ENGINE, 5, 10_000, &Fails::default())?;
+    log_of(
+        rt,
+        alloc,
+        words.as_slice(),
+        &mut input,
+        &mut output,
+        &mut diag,
+        &mut host,
+    )
+}
+
+#[test]
+fn a_whole_run_has_its_log(rt: HostRuntime) {
+    let log = log_of_a_ping(&rt, rt.alloc()).expect(&rt, "memory");
+    assert!(rt; log.is_some());
+}

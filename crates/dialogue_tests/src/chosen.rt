@@ -1,0 +1,299 @@
+// Short sessions with other settings than the usual ones, step by step.
+use crate::adapter::{Step, check_event, check_session, check_steps, end_core};
+use adapter_core::Core;
+use line_io::Event;
+use policy_rules::Settings;
+use search_epochs::EngineState;
+use std::test::Fail;
+
+const GO_AFTER_E4: &str =
+    "position startpos moves e2e4\ngo wtime 300000 btime 300000 winc 0 binc 0\n";
+
+const ENDED: &str = "tellusererror Engine ended\n";
+
+// DRAWS
+
+const DRAW_IS_ANSWERED: [Step; 6] = [
+    ("u uciok", "", "isready\n"),
+    ("u readyok", "", ""),
+    ("x usermove e2e4", "", GO_AFTER_E4),
+    ("u info depth 9 score cp 0", "", ""),
+    ("u bestmove e7e5", "move e7e5\n", ""),
+    ("x draw", "offer draw\n", ""),
+];
+
+const DRAW_IS_PASSED_OVER: [Step; 6] = [
+    ("u uciok", "", "isready\n"),
+    ("u readyok", "", ""),
+    ("x usermove e2e4", "", GO_AFTER_E4),
+    ("u info depth 9 score cp 0", "", ""),
+    ("u bestmove e7e5", "move e7e5\n", ""),
+    ("x draw", "", ""),
+];
+
+#[test]
+fn draws_are_answered_unless_switched_off(rt: HostRuntime) -> Result<(), Fail> {
+    let end = (EngineState::Idle, 2, false);
+    let on = Settings {
+        resign_moves: 1,
+        ..Settings::usual()
+    };
+    check_session(&rt, rt.alloc(), on, &DRAW_IS_ANSWERED, end)?;
+    let off = Settings {
+        handle_draws: false,
+        ..on
+    };
+    check_session(&rt, rt.alloc(), off, &DRAW_IS_PASSED_OVER, end)?;
+    Ok(())
+}
+
+// AN ENGINE THAT IS GONE
+
+const OFF_MOVE: [Step; 9] = [
+    ("u uciok", "", "isready\n"),
+    ("u?", ENDED, ""),
+    ("x ping 3", "pong 3\n", ""),
+    ("x usermove e2e4", "resign\n", ""),
+    ("x usermove e7e5", "", ""),
+    ("x new", "", ""),
+    ("x usermove d2d4", "resign\n", ""),
+    ("x analyze", "Error (engine ended): analyze\n", ""),
+    ("x exit", "Error (not analyzing): exit\n", ""),
+];
+
+const TOLD_TO_PLAY: [Step; 8] = [
+    ("u.", ENDED, ""),
+    ("x go", "resign\n", ""),
+    ("x go", "resign\n", ""),
+    ("x playother", "", ""),
+    ("x usermove e2e4", "resign\n", ""),
+    ("x undo", "", ""),
+    ("x playother", "", ""),
+    ("x setboard 4k3/8/8/8/8/8/8/4K2R b K - 0 1", "resign\n", ""),
+];
+
+const ENDED_GAME: [Step; 9] = [
+    ("x force", "", ""),
+    ("x usermove f2f3", "", ""),
+    ("x usermove e7e5", "", ""),
+    ("x usermove g2g4", "", ""),
+    ("x usermove d8h4", "", ""),
+    ("u.", ENDED, ""),
+    ("x go", "0-1 {Black mates}\n", ""),
+    ("x undo", "", ""),
+    ("x undo", "resign\n", ""),
+];
+
+const ONCE: [Step; 4] = [
+    ("x usermove e2e4", "", ""),
+    ("x ping 7", "", ""),
+    ("u.", "tellusererror Engine ended\nresign\npong 7\n", ""),
+    ("x ping 8", "pong 8\n", ""),
+];
+
+#[test]
+fn an_engine_that_is_gone_resigns(rt: HostRuntime) -> Result<(), Fail> {
+    let settings = Settings {
+        resign_when_gone: true,
+        ..Settings::usual()
+    };
+    let gone = EngineState::Gone;
+    check_session(&rt, rt.alloc(), settings, &OFF_MOVE, (gone, 1, false))?;
+    check_session(&rt, rt.alloc(), settings, &TOLD_TO_PLAY, (gone, 0, false))?;
+    check_session(&rt, rt.alloc(), settings, &ENDED_GAME, (gone, 2, false))?;
+    check_session(&rt, rt.alloc(), settings, &ONCE, (gone, 1, false))?;
+    Ok(())
+}
+
+// OPTIONS THAT LIMIT THE STRENGTH
+
+const STRENGTH: [Step; 8] = [
+    (
+        "u option name uci_elo type spin default 1500 min 1000 max 2000",
+        "",
+        "",
+    ),
+    ("u option name UCI_EloMin type button", "", ""),
+    ("u uciok", "", "isready\n"),
+    ("u readyok", "", ""),
+    (
+        "x option UCI_ELO=1700",
+        "",
+        "setoption name uci_elo value 1700\nisready\n",
+    ),
+    ("u readyok", "", ""),
+    (
+        "x option UCI_Elo=900",
+        "Error (bad value): option UCI_Elo=900\n",
+        "",
+    ),
+    (
+        "x option UCI_EloMin",
+        "Error (unknown option): option UCI_EloMin\n",
+        "",
+    ),
+];
+
+const NO_STRENGTH: [Step; 4] = [
+    (
+        "u option name UCI_LimitStrength type check default false",
+        "",
+        "",
+    ),
+    ("u uciok", "", "isready\n"),
+    ("u readyok", "", ""),
+    (
+        "x option UCI_LimitStrength=1",
+        "Error (unknown option): option UCI_LimitStrength=1\n",
+        "",
+    ),
+];
+
+#[test]
+fn options_that_limit_the_strength_are_set_if_they_are_shown(rt: HostRuntime) -> Result<(), Fail> {
+    let end = (EngineState::Idle, 0, false);
+    let shown = Settings {
+        strength_options: true,
+        ..Settings::usual()
+    };
+    check_session(&rt, rt.alloc(), shown, &STRENGTH, end)?;
+    check_session(&rt, rt.alloc(), Settings::usual(), &NO_STRENGTH, end)?;
+    Ok(())
+}
+
+// EARLY SETTINGS
+
+const EARLY: [Step; 11] = [
+    ("x protover 2", "feature done=0\n", ""),
+    ("x option Style=Solid", "", ""),
+    ("x memory 2000", "", ""),
+    ("x option Nope=1", "", ""),
+    (
+        "u option name Hash type spin default 16 min 1 max 1024",
+        "",
+        "",
+    ),
+    (
+        "u option name Style type combo default Normal var Solid var Normal",
+        "",
+        "",
+    ),
+    ("u option name Ponder type check default false", "", ""),
+    ("x option Style", "", ""),
+    (
+        "u uciok",
+        "feature myname=\"UCI engine\"
+feature ping=1
+feature setboard=1
+feature playother=1
+feature san=0
+feature usermove=1
+feature time=1
+feature draw=1
+feature sigint=0
+feature sigterm=0
+feature reuse=1
+feature analyze=1
+feature variants=\"normal\"
+feature colors=0
+feature memory=1
+feature smp=0
+feature option=\"Style -combo Solid /// *Normal\"
+feature done=1
+Error (unknown option): option Nope=1
+Error (bad value): option Style
+",
+        "setoption name Style value Solid\nsetoption name Hash value 1024\nsetoption name Ponder value false\nisready\n",
+    ),
+    ("u readyok", "", ""),
+    (
+        "x option Style=Normal",
+        "",
+        "setoption name Style value Normal\nisready\n",
+    ),
+];
+
+// the last value of an option stands behind what was asked for before it, and no epoch begins
+const IN_TURN: [Step; 9] = [
+    ("x option S=a", "", ""),
+    ("x new", "", ""),
+    ("x option B", "", ""),
+    ("x option s= b\t", "", ""),
+    ("x  option  B ", "", ""),
+    ("x option C=1", "", ""),
+    ("u option name B type button", "", ""),
+    ("u option name S type string default x", "", ""),
+    (
+        "u uciok",
+        "Error (unknown option): option C=1\n",
+        "ucinewgame\nsetoption name B\nsetoption name S value b\nsetoption name B\nisready\n",
+    ),
+];
+
+const NO_EPOCH: [Step; 7] = [
+    ("x go", "", ""),
+    ("x ping 1", "", ""),
+    ("x option S=a", "", ""),
+    ("u option name S type string default x", "", ""),
+    ("u uciok", "", "setoption name S value a\nisready\n"),
+    (
+        "u readyok",
+        "",
+        "position startpos\ngo wtime 300000 btime 300000 winc 0 binc 0\n",
+    ),
+    ("u bestmove e2e4", "move e2e4\npong 1\n", ""),
+];
+
+// nothing is written for lines that wait when the engine ends
+const LOST_EARLY: [Step; 5] = [
+    ("x option S=a", "", ""),
+    ("x memory", "Error (bad argument): memory\n", ""),
+    ("u.", ENDED, ""),
+    ("x option S=a", "Error (unknown option): option S=a\n", ""),
+    ("x memory 4", "", ""),
+];
+
+const CLOSED_EARLY: [Step; 3] = [
+    ("x option Nope=1", "", ""),
+    ("x quit", "", "quit\n"),
+    ("u uciok", "", ""),
+];
+
+#[test]
+fn early_settings_wait_for_the_options(rt: HostRuntime) -> Result<(), Fail> {
+    let settings = Settings {
+        early_settings: true,
+        ..Settings::usual()
+    };
+    let getting = EngineState::Getting;
+    check_session(&rt, rt.alloc(), settings, &EARLY, (getting, 0, false))?;
+    check_session(&rt, rt.alloc(), settings, &IN_TURN, (getting, 0, false))?;
+    let end = (EngineState::Idle, 1, false);
+    check_session(&rt, rt.alloc(), settings, &NO_EPOCH, end)?;
+    let end = (EngineState::Gone, 0, false);
+    check_session(&rt, rt.alloc(), settings, &LOST_EARLY, end)?;
+    let end = (EngineState::Boot, 0, false);
+    check_session(&rt, rt.alloc(), settings, &CLOSED_EARLY, end)?;
+    Ok(())
+}
+
+const ONE_MORE: [Step; 2] = [
+    ("x option B", "Error (too many settings): option B\n", ""),
+    ("x cores 2", "Error (too many settings): cores 2\n", ""),
+];
+
+#[test]
+fn so_many_early_settings_wait(rt: HostRuntime) -> Result<(), Fail> {
+    let settings = Settings {
+        early_settings: true,
+        ..Settings::usual()
+    };
+    let mut core = Core::make(rt.alloc(), &settings)?;
+    check_event(&rt, &mut core, &Event::Open, "", "uci\n");
+    for _ in 0..250 {
+        check_event(&rt, &mut core, &Event::Iface(b"option B"), "", "");
+    }
+    check_steps(&rt, &mut core, &ONE_MORE);
+    end_core(core);
+    Ok(())
+}

@@ -1,0 +1,78 @@
+// A run over a host in memory whose log can be but one, written out to the byte.
+use crate::program::words_of;
+use child_engine::{Fails, MemHost};
+use line_io::MemSink;
+use paced_host::{Due, PacedHost, PacedTexts};
+use reviver_app::revive_main;
+use reviver_runner::logs_are_whole;
+use std::sync::atomic::AtomicU64;
+use std::test::Fail;
+
+// What the interface says, once the log took so many lines.
+const IFACE: [Due; 4] = [
+    Due {
+        lines: 0,
+        text: b"uci\n",
+    },
+    Due {
+        lines: 4,
+        text: b"position startpos\ngo infinite\n",
+    },
+    Due {
+        lines: 14,
+        text: b"stop\n",
+    },
+    Due {
+        lines: 16,
+        text: b"quit\n",
+    },
+];
+
+const ENGINE: &[u8] = b"uciok\n";
+
+// Each life ends in the search.
+const ENGINE_READS: [u64; 2] = [2, 8];
+
+const LOG: &[u8] = b"\
+    x uci\n\
+    U uci\n\
+    u uciok\n\
+    X uciok\n\
+    x position startpos\n\
+    x go infinite\n\
+    U position startpos\n\
+    U go infinite\n\
+    u!\n\
+    U uci\n\
+    u uciok\n\
+    U position startpos\n\
+    U go infinite\n\
+    u!\n\
+    x stop\n\
+    X bestmove 0000\n\
+    x quit\n";
+
+#[test]
+fn a_whole_session_has_one_log(rt: HostRuntime) -> Result<(), Fail> {
+    logs_are_whole();
+    let alloc = rt.alloc();
+    let words = words_of(alloc, &["2", "r.log", "engine"])?;
+    let lines = AtomicU64::new(0);
+    let host = MemHost::make(alloc, ENGINE, 100, 1_000, &Fails::default())?;
+    let mut host = PacedHost::new(alloc, host, &lines, ENGINE_READS.as_slice());
+    let mut input = PacedTexts::new(&lines, IFACE.as_slice());
+    let mut output = MemSink::make(alloc, 1_000, &[])?;
+    let mut diag = MemSink::make(alloc, 1_000, &[])?;
+    let status = revive_main(
+        &rt,
+        alloc,
+        words.as_slice(),
+        &mut input,
+        &mut output,
+        &mut host,
+        &mut diag,
+    );
+    assert_eq!(rt; status.code, 0);
+    assert_eq!(rt; host.logged(), LOG);
+    Ok(())
+}

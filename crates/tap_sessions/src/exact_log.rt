@@ -1,0 +1,63 @@
+// A run over a host in memory whose log can be but one, written out to the byte.
+use child_engine::{Fails, MemHost};
+use line_io::MemSink;
+use paced_host::{Due, PacedHost, PacedTexts};
+use std::sync::atomic::AtomicU64;
+use std::test::Fail;
+use tap_app::tap_main;
+use tap_runner::logs_are_whole;
+
+// What the bridge says, once the log took so many lines, and then its end.
+const BRIDGE: [Due; 3] = [
+    Due {
+        lines: 0,
+        text: b"uci\n",
+    },
+    Due {
+        lines: 2,
+        text: b"quit\n",
+    },
+    Due {
+        lines: 3,
+        text: b"",
+    },
+];
+
+const ENGINE: &[u8] = b"uciok\n";
+
+const ENGINE_READS: [u64; 2] = [1, 4];
+
+const LOG: &[u8] = b"\
+    U uci\n\
+    u uciok\n\
+    U quit\n\
+    x.\n\
+    u.\n";
+
+#[test]
+fn a_whole_session_has_one_log(rt: HostRuntime) -> Result<(), Fail> {
+    logs_are_whole();
+    let alloc = rt.alloc();
+    let mut words: Vec<Vec<u8>> = Vec::new(alloc);
+    words.push(Vec::from_slice(alloc, b"t.log")?)?;
+    words.push(Vec::from_slice(alloc, b"engine")?)?;
+    let lines = AtomicU64::new(0);
+    let host = MemHost::make(alloc, ENGINE, 100, 1_000, &Fails::default())?;
+    let mut host = PacedHost::new(alloc, host, &lines, ENGINE_READS.as_slice());
+    let mut input = PacedTexts::new(&lines, BRIDGE.as_slice());
+    let mut output = MemSink::make(alloc, 1_000, &[])?;
+    let mut diag = MemSink::make(alloc, 1_000, &[])?;
+    let status = tap_main(
+        &rt,
+        alloc,
+        words.as_slice(),
+        &mut input,
+        &mut output,
+        &mut host,
+        &mut diag,
+    );
+    assert_eq!(rt; status.code, 0);
+    assert_eq!(rt; host.logged(), LOG);
+    assert_eq!(rt; output.taken(), ENGINE);
+    Ok(())
+}
