@@ -1,0 +1,23 @@
+"use strict";
+const $ = id => document.getElementById(id);
+const SVG = "http://www.w3.org/2000/svg";
+const dataIn = id => JSON.parse($(id).textContent);
+
+// Every text of a log goes through textContent: none can become markup. Control characters are shown as their pictures.
+const visible = text => text.replace(/[\0-\x08\x0b-\x1f]/g, it => String.fromCharCode(0x2400 + it.charCodeAt(0))).replace(/\x7f/g, "\u2421");
+function put(to, tag, set = {}, text) {
+  const e = document.createElement(tag);
+  for (const k in set) if (k === "class") e.className = set[k]; else e.setAttribute(k, set[k]);
+  if (text !== undefined) e.textContent = visible(String(text));
+  to.append(e);
+  return e;
+}
+function draw(to, tag, set = {}, text) {
+  const e = document.createElementNS(SVG, tag);
+  for (const k in set) e.setAttribute(k, set[k]);
+  if (text !== undefined) e.textContent = text;
+  to.append(e);
+  return e;
+}
+const plural = (n, one, many) => n + " " + (n === 1 ? one : many || one + "s");
+

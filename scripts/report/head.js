@@ -1,0 +1,51 @@
+// THE LOG, and what stands above it
+
+const S = dataIn("summary"), D = dataIn("data");
+const LINES = D.lines, P = D.positions, timed = D.times.length > 0;
+const from = { x: "from the interface", X: "to the interface", u: "from the engine", U: "to the engine", "#": "step" };
+const letterOf = i => LINES[i].charAt(0);
+const textOf = i => LINES[i].slice(2);
+const wordOf = i => textOf(i).split(" ", 1)[0];
+const lateAt = new Set(S.late.map(n => n - 1));
+document.body.classList.toggle("timed", timed);
+
+function fact(name, value, kind) {
+  const e = put($("facts"), "div");
+  put(e, "dt", {}, name);
+  return put(e, "dd", kind ? { class: kind } : {}, value);
+}
+for (const v of S.verdicts) {
+  const e = fact(v.program + ":", v.text || "nothing", v.good ? "good" : "bad");
+  const at = /line (\d+)/.exec(v.text);
+  if (at) put(e.parentNode, "a", { href: "#" + at[1], "aria-label": "to line " + at[1] }, "show");
+}
+const results = S.games.map(game => game.told || game.result);
+const counted = [...new Set(results)].map(it => S.games.length === 1 ? it : it + " × " + results.filter(r => r === it).length);
+const kinds = { move: "for a move", ponder: "pondering", analyse: "analysing" };
+if (S.engine) fact("engine", S.engine);
+fact("log of", S.kind + (S.torn ? ", its last line torn" : ""));
+fact("games", S.games.length + (counted.length ? ": " + counted.join(", ") : ""));
+fact("moves shown", S.shown);
+fact("searches", Object.keys(kinds).map(kind => S.searches[kind] + " " + kinds[kind]).join(", "));
+fact("late answers, not shown", S.late.length, S.late.length ? "bad" : "").id = "late-count";
+fact("given up by pondering or analysis", S.givenUp);
+fact("lines", S.count);
+if (S.settings) fact("settings", S.settings);
+if (S.late.length) put($("late"), "span", { class: "bad" }, "Came late and was not shown: ");
+for (const n of S.late.slice(0, 200)) {
+  put($("late"), "a", { href: "#" + n }, "line " + n);
+  $("late").append(" ");
+}
+
+// SEARCHES, as the judge tells of them; where one was stopped stands in the log
+
+const endOf = search => search.to || LINES.length;
+const searchFrom = new Map();
+for (const search of D.searches) {
+  search.late = search.to !== null && lateAt.has(search.to - 1);
+  searchFrom.set(search.from - 1, search);
+  for (let i = search.from; search.stopped && !search.stop && i < endOf(search); i++) {
+    if (letterOf(i) === "U" && wordOf(i) === "stop") search.stop = i + 1;
+  }
+}
+

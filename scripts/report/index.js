@@ -1,0 +1,104 @@
+const LOGS = dataIn("rows"), CROSS = dataIn("table");
+const of = (row, name) => row.summary ? row.summary[name] : undefined;
+const saidBy = (row, word) => (of(row, "verdicts") || []).find(v => v.program.startsWith("replay " + word));
+const results = row => gamesIn(row).map(game => game.told || game.result).join(", ");
+const sum = get => LOGS.reduce((n, row) => n + (get(row) || 0), 0);
+
+const lateIn = row => of(row, "late") || [];
+const gamesIn = row => of(row, "games") || [];
+// The verdict on the log as such, and that on its talk.
+const words = { check: ["check", "drive", "revive"], talk: ["judge"] };
+const said = (row, name) => words[name].map(word => saidBy(row, word)).find(v => v);
+function verdict(row, name) {
+  const v = said(row, name);
+  return v ? v.program + ": " + (v.text || "nothing") : "";
+}
+function isGood(row, name) {
+  const v = said(row, name);
+  return !row.fault && (!v || v.good);
+}
+
+// A column: its head, its text, by which it is sorted, and its sort of cell.
+const columns = [
+  ["log", row => row.log],
+  ["of", row => of(row, "kind") || ""],
+  ["check", row => row.fault || verdict(row, "check"), "verdict"],
+  ["talk", row => verdict(row, "talk"), "verdict"],
+  ["engine", row => of(row, "engine") || ""],
+  ["games", row => gamesIn(row).length, "number"],
+  ["results", results],
+  ["moves shown", row => of(row, "shown") || 0, "number"],
+  ["late answers", row => lateIn(row).length, "number"],
+  ["lines", row => of(row, "count") || 0, "number"],
+];
+
+const fact = (name, value, kind) => { const e = put($("facts"), "div"); put(e, "dt", {}, name); put(e, "dd", { class: kind || "" }, value); };
+const bad = LOGS.filter(row => !isGood(row, "check") || !isGood(row, "talk")).length;
+fact("logs", LOGS.length);
+fact("lawful", LOGS.length - bad, bad ? "" : "good");
+if (bad) fact("not lawful, or not read", bad, "bad");
+fact("games", sum(row => gamesIn(row).length));
+fact("moves shown", sum(row => of(row, "shown")));
+const late = sum(row => lateIn(row).length);
+fact("late answers, not shown", late, late ? "bad" : "");
+
+let sorted = 0, down = false, wanted = "";
+function putCell(e, row, [name, text, sort]) {
+  const head = name === "log", cell = put(e, head ? "th" : "td", { class: sort === "number" ? "number" : "" });
+  if (head) cell.setAttribute("scope", "row");
+  if (head && row.link) return put(cell, "a", { href: row.link }, text(row));
+  cell.textContent = visible(String(text(row)));
+  if (sort === "verdict" && cell.textContent) cell.classList.add(isGood(row, name) ? "good" : "bad");
+  if (name !== "late answers") return cell;
+  for (const n of lateIn(row).slice(0, 20)) {
+    cell.append(" ");
+    put(cell, "a", { href: row.link + "#" + n, class: "bad" }, "line " + n);
+  }
+  return cell;
+}
+const lines = LOGS.map((row, k) => {
+  const e = put($("logs"), "tr");
+  for (const column of columns) putCell(e, row, column);
+  return { e, row, k, text: e.textContent.toLowerCase() };
+});
+function order() {
+  const key = columns[sorted][1], side = down ? -1 : 1;
+  const compare = (a, b) => typeof a === "number" ? a - b : a.localeCompare(b, undefined, { numeric: true });
+  lines.sort((a, b) => side * compare(key(a.row), key(b.row)) || a.k - b.k);
+  $("logs").append(...lines.map(it => it.e));
+  [...$("heads").children].forEach((e, k) => e.setAttribute("aria-sort", k === sorted ? (down ? "descending" : "ascending") : "none"));
+}
+columns.forEach(([name], k) => {
+  const e = put($("heads"), "th", { scope: "col" });
+  put(e, "button", { type: "button" }, name).addEventListener("click", () => { down = sorted === k && !down; sorted = k; order(); });
+});
+$("find").addEventListener("input", e => {
+  wanted = e.target.value.toLowerCase();
+  let count = 0;
+  for (const it of lines) { it.e.hidden = !it.text.includes(wanted); if (!it.e.hidden) count++; }
+  $("found").textContent = wanted ? plural(count, "log") : "";
+});
+
+if (CROSS.engines.length) {
+  $("cross").hidden = false;
+  const head = put($("cells"), "tr");
+  put(head, "td");
+  for (const name of CROSS.engines) put(head, "th", { scope: "col" }, name);
+  put(head, "th", { scope: "col" }, "points");
+  CROSS.engines.forEach((name, k) => {
+    const e = put($("cells"), "tr");
+    put(e, "th", { scope: "row" }, name);
+    let points = 0, played = 0;
+    for (const cell of CROSS.cells[k]) {
+      if (!cell) { put(e, "td", {}, "–"); continue; }
+      const mine = cell.won + cell.drawn / 2, all = cell.won + cell.drawn + cell.lost;
+      points += mine;
+      played += all;
+      const open = cell.open ? ", " + cell.open + " without a result" : "";
+      put(e, "td", {}, mine + " of " + all + " (+" + cell.won + " =" + cell.drawn + " −" + cell.lost + ")" + open);
+    }
+    put(e, "td", { class: "number" }, points + " of " + played);
+  });
+}
+order();
+document.body.dataset.ready = "yes";
