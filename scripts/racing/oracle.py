@@ -34,7 +34,7 @@ class Oracle:
         lines = text.decode().split("\n")
         if lines and lines[-1] == "":
             lines.pop()
-        if not lines or not lines[0].startswith("#2 "):
+        if not lines or not lines[0].startswith(("#2 ", "#3 ")):
             raise Fault("line 1: no header")
         event, number = None, 0
         written = []
