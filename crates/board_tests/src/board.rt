@@ -64,9 +64,7 @@ fn counts_lines_of_play(rt: HostRuntime) -> Result<(), Fail> {
 /// The position after moves that are written with blanks between.
 fn after(rt: &impl Abort, mut position: Position, moves: &str) -> Position {
     for text in moves.split(' ') {
-        let m = move_of(rt, text);
-        assert!(rt; position.legal(m), "{text}");
-        position = position.play(m);
+        position = position.try_play(move_of(rt, text)).expect(rt, text);
     }
     position
 }
@@ -151,11 +149,12 @@ fn expect_moves(rt: &impl Abort, start: &Position) {
     let promotion = Move {
         from: Square::at(1, 6).expect(rt, "b7"),
         to: Square::at(0, 7).expect(rt, "a8"),
-        promo: Some(Kind::Queen),
+        promotion: Some(Kind::Queen),
     };
     expect_text(rt, write_move(promotion).as_slice(), "b7a8q");
     assert!(rt; equal_moves(move_of(rt, "b7a8Q"), promotion));
     assert!(rt; !start.legal(promotion));
+    assert!(rt; start.try_play(promotion).is_none());
     assert_eq!(rt; read_move(b"e2e9"), None);
     assert_eq!(rt; read_move(b"e7e8k"), None);
 }

@@ -5,7 +5,7 @@ ghost use Rattle.game_record.specs.Game.{ply_of, IsPlayable, now_of};
 use crate::positions::{expect_text, move_of};
 use chess_board::{Move, Position, equal_positions};
 use fen_text::read_fen;
-use game_record::{End, Game, NoMove, PushFault};
+use game_record::{Game, GameEnd, NoMove, PlayFault};
 use line_io::Out;
 use std::process::Abort;
 use std::test::Fail;
@@ -20,29 +20,29 @@ pub fn position_of(rt: &impl Abort, text: &str) -> Position {
     read_fen(text.as_bytes()).expect(rt, "a position")
 }
 
-type Pushed = Result<(), PushFault>;
+type Played = Result<(), PlayFault>;
 
 /// Plays a move, and compares what comes of it.
-fn expect_pushed(rt: &impl Abort, game: &mut Game, text: &str, want: Pushed) {
-    assert!(rt; game.push(move_of(rt, text)) == want, "{text}");
+fn expect_played(rt: &impl Abort, game: &mut Game, text: &str, want: Played) {
+    assert!(rt; game.try_play(move_of(rt, text)) == want, "{text}");
 }
 
 pub fn play_all(rt: &impl Abort, game: &mut Game, moves: &[&str]) {
     for text in moves {
-        expect_pushed(rt, game, text, Ok(()));
+        expect_played(rt, game, text, Ok(()));
     }
 }
 
-fn expect_end(rt: &impl Abort, found: Option<End>, want: Option<End>, text: &str) {
+fn expect_end(rt: &impl Abort, found: Option<GameEnd>, want: Option<GameEnd>, text: &str) {
     assert!(rt; found == want, "{text}");
 }
 
 /// Checks how a game will have ended after a move, and plays it.
-fn ends(rt: &impl Abort, game: &mut Game, text: &str, want: Option<End>) {
+fn ends(rt: &impl Abort, game: &mut Game, text: &str, want: Option<GameEnd>) {
     let m = move_of(rt, text);
     assert!(rt; game.now().legal(m), "{text}");
     expect_end(rt, game.ended_after(m), want, text);
-    expect_pushed(rt, game, text, Ok(()));
+    expect_played(rt, game, text, Ok(()));
     expect_end(rt, game.ended(), want, text);
 }
 
@@ -76,7 +76,7 @@ fn repeats_the_start(rt: &impl Abort, game: &mut Game) {
     play_all(rt, game, &SHUFFLE[..3]);
     expect_counts(rt, game, 7, 2);
     expect_end(rt, game.ended(), None, "twice");
-    ends(rt, game, "f6g8", Some(End::Repetition));
+    ends(rt, game, "f6g8", Some(GameEnd::Repetition));
     expect_counts(rt, game, 8, 3);
 }
 
@@ -88,29 +88,29 @@ fn repeats_without_the_right(rt: &impl Abort, game: &mut Game) {
     expect_counts(rt, game, 8, 2);
     expect_end(rt, game.ended(), None, "twice");
     play_all(rt, game, &ROOK_SHUFFLE[..3]);
-    ends(rt, game, "e7e8", Some(End::Repetition));
+    ends(rt, game, "e7e8", Some(GameEnd::Repetition));
     expect_counts(rt, game, 12, 3);
 }
 
 fn ends_by_moves(rt: &impl Abort, game: &mut Game) {
     game.reset(Position::start());
     play_all(rt, game, &MATE[..3]);
-    ends(rt, game, MATE[3], Some(End::Mate));
+    ends(rt, game, MATE[3], Some(GameEnd::Mate));
 
     // 99 moves without a pawn's move or a capture, and the hundredth.
     game.reset(position_of(rt, "4k3/8/8/8/8/8/8/4K2R w - - 98 80"));
     ends(rt, game, "h1h2", None);
-    ends(rt, game, "e8e7", Some(End::Fifty));
+    ends(rt, game, "e8e7", Some(GameEnd::Fifty));
 }
 
 // A position, and how a game has ended that starts there.
-const ENDED: [(&str, Option<End>); 3] = [
-    ("7k/5Q2/6K1/8/8/8/8/8 b - - 0 1", Some(End::Stale)),
-    ("4k3/8/8/8/8/8/8/4KB2 w - - 120 90", Some(End::Dead)),
+const ENDED: [(&str, Option<GameEnd>); 3] = [
+    ("7k/5Q2/6K1/8/8/8/8/8 b - - 0 1", Some(GameEnd::Stale)),
+    ("4k3/8/8/8/8/8/8/4KB2 w - - 120 90", Some(GameEnd::Dead)),
     ("4k3/8/8/8/8/8/8/4K1BB w - - 0 1", None),
 ];
 
-fn ends_at_once(rt: &impl Abort, game: &mut Game, rows: &[(&'static str, Option<End>)]) {
+fn ends_at_once(rt: &impl Abort, game: &mut Game, rows: &[(&'static str, Option<GameEnd>)]) {
     for (text, want) in rows {
         game.reset(position_of(rt, text));
         expect_end(rt, game.ended(), *want, text);
@@ -132,7 +132,7 @@ const OPENED: &str = "position startpos moves e2e4 e7e5";
 fn plays_and_writes(rt: &impl Abort, game: &mut Game, out: &mut Out) {
     check_line(rt, game, None, out, "position startpos");
     check_hinted(rt, game, "e2e4", out, "position startpos moves e2e4");
-    expect_pushed(rt, game, "e2e5", Err(PushFault::Illegal));
+    expect_played(rt, game, "e2e5", Err(PlayFault::Illegal));
     play_all(rt, game, &["e2e4", "e7e5"]);
     check_line(rt, game, None, out, OPENED);
     let hinted = "position startpos moves e2e4 e7e5 g1f3";
@@ -180,9 +180,9 @@ fn takes_the_longest_game(rt: HostRuntime) -> Result<(), Fail> {
         assert!(rt; game.repeats() == round + 2);
     }
     expect_counts(&rt, &game, 12_000, 3_001);
-    expect_end(&rt, game.ended(), Some(End::Repetition), "the longest");
-    expect_pushed(&rt, &mut game, "e2e5", Err(PushFault::Illegal));
-    expect_pushed(&rt, &mut game, "e2e4", Err(PushFault::TooLong));
+    expect_end(&rt, game.ended(), Some(GameEnd::Repetition), "the longest");
+    expect_played(&rt, &mut game, "e2e5", Err(PlayFault::Illegal));
+    expect_played(&rt, &mut game, "e2e4", Err(PlayFault::TooLong));
     expect_undone(&rt, &mut game, 12_001, Err(NoMove));
     expect_undone(&rt, &mut game, 12_000, Ok(()));
     expect_counts(&rt, &game, 0, 1);

@@ -14,10 +14,10 @@ use Rattle.chess_board.proofs.Bools.{same_side-is}
 use Rattle.chess_board.proofs.Total.{goes_form}
 
 -- a move of a man that may go so is legal where it promotes rightly and leaves its king unattacked
-pub legal_reach : (p : Position) (owner : Side) (piece : Kind) (from to : ℕ) (promo : Option Kind) → man_at p.men from ≡ Some (owner, piece) → reaches_to p from to ≡ true →
-    is_legal p from to promo ≡ (promotes p.side piece to promo && not (is_checked (men_after p piece from to promo) p.side))
+pub legal_reach : (p : Position) (owner : Side) (piece : Kind) (from to : ℕ) (promotion : Option Kind) → man_at p.men from ≡ Some (owner, piece) → reaches_to p from to ≡ true →
+    is_legal p from to promotion ≡ (promotes p.side piece to promotion && not (is_checked (men_after p piece from to promotion) p.side))
 unfolding reaches_to is_legal is_legal_of
-legal_reach p owner piece from to promo man reach =
+legal_reach p owner piece from to promotion man reach =
     let here : (same_side owner p.side && (may_land p.side (man_at p.men to) && goes p piece from to)) ≡ true = sym (ap (λ (m : Man). reaches_to_as p m from to) man) ∙ reach in
     let parts = and_parts (same_side owner p.side) (may_land p.side (man_at p.men to) && goes p piece from to) here in
     let ways = and_parts (may_land p.side (man_at p.men to)) (goes p piece from to) parts.1 in

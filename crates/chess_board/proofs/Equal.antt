@@ -31,7 +31,7 @@ abbrev pub man_test : Man → Man → Bool
 man_test = option_eq (λ x y. side_test x.0 y.0 && kind_test x.1 y.1)
 
 abbrev pub move_test : Move → Move → Bool
-move_test a b = eqb a.from.index b.from.index && (eqb a.to.index b.to.index && option_eq kind_test a.promo b.promo)
+move_test a b = eqb a.from.index b.from.index && (eqb a.to.index b.to.index && option_eq kind_test a.promotion b.promotion)
 
 pub sides-Decides : (a b : Side) → Decides (side_test a b) (a ≡ b)
 sides-Decides White White = (λ _. refl, λ _. refl)
@@ -65,10 +65,10 @@ men-Decides = option-Decides (λ x y. side_test x.0 y.0 && kind_test x.1 y.1) pa
 
 pub moves-Decides : (a b : Move) → Decides (move_test a b) (a ≡ b)
 moves-Decides a b =
-    let promo = option-Decides kind_test kinds-Decides a.promo b.promo in
-    let law = Decides-and (eqb a.from.index b.from.index) (eqb a.to.index b.to.index && option_eq kind_test a.promo b.promo) (Decides-eqb a.from.index b.from.index)
-    (Decides-and (eqb a.to.index b.to.index) (option_eq kind_test a.promo b.promo) (Decides-eqb a.to.index b.to.index) promo) in
-    (λ e. let same = law.0 e in move_same a b same.0 same.1.0 same.1.1, λ e. law.1 (ap (λ (m : Move). m.from.index) e, (ap (λ (m : Move). m.to.index) e, ap (λ (m : Move). m.promo) e)))
+    let promotion = option-Decides kind_test kinds-Decides a.promotion b.promotion in
+    let law = Decides-and (eqb a.from.index b.from.index) (eqb a.to.index b.to.index && option_eq kind_test a.promotion b.promotion) (Decides-eqb a.from.index b.from.index)
+    (Decides-and (eqb a.to.index b.to.index) (option_eq kind_test a.promotion b.promotion) (Decides-eqb a.to.index b.to.index) promotion) in
+    (λ e. let same = law.0 e in move_same a b same.0 same.1.0 same.1.1, λ e. law.1 (ap (λ (m : Move). m.from.index) e, (ap (λ (m : Move). m.to.index) e, ap (λ (m : Move). m.promotion) e)))
 
 -- `==` of rights and of positions
 abbrev pub rights_test : Rights → Rights → Bool

@@ -28,16 +28,16 @@ other-differs White e = absurd (cc)
 other-differs Black e = absurd (cc)
 
 -- the square left, and the square reached
-moved-left : (men : Men) (side : Side) (piece : Kind) (from to : ℕ) (promo : Option Kind) → from < length men → from ≢ to → man_at (moved men side piece from to promo) from ≡ None
-moved-left men side piece from to promo low apart = get_or-set_other (set men from None) to from _ None apart ∙ get_or-set_same men from None None low
+moved-left : (men : Men) (side : Side) (piece : Kind) (from to : ℕ) (promotion : Option Kind) → from < length men → from ≢ to → man_at (moved men side piece from to promotion) from ≡ None
+moved-left men side piece from to promotion low apart = get_or-set_other (set men from None) to from _ None apart ∙ get_or-set_same men from None None low
 
-moved-arrived : (men : Men) (side : Side) (piece : Kind) (from to : ℕ) (promo : Option Kind) → to < length men → man_at (moved men side piece from to promo) to ≡ Some (side, becomes piece promo)
-moved-arrived men side piece from to promo low =
+moved-arrived : (men : Men) (side : Side) (piece : Kind) (from to : ℕ) (promotion : Option Kind) → to < length men → man_at (moved men side piece from to promotion) to ≡ Some (side, becomes piece promotion)
+moved-arrived men side piece from to promotion low =
     let less : to < length (set men from None) = rw (length-set men from None) low in
     get_or-set_same (set men from None) to _ None less
 
-length-moved : (men : Men) (side : Side) (piece : Kind) (from to : ℕ) (promo : Option Kind) → length (moved men side piece from to promo) ≡ length men
-length-moved men side piece from to promo = length-set _ to _ ∙ length-set men from None
+length-moved : (men : Men) (side : Side) (piece : Kind) (from to : ℕ) (promotion : Option Kind) → length (moved men side piece from to promotion) ≡ length men
+length-moved men side piece from to promotion = length-set _ to _ ∙ length-set men from None
 
 -- what else changes
 length-prepared : (p : Position) (piece : Kind) (from to : ℕ) → length (prepared p piece from to) ≡ length p.men
@@ -91,9 +91,9 @@ prepared-others p Rook from to s beside_off hop_off = refl
 prepared-others p Queen from to s beside_off hop_off = refl
 
 -- the pawn captured en passant is gone
-passant_gone : (p : Position) (piece : Kind) (from to : ℕ) (promo : Option Kind) → length p.men ≡ 64 → from < 64 → to < 64 → man_at p.men from ≡ Some (p.side, piece) → TakesBeside p piece from to →
-    man_at (moved (prepared p piece from to) p.side piece from to promo) (beside from to) ≡ None
-passant_gone p piece from to promo whole f t man takes =
+passant_gone : (p : Position) (piece : Kind) (from to : ℕ) (promotion : Option Kind) → length p.men ≡ 64 → from < 64 → to < 64 → man_at p.men from ≡ Some (p.side, piece) → TakesBeside p piece from to →
+    man_at (moved (prepared p piece from to) p.side piece from to promotion) (beside from to) ≡ None
+passant_gone p piece from to promotion whole f t man takes =
     let low : beside from to < length p.men = rw whole (grind arith) in
     let pawn = takes.1.1.1 in
     let empty = takes.1.1.0.1 in
@@ -102,16 +102,16 @@ passant_gone p piece from to promo whole f t man takes =
     let off_to : beside from to ≢ to = λ same. let there : man_at p.men to ≡ Some (other p.side, Pawn) = subst (λ (i : ℕ). man_at p.men i ≡ Some (other p.side, Pawn)) same pawn in
     let never : ◌≡◌ {A = Man} None (Some (other p.side, Pawn)) = sym empty ∙ there in absurd (cc) in
     let ready : prepared p piece from to ≡ set p.men (beside from to) None = subst (λ (k : Kind). prepared p k from to ≡ set p.men (beside from to) None) (sym takes.0) (taken-passant p from to takes.1) in
-    man_at-moved (prepared p piece from to) p.side piece from to promo (beside from to) off_from off_to ∙ (rw ready (get_or-set_same p.men (beside from to) None None low))
+    man_at-moved (prepared p piece from to) p.side piece from to promotion (beside from to) off_from off_to ∙ (rw ready (get_or-set_same p.men (beside from to) None None low))
   where
     side_in : Side → Man → Side
     side_in side None = side
     side_in side (Some man) = man.0
 
 -- the rook has hopped
-rook_hopped : (p : Position) (piece : Kind) (from to : ℕ) (promo : Option Kind) (corner crossed : ℕ) → length p.men ≡ 64 → Hops p piece from to corner crossed →
-    (man_at (moved (prepared p piece from to) p.side piece from to promo) corner ≡ None) × (man_at (moved (prepared p piece from to) p.side piece from to promo) crossed ≡ Some (p.side, Rook))
-rook_hopped p piece from to promo corner crossed whole hops =
+rook_hopped : (p : Position) (piece : Kind) (from to : ℕ) (promotion : Option Kind) (corner crossed : ℕ) → length p.men ≡ 64 → Hops p piece from to corner crossed →
+    (man_at (moved (prepared p piece from to) p.side piece from to promotion) corner ≡ None) × (man_at (moved (prepared p piece from to) p.side piece from to promotion) crossed ≡ Some (p.side, Rook))
+rook_hopped p piece from to promotion corner crossed whole hops =
     let range = home_range p.side in
     ⊎_elim (λ (h : CastlesShort p from to × (corner ≡ king_home p.side + 3) × (crossed ≡ king_home p.side + 1)).
     let at = h.0.0 in let a0 = at.0 in let a1 = at.1 in let c = h.1 in let d = h.2 in
@@ -124,27 +124,27 @@ rook_hopped p piece from to promo corner crossed whole hops =
     hops.1
   where
     hop_of : prepared p piece from to ≡ moved p.men p.side Rook corner crossed None → corner ≢ from → corner ≢ to → crossed ≢ from → crossed ≢ to → corner ≢ crossed → corner < length p.men → crossed < length p.men →
-        (man_at (moved (prepared p piece from to) p.side piece from to promo) corner ≡ None) × (man_at (moved (prepared p piece from to) p.side piece from to promo) crossed ≡ Some (p.side, Rook))
+        (man_at (moved (prepared p piece from to) p.side piece from to promotion) corner ≡ None) × (man_at (moved (prepared p piece from to) p.side piece from to promotion) crossed ≡ Some (p.side, Rook))
     hop_of ready cf ct xf xt cx cl xl = (
-      man_at-moved (prepared p piece from to) p.side piece from to promo corner cf ct ∙ (rw ready (moved-left p.men p.side Rook corner crossed None cl cx)),
-      man_at-moved (prepared p piece from to) p.side piece from to promo crossed xf xt ∙ (rw ready (moved-arrived p.men p.side Rook corner crossed None xl)),
+      man_at-moved (prepared p piece from to) p.side piece from to promotion corner cf ct ∙ (rw ready (moved-left p.men p.side Rook corner crossed None cl cx)),
+      man_at-moved (prepared p piece from to) p.side piece from to promotion crossed xf xt ∙ (rw ready (moved-arrived p.men p.side Rook corner crossed None xl)),
     )
 
-moves_men : (p : Position) (from to : ℕ) (promo : Option Kind) → length p.men ≡ 64 → from < 64 → to < 64 → (m : IsLegal p from to promo) → MovesMen p m.piece from to promo (men_after p m.piece from to promo)
+moves_men : (p : Position) (from to : ℕ) (promotion : Option Kind) → length p.men ≡ 64 → from < 64 → to < 64 → (m : IsLegal p from to promotion) → MovesMen p m.piece from to promotion (men_after p m.piece from to promotion)
 unfolding men_after
-moves_men p from to promo whole f t m =
+moves_men p from to promotion whole f t m =
     let ready = prepared p m.piece from to in
     let same = length-prepared p m.piece from to in
     let low : from < length ready = rw (same, whole) f in
     let low' : to < length ready = rw (same, whole) t in
     let apart : from ≢ to = λ e. m.landing.0 (subst (λ (man : Man). IsOf p.side man) (sym (subst (λ (i : ℕ). man_at p.men i ≡ Some (p.side, m.piece)) e m.man)) refl) in
     record {
-      whole = length-moved ready p.side m.piece from to promo ∙ (same ∙ whole);
-      left = moved-left ready p.side m.piece from to promo low apart;
-      arrived = moved-arrived ready p.side m.piece from to promo low';
-      taken = passant_gone p m.piece from to promo whole f t m.man;
-      hopped = λ corner crossed hops. rook_hopped p m.piece from to promo corner crossed whole hops;
-      others = λ s nf nt beside_off hop_off. man_at-moved ready p.side m.piece from to promo s nf nt ∙ prepared-others p m.piece from to s beside_off hop_off;
+      whole = length-moved ready p.side m.piece from to promotion ∙ (same ∙ whole);
+      left = moved-left ready p.side m.piece from to promotion low apart;
+      arrived = moved-arrived ready p.side m.piece from to promotion low';
+      taken = passant_gone p m.piece from to promotion whole f t m.man;
+      hopped = λ corner crossed hops. rook_hopped p m.piece from to promotion corner crossed whole hops;
+      others = λ s nf nt beside_off hop_off. man_at-moved ready p.side m.piece from to promotion s nf nt ∙ prepared-others p m.piece from to s beside_off hop_off;
     }
 
 -- a right that is kept
@@ -187,17 +187,17 @@ counts p piece to officer empty =
     let test : is_pawn_kind piece ≡ false = false_from_ne_true _ (λ e. officer (pawn_kind piece e)) in
     rw (test, empty) refl
 
-plays : (p : Position) (from to : ℕ) (promo : Option Kind) → IsPosition p → from < 64 → to < 64 → (m : IsLegal p from to promo) → Plays p from to promo (settled (follow p m.piece from to promo))
-plays p from to promo is f t m =
-    let q = follow p m.piece from to promo in
+plays : (p : Position) (from to : ℕ) (promotion : Option Kind) → IsPosition p → from < 64 → to < 64 → (m : IsLegal p from to promotion) → Plays p from to promotion (settled (follow p m.piece from to promotion))
+plays p from to promotion is f t m =
+    let q = follow p m.piece from to promotion in
     let only = settled-only q in
     let rights : (settled q).rights ≡ rights_after p.rights from to = ap (λ (x : Position). x.rights) only in
-    let men : (settled q).men ≡ men_after p m.piece from to promo = ap (λ (x : Position). x.men) only in
+    let men : (settled q).men ≡ men_after p m.piece from to promotion = ap (λ (x : Position). x.men) only in
     let half : (settled q).half ≡ half_after p m.piece to = ap (λ (x : Position). x.half) only in
     record {
       piece = m.piece;
       man = m.man;
-      men = rw men (moves_men p from to promo is.men.whole f t m);
+      men = rw men (moves_men p from to promotion is.men.whole f t m);
       side = ap (λ (x : Position). x.side) only;
       white_short = rw rights (KeepsAt p.rights.wk 4 7 from to);
       white_long = rw rights (KeepsAt p.rights.wq 4 0 from to);
@@ -212,6 +212,6 @@ plays p from to promo is f t m =
 
 pub play-law : PlayLaw
 unfolding position_after
-play-law p from to promo is f t m =
+play-law p from to promotion is f t m =
     let kind : kind_on (man_at p.men from) ≡ m.piece = let man = m.man in rw man refl in
-    rw kind (plays p from to promo is f t m)
+    rw kind (plays p from to promotion is f t m)

@@ -60,18 +60,18 @@ target_of (Some m) s = m.to
 
 abbrev promotion_in : Option Move → Option Kind → Option Kind
 promotion_in None p = p
-promotion_in (Some m) p = m.promo
+promotion_in (Some m) p = m.promotion
 
 -- a move from two squares and a promotion
-from_parts : (a b : Option Square) (p : Option Kind) (m : Move) → move_from a b p ≡ Some m → (a ≡ Some m.from) × (b ≡ Some m.to) × (p ≡ m.promo)
+from_parts : (a b : Option Square) (p : Option Kind) (m : Move) → move_from a b p ≡ Some m → (a ≡ Some m.from) × (b ≡ Some m.to) × (p ≡ m.promotion)
 from_parts (Some a) (Some b) p m h = (ap (λ (o : Option Move). Some (source_of o a)) h, ap (λ (o : Option Move). Some (target_of o b)) h, ap (λ (o : Option Move). promotion_in o p) h)
 from_parts None b p m h = absurd (cc)
 from_parts (Some a) None p m h = absurd (cc)
 
-to_parts : (a b : Option Square) (p : Option Kind) (m : Move) → a ≡ Some m.from → b ≡ Some m.to → p ≡ m.promo → move_from a b p ≡ Some m
+to_parts : (a b : Option Square) (p : Option Kind) (m : Move) → a ≡ Some m.from → b ≡ Some m.to → p ≡ m.promotion → move_from a b p ≡ Some m
 to_parts a b p m e f g = rw (e, f, g) refl
 
-promoted_parts : (a b : Option Square) (p : Option Kind) (m : Move) → promoted a b p ≡ Some m → (a ≡ Some m.from) × (b ≡ Some m.to) × (p ≡ m.promo) × IsSome p
+promoted_parts : (a b : Option Square) (p : Option Kind) (m : Move) → promoted a b p ≡ Some m → (a ≡ Some m.from) × (b ≡ Some m.to) × (p ≡ m.promotion) × IsSome p
 promoted_parts a b None m h = absurd (cc)
 promoted_parts a b (Some k) m h = let parts = from_parts a b (Some k) m h in (parts.0, parts.1, parts.2, refl)
 
@@ -125,7 +125,7 @@ chosen false false false false = tt
 officer : (letter : ℕ) → IsOfficer (promotion_of letter)
 officer letter = chosen _ _ _ _
 
-pub spelled_officer : (text : List ℕ) (m : Move) → Spells text m → IsOfficer m.promo
+pub spelled_officer : (text : List ℕ) (m : Move) → Spells text m → IsOfficer m.promotion
 spelled_officer [] m h = absurd h
 spelled_officer (f ∷ []) m h = absurd h
 spelled_officer (f ∷ r ∷ []) m h = absurd h
@@ -134,9 +134,9 @@ spelled_officer (f ∷ r ∷ g ∷ s ∷ []) m h = subst IsOfficer (sym h.2) tt
 spelled_officer (f ∷ r ∷ g ∷ s ∷ letter ∷ []) m h = subst IsOfficer (sym h.2) (officer letter)
 spelled_officer (f ∷ r ∷ g ∷ s ∷ letter ∷ more ∷ others) m h = absurd h
 
-pub read_officer : (text : List ℕ) (m : Move) → move_of text ≡ Some m → IsOfficer m.promo
+pub read_officer : (text : List ℕ) (m : Move) → move_of text ≡ Some m → IsOfficer m.promotion
 read_officer text m h = spelled_officer text m (move_spells text m h)
 
-pub some_officer : (text : List ℕ) (o : Option Move) → IfSome o (Spells text) → IfSome o (λ m. IsOfficer m.promo)
+pub some_officer : (text : List ℕ) (o : Option Move) → IfSome o (Spells text) → IfSome o (λ m. IsOfficer m.promotion)
 some_officer text None h = tt
 some_officer text (Some m) h = spelled_officer text m h

@@ -15,7 +15,7 @@ promotion_length (Some Bishop) = omega arith
 promotion_length (Some Knight) = omega arith
 
 pub move_length : (m : Move) → length (text_of m) ≤ 5
-move_length m = omega (arith, promotion_length m.promo)
+move_length m = omega (arith, promotion_length m.promotion)
 
 no_promotion : (p : Option Kind) → p ≡ None → length (promotion_text p) ≡ 0
 no_promotion p e = ap (λ o. length (promotion_text o)) e
@@ -26,6 +26,6 @@ move_fits [] m h = absurd h
 move_fits (f ∷ []) m h = absurd h
 move_fits (f ∷ r ∷ []) m h = absurd h
 move_fits (f ∷ r ∷ g ∷ []) m h = absurd h
-move_fits (f ∷ r ∷ g ∷ s ∷ []) m h = omega (arith, no_promotion m.promo h.2)
+move_fits (f ∷ r ∷ g ∷ s ∷ []) m h = omega (arith, no_promotion m.promotion h.2)
 move_fits (f ∷ r ∷ g ∷ s ∷ letter ∷ []) m h = omega (arith, move_length m)
 move_fits (f ∷ r ∷ g ∷ s ∷ letter ∷ more ∷ others) m h = absurd h

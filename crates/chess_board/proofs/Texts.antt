@@ -23,8 +23,8 @@ spells-one (f ∷ r ∷ g ∷ s ∷ letter ∷ []) a b h k =
     move_same a b (one_square f r _ _ a.from.on_board b.from.on_board h.0 k.0) (one_square g s _ _ a.to.on_board b.to.on_board h.1 k.1) (h.2 ∙ sym k.2)
 spells-one (f ∷ r ∷ g ∷ s ∷ letter ∷ more ∷ rest) a b h k = absurd h
 
-reads_back_of : (m : Move) (promo : Option Kind) → m.promo ≡ promo → IsOfficer promo →
-    Spells ((97 + file_of m.from.index) ∷ (49 + rank_of m.from.index) ∷ (97 + file_of m.to.index) ∷ (49 + rank_of m.to.index) ∷ promotion_text promo) m
+reads_back_of : (m : Move) (promotion : Option Kind) → m.promotion ≡ promotion → IsOfficer promotion →
+    Spells ((97 + file_of m.from.index) ∷ (49 + rank_of m.from.index) ∷ (97 + file_of m.to.index) ∷ (49 + rank_of m.to.index) ∷ promotion_text promotion) m
 reads_back_of m None e h = ((refl, refl), (refl, refl), e)
 reads_back_of m (Some Queen) e h = ((refl, refl), (refl, refl), e, refl)
 reads_back_of m (Some Rook) e h = ((refl, refl), (refl, refl), e, refl)
@@ -34,10 +34,10 @@ reads_back_of m (Some Pawn) e h = absurd h
 reads_back_of m (Some King) e h = absurd h
 
 pub reads-back : ReadsBack
-reads-back m h = reads_back_of m m.promo refl h
+reads-back m h = reads_back_of m m.promotion refl h
 
 -- a text names no pawn and no king, and a legal move promotes to none
-pub promotion-officer : (promo : Option Kind) → IsPromotion promo → IsOfficer promo
+pub promotion-officer : (promotion : Option Kind) → IsPromotion promotion → IsOfficer promotion
 promotion-officer None h = absurd h
 promotion-officer (Some Pawn) h = absurd h
 promotion-officer (Some King) h = absurd h
@@ -46,16 +46,16 @@ promotion-officer (Some Bishop) h = tt
 promotion-officer (Some Rook) h = tt
 promotion-officer (Some Queen) h = tt
 
-none-officer : (promo : Option Kind) → promo ≡ None → IsOfficer promo
-none-officer promo e = subst IsOfficer (sym e) tt
+none-officer : (promotion : Option Kind) → promotion ≡ None → IsOfficer promotion
+none-officer promotion e = subst IsOfficer (sym e) tt
 
-pub promotes-officer : (side : Side) (piece : Kind) (to : ℕ) (promo : Option Kind) → Promotes side piece to promo → IsOfficer promo
-promotes-officer side Pawn to promo h = ⊎_elim (λ p. promotion-officer promo p.1) (λ n. none-officer promo n.1) h
-promotes-officer side Knight to promo h = none-officer promo h
-promotes-officer side Bishop to promo h = none-officer promo h
-promotes-officer side Rook to promo h = none-officer promo h
-promotes-officer side Queen to promo h = none-officer promo h
-promotes-officer side King to promo h = none-officer promo h
+pub promotes-officer : (side : Side) (piece : Kind) (to : ℕ) (promotion : Option Kind) → Promotes side piece to promotion → IsOfficer promotion
+promotes-officer side Pawn to promotion h = ⊎_elim (λ p. promotion-officer promotion p.1) (λ n. none-officer promotion n.1) h
+promotes-officer side Knight to promotion h = none-officer promotion h
+promotes-officer side Bishop to promotion h = none-officer promotion h
+promotes-officer side Rook to promotion h = none-officer promotion h
+promotes-officer side Queen to promotion h = none-officer promotion h
+promotes-officer side King to promotion h = none-officer promotion h
 
 pub legal-written : LegalIsWritten
-legal-written p m h = promotes-officer p.side h.piece m.to.index m.promo h.promoted
+legal-written p m h = promotes-officer p.side h.piece m.to.index m.promotion h.promoted

@@ -20,14 +20,14 @@ use Rattle.chess_board.proofs.Moved.{man_at-moved}
 use Rattle.chess_board.proofs.Prepared.{promoted-king}
 use Rattle.chess_board.proofs.Plays.{not_other}
 
-arrived : (men : Men) (side : Side) (piece : Kind) (from to : ℕ) (promo : Option Kind) → length men ≡ 64 → to < 64 → man_at (moved men side piece from to promo) to ≡ Some (side, becomes piece promo)
-arrived men side piece from to promo size low =
+arrived : (men : Men) (side : Side) (piece : Kind) (from to : ℕ) (promotion : Option Kind) → length men ≡ 64 → to < 64 → man_at (moved men side piece from to promotion) to ≡ Some (side, becomes piece promotion)
+arrived men side piece from to promotion size low =
     let long : length (set men from None) ≡ 64 = length-set men from None ∙ size in
-    get_or-set_same (set men from None) to (Some (side, becomes piece promo)) None (omega arith)
+    get_or-set_same (set men from None) to (Some (side, becomes piece promotion)) None (omega arith)
 
-left : (men : Men) (side : Side) (piece : Kind) (from to : ℕ) (promo : Option Kind) → length men ≡ 64 → from < 64 → from ≢ to → man_at (moved men side piece from to promo) from ≡ None
-left men side piece from to promo size low apart =
-    get_or-set_other (set men from None) to from (Some (side, becomes piece promo)) None apart ∙ get_or-set_same men from None None (omega arith)
+left : (men : Men) (side : Side) (piece : Kind) (from to : ℕ) (promotion : Option Kind) → length men ≡ 64 → from < 64 → from ≢ to → man_at (moved men side piece from to promotion) from ≡ None
+left men side piece from to promotion size low apart =
+    get_or-set_other (set men from None) to from (Some (side, becomes piece promotion)) None apart ∙ get_or-set_same men from None None (omega arith)
 
 slides : (men after : Men) (a l c d : Bool) → (c ≡ true → l ≡ true → d ≡ true) → ((a && l) && c) ≡ true → ((a && l) && d) ≡ true
 slides men after a l c d same e =
@@ -96,37 +96,37 @@ pub shields_right : (men : Men) (side : Side) (x k a b : ℕ) → Shields men si
 shields_right men side x k a b shields s low apart out e = shields s low apart (or_parts (has a s) (has b s) (sym (has-either a b s) ∙ out)).1 e
 
 -- what attacks the king's square after the move attacked it before
-still_attacks : (men : Men) (side : Side) (piece : Kind) (from to x k set' : ℕ) (promo : Option Kind) → length men ≡ 64 → from < 64 → to < 64 → x < 64 → Shields men (other side) x k set' → has set' from ≡ false →
-    attacks (moved men side piece from to promo) (other side) x k ≡ true → attacks men (other side) x k ≡ true
-still_attacks men side piece from to x k set' promo size fl low xl shields out e =
+still_attacks : (men : Men) (side : Side) (piece : Kind) (from to x k set' : ℕ) (promotion : Option Kind) → length men ≡ 64 → from < 64 → to < 64 → x < 64 → Shields men (other side) x k set' → has set' from ≡ false →
+    attacks (moved men side piece from to promotion) (other side) x k ≡ true → attacks men (other side) x k ≡ true
+still_attacks men side piece from to x k set' promotion size fl low xl shields out e =
     ⊎_elim (λ (here : x ≡ to).
-    let man = ap (man_at (moved men side piece from to promo)) here ∙ arrived men side piece from to promo size low in
-    let mine : attacks (moved men side piece from to promo) (other side) x k ≡ false = rw man (rw (not_other side) refl) in
+    let man = ap (man_at (moved men side piece from to promotion)) here ∙ arrived men side piece from to promotion size low in
+    let mine : attacks (moved men side piece from to promotion) (other side) x k ≡ false = rw man (rw (not_other side) refl) in
     absurd (false≢true (sym mine ∙ e)))
     (λ (t : x ≢ to).
     ⊎_elim (λ (here : x ≡ from).
     let apart : from ≢ to = λ same. t (here ∙ same) in
-    let man = ap (man_at (moved men side piece from to promo)) here ∙ left men side piece from to promo size fl apart in
-    let none : attacks (moved men side piece from to promo) (other side) x k ≡ false = rw man refl in
+    let man = ap (man_at (moved men side piece from to promotion)) here ∙ left men side piece from to promotion size fl apart in
+    let none : attacks (moved men side piece from to promotion) (other side) x k ≡ false = rw man refl in
     absurd (false≢true (sym none ∙ e)))
     (λ (f : x ≢ from).
     let gone : Men = set men from None in
     let long : length gone ≡ 64 = length-set men from None ∙ size in
-    let man : Side × Kind = (side, becomes piece promo) in
+    let man : Side × Kind = (side, becomes piece promotion) in
     let same = get_or-set_other gone to x (Some man) None t in
     shields from fl f out (attacks_by gone (set gone to (Some man)) (other side) x k same (λ on clear. less_open gone man to x k long low clear) e))
     (cases_eq x from))
     (cases_eq x to)
 
 -- no man but the one that moves changes its square
-plain : (p : Position) (piece : Kind) (from to : ℕ) (promo : Option Kind) → p.passant ≡ None → is_king_kind piece ≡ false → men_after p piece from to promo ≡ moved p.men p.side piece from to promo
+plain : (p : Position) (piece : Kind) (from to : ℕ) (promotion : Option Kind) → p.passant ≡ None → is_king_kind piece ≡ false → men_after p piece from to promotion ≡ moved p.men p.side piece from to promotion
 unfolding men_after is_en_passant
-plain p Pawn from to promo none e = rw none refl
-plain p Knight from to promo none e = refl
-plain p Bishop from to promo none e = refl
-plain p Rook from to promo none e = refl
-plain p Queen from to promo none e = refl
-plain p King from to promo none e = absurd (cc)
+plain p Pawn from to promotion none e = rw none refl
+plain p Knight from to promotion none e = refl
+plain p Bishop from to promotion none e = refl
+plain p Rook from to promotion none e = refl
+plain p Queen from to promotion none e = refl
+plain p King from to promotion none e = absurd (cc)
 
 own_kind : (side : Side) (piece : Kind) → is_king side (Some (side, piece)) ≡ is_king_kind piece
 own_kind White piece = refl
@@ -136,35 +136,35 @@ pub no_some : (o : Option ℕ) → is_some o ≡ false → o ≡ None
 no_some None e = refl
 no_some (Some n) e = absurd (cc)
 
-pub unpinned : (p : Position) (k from to shields : ℕ) (piece : Kind) (promo : Option Kind) → length p.men ≡ 64 → is_checked p.men p.side ≡ false → p.passant ≡ None → k < 64 →
-    ((s : ℕ) → s < 64 → s ≢ k → is_king p.side (man_at p.men s) ≡ false) → from < 64 → to < 64 → man_at p.men from ≡ Some (p.side, piece) → promotes p.side piece to promo ≡ true →
-    is_king p.side (man_at p.men from) ≡ false → ((x : ℕ) → x < 64 → Shields p.men (other p.side) x k shields) → has shields from ≡ false → is_checked (men_after p piece from to promo) p.side ≡ false
+pub unpinned : (p : Position) (k from to shields : ℕ) (piece : Kind) (promotion : Option Kind) → length p.men ≡ 64 → is_checked p.men p.side ≡ false → p.passant ≡ None → k < 64 →
+    ((s : ℕ) → s < 64 → s ≢ k → is_king p.side (man_at p.men s) ≡ false) → from < 64 → to < 64 → man_at p.men from ≡ Some (p.side, piece) → promotes p.side piece to promotion ≡ true →
+    is_king p.side (man_at p.men from) ≡ false → ((x : ℕ) → x < 64 → Shields p.men (other p.side) x k shields) → has shields from ≡ false → is_checked (men_after p piece from to promotion) p.side ≡ false
 unfolding is_checked is_attacked
-unpinned p k from to shields piece promo size quiet none kl alone fl tl man promoted king shielded off =
+unpinned p k from to shields piece promotion size quiet none kl alone fl tl man promoted king shielded off =
     let men = p.men in
     let plain' : is_king_kind piece ≡ false = sym (own_kind p.side piece) ∙ sym (ap (is_king p.side) man) ∙ king in
-    let after = moved men p.side piece from to promo in
+    let after = moved men p.side piece from to promotion in
     let still : is_checked after p.side ≡ false = some_below-none squares (λ at. is_king p.side (man_at after at) && is_attacked after (other p.side) at) (λ at less. false_from_ne_true _ (λ hit.
     let low : at < 64 = subst (λ (n : ℕ). at < n) squares-is less in
     let parts = and_parts (is_king p.side (man_at after at)) (is_attacked after (other p.side) at) hit in
     ⊎_elim (λ (here : at ≡ to).
-    let there = ap (man_at after) here ∙ arrived men p.side piece from to promo size tl in
-    let no : is_king p.side (man_at after at) ≡ false = ap (is_king p.side) there ∙ own_kind p.side (becomes piece promo) ∙ promoted-king p.side piece to promo promoted ∙ plain' in
+    let there = ap (man_at after) here ∙ arrived men p.side piece from to promotion size tl in
+    let no : is_king p.side (man_at after at) ≡ false = ap (is_king p.side) there ∙ own_kind p.side (becomes piece promotion) ∙ promoted-king p.side piece to promotion promoted ∙ plain' in
     false≢true (sym no ∙ parts.0))
     (λ (t : at ≢ to).
     ⊎_elim (λ (here : at ≡ from).
     let apart : from ≢ to = λ same. t (here ∙ same) in
-    let there = ap (man_at after) here ∙ left men p.side piece from to promo size fl apart in
+    let there = ap (man_at after) here ∙ left men p.side piece from to promotion size fl apart in
     let no : is_king p.side (man_at after at) ≡ false = ap (is_king p.side) there in
     false≢true (sym no ∙ parts.0))
     (λ (f : at ≢ from).
-    let same = man_at-moved men p.side piece from to promo at f t in
+    let same = man_at-moved men p.side piece from to promotion at f t in
     let was : is_king p.side (man_at men at) ≡ true = sym (ap (is_king p.side) same) ∙ parts.0 in
     ⊎_elim (λ (here : at ≡ k).
     let found = some_below-found squares (λ x. attacks after (other p.side) x at) parts.1 in
     let xl : found.0 < 64 = subst (λ (n : ℕ). found.0 < n) squares-is found.1 in
     let shielded' = subst (λ (n : ℕ). Shields men (other p.side) found.0 n shields) (sym here) (shielded found.0 xl) in
-    let before = still_attacks men p.side piece from to found.0 at shields promo size fl tl xl shielded' off found.2 in
+    let before = still_attacks men p.side piece from to found.0 at shields promotion size fl tl xl shielded' off found.2 in
     let attacked : is_attacked men (other p.side) at ≡ true = some_square-hit (λ x. attacks men (other p.side) x at) found.0 xl before in
     let checked : is_checked men p.side ≡ true = some_square-hit (λ at. is_king p.side (man_at men at) && is_attacked men (other p.side) at) at low (rw (was, attacked) refl) in
     false≢true (sym quiet ∙ checked))
@@ -172,10 +172,10 @@ unpinned p k from to shields piece promo size quiet none kl alone fl tl man prom
     (cases_eq at k))
     (cases_eq at from))
     (cases_eq at to))) in
-    ap (λ (m : Men). is_checked m p.side) (plain p piece from to promo none plain') ∙ still
+    ap (λ (m : Men). is_checked m p.side) (plain p piece from to promotion none plain') ∙ still
 
 -- every square is in the set of all
 pub frees_all : (p : Position) → Frees p 18446744073709551615
-frees_all p piece from to promo fl tl out man promoted =
+frees_all p piece from to promotion fl tl out man promoted =
     let bit : bit_at 18446744073709551615 from ≡ 1 = bit_at_ones 64 from fl in
     absurd (false≢true (sym out ∙ ap (λ (n : ℕ). n == 1) bit))

@@ -45,15 +45,15 @@ worth_from-set s (x ∷ men) (suc i) y h =
 total-set : (men : Men) (i : ℕ) (y : Man) → i < length men → total (set men i y) + worth i (man_at men i) ≡ total men + worth i y
 total-set men i y h = let n : 0 + i ≡ i = omega arith in subst (λ (k : ℕ). total (set men i y) + worth k (man_at men i) ≡ total men + worth k y) n (worth_from-set 0 men i y h)
 
-total-moved : (men : Men) (side : Side) (piece : Kind) (from to : ℕ) (promo : Option Kind) → length men ≡ 64 → from < 64 → to < 64 → from ≢ to →
-    total (moved men side piece from to promo) + (worth to (man_at men to) + worth from (man_at men from)) ≡ total men + worth to (Some (side, becomes piece promo))
-total-moved men side piece from to promo whole f t other =
+total-moved : (men : Men) (side : Side) (piece : Kind) (from to : ℕ) (promotion : Option Kind) → length men ≡ 64 → from < 64 → to < 64 → from ≢ to →
+    total (moved men side piece from to promotion) + (worth to (man_at men to) + worth from (man_at men from)) ≡ total men + worth to (Some (side, becomes piece promotion))
+total-moved men side piece from to promotion whole f t other =
     let less : from < length men = rw whole f in
     let left = total-set men from None less in
     let less' : to < length (set men from None) = rw (length-set, whole) t in
-    let reached = total-set (set men from None) to (Some (side, becomes piece promo)) less' in
+    let reached = total-set (set men from None) to (Some (side, becomes piece promotion)) less' in
     let target : man_at (set men from None) to ≡ man_at men to = get_or-set_other men from to None None (λ e. other (sym e)) in
-    let reached' : total (moved men side piece from to promo) + worth to (man_at men to) ≡ total (set men from None) + worth to (Some (side, becomes piece promo)) = rw target at reached in
+    let reached' : total (moved men side piece from to promotion) + worth to (man_at men to) ≡ total (set men from None) + worth to (Some (side, becomes piece promotion)) = rw target at reached in
     omega arith
 
 -- what else a move changes adds nothing
@@ -124,37 +124,37 @@ officer_wears p piece to after officer sums =
       | false ↦ λ e. let some = some_worth to (man_at p.men to) e in inl (omega arith)
     ] refl
 
-men_wear_as : (p : Position) (from to : ℕ) (promo : Option Kind) → IsPosition p → from < 64 → to < 64 → (m : IsMove p from to promo) → Men_wear p m.piece to (men_after p m.piece from to promo)
+men_wear_as : (p : Position) (from to : ℕ) (promotion : Option Kind) → IsPosition p → from < 64 → to < 64 → (m : IsMove p from to promotion) → Men_wear p m.piece to (men_after p m.piece from to promotion)
 unfolding men_after
-men_wear_as p from to promo is f t m =
+men_wear_as p from to promotion is f t m =
     let ready = prepared_ready p m.piece from to is.men is.rights f t m.man in
-    let can = can_move p from to promo f t m ready in
+    let can = can_move p from to promotion f t m ready in
     let before = prepared_total p m.piece from to is.men.whole is.rights f t in
-    let sums = total-moved (prepared p m.piece from to) p.side m.piece from to promo ready.are.whole f t (apart can) in
-    let sums' : total (moved (prepared p m.piece from to) p.side m.piece from to promo) + (worth to (man_at p.men to) + worth from (Some (p.side, m.piece))) ≡ total (prepared p m.piece from to) + worth to (Some (p.side, becomes m.piece promo)) =
+    let sums = total-moved (prepared p m.piece from to) p.side m.piece from to promotion ready.are.whole f t (apart can) in
+    let sums' : total (moved (prepared p m.piece from to) p.side m.piece from to promotion) + (worth to (man_at p.men to) + worth from (Some (p.side, m.piece))) ≡ total (prepared p m.piece from to) + worth to (Some (p.side, becomes m.piece promotion)) =
     rw (ready.to_same, can.man) at sums in
-    elim (is_pawn_kind m.piece) as (λ v. is_pawn_kind m.piece ≡ v → Men_wear p m.piece to (moved (prepared p m.piece from to) p.side m.piece from to promo)) [
+    elim (is_pawn_kind m.piece) as (λ v. is_pawn_kind m.piece ≡ v → Men_wear p m.piece to (moved (prepared p m.piece from to) p.side m.piece from to promotion)) [
       | true ↦ λ e.
           let pawn : m.piece ≡ Pawn = pawn_kind m.piece e in
           let ahead = pawn_ahead p from to (subst (λ (k : Kind). goes p k from to ≡ true) pawn m.way) in
-          let falls = pawn_falls p.side from to (becomes m.piece promo) f t ahead in
-          let falls' : worth to (Some (p.side, becomes m.piece promo)) < worth from (Some (p.side, m.piece)) = subst (λ (k : Kind). worth to (Some (p.side, becomes m.piece promo)) < worth from (Some (p.side, k))) (sym pawn) falls in
+          let falls = pawn_falls p.side from to (becomes m.piece promotion) f t ahead in
+          let falls' : worth to (Some (p.side, becomes m.piece promotion)) < worth from (Some (p.side, m.piece)) = subst (λ (k : Kind). worth to (Some (p.side, becomes m.piece promotion)) < worth from (Some (p.side, k))) (sym pawn) falls in
           inl (omega arith)
       | false ↦ λ e.
           let one = officer_worth p.side m.piece from e in
-          let same = officer_worth p.side (becomes m.piece promo) to (promoted-officer p.side m.piece to promo e m.promoted) in
+          let same = officer_worth p.side (becomes m.piece promotion) to (promoted-officer p.side m.piece to promotion e m.promoted) in
           officer_wears p m.piece to _ e (omega arith)
     ] refl
 
 -- a legal move takes from what the men are worth, or adds nothing and is counted
-pub wears : (p : Position) (from to : ℕ) (promo : Option Kind) → IsPosition p → from < 64 → to < 64 → IsLegal p from to promo → Wears p (position_after p from to promo)
+pub wears : (p : Position) (from to : ℕ) (promotion : Option Kind) → IsPosition p → from < 64 → to < 64 → IsLegal p from to promotion → Wears p (position_after p from to promotion)
 unfolding position_after
-wears p from to promo is f t legal =
-    let m = move_of_legal p from to promo ((legal-law p from to promo).1 legal) in
-    let kind = kind-is p from to promo m in
-    let wear = men_wear_as p from to promo is f t m in
-    let q = follow p m.piece from to promo in
+wears p from to promotion is f t legal =
+    let m = move_of_legal p from to promotion ((legal-law p from to promotion).1 legal) in
+    let kind = kind-is p from to promotion m in
+    let wear = men_wear_as p from to promotion is f t m in
+    let q = follow p m.piece from to promotion in
     let only = settled-only q in
-    let men : (settled q).men ≡ men_after p m.piece from to promo = ap (λ (x : Position). x.men) only in
+    let men : (settled q).men ≡ men_after p m.piece from to promotion = ap (λ (x : Position). x.men) only in
     let half : (settled q).half ≡ half_after p m.piece to = ap (λ (x : Position). x.half) only in
     rw (kind, men, half) wear

@@ -23,10 +23,10 @@ TakesBeside p piece from to = (piece ≡ Pawn) × TakesPassant p from to
 
 -- The man leaves its square and stands on another, in place of what stood there (article 3.1.1). A pawn captured
 -- en passant is gone, and the rook of a castling has hopped. Every other square is as it was.
-pub record MovesMen (p : Position) (piece : Kind) (from to : ℕ) (promo : Option Kind) (after : Men) : Type 0 where
+pub record MovesMen (p : Position) (piece : Kind) (from to : ℕ) (promotion : Option Kind) (after : Men) : Type 0 where
   pub whole : length after ≡ 64
   pub left : man_at after from ≡ None
-  pub arrived : man_at after to ≡ Some (p.side, becomes piece promo)
+  pub arrived : man_at after to ≡ Some (p.side, becomes piece promotion)
   pub taken : TakesBeside p piece from to → man_at after (beside from to) ≡ None
   pub hopped : (corner crossed : ℕ) → Hops p piece from to corner crossed → (man_at after corner ≡ None) × (man_at after crossed ≡ Some (p.side, Rook))
   pub others : (s : ℕ) → s ≢ from → s ≢ to → (TakesBeside p piece from to → s ≢ beside from to) →
@@ -46,10 +46,10 @@ Passes side piece from to over =
 -- captured at home (article 3.8.2). The square that a pawn passed is the passant square, if a
 -- legal capture on it is possible. The half-move count begins again after a pawn's move or a capture
 -- (article 9.3), and the full-move count grows after Black's move.
-pub record Plays (p : Position) (from to : ℕ) (promo : Option Kind) (q : Position) : Type 0 where
+pub record Plays (p : Position) (from to : ℕ) (promotion : Option Kind) (q : Position) : Type 0 where
   pub piece : Kind
   pub man : man_at p.men from ≡ Some (p.side, piece)
-  pub men : MovesMen p piece from to promo q.men
+  pub men : MovesMen p piece from to promotion q.men
   pub side : q.side ≡ other p.side
   pub white_short : IsTrue q.rights.wk ↔ (IsTrue p.rights.wk × LeavesHome 4 7 from to)
   pub white_long : IsTrue q.rights.wq ↔ (IsTrue p.rights.wq × LeavesHome 4 0 from to)
@@ -62,4 +62,4 @@ pub record Plays (p : Position) (from to : ℕ) (promo : Option Kind) (q : Posit
 
 -- the position after a legal move is what the Laws say
 abbrev pub PlayLaw : Type 0
-PlayLaw = (p : Position) (from to : ℕ) (promo : Option Kind) → IsPosition p → from < 64 → to < 64 → IsLegal p from to promo → Plays p from to promo (position_after p from to promo)
+PlayLaw = (p : Position) (from to : ℕ) (promotion : Option Kind) → IsPosition p → from < 64 → to < 64 → IsLegal p from to promotion → Plays p from to promotion (position_after p from to promotion)

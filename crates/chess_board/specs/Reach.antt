@@ -67,5 +67,5 @@ Shields men side from at set =
 -- a man that leaves a square outside the set leaves its king unattacked
 abbrev pub Frees : Position → ℕ → Type 0
 Frees p set =
-    (piece : Kind) (from to : ℕ) (promo : Option Kind) → from < 64 → to < 64 → has set from ≡ false → man_at p.men from ≡ Some (p.side, piece) → promotes p.side piece to promo ≡ true →
-    is_checked (men_after p piece from to promo) p.side ≡ false
+    (piece : Kind) (from to : ℕ) (promotion : Option Kind) → from < 64 → to < 64 → has set from ≡ false → man_at p.men from ≡ Some (p.side, piece) → promotes p.side piece to promotion ≡ true →
+    is_checked (men_after p piece from to promotion) p.side ≡ false

@@ -20,9 +20,9 @@ square_named file rank =
     else None
 
 abbrev pub move_from : Option Square → Option Square → Option Kind → Option Move
-move_from (Some from) (Some to) promo = Some (record { from = from; to = to; promo = promo })
-move_from None to promo = None
-move_from (Some from) None promo = None
+move_from (Some from) (Some to) promotion = Some (record { from = from; to = to; promotion = promotion })
+move_from None to promotion = None
+move_from (Some from) None promotion = None
 
 abbrev pub promoted : Option Square → Option Square → Option Kind → Option Move
 promoted from to None = None

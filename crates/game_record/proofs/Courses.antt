@@ -3,7 +3,7 @@ use Rattle.std.proofs.Common.{◌≡◌, ℕ, ◌+◌, ◌<◌, ◌≤◌, List,
 use Rattle.std.proofs.lemmas.List.{map-append, take-map, length-map}
 use Rattle.chess_board.specs.declared.board.Move.{Move}
 use Rattle.chess_board.specs.Position.{Position}
-use Rattle.game_record.specs.declared.ending.End.{End}
+use Rattle.game_record.specs.declared.ending.GameEnd.{GameEnd}
 use Rattle.game_record.specs.Game.{Ply, Game, ply_of, plies_of, IsPlayable, played, now_after, later, AreLegal}
 use Rattle.game_record.specs.Ending.{stood_in, state_of, ended_by, ended_of}
 use Rattle.game_record.specs.Keeps.{Keeps, most_plies, times_of}
@@ -15,7 +15,7 @@ pub plies_of-take : (n : ℕ) (moves : List Move) → plies_of (take n moves) �
 plies_of-take n moves = sym (take-map ply_of n moves)
 
 -- a game keeps what it keeps when a move is played
-pub keeps_push : (p : Position) (moves longer : List Move) (positions more : List Position) (times often : List ℕ) (m : Move) (after : Position) (stood : ℕ) (ended ended' : Option End) (room room' places places' rows rows' : ℕ) →
+pub keeps_push : (p : Position) (moves longer : List Move) (positions more : List Position) (times often : List ℕ) (m : Move) (after : Position) (stood : ℕ) (ended ended' : Option GameEnd) (room room' places places' rows rows' : ℕ) →
     Keeps p (plies_of moves) positions times ended room places rows → longer ≡ moves ++ m ∷ [] → more ≡ positions ++ after ∷ [] → often ≡ times ++ stood ∷ [] → room' ≡ room → places' ≡ places → rows' ≡ rows →
     after ≡ played (now_after p (plies_of moves)) (ply_of m) → stood ≡ stood_in after (p ∷ later p (plies_of moves)) + 1 →
     ended' ≡ ended_by (state_of after) stood after.half →
@@ -44,7 +44,7 @@ keeps_push p moves longer positions more times often m after stood ended ended' 
     }
 
 -- and when moves are taken back
-pub keeps_take : (n : ℕ) (p : Position) (moves shorter : List Move) (positions fewer : List Position) (times rarer : List ℕ) (ended ended' : Option End) (room room' places places' rows rows' : ℕ) →
+pub keeps_take : (n : ℕ) (p : Position) (moves shorter : List Move) (positions fewer : List Position) (times rarer : List ℕ) (ended ended' : Option GameEnd) (room room' places places' rows rows' : ℕ) →
     Keeps p (plies_of moves) positions times ended room places rows → shorter ≡ take n moves → fewer ≡ take n positions → rarer ≡ take n times → room' ≡ room → places' ≡ places → rows' ≡ rows →
     length shorter ≤ length moves → ((left : List Ply) → fewer ≡ later p left → rarer ≡ times_of (p ∷ []) p left → ended' ≡ ended_of (record { start = p; moves = left })) → Keeps p (plies_of shorter) fewer rarer ended' room' places' rows'
 keeps_take n p moves shorter positions fewer times rarer ended ended' room room' places places' rows rows' k l q t r s u less end =

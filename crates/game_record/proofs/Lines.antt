@@ -65,7 +65,7 @@ start_by b c p d e = ap (λ (v : Bool). cond v (codes "startpos") (codes "fen " 
 length-spaced : (moves : List Ply) → length (spaced moves) ≤ 6 * length moves
 length-spaced [] = omega arith
 length-spaced (m ∷ moves) =
-    let text : length (ply_text m) ≤ 5 = let promo = promotion_length m.promo in omega arith in
+    let text : length (ply_text m) ≤ 5 = let promotion = promotion_length m.promotion in omega arith in
     let rest = length-spaced moves in
     let both = length-append (ply_text m) (spaced moves) in
     omega arith
@@ -133,13 +133,13 @@ next_fits out before moves rest m room e fits =
     let next = length-append (text_of m) (spaced (plies_of rest)) in
     omega arith
 
-pub officer_at : (moves : List Move) (i : ℕ) (m : Move) → i < length moves → m ≡ get_or moves i m → AllByRecursion (λ (m : Ply). IsOfficer m.promo) (plies_of moves) → IsOfficer m.promo
+pub officer_at : (moves : List Move) (i : ℕ) (m : Move) → i < length moves → m ≡ get_or moves i m → AllByRecursion (λ (m : Ply). IsOfficer m.promotion) (plies_of moves) → IsOfficer m.promotion
 officer_at [] i m h e a = absurd (omega arith)
-officer_at (x ∷ moves) zero m h e a = subst (λ (n : Move). IsOfficer n.promo) (sym e) a.0
+officer_at (x ∷ moves) zero m h e a = subst (λ (n : Move). IsOfficer n.promotion) (sym e) a.0
 officer_at (x ∷ moves) (suc i) m h e a = officer_at moves i m (omega arith) e a.1
 
 -- legal moves have texts
-pub officers : (p : Position) (moves : List Move) → AreLegal p (plies_of moves) → AllByRecursion (λ (m : Ply). IsOfficer m.promo) (plies_of moves)
+pub officers : (p : Position) (moves : List Move) → AreLegal p (plies_of moves) → AllByRecursion (λ (m : Ply). IsOfficer m.promotion) (plies_of moves)
 officers p [] h = tt
 officers p (m ∷ moves) h = (legal-written p m h.0, officers (played p (ply_of m)) moves h.1)
 

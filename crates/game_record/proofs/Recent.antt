@@ -18,8 +18,8 @@ use Rattle.game_record.proofs.Sames.{same-law}
 
 still_position : (p : Position) (m : Move) → IsPosition p → IsPlayable p (ply_of m) → IsPosition (played p (ply_of m))
 still_position p m is legal =
-    position_kept p m.from.index m.to.index m.promo is m.from.on_board m.to.on_board
-    (passed_low p.side (kind_on (man_at p.men m.from.index)) m.from.index m.to.index m.from.on_board m.to.on_board) ((legal-law p m.from.index m.to.index m.promo).1 legal)
+    position_kept p m.from.index m.to.index m.promotion is m.from.on_board m.to.on_board
+    (passed_low p.side (kind_on (man_at p.men m.from.index)) m.from.index m.to.index m.from.on_board m.to.on_board) ((legal-law p m.from.index m.to.index m.promotion).1 legal)
 
 -- after some moves the men are worth less, or each move was counted
 abbrev Fades : Position → ℕ → Position → Type 0
@@ -39,7 +39,7 @@ fades_more p r q plies (inr kept) (inr counted) =
 fades : (p : Position) (moves : List Move) → IsPosition p → AreLegal p (plies_of moves) → Fades p (length moves) (now_after p (plies_of moves))
 fades p [] is legal = inr (omega arith, omega arith)
 fades p (m ∷ moves) is legal =
-    let wear = wears p m.from.index m.to.index m.promo is m.from.on_board m.to.on_board legal.0 in
+    let wear = wears p m.from.index m.to.index m.promotion is m.from.on_board m.to.on_board legal.0 in
     fades_more p (played p (ply_of m)) (now_after (played p (ply_of m)) (plies_of moves)) (length moves) wear (fades (played p (ply_of m)) moves (still_position p m is legal.0) legal.1)
 
 -- what is worth less is another position

@@ -13,7 +13,7 @@ use Rattle.chess_board.specs.Position.{Position}
 use Rattle.chess_board.specs.Play.{is_man, is_minor, HasLegal, IsDead, StateFits}
 use Rattle.chess_board.proofs.Legal.{checked-law}
 use Rattle.chess_board.proofs.Ways.{way-law}
-use Rattle.game_record.specs.declared.ending.End.TheVariants as ends
+use Rattle.game_record.specs.declared.ending.GameEnd.TheVariants as ends
 use Rattle.game_record.specs.Game.{played, Ply, Game, now_of, positions_of, with_ply, later}
 use Rattle.game_record.specs.Ending.{has_legal, is_dead, state_by, state_of, ended_by, ended_of, stood_in, repeats_of, Ends, StateLaw, EndingLaw}
 use Rattle.game_record.proofs.Replays.{later-append, now_after-append}

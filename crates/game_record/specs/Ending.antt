@@ -11,8 +11,8 @@ use Rattle.chess_board.specs.Laws.{Same}
 use Rattle.chess_board.specs.Position.{Position}
 use Rattle.chess_board.specs.Place.{has_any_way}
 use Rattle.chess_board.specs.Play.{is_man, is_minor, StateFits}
-use Rattle.game_record.specs.declared.ending.End.{End}
-use Rattle.game_record.specs.declared.ending.End.TheVariants.{Mate, Stale, Dead, Repetition, Fifty}
+use Rattle.game_record.specs.declared.ending.GameEnd.{GameEnd}
+use Rattle.game_record.specs.declared.ending.GameEnd.TheVariants.{Mate, Stale, Dead, Repetition, Fifty}
 use Rattle.game_record.specs.Game.{Game, now_of, positions_of}
 
 -- each kind by a number of its own
@@ -87,18 +87,18 @@ abbrev pub StateLaw : Type 0
 StateLaw = (p : Position) → StateFits p (state_of p)
 
 -- the first that holds of mate, stalemate, dead position, third occurrence and 100 moves without pawn move or capture
-abbrev pub ended_by : State → ℕ → ℕ → Option End
+abbrev pub ended_by : State → ℕ → ℕ → Option GameEnd
 ended_by states.Mate repeats half = Some Mate
 ended_by states.Stale repeats half = Some Stale
 ended_by states.Dead repeats half = Some Dead
 ended_by states.Open repeats half = if nat_le 3 repeats then Some Repetition else (if nat_le 100 half then Some Fifty else None)
 
 -- how a game has ended, if it has
-unfoldable pub ended_of : Game → Option End
+unfoldable pub ended_of : Game → Option GameEnd
 ended_of g = ended_by (state_of (now_of g)) (repeats_of g) (now_of g).half
 
 -- the end of a game in the words of the Laws
-abbrev pub Ends : Game → Option End → Type 0
+abbrev pub Ends : Game → Option GameEnd → Type 0
 Ends g (Some Mate) = StateFits (now_of g) states.Mate
 Ends g (Some Stale) = StateFits (now_of g) states.Stale
 Ends g (Some Dead) = StateFits (now_of g) states.Dead

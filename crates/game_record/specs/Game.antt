@@ -10,7 +10,7 @@ use Rattle.chess_board.specs.Play.{position_after}
 pub record Ply : Type 0 where
   pub from : ℕ
   pub to : ℕ
-  pub promo : Option Kind
+  pub promotion : Option Kind
 
 -- a game so far, its first move first
 pub record Game : Type 0 where
@@ -18,17 +18,17 @@ pub record Game : Type 0 where
   pub moves : List Ply
 
 abbrev pub ply_of : Move → Ply
-ply_of m = record { from = m.from.index; to = m.to.index; promo = m.promo }
+ply_of m = record { from = m.from.index; to = m.to.index; promotion = m.promotion }
 
 abbrev pub plies_of : List Move → List Ply
 plies_of moves = map ply_of moves
 
 abbrev pub IsPlayable : Position → Ply → Type 0
-IsPlayable p m = IsLegal p m.from m.to m.promo
+IsPlayable p m = IsLegal p m.from m.to m.promotion
 
 -- the position after a move
 abbrev pub played : Position → Ply → Position
-played p m = position_after p m.from m.to m.promo
+played p m = position_after p m.from m.to m.promotion
 
 -- the position after all these moves, replayed from the first
 abbrev pub now_after : Position → List Ply → Position

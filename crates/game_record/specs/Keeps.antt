@@ -3,7 +3,7 @@ use Rattle.std.specs.Prelude.{ℕ, ◌≡◌, ◌+◌, ◌-◌, ◌<◌, ◌≤�
 use Rattle.chess_board.specs.Position.{Position}
 use Rattle.game_record.specs.Game.{Ply, played, later, AreLegal}
 use Rattle.game_record.specs.Ending.{stood_in, ended_of}
-use Rattle.game_record.specs.declared.ending.End.{End}
+use Rattle.game_record.specs.declared.ending.GameEnd.{GameEnd}
 use Rattle.game_record.specs.declared.game.TheConstants.{MOST_PLIES}
 
 -- the most moves of a game
@@ -25,7 +25,7 @@ pub record AreTimes (start : Position) (positions : List Position) (times : List
   pub each : (k : ℕ) → k < length positions → slice_index times k ≡ stood_in (slice_index_or positions k start) (start ∷ take (k + 1) positions)
 
 -- the positions are those after the moves, with their times, the end is the game's, and there is room for more of all
-pub record Keeps (start : Position) (moves : List Ply) (positions : List Position) (times : List ℕ) (ended : Option End) (move_room position_room time_room : ℕ) : Type 0 where
+pub record Keeps (start : Position) (moves : List Ply) (positions : List Position) (times : List ℕ) (ended : Option GameEnd) (move_room position_room time_room : ℕ) : Type 0 where
   pub positions_are : positions ≡ later start moves
   pub times_are : times ≡ times_of (start ∷ []) start moves
   pub ended_is : ended ≡ ended_of (record { start = start; moves = moves })

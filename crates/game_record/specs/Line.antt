@@ -13,7 +13,7 @@ use Rattle.peer_words.specs.Bytes.{blank}
 abbrev pub ply_text : Ply → List ℕ
 ply_text m =
     (letter_a + file_of m.from) ∷ (digit_one + rank_of m.from)
-    ∷ (letter_a + file_of m.to) ∷ (digit_one + rank_of m.to) ∷ promotion_text m.promo
+    ∷ (letter_a + file_of m.to) ∷ (digit_one + rank_of m.to) ∷ promotion_text m.promotion
 
 -- each move behind a blank
 abbrev pub spaced : List Ply → List ℕ

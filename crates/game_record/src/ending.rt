@@ -8,7 +8,7 @@ use chess_board::{Position, State};
 /// or one bishop or knight alone, the third occurrence of a position (9.2), or 100 moves of both sides
 /// without a pawn's move or a capture (9.3). The last two end a game here without a claim.
 #[derive(Clone, Copy, PartialEq, Eq)]
-pub enum End {
+pub enum GameEnd {
     Mate,
     Stale,
     Dead,
@@ -31,15 +31,15 @@ pub(crate) fn state_of(p: &Position) -> State
 }
 
 /// The end in a position that stood so often.
-pub(crate) fn ended_by(state: State, repeats: u32, half: u32) -> Option<End>
+pub(crate) fn ended_by(state: State, repeats: u32, half: u32) -> Option<GameEnd>
     ensures { result ≡ ended_by state repeats half }
 {
     match state {
-        State::Mate => Some(End::Mate),
-        State::Stale => Some(End::Stale),
-        State::Dead => Some(End::Dead),
-        State::Open if repeats >= 3 => Some(End::Repetition),
-        State::Open if half >= 100 => Some(End::Fifty),
+        State::Mate => Some(GameEnd::Mate),
+        State::Stale => Some(GameEnd::Stale),
+        State::Dead => Some(GameEnd::Dead),
+        State::Open if repeats >= 3 => Some(GameEnd::Repetition),
+        State::Open if half >= 100 => Some(GameEnd::Fifty),
         State::Open => None,
     }
 }

@@ -8,7 +8,7 @@ ghost use Rattle.game_record.specs.Ending.{stood_in, repeats_of, ended_of};
 ghost use Rattle.game_record.specs.Keeps.{AreTimes, times_of, left_behind};
 ghost use Rattle.game_record.specs.declared.game.TheConstants.{MOST_PLIES, POSITION_TEXT};
 
-use crate::ending::{End, ended_by, is_same, state_of};
+use crate::ending::{GameEnd, ended_by, is_same, state_of};
 use chess_board::{Move, Position};
 use line_io::NoMemory;
 use std::alloc::Global;
@@ -22,7 +22,7 @@ pub const POSITION_TEXT: usize = 120 + 6 * (MOST_PLIES + 1);
 
 /// Why a move is not taken.
 #[derive(Clone, Copy, PartialEq, Eq)]
-pub enum PushFault {
+pub enum PlayFault {
     /// It is not legal now.
     Illegal,
     /// It is legal, and the game has `MOST_PLIES` moves.
@@ -43,7 +43,7 @@ pub struct Game {
     /// How often each of these then stood.
     times: Vec<u32>,
     /// How the game has ended by now.
-    ended: Option<End>,
+    ended: Option<GameEnd>,
 }
 
 impl Model for Game {
@@ -89,30 +89,48 @@ impl Game {
         self.ended = ended_in(&self.start, self.later.as_slice(), self.times.as_slice());
     }
 
-    /// Plays a move.
-    pub fn push(&mut self, m: Move) -> Result<(), PushFault>
-        ensures illegal { (result ≡ Err PushFault.Illegal)
+    /// Plays a move that its caller has tested.
+    pub fn play(&mut self, m: Move)
+        requires legal { IsPlayable (now_of self.old) (ply_of m) }
+        requires room { length self.old.moves < MOST_PLIES }
+        ensures { self.new ≡ with_ply self.old (ply_of m) }
+    {
+        let after = self.now().play(m);
+        self.add(m, after);
+    }
+
+    /// Plays a move that comes from outside, after the tests that `play` leaves to its caller.
+    pub fn try_play(&mut self, m: Move) -> Result<(), PlayFault>
+        ensures illegal { (result ≡ Err PlayFault.Illegal)
             ↔ (¬ IsPlayable (now_of self.old) (ply_of m)) }
-        ensures long { (result ≡ Err PushFault.TooLong)
+        ensures long { (result ≡ Err PlayFault.TooLong)
             ↔ (IsPlayable (now_of self.old) (ply_of m) × (length self.old.moves ≡ MOST_PLIES)) }
         ensures ok { OnOk result (self.new ≡ with_ply self.old (ply_of m)) }
         ensures err { OnErr result (self.new ≡ self.old) }
     {
-        let now = *self.now();
-        if !now.legal(m) {
-            return Err(PushFault::Illegal);
+        if !self.now().legal(m) {
+            return Err(PlayFault::Illegal);
         }
-        let after = now.play(m);
-        let times = self.stood(m, &after) + 1;
         if self.moves.len() >= MOST_PLIES {
-            return Err(PushFault::TooLong);
+            return Err(PlayFault::TooLong);
         }
+        self.play(m);
+        Ok(())
+    }
+
+    /// Adds a move and the position that it leaves.
+    fn add(&mut self, m: Move, after: Position)
+        requires legal { IsPlayable (now_of self.old) (ply_of m) }
+        requires room { length self.old.moves < MOST_PLIES }
+        requires after { after ≡ played (now_of self.old) (ply_of m) }
+        ensures { self.new ≡ with_ply self.old (ply_of m) }
+    {
+        let times = self.stood(m, &after) + 1;
         let ended = ended_by(state_of(&after), times, after.half());
         self.moves.push_reserved(m);
         self.later.push_reserved(after);
         self.times.push_reserved(times);
         self.ended = ended;
-        Ok(())
     }
 
     /// Takes the last n moves back.
@@ -199,14 +217,14 @@ impl Game {
     }
 
     /// How the game has ended, if it has.
-    pub fn ended(&self) -> Option<End>
+    pub fn ended(&self) -> Option<GameEnd>
         ensures { result ≡ ended_of self.now }
     {
         self.ended
     }
 
     /// How the game will have ended after a legal move.
-    pub fn ended_after(&self, m: Move) -> Option<End>
+    pub fn ended_after(&self, m: Move) -> Option<GameEnd>
         requires { IsPlayable (now_of self.now) (ply_of m) }
         ensures { result ≡ ended_of (with_ply self.now (ply_of m)) }
     {
@@ -238,7 +256,7 @@ fn last_times(times: &[u32]) -> u32
 }
 
 /// How a game with these positions and their times has ended.
-fn ended_in(start: &Position, positions: &[Position], times: &[u32]) -> Option<End>
+fn ended_in(start: &Position, positions: &[Position], times: &[u32]) -> Option<GameEnd>
     ensures { (moves : List Ply) → positions.now ≡ later start.now moves
         → times.now ≡ times_of (start.now ∷ []) start.now moves
         → result ≡ ended_of (record { start = start.now; moves = moves }) }

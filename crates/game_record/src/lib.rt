@@ -9,8 +9,8 @@ mod game;
 mod laws;
 mod line;
 
-pub use ending::End;
-pub use game::{Game, MOST_PLIES, NoMove, POSITION_TEXT, PushFault};
+pub use ending::GameEnd;
+pub use game::{Game, MOST_PLIES, NoMove, POSITION_TEXT, PlayFault};
 pub use laws::{
     endings_are_lawful, position_lines_are_short, sameness_is_lawful, standard_start_is_one,
     states_are_lawful,

@@ -27,7 +27,7 @@ fn write_start(p: &Position, out: &mut Out)
 
 /// Writes a move behind a blank.
 fn write_spaced(m: Move, out: &mut Out)
-    requires officer { IsOfficer m.promo }
+    requires officer { IsOfficer m.promotion }
     requires room { length out.old.text + length (blank ∷ text_of m) ≤ out.old.room }
     ensures { out.new ≡ with out.old (blank ∷ text_of m) }
 {
@@ -37,7 +37,7 @@ fn write_spaced(m: Move, out: &mut Out)
 
 /// Writes each move behind a blank.
 fn write_moves(moves: &[Move], out: &mut Out)
-    requires officers { AllByRecursion (λ m. IsOfficer m.promo) (plies_of moves.now) }
+    requires officers { AllByRecursion (λ m. IsOfficer m.promotion) (plies_of moves.now) }
     requires room { length out.old.text + length (spaced (plies_of moves.now)) ≤ out.old.room }
     ensures { out.new ≡ with out.old (spaced (plies_of moves.now)) }
 {
@@ -55,8 +55,8 @@ fn has_moves(moves: &[Move], hint: Option<Move>) -> bool
 
 /// Writes the moves and the one that may follow.
 fn write_told(moves: &[Move], hint: Option<Move>, out: &mut Out)
-    requires officers { AllByRecursion (λ m. IsOfficer m.promo) (plies_of moves.now) }
-    requires officer { IfSome hint (λ m. IsOfficer m.promo) }
+    requires officers { AllByRecursion (λ m. IsOfficer m.promotion) (plies_of moves.now) }
+    requires officer { IfSome hint (λ m. IsOfficer m.promotion) }
     requires room { length out.old.text
         + length (moves_text (told (plies_of moves.now) (option_map ply_of hint))) ≤ out.old.room }
     ensures { out.new

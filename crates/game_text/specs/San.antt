@@ -13,7 +13,7 @@ abbrev pub square : ℕ → Square
 square s = record { index = s % 64; on_board = mod_below s 64 (lit< tt) }
 
 abbrev pub move_of : Ply → Move
-move_of m = record { from = square m.from; to = square m.to; promo = m.promo }
+move_of m = record { from = square m.from; to = square m.to; promotion = m.promotion }
 
 -- the text of a move
 unfoldable pub san : Position → Ply → List ℕ

@@ -6,8 +6,8 @@ use Rattle.chess_board.specs.declared.board.Side.{Side}
 use Rattle.chess_board.specs.declared.board.Side.TheVariants.{White, Black}
 use Rattle.chess_board.specs.Position.{Position}
 use Rattle.fen_text.specs.Written.{written}
-use Rattle.game_record.specs.declared.ending.End.{End}
-use Rattle.game_record.specs.declared.ending.End.TheVariants.{Mate}
+use Rattle.game_record.specs.declared.ending.GameEnd.{GameEnd}
+use Rattle.game_record.specs.declared.ending.GameEnd.TheVariants.{Mate}
 use Rattle.game_record.specs.Game.{Ply, Game, played, now_of}
 use Rattle.game_record.specs.Ending.{ended_of}
 use Rattle.game_record.specs.Line.{is_standard}
@@ -31,7 +31,7 @@ move_parts p [] = []
 move_parts p (m ∷ moves) = number_by p.side p.full ++ san p m ∷ move_parts (played p m) moves
 
 -- who won: not the side on move, if it is mated; nobody, if the game has ended otherwise
-abbrev pub result_by : Side → Option End → List ℕ
+abbrev pub result_by : Side → Option GameEnd → List ℕ
 result_by side None = codes "*"
 result_by White (Some Mate) = codes "0-1"
 result_by Black (Some Mate) = codes "1-0"

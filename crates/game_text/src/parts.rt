@@ -8,7 +8,7 @@ ghost use Rattle.game_text.specs.Text.{number_by, beginning_by, move_parts, resu
 ghost use Rattle.chess_board.specs.Play.{top_count};
 
 use chess_board::{Move, Position, Side};
-use game_record::End;
+use game_record::GameEnd;
 use itoa::Buffer;
 use line_io::Out;
 use san_text::write_san;
@@ -55,7 +55,7 @@ pub fn put_beginning(start: &Position, out: &mut Out)
 
 // A move behind its number.
 fn put_move(at: &Position, m: Move, out: &mut Out)
-    requires legal { IsLegal at.now m.from.index m.to.index m.promo }
+    requires legal { IsLegal at.now m.from.index m.to.index m.promotion }
     requires room { length out.old.text + 17 ≤ out.old.room }
     ensures text { out.new ≡ with out.old
         (spaced (number_by at.now.side at.now.full ++ san at.now (ply_of m) ∷ [])) }
@@ -81,14 +81,14 @@ pub fn put_moves(start: &Position, moves: &[Move], out: &mut Out)
 }
 
 /// The result of a game that has ended so, or has not, if this side is on move.
-pub fn result_text(side: Side, ended: Option<End>) -> &'static [u8]
+pub fn result_text(side: Side, ended: Option<GameEnd>) -> &'static [u8]
     ensures text { result.now ≡ result_by side ended }
     ensures short { length result.now ≤ 7 }
 {
     match (side, ended) {
         (_, None) => b"*",
-        (Side::White, Some(End::Mate)) => b"0-1",
-        (Side::Black, Some(End::Mate)) => b"1-0",
+        (Side::White, Some(GameEnd::Mate)) => b"0-1",
+        (Side::Black, Some(GameEnd::Mate)) => b"1-0",
         (_, Some(_)) => b"1/2-1/2",
     }
 }

@@ -16,8 +16,8 @@ fn count_lines(position: &Position, more: u8) -> u64 {
     }
     let mut count = 0u64;
     for m in moves.as_slice() {
-        if position.legal(*m) {
-            count = count.saturating_add(count_lines(&position.play(*m), more - 1));
+        if let Some(after) = position.try_play(*m) {
+            count = count.saturating_add(count_lines(&after, more - 1));
         }
     }
     count

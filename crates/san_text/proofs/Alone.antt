@@ -17,28 +17,28 @@ use Rattle.chess_board.proofs.Below.{some_square-hit}
 use Rattle.chess_board.proofs.Equal.{kinds-Decides}
 use Rattle.chess_board.proofs.Legal.{legal-law, king_kind, pawn_kind}
 use Rattle.chess_board.proofs.Places.{move_same}
-use Rattle.san_text.specs.declared.men.Within.{Within}
-use Rattle.san_text.specs.declared.men.Within.TheVariants.{Board, File, Rank}
+use Rattle.san_text.specs.declared.men.RivalSquares.{RivalSquares}
+use Rattle.san_text.specs.declared.men.RivalSquares.TheVariants.{Board, File, Rank}
 use Rattle.san_text.specs.Writing.{same_kind, kind_at, castles_short, castles_long, is_capture, is_rival, is_within, has_rival}
 use Rattle.san_text.specs.Fit.{allows, castles, agrees}
-use Rattle.san_text.specs.Spelling.{Spelling, Short, Long, Goes}
-use Rattle.san_text.proofs.Bools.{same_test, differs}
+use Rattle.san_text.specs.Spelling.{SanSpelling, Short, Long, Goes}
+use Rattle.san_text.proofs.Bools.{differs}
 use Rattle.san_text.proofs.Pawns.{same_square, stays, forward_alone, strikes_alone}
 
 equal : (a b : ℕ) → (a == b) ≡ true → a ≡ b
 equal a b = (Decides-eqb a b).0
 
 -- the kind of a man that moves
-pub kind_of_move : (p : Position) (from to : ℕ) (promo : Option Kind) (h : IsLegal p from to promo) → kind_at p from ≡ h.piece
-kind_of_move p from to promo h = ap kind_on h.man
+pub kind_of_move : (p : Position) (from to : ℕ) (promotion : Option Kind) (h : IsLegal p from to promotion) → kind_at p from ≡ h.piece
+kind_of_move p from to promotion h = ap kind_on h.man
 
 -- another man that may go there is a rival
-rival_there : (p : Position) (m n : Move) → n.from.index ≢ m.from.index → kind_at p n.from.index ≡ kind_at p m.from.index → IsLegal p n.from.index m.to.index m.promo → is_rival p m n.from.index ≡ true
+rival_there : (p : Position) (m n : Move) → n.from.index ≢ m.from.index → kind_at p n.from.index ≡ kind_at p m.from.index → IsLegal p n.from.index m.to.index m.promotion → is_rival p m n.from.index ≡ true
 rival_there p m n d k l =
-    rw (differs n.from.index m.from.index d, (kinds-Decides (kind_at p n.from.index) (kind_at p m.from.index)).1 k) ((legal-law p n.from.index m.to.index m.promo).1 l)
+    rw (differs n.from.index m.from.index d, (kinds-Decides (kind_at p n.from.index) (kind_at p m.from.index)).1 k) ((legal-law p n.from.index m.to.index m.promotion).1 l)
 
 -- if there is none, the man is this one
-not_there : (p : Position) (m n : Move) (w : Within) → has_rival p m w ≡ false → is_within w n.from.index m.from.index ≡ true → kind_at p n.from.index ≡ kind_at p m.from.index → IsLegal p n.from.index m.to.index m.promo → n.from.index ≢ m.from.index → ⊥
+not_there : (p : Position) (m n : Move) (w : RivalSquares) → has_rival p m w ≡ false → is_within w n.from.index m.from.index ≡ true → kind_at p n.from.index ≡ kind_at p m.from.index → IsLegal p n.from.index m.to.index m.promotion → n.from.index ≢ m.from.index → ⊥
 not_there p m n w none within k l d =
     let hit : has_rival p m w ≡ true = some_square-hit (λ s. is_within w s m.from.index && is_rival p m s) n.from.index n.from.on_board (and_from (is_within w n.from.index m.from.index) (is_rival p m n.from.index) within (rival_there p m n d k l)) in
     cc (none, hit)
@@ -72,7 +72,7 @@ allowed k n e = sym (equal k n e)
 -- another officer does not agree with what is given
 officer_alone : (p : Position) (m n : Move) (takes b f r : Bool) → has_rival p m Board ≡ b → has_rival p m File ≡ f → has_rival p m Rank ≡ r
     → allows (file_by false takes b f r (file_of m.from.index)) (file_of n.from.index) ≡ true → allows (rank_by false b f r (rank_of m.from.index)) (rank_of n.from.index) ≡ true
-    → kind_at p n.from.index ≡ kind_at p m.from.index → IsLegal p n.from.index m.to.index m.promo → n.from.index ≢ m.from.index → ⊥
+    → kind_at p n.from.index ≡ kind_at p m.from.index → IsLegal p n.from.index m.to.index m.promotion → n.from.index ≢ m.from.index → ⊥
 officer_alone p m n takes false f r eb ef er a c k l d = not_there p m n Board eb refl k l d
 officer_alone p m n takes true false r eb ef er a c k l d =
     not_there p m n File ef ((Decides-eqb (file_of n.from.index) (file_of m.from.index)).1 (allowed (file_of m.from.index) (file_of n.from.index) a)) k l d
@@ -81,11 +81,11 @@ officer_alone p m n takes true true false eb ef er a c k l d =
 officer_alone p m n takes true true true eb ef er a c k l d =
     d (same_square n.from.index m.from.index (allowed (file_of m.from.index) (file_of n.from.index) a) (allowed (rank_of m.from.index) (rank_of n.from.index) c))
 
-goes_pawn : (p : Position) (from to : ℕ) (promo : Option Kind) (h : IsLegal p from to promo) → h.piece ≡ Pawn → MayGo p Pawn from to
-goes_pawn p from to promo h e = subst (λ (k : Kind). MayGo p k from to) e h.way
+goes_pawn : (p : Position) (from to : ℕ) (promotion : Option Kind) (h : IsLegal p from to promotion) → h.piece ≡ Pawn → MayGo p Pawn from to
+goes_pawn p from to promotion h e = subst (λ (k : Kind). MayGo p k from to) e h.way
 
-man_pawn : (p : Position) (from to : ℕ) (promo : Option Kind) (h : IsLegal p from to promo) → h.piece ≡ Pawn → man_at p.men from ≡ Some (p.side, Pawn)
-man_pawn p from to promo h e = h.man ∙ ap (λ k. Some (p.side, k)) e
+man_pawn : (p : Position) (from to : ℕ) (promotion : Option Kind) (h : IsLegal p from to promotion) → h.piece ≡ Pawn → man_at p.men from ≡ Some (p.side, Pawn)
+man_pawn p from to promotion h e = h.man ∙ ap (λ k. Some (p.side, k)) e
 
 -- whether a pawn leaves its file
 takes_by : (empty leaves : Bool) → (not empty || (true && not leaves)) ≡ false → (empty ≡ true) × (leaves ≡ true)
@@ -102,102 +102,102 @@ differs_of : (a b : ℕ) → (a == b) ≡ false → a ≢ b
 differs_of a b e f = let t = (Decides-eqb a b).1 f in cc (e, t)
 
 -- a pawn that captures leaves its file
-capturing_leaves : (p : Position) (m : Move) (h : IsLegal p m.from.index m.to.index m.promo) → h.piece ≡ Pawn → is_capture p m ≡ true → file_of m.from.index ≢ file_of m.to.index
+capturing_leaves : (p : Position) (m : Move) (h : IsLegal p m.from.index m.to.index m.promotion) → h.piece ≡ Pawn → is_capture p m ≡ true → file_of m.from.index ≢ file_of m.to.index
 capturing_leaves p m h e t f =
-    let pawn : kind_at p m.from.index ≡ Pawn = kind_of_move p m.from.index m.to.index m.promo h ∙ e in
+    let pawn : kind_at p m.from.index ≡ Pawn = kind_of_move p m.from.index m.to.index m.promotion h ∙ e in
     let test = ap (λ k. not (is_empty (man_at p.men m.to.index)) || (is_pawn_kind k && not (file_of m.from.index == file_of m.to.index))) (sym pawn) ∙ t in
     elim (taking_pawn (is_empty (man_at p.men m.to.index)) (file_of m.from.index == file_of m.to.index) test) [
-      | inl full ↦ let free = (stays p m.from.index m.to.index (goes_pawn p m.from.index m.to.index m.promo h e) f).0 in let none : is_empty (man_at p.men m.to.index) ≡ true = ap is_empty free in cc (full, none)
+      | inl full ↦ let free = (stays p m.from.index m.to.index (goes_pawn p m.from.index m.to.index m.promotion h e) f).0 in let none : is_empty (man_at p.men m.to.index) ≡ true = ap is_empty free in cc (full, none)
       | inr out ↦ differs_of (file_of m.from.index) (file_of m.to.index) out f
     ]
 
-quiet_stays : (p : Position) (m : Move) (h : IsLegal p m.from.index m.to.index m.promo) → h.piece ≡ Pawn → is_capture p m ≡ false → file_of m.from.index ≡ file_of m.to.index
+quiet_stays : (p : Position) (m : Move) (h : IsLegal p m.from.index m.to.index m.promotion) → h.piece ≡ Pawn → is_capture p m ≡ false → file_of m.from.index ≡ file_of m.to.index
 quiet_stays p m h e t =
-    let pawn : kind_at p m.from.index ≡ Pawn = kind_of_move p m.from.index m.to.index m.promo h ∙ e in
+    let pawn : kind_at p m.from.index ≡ Pawn = kind_of_move p m.from.index m.to.index m.promotion h ∙ e in
     let test = ap (λ k. not (is_empty (man_at p.men m.to.index)) || (is_pawn_kind k && not (file_of m.from.index == file_of m.to.index))) (sym pawn) ∙ t in
     equal (file_of m.from.index) (file_of m.to.index) (takes_by (is_empty (man_at p.men m.to.index)) (file_of m.from.index == file_of m.to.index) test).1
 
-pawn_alone : (p : Position) (m n : Move) (takes : Bool) → is_capture p m ≡ takes → (h : IsLegal p m.from.index m.to.index m.promo) → h.piece ≡ Pawn → (i : IsLegal p n.from.index m.to.index m.promo) → i.piece ≡ Pawn
+pawn_alone : (p : Position) (m n : Move) (takes : Bool) → is_capture p m ≡ takes → (h : IsLegal p m.from.index m.to.index m.promotion) → h.piece ≡ Pawn → (i : IsLegal p n.from.index m.to.index m.promotion) → i.piece ≡ Pawn
     → allows (cond takes (Some (file_of m.from.index)) None) (file_of n.from.index) ≡ true → n.from.index ≡ m.from.index
 pawn_alone p m n true t h e i f a =
-    sym (strikes_alone p m.from.index n.from.index m.to.index (goes_pawn p m.from.index m.to.index m.promo h e) (goes_pawn p n.from.index m.to.index m.promo i f) (capturing_leaves p m h e t) (allowed (file_of m.from.index) (file_of n.from.index) a))
+    sym (strikes_alone p m.from.index n.from.index m.to.index (goes_pawn p m.from.index m.to.index m.promotion h e) (goes_pawn p n.from.index m.to.index m.promotion i f) (capturing_leaves p m h e t) (allowed (file_of m.from.index) (file_of n.from.index) a))
 pawn_alone p m n false t h e i f a =
-    sym (forward_alone p m.from.index n.from.index m.to.index (man_pawn p m.from.index m.to.index m.promo h e) (man_pawn p n.from.index m.to.index m.promo i f) (goes_pawn p m.from.index m.to.index m.promo h e) (goes_pawn p n.from.index m.to.index m.promo i f) (quiet_stays p m h e t))
+    sym (forward_alone p m.from.index n.from.index m.to.index (man_pawn p m.from.index m.to.index m.promotion h e) (man_pawn p n.from.index m.to.index m.promotion i f) (goes_pawn p m.from.index m.to.index m.promotion h e) (goes_pawn p n.from.index m.to.index m.promotion i f) (quiet_stays p m h e t))
 
 -- two moves of one kind to one square, of which the second agrees with what is given of the first
-from_alone : (p : Position) (m n : Move) (pawn : Bool) → is_pawn_move p m ≡ pawn → IsLegal p m.from.index m.to.index m.promo → IsLegal p n.from.index m.to.index m.promo → kind_at p n.from.index ≡ kind_at p m.from.index
+from_alone : (p : Position) (m n : Move) (pawn : Bool) → is_pawn_move p m ≡ pawn → IsLegal p m.from.index m.to.index m.promotion → IsLegal p n.from.index m.to.index m.promotion → kind_at p n.from.index ≡ kind_at p m.from.index
     → allows (file_by pawn (is_capture p m) (has_rival p m Board) (has_rival p m File) (has_rival p m Rank) (file_of m.from.index)) (file_of n.from.index) ≡ true
     → allows (rank_by pawn (has_rival p m Board) (has_rival p m File) (has_rival p m Rank) (rank_of m.from.index)) (rank_of n.from.index) ≡ true
     → n.from.index ≡ m.from.index
 from_alone p m n true e h i k a c =
     let mine = pawn_kind (kind_at p m.from.index) e in
-    pawn_alone p m n (is_capture p m) refl h (sym (kind_of_move p m.from.index m.to.index m.promo h) ∙ mine) i (sym (kind_of_move p n.from.index m.to.index m.promo i) ∙ k ∙ mine) a
+    pawn_alone p m n (is_capture p m) refl h (sym (kind_of_move p m.from.index m.to.index m.promotion h) ∙ mine) i (sym (kind_of_move p n.from.index m.to.index m.promotion i) ∙ k ∙ mine) a
 from_alone p m n false e h i k a c =
     same_from n.from.index m.from.index (officer_alone p m n (is_capture p m) (has_rival p m Board) (has_rival p m File) (has_rival p m Rank) refl refl refl a c k i)
 
-pub promos-Decides : (a b : Option Kind) → option_eq same_kind a b ≡ true → a ≡ b
-promos-Decides None None e = refl
-promos-Decides None (Some b) e = cc
-promos-Decides (Some a) None e = cc
-promos-Decides (Some a) (Some b) e = ap (λ k. Some k) ((kinds-Decides a b).0 e)
+pub promotions-Decides : (a b : Option Kind) → option_eq same_kind a b ≡ true → a ≡ b
+promotions-Decides None None e = refl
+promotions-Decides None (Some b) e = cc
+promotions-Decides (Some a) None e = cc
+promotions-Decides (Some a) (Some b) e = ap (λ k. Some k) ((kinds-Decides a b).0 e)
 
-promo-refl : (a : Option Kind) → option_eq same_kind a a ≡ true
-promo-refl None = refl
-promo-refl (Some a) = (kinds-Decides a a).1 refl
+promotion-refl : (a : Option Kind) → option_eq same_kind a a ≡ true
+promotion-refl None = refl
+promotion-refl (Some a) = (kinds-Decides a a).1 refl
 
-abbrev pub spelling_of : Position → Move → Spelling
+abbrev pub spelling_of : Position → Move → SanSpelling
 spelling_of p m =
-    cond (castles_short p m) Short (cond (castles_long p m) Long (Goes (kind_at p m.from.index) (given_file p m) (given_rank p m) (record { to = m.to.index; promo = m.promo })))
+    cond (castles_short p m) Short (cond (castles_long p m) Long (Goes (kind_at p m.from.index) (given_file p m) (given_rank p m) (record { to = m.to.index; promotion = m.promotion })))
 
 -- and_parts castle
-king_promo : (p : Position) (m : Move) (h : IsLegal p m.from.index m.to.index m.promo) → is_king_kind (kind_at p m.from.index) ≡ true → m.promo ≡ None
-king_promo p m h e =
-    let king : h.piece ≡ King = sym (kind_of_move p m.from.index m.to.index m.promo h) ∙ king_kind (kind_at p m.from.index) e in
-    subst (λ (k : Kind). Promotes p.side k m.to.index m.promo) king h.promoted
+king_promotion : (p : Position) (m : Move) (h : IsLegal p m.from.index m.to.index m.promotion) → is_king_kind (kind_at p m.from.index) ≡ true → m.promotion ≡ None
+king_promotion p m h e =
+    let king : h.piece ≡ King = sym (kind_of_move p m.from.index m.to.index m.promotion h) ∙ king_kind (kind_at p m.from.index) e in
+    subst (λ (k : Kind). Promotes p.side k m.to.index m.promotion) king h.promoted
 
-short_alone : (p : Position) (m n : Move) → IsLegal p m.from.index m.to.index m.promo → IsLegal p n.from.index n.to.index n.promo → castles_short p m ≡ true → castles_short p n ≡ true → n ≡ m
+short_alone : (p : Position) (m n : Move) → IsLegal p m.from.index m.to.index m.promotion → IsLegal p n.from.index n.to.index n.promotion → castles_short p m ≡ true → castles_short p n ≡ true → n ≡ m
 short_alone p m n h i a c =
     let x = and_parts (is_king_kind (kind_at p m.from.index)) ((m.from.index == king_home p.side) && (m.to.index == king_home p.side + 2)) a in
     let y = and_parts (is_king_kind (kind_at p n.from.index)) ((n.from.index == king_home p.side) && (n.to.index == king_home p.side + 2)) c in
     let xs = and_parts (m.from.index == king_home p.side) (m.to.index == king_home p.side + 2) x.1 in
     let ys = and_parts (n.from.index == king_home p.side) (n.to.index == king_home p.side + 2) y.1 in
-    move_same n m (equal _ _ ys.0 ∙ sym (equal _ _ xs.0)) (equal _ _ ys.1 ∙ sym (equal _ _ xs.1)) (king_promo p n i y.0 ∙ sym (king_promo p m h x.0))
+    move_same n m (equal _ _ ys.0 ∙ sym (equal _ _ xs.0)) (equal _ _ ys.1 ∙ sym (equal _ _ xs.1)) (king_promotion p n i y.0 ∙ sym (king_promotion p m h x.0))
 
-long_alone : (p : Position) (m n : Move) → IsLegal p m.from.index m.to.index m.promo → IsLegal p n.from.index n.to.index n.promo → castles_long p m ≡ true → castles_long p n ≡ true → n ≡ m
+long_alone : (p : Position) (m n : Move) → IsLegal p m.from.index m.to.index m.promotion → IsLegal p n.from.index n.to.index n.promotion → castles_long p m ≡ true → castles_long p n ≡ true → n ≡ m
 long_alone p m n h i a c =
     let x = and_parts (is_king_kind (kind_at p m.from.index)) ((m.from.index == king_home p.side) && (m.to.index + 2 == king_home p.side)) a in
     let y = and_parts (is_king_kind (kind_at p n.from.index)) ((n.from.index == king_home p.side) && (n.to.index + 2 == king_home p.side)) c in
     let xs = and_parts (m.from.index == king_home p.side) (m.to.index + 2 == king_home p.side) x.1 in
     let ys = and_parts (n.from.index == king_home p.side) (n.to.index + 2 == king_home p.side) y.1 in
     let to = equal _ _ ys.1 ∙ sym (equal _ _ xs.1) in
-    move_same n m (equal _ _ ys.0 ∙ sym (equal _ _ xs.0)) (omega (arith, to)) (king_promo p n i y.0 ∙ sym (king_promo p m h x.0))
+    move_same n m (equal _ _ ys.0 ∙ sym (equal _ _ xs.0)) (omega (arith, to)) (king_promotion p n i y.0 ∙ sym (king_promotion p m h x.0))
 
-goes_alone : (p : Position) (m n : Move) → IsLegal p m.from.index m.to.index m.promo → IsLegal p n.from.index n.to.index n.promo
-    → agrees p (Goes (kind_at p m.from.index) (given_file p m) (given_rank p m) (record { to = m.to.index; promo = m.promo })) n ≡ true → n ≡ m
+goes_alone : (p : Position) (m n : Move) → IsLegal p m.from.index m.to.index m.promotion → IsLegal p n.from.index n.to.index n.promotion
+    → agrees p (Goes (kind_at p m.from.index) (given_file p m) (given_rank p m) (record { to = m.to.index; promotion = m.promotion })) n ≡ true → n ≡ m
 goes_alone p m n h i a =
     let file = allows (given_file p m) (file_of n.from.index) in
     let rank = allows (given_rank p m) (rank_of n.from.index) in
     let to = n.to.index == m.to.index in
-    let promo = option_eq same_kind n.promo m.promo in
+    let promotion = option_eq same_kind n.promotion m.promotion in
     let kind = same_kind (kind_at p n.from.index) (kind_at p m.from.index) in
-    let x = and_parts (not (castles p n) && kind) ((file && rank) && (to && promo)) a in
-    let y = and_parts (file && rank) (to && promo) x.1 in
-    let arrival = and_parts to promo y.1 in
+    let x = and_parts (not (castles p n) && kind) ((file && rank) && (to && promotion)) a in
+    let y = and_parts (file && rank) (to && promotion) x.1 in
+    let arrival = and_parts to promotion y.1 in
     let origin = and_parts file rank y.0 in
     let there = equal n.to.index m.to.index arrival.0 in
-    let becomes = promos-Decides n.promo m.promo arrival.1 in
+    let becomes = promotions-Decides n.promotion m.promotion arrival.1 in
     let same = (kinds-Decides (kind_at p n.from.index) (kind_at p m.from.index)).0 (and_parts (not (castles p n)) kind x.0).1 in
-    let legal : IsLegal p n.from.index m.to.index m.promo = subst (λ (t : ℕ). IsLegal p n.from.index t m.promo) there (subst (λ (k : Option Kind). IsLegal p n.from.index n.to.index k) becomes i) in
+    let legal : IsLegal p n.from.index m.to.index m.promotion = subst (λ (t : ℕ). IsLegal p n.from.index t m.promotion) there (subst (λ (k : Option Kind). IsLegal p n.from.index n.to.index k) becomes i) in
     move_same n m (from_alone p m n (is_pawn_move p m) refl h legal same origin.0 origin.1) there becomes
 
-alone_by : (short long : Bool) (p : Position) (m n : Move) → castles_short p m ≡ short → castles_long p m ≡ long → IsLegal p m.from.index m.to.index m.promo → IsLegal p n.from.index n.to.index n.promo
-    → agrees p (cond short Short (cond long Long (Goes (kind_at p m.from.index) (given_file p m) (given_rank p m) (record { to = m.to.index; promo = m.promo })))) n ≡ true → n ≡ m
+alone_by : (short long : Bool) (p : Position) (m n : Move) → castles_short p m ≡ short → castles_long p m ≡ long → IsLegal p m.from.index m.to.index m.promotion → IsLegal p n.from.index n.to.index n.promotion
+    → agrees p (cond short Short (cond long Long (Goes (kind_at p m.from.index) (given_file p m) (given_rank p m) (record { to = m.to.index; promotion = m.promotion })))) n ≡ true → n ≡ m
 alone_by true long p m n s l h i a = short_alone p m n h i s a
 alone_by false true p m n s l h i a = long_alone p m n h i l a
 alone_by false false p m n s l h i a = goes_alone p m n h i a
 
 -- no other legal move agrees with what a move is written as
-pub alone : (p : Position) (m n : Move) → IsLegal p m.from.index m.to.index m.promo → IsLegal p n.from.index n.to.index n.promo → agrees p (spelling_of p m) n ≡ true → n ≡ m
+pub alone : (p : Position) (m n : Move) → IsLegal p m.from.index m.to.index m.promotion → IsLegal p n.from.index n.to.index n.promotion → agrees p (spelling_of p m) n ≡ true → n ≡ m
 alone p m n h i a = alone_by (castles_short p m) (castles_long p m) p m n refl refl h i a
 
 allows_given : (pawn takes b f r : Bool) (n : ℕ) → allows (file_by pawn takes b f r n) n ≡ true
@@ -215,7 +215,7 @@ allows_rank false true false r n = refl
 allows_rank false true true r n = (Decides-eqb n n).1 refl
 
 self_by : (short long : Bool) (p : Position) (m : Move) → castles_short p m ≡ short → castles_long p m ≡ long
-    → agrees p (cond short Short (cond long Long (Goes (kind_at p m.from.index) (given_file p m) (given_rank p m) (record { to = m.to.index; promo = m.promo })))) m ≡ true
+    → agrees p (cond short Short (cond long Long (Goes (kind_at p m.from.index) (given_file p m) (given_rank p m) (record { to = m.to.index; promotion = m.promotion })))) m ≡ true
 self_by true long p m s l = s
 self_by false true p m s l = l
 self_by false false p m s l =
@@ -223,7 +223,7 @@ self_by false false p m s l =
     let rank = allows_rank (is_pawn_move p m) (has_rival p m Board) (has_rival p m File) (has_rival p m Rank) (rank_of m.from.index) in
     and_from _ _
     (and_from _ _ (rw (s, l) refl) ((kinds-Decides (kind_at p m.from.index) (kind_at p m.from.index)).1 refl))
-    (and_from _ _ (and_from _ _ file rank) (and_from _ _ ((Decides-eqb m.to.index m.to.index).1 refl) (promo-refl m.promo)))
+    (and_from _ _ (and_from _ _ file rank) (and_from _ _ ((Decides-eqb m.to.index m.to.index).1 refl) (promotion-refl m.promotion)))
 
 -- the move agrees with what it is written as
 pub agrees_self : (p : Position) (m : Move) → agrees p (spelling_of p m) m ≡ true

@@ -8,8 +8,8 @@ use Rattle.chess_board.specs.Board.{is_pawn_kind}
 use Rattle.chess_board.specs.Laws.{IsLegal, Promotes}
 use Rattle.chess_board.specs.Place.{has_any_way}
 use Rattle.chess_board.specs.Position.{Position}
-use Rattle.san_text.specs.declared.men.Within.TheVariants.{Board, File, Rank}
-use Rattle.san_text.specs.Writing.{kind_at, castles_short, castles_long, is_capture, has_rival, file_letter, rank_digit, letter, origin, promotion, target, taking, body, after, sign, san, AreShort}
+use Rattle.san_text.specs.declared.men.RivalSquares.TheVariants.{Board, File, Rank}
+use Rattle.san_text.specs.Writing.{kind_at, castles_short, castles_long, is_capture, has_rival, file_letter, rank_digit, letter, origin, promotion_letters, target, taking, body, after, sign, san, AreShort}
 use Rattle.san_text.proofs.Alone.{kind_of_move}
 
 sign_by : (checked moves : Bool) → length {A = ℕ} (cond checked (cond moves (43 ∷ []) (35 ∷ [])) []) ≤ 1
@@ -28,7 +28,7 @@ letter_short Rook = omega arith
 letter_short Queen = omega arith
 letter_short King = omega arith
 
-promotion_short : (promo : Option Kind) → length (promotion promo) ≤ 2
+promotion_short : (promotion : Option Kind) → length (promotion_letters promotion) ≤ 2
 promotion_short None = omega arith
 promotion_short (Some k) = omega (arith, letter_short k)
 
@@ -47,13 +47,13 @@ file_short true file = omega arith
 file_short false file = omega arith
 
 -- only a pawn becomes another man
-promo_none : (k : Kind) (p : Position) (to : ℕ) (promo : Option Kind) → is_pawn_kind k ≡ false → Promotes p.side k to promo → promo ≡ None
-promo_none Pawn p to promo e h = absurd (cc)
-promo_none Knight p to promo e h = h
-promo_none Bishop p to promo e h = h
-promo_none Rook p to promo e h = h
-promo_none Queen p to promo e h = h
-promo_none King p to promo e h = h
+promotion_none : (k : Kind) (p : Position) (to : ℕ) (promotion : Option Kind) → is_pawn_kind k ≡ false → Promotes p.side k to promotion → promotion ≡ None
+promotion_none Pawn p to promotion e h = absurd (cc)
+promotion_none Knight p to promotion e h = h
+promotion_none Bishop p to promotion e h = h
+promotion_none Rook p to promotion e h = h
+promotion_none Queen p to promotion e h = h
+promotion_none King p to promotion e h = h
 
 pawn_letter : (k : Kind) → is_pawn_kind k ≡ true → length (letter k) ≡ 0
 pawn_letter Pawn e = refl
@@ -64,14 +64,14 @@ pawn_letter Queen e = absurd (cc)
 pawn_letter King e = absurd (cc)
 
 -- the promotion of a legal move
-promo_by : (p : Position) (m : Move) → IsLegal p m.from.index m.to.index m.promo → is_pawn_kind (kind_at p m.from.index) ≡ false → m.promo ≡ None
-promo_by p m h e = promo_none (kind_at p m.from.index) p m.to.index m.promo e (subst (λ (k : Kind). Promotes p.side k m.to.index m.promo) (sym (kind_of_move p m.from.index m.to.index m.promo h)) h.promoted)
+promotion_by : (p : Position) (m : Move) → IsLegal p m.from.index m.to.index m.promotion → is_pawn_kind (kind_at p m.from.index) ≡ false → m.promotion ≡ None
+promotion_by p m h e = promotion_none (kind_at p m.from.index) p m.to.index m.promotion e (subst (λ (k : Kind). Promotes p.side k m.to.index m.promotion) (sym (kind_of_move p m.from.index m.to.index m.promotion h)) h.promoted)
 
-man_by : (p : Position) (m : Move) (pawn : Bool) → is_pawn_kind (kind_at p m.from.index) ≡ pawn → IsLegal p m.from.index m.to.index m.promo
+man_by : (p : Position) (m : Move) (pawn : Bool) → is_pawn_kind (kind_at p m.from.index) ≡ pawn → IsLegal p m.from.index m.to.index m.promotion
     → length (letter (kind_at p m.from.index)) + (length (cond pawn (cond (is_capture p m) (file_letter m.from.index ∷ []) []) (cond (not (has_rival p m Board)) [] (cond (not (has_rival p m File)) (file_letter m.from.index ∷ []) (cond (not (has_rival p m Rank)) (rank_digit m.from.index ∷ []) (file_letter m.from.index ∷ rank_digit m.from.index ∷ []))))) + (length (taking p m) + length (target m))) ≤ 6
-man_by p m true e h = omega (arith, pawn_letter (kind_at p m.from.index) e, file_short (is_capture p m) (file_letter m.from.index), takes_short (is_capture p m), promotion_short m.promo)
+man_by p m true e h = omega (arith, pawn_letter (kind_at p m.from.index) e, file_short (is_capture p m) (file_letter m.from.index), takes_short (is_capture p m), promotion_short m.promotion)
 man_by p m false e h =
-    let none = ap (λ (o : Option Kind). length (promotion o)) (promo_by p m h e) in
+    let none = ap (λ (o : Option Kind). length (promotion_letters o)) (promotion_by p m h e) in
     omega (
       arith,
       none,
@@ -80,7 +80,7 @@ man_by p m false e h =
       takes_short (is_capture p m),
     )
 
-body_by : (p : Position) (m : Move) (short long : Bool) → IsLegal p m.from.index m.to.index m.promo
+body_by : (p : Position) (m : Move) (short long : Bool) → IsLegal p m.from.index m.to.index m.promotion
     → length (cond short (79 ∷ 45 ∷ 79 ∷ []) (cond long (79 ∷ 45 ∷ 79 ∷ 45 ∷ 79 ∷ []) (letter (kind_at p m.from.index) ++ (origin p m ++ (taking p m ++ target m))))) ≤ 6
 body_by p m true long h = omega arith
 body_by p m false true h = omega arith

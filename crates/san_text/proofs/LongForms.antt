@@ -16,15 +16,15 @@ use Rattle.chess_board.proofs.Equal.{kinds-Decides}
 use Rattle.chess_board.proofs.Legal.{legal-law}
 use Rattle.chess_board.proofs.Places.{move_same}
 use Rattle.chess_board.proofs.Texts.{legal-written}
-use Rattle.san_text.specs.Writing.{same_kind, kind_at, letter, promotion}
+use Rattle.san_text.specs.Writing.{same_kind, kind_at, letter, promotion_letters}
 use Rattle.san_text.specs.Spelling.{Target, unmarked, file_named, rank_named, kind_named, promoted, promotion_read, target_of, square_read}
 use Rattle.san_text.specs.LongForm.{is_link, bare_promotion, IsLongForm, FitsLong, IsLongRead, Way, way_of, way_from, way_read, may_move, moved_by, man_moved, long_read}
-use Rattle.san_text.proofs.Texts.{file_small, rank_small, square_again, file_is, rank_is, promo_is}
+use Rattle.san_text.proofs.Texts.{file_small, rank_small, square_again, file_is, rank_is, promotion_is}
 use Rattle.san_text.proofs.Bools.{differs}
 
 -- WHAT FITS IS READ
 
-bare_is : (promo : Option Kind) → IsOfficer promo → promotion_read (bare_promotion promo) ≡ Some promo
+bare_is : (promotion : Option Kind) → IsOfficer promotion → promotion_read (bare_promotion promotion) ≡ Some promotion
 bare_is None o = refl
 bare_is (Some Queen) o = refl
 bare_is (Some Rook) o = refl
@@ -33,16 +33,16 @@ bare_is (Some Knight) o = refl
 bare_is (Some Pawn) o = absurd o
 bare_is (Some King) o = absurd o
 
-becomes_is : (promo : Option Kind) (text : List ℕ) → IsOfficer promo → (text ≡ bare_promotion promo) ⊎ (text ≡ promotion promo) → promotion_read text ≡ Some promo
-becomes_is promo text o (inl e) = ap promotion_read e ∙ bare_is promo o
-becomes_is promo text o (inr e) = ap promotion_read e ∙ promo_is promo o
+becomes_is : (promotion : Option Kind) (text : List ℕ) → IsOfficer promotion → (text ≡ bare_promotion promotion) ⊎ (text ≡ promotion_letters promotion) → promotion_read text ≡ Some promotion
+becomes_is promotion text o (inl e) = ap promotion_read e ∙ bare_is promotion o
+becomes_is promotion text o (inr e) = ap promotion_read e ∙ promotion_is promotion o
 
 abbrev way : ℕ → ℕ → ℕ → ℕ → Option Kind → Way
-way f r g s promo = record { from = square_at f r; target = record { to = square_at g s; promo = promo } }
+way f r g s promotion = record { from = square_at f r; target = record { to = square_at g s; promotion = promotion } }
 
-way_is : (f r g s link : ℕ) (becomes : List ℕ) (promo : Option Kind) → f < 8 → r < 8 → g < 8 → s < 8 → is_link link ≡ true → promotion_read becomes ≡ Some promo
-    → way_read ((97 + f) ∷ (49 + r) ∷ link ∷ (97 + g) ∷ (49 + s) ∷ becomes) ≡ Some (way f r g s promo)
-way_is f r g s link becomes promo hf hr hg hs l e = rw (l, file_is f hf, rank_is r hr, file_is g hg, rank_is s hs, e) refl
+way_is : (f r g s link : ℕ) (becomes : List ℕ) (promotion : Option Kind) → f < 8 → r < 8 → g < 8 → s < 8 → is_link link ≡ true → promotion_read becomes ≡ Some promotion
+    → way_read ((97 + f) ∷ (49 + r) ∷ link ∷ (97 + g) ∷ (49 + s) ∷ becomes) ≡ Some (way f r g s promotion)
+way_is f r g s link becomes promotion hf hr hg hs l e = rw (l, file_is f hf, rank_is r hr, file_is g hg, rank_is s hs, e) refl
 
 -- a pawn's text begins with a file
 by_letter : (p : Position) (k : Kind) (f : ℕ) (xs : List ℕ) → f < 8 → long_read p (letter k ++ ((97 + f) ∷ xs)) ≡ moved_by p k (way_read ((97 + f) ∷ xs))
@@ -54,17 +54,17 @@ by_letter p Rook f xs h = refl
 by_letter p Queen f xs h = refl
 by_letter p King f xs h = refl
 
-moved_is : (p : Position) (m : Move) → IsLegal p m.from.index m.to.index m.promo → moved_by p (kind_at p m.from.index) (Some (way_of m)) ≡ Some (way_of m)
-moved_is p m h = rw ((kinds-Decides (kind_at p m.from.index) (kind_at p m.from.index)).1 refl, (legal-law p m.from.index m.to.index m.promo).1 h) refl
+moved_is : (p : Position) (m : Move) → IsLegal p m.from.index m.to.index m.promotion → moved_by p (kind_at p m.from.index) (Some (way_of m)) ≡ Some (way_of m)
+moved_is p m h = rw ((kinds-Decides (kind_at p m.from.index) (kind_at p m.from.index)).1 refl, (legal-law p m.from.index m.to.index m.promotion).1 h) refl
 
 fits_read : (p : Position) (text : List ℕ) (m : Move) → FitsLong p text m → long_read p (unmarked text) ≡ Some (way_of m)
 fits_read p text m h =
     let form = h.1 in
     let a = m.from.index in
     let b = m.to.index in
-    let becomes = becomes_is m.promo form.becomes (legal-written p m h.0) form.promotes in
-    let read = way_is (file_of a) (rank_of a) (file_of b) (rank_of b) form.link form.becomes m.promo (file_small a) (rank_small a m.from.on_board) (file_small b) (rank_small b m.to.on_board) form.linked becomes in
-    let squares : way (file_of a) (rank_of a) (file_of b) (rank_of b) m.promo ≡ way_of m = rw (square_again a, square_again b) refl in
+    let becomes = becomes_is m.promotion form.becomes (legal-written p m h.0) form.promotes in
+    let read = way_is (file_of a) (rank_of a) (file_of b) (rank_of b) form.link form.becomes m.promotion (file_small a) (rank_small a m.from.on_board) (file_small b) (rank_small b m.to.on_board) form.linked becomes in
+    let squares : way (file_of a) (rank_of a) (file_of b) (rank_of b) m.promotion ≡ way_of m = rw (square_again a, square_again b) refl in
     ap (long_read p) form.whole ∙ by_letter p (kind_at p a) (file_of a) _ (file_small a)
     ∙ ap (moved_by p (kind_at p a)) (read ∙ ap (λ w. Some w) squares) ∙ moved_is p m h.0
 
@@ -102,26 +102,26 @@ letter_by false false false false false b man e f g h i is = absurd (cc)
 letter_back : (b : ℕ) (man : Kind) → kind_named b ≡ Some man → letter man ≡ b ∷ []
 letter_back b man is = letter_by (b == 75) (b == 81) (b == 82) (b == 66) (b == 78) b man refl refl refl refl refl is
 
-piece_some : (b : ℕ) (man : Kind) (promo : Option Kind) → kind_named b ≡ Some man → Some man ≡ promo → (bare_promotion promo ≡ b ∷ []) × (promotion promo ≡ 61 ∷ b ∷ [])
-piece_some b man promo e h = let l = letter_back b man e in subst (λ q. (bare_promotion q ≡ b ∷ []) × (promotion q ≡ 61 ∷ b ∷ [])) h (l, ap (λ xs. 61 ∷ xs) l)
+piece_some : (b : ℕ) (man : Kind) (promotion : Option Kind) → kind_named b ≡ Some man → Some man ≡ promotion → (bare_promotion promotion ≡ b ∷ []) × (promotion_letters promotion ≡ 61 ∷ b ∷ [])
+piece_some b man promotion e h = let l = letter_back b man e in subst (λ q. (bare_promotion q ≡ b ∷ []) × (promotion_letters q ≡ 61 ∷ b ∷ [])) h (l, ap (λ xs. 61 ∷ xs) l)
 
-piece_back : (b : ℕ) (k promo : Option Kind) → kind_named b ≡ k → promoted k ≡ Some promo → (bare_promotion promo ≡ b ∷ []) × (promotion promo ≡ 61 ∷ b ∷ [])
-piece_back b None promo e h = absurd (cc)
-piece_back b (Some Pawn) promo e h = absurd (cc)
-piece_back b (Some King) promo e h = absurd (cc)
-piece_back b (Some Queen) promo e h = piece_some b Queen promo e cc
-piece_back b (Some Rook) promo e h = piece_some b Rook promo e cc
-piece_back b (Some Bishop) promo e h = piece_some b Bishop promo e cc
-piece_back b (Some Knight) promo e h = piece_some b Knight promo e cc
+piece_back : (b : ℕ) (k promotion : Option Kind) → kind_named b ≡ k → promoted k ≡ Some promotion → (bare_promotion promotion ≡ b ∷ []) × (promotion_letters promotion ≡ 61 ∷ b ∷ [])
+piece_back b None promotion e h = absurd (cc)
+piece_back b (Some Pawn) promotion e h = absurd (cc)
+piece_back b (Some King) promotion e h = absurd (cc)
+piece_back b (Some Queen) promotion e h = piece_some b Queen promotion e cc
+piece_back b (Some Rook) promotion e h = piece_some b Rook promotion e cc
+piece_back b (Some Bishop) promotion e h = piece_some b Bishop promotion e cc
+piece_back b (Some Knight) promotion e h = piece_some b Knight promotion e cc
 
-promotion_back : (text : List ℕ) (promo : Option Kind) → promotion_read text ≡ Some promo → (text ≡ bare_promotion promo) ⊎ (text ≡ promotion promo)
-promotion_back [] promo e = let none : None ≡ promo = cc in inl (ap bare_promotion none)
-promotion_back (b ∷ []) promo e = inl (sym (piece_back b (kind_named b) promo refl e).0)
-promotion_back (sign ∷ b ∷ []) promo e =
-    let k = kept (sign == 61) (promoted (kind_named b)) promo e in
+promotion_back : (text : List ℕ) (promotion : Option Kind) → promotion_read text ≡ Some promotion → (text ≡ bare_promotion promotion) ⊎ (text ≡ promotion_letters promotion)
+promotion_back [] promotion e = let none : None ≡ promotion = cc in inl (ap bare_promotion none)
+promotion_back (b ∷ []) promotion e = inl (sym (piece_back b (kind_named b) promotion refl e).0)
+promotion_back (sign ∷ b ∷ []) promotion e =
+    let k = kept (sign == 61) (promoted (kind_named b)) promotion e in
     let same : sign ≡ 61 = (Decides-eqb sign 61).0 k.0 in
-    inr (ap (λ c. c ∷ b ∷ []) same ∙ sym (piece_back b (kind_named b) promo refl k.1).1)
-promotion_back (a ∷ b ∷ c ∷ rest) promo e = absurd (cc)
+    inr (ap (λ c. c ∷ b ∷ []) same ∙ sym (piece_back b (kind_named b) promotion refl k.1).1)
+promotion_back (a ∷ b ∷ c ∷ rest) promotion e = absurd (cc)
 
 abbrev target_in : Option Target → Target → Target
 target_in None t = t
@@ -131,11 +131,11 @@ abbrev way_in : Option Way → Way → Way
 way_in None w = w
 way_in (Some v) w = v
 
-target_parts : (a b : Option ℕ) (k : Option (Option Kind)) (t : Target) → target_of a b k ≡ Some t → (f : ℕ) × ((r : ℕ) × ((a ≡ Some f) × ((b ≡ Some r) × ((k ≡ Some t.promo) × (t.to ≡ square_at f r)))))
+target_parts : (a b : Option ℕ) (k : Option (Option Kind)) (t : Target) → target_of a b k ≡ Some t → (f : ℕ) × ((r : ℕ) × ((a ≡ Some f) × ((b ≡ Some r) × ((k ≡ Some t.promotion) × (t.to ≡ square_at f r)))))
 target_parts None b k t e = absurd (cc)
 target_parts (Some f) None k t e = absurd (cc)
 target_parts (Some f) (Some r) None t e = absurd (cc)
-target_parts (Some f) (Some r) (Some promo) t e = (f, (r, (refl, (refl, (ap (λ o. Some (target_in o t).promo) e, sym (ap (λ o. (target_in o t).to) e))))))
+target_parts (Some f) (Some r) (Some promotion) t e = (f, (r, (refl, (refl, (ap (λ o. Some (target_in o t).promotion) e, sym (ap (λ o. (target_in o t).to) e))))))
 
 way_parts : (a b : Option ℕ) (t : Option Target) (w : Way) → way_from a b t ≡ Some w → (f : ℕ) × ((r : ℕ) × ((a ≡ Some f) × ((b ≡ Some r) × ((t ≡ Some w.target) × (w.from ≡ square_at f r)))))
 way_parts None b t w e = absurd (cc)
@@ -161,7 +161,7 @@ square_back f r a b s e g h =
 -- a target as a text
 record Lands (text : List ℕ) (t : Target) : Type 0 where
   becomes : List ℕ
-  promotes : (becomes ≡ bare_promotion t.promo) ⊎ (becomes ≡ promotion t.promo)
+  promotes : (becomes ≡ bare_promotion t.promotion) ⊎ (becomes ≡ promotion_letters t.promotion)
   whole : text ≡ (97 + file_of t.to) ∷ (49 + rank_of t.to) ∷ becomes
 
 target_back : (text : List ℕ) (t : Target) → square_read text ≡ Some t → Lands text t
@@ -172,7 +172,7 @@ target_back (g ∷ s ∷ becomes) t e =
     let at = square_back g s parts.0 parts.1.0 t.to parts.1.1.0 parts.1.1.1.0 parts.1.1.1.1.1 in
     record {
       becomes = becomes;
-      promotes = promotion_back becomes t.promo parts.1.1.1.1.0;
+      promotes = promotion_back becomes t.promotion parts.1.1.1.1.0;
       whole = ap (λ c. c ∷ s ∷ becomes) at.file ∙ ap (λ c. (97 + file_of t.to) ∷ c ∷ becomes) at.rank;
     }
 
@@ -181,7 +181,7 @@ record Goes (text : List ℕ) (w : Way) : Type 0 where
   link : ℕ
   becomes : List ℕ
   linked : is_link link ≡ true
-  promotes : (becomes ≡ bare_promotion w.target.promo) ⊎ (becomes ≡ promotion w.target.promo)
+  promotes : (becomes ≡ bare_promotion w.target.promotion) ⊎ (becomes ≡ promotion_letters w.target.promotion)
   whole : text ≡ (97 + file_of w.from) ∷ (49 + rank_of w.from) ∷ link ∷ (97 + file_of w.target.to) ∷ (49 + rank_of w.target.to) ∷ becomes
 
 way_back : (text : List ℕ) (w : Way) → way_read text ≡ Some w → Goes text w
@@ -208,13 +208,13 @@ moved_back p man (Some v) w e =
     (k.1, subst (λ u. may_move p man u ≡ true) (ap (λ o. way_in o w) k.1) k.0)
 
 -- a man of such a kind, whose letter stands before its squares
-form_by : (p : Position) (m : Move) (man : Kind) (front text : List ℕ) → front ≡ letter man → moved_by p man (way_read text) ≡ Some (way_of m) → IsLegal p m.from.index m.to.index m.promo × IsLongForm p m (front ++ text)
+form_by : (p : Position) (m : Move) (man : Kind) (front text : List ℕ) → front ≡ letter man → moved_by p man (way_read text) ≡ Some (way_of m) → IsLegal p m.from.index m.to.index m.promotion × IsLongForm p m (front ++ text)
 form_by p m man front text e h =
     let moved = moved_back p man (way_read text) (way_of m) h in
-    let tests = and_parts (same_kind (kind_at p m.from.index) man) (is_legal p m.from.index m.to.index m.promo) moved.1 in
+    let tests = and_parts (same_kind (kind_at p m.from.index) man) (is_legal p m.from.index m.to.index m.promotion) moved.1 in
     let goes = way_back text (way_of m) moved.0 in
     let same : kind_at p m.from.index ≡ man = (kinds-Decides (kind_at p m.from.index) man).0 tests.0 in (
-      (legal-law p m.from.index m.to.index m.promo).0 tests.1,
+      (legal-law p m.from.index m.to.index m.promotion).0 tests.1,
       record {
         link = goes.link;
         becomes = goes.becomes;
@@ -224,11 +224,11 @@ form_by p m man front text e h =
       },
     )
 
-read_by : (p : Position) (m : Move) (k : Option Kind) (b : ℕ) (bs : List ℕ) → kind_named b ≡ k → man_moved p k b bs ≡ Some (way_of m) → IsLegal p m.from.index m.to.index m.promo × IsLongForm p m (b ∷ bs)
+read_by : (p : Position) (m : Move) (k : Option Kind) (b : ℕ) (bs : List ℕ) → kind_named b ≡ k → man_moved p k b bs ≡ Some (way_of m) → IsLegal p m.from.index m.to.index m.promotion × IsLongForm p m (b ∷ bs)
 read_by p m (Some man) b bs e h = form_by p m man (b ∷ []) bs (sym (letter_back b man e)) h
 read_by p m None b bs e h = form_by p m Pawn [] (b ∷ bs) refl h
 
-read_fits : (p : Position) (m : Move) (text : List ℕ) → long_read p text ≡ Some (way_of m) → IsLegal p m.from.index m.to.index m.promo × IsLongForm p m text
+read_fits : (p : Position) (m : Move) (text : List ℕ) → long_read p text ≡ Some (way_of m) → IsLegal p m.from.index m.to.index m.promotion × IsLongForm p m text
 read_fits p m [] h = absurd (cc)
 read_fits p m (b ∷ bs) h = read_by p m (kind_named b) b bs refl h
 
@@ -237,7 +237,7 @@ read_fits p m (b ∷ bs) h = read_by p m (kind_named b) b bs refl h
 same_move : (m n : Move) → Some (way_of n) ≡ Some (way_of m) → n ≡ m
 same_move m n e =
     let w = way_of m in
-    move_same n m (ap (λ o. (way_in o w).from) e) (ap (λ o. (way_in o w).target.to) e) (ap (λ o. (way_in o w).target.promo) e)
+    move_same n m (ap (λ o. (way_in o w).from) e) (ap (λ o. (way_in o w).target.to) e) (ap (λ o. (way_in o w).target.promotion) e)
 
 pub long_is : (p : Position) (text : List ℕ) (o : Option Move) → option_map way_of o ≡ long_read p (unmarked text) → IsLongRead p text o
 long_is p text None e = λ m h. let some = fits_read p text m h in absurd (cc)

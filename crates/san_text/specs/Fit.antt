@@ -7,7 +7,7 @@ use Rattle.chess_board.specs.Board.{file_of, rank_of}
 use Rattle.chess_board.specs.Position.{Position}
 use Rattle.chess_board.specs.Laws.{IsLegal}
 use Rattle.san_text.specs.Writing.{same_kind, kind_at, castles_short, castles_long, IsSan}
-use Rattle.san_text.specs.Spelling.{Spelling, Short, Long, Goes, Target, spelled}
+use Rattle.san_text.specs.Spelling.{SanSpelling, Short, Long, Goes, Target, spelled}
 use Rattle.san_text.specs.declared.fault.SanFault.{SanFault}
 use Rattle.san_text.specs.declared.fault.SanFault.TheVariants.{BadSan, NoFit, Ambiguous}
 
@@ -21,23 +21,23 @@ castles p m = castles_short p m || castles_long p m
 
 -- Whether a move agrees with a spelling: castling with its spellings alone, another move in its man's kind, in the file
 -- and rank that are given, in the square reached and in the promotion.
-abbrev pub agrees : Position → Spelling → Move → Bool
+abbrev pub agrees : Position → SanSpelling → Move → Bool
 agrees p Short m = castles_short p m
 agrees p Long m = castles_long p m
 agrees p (Goes kind file rank target) m =
     (not (castles p m) && same_kind (kind_at p m.from.index) kind)
     && ((allows file (file_of m.from.index) && allows rank (rank_of m.from.index))
-    && ((m.to.index == target.to) && option_eq same_kind m.promo target.promo))
+    && ((m.to.index == target.to) && option_eq same_kind m.promotion target.promotion))
 
-abbrev pub AgreesText : Position → Option Spelling → Move → Type 0
+abbrev pub AgreesText : Position → Option SanSpelling → Move → Type 0
 AgreesText p None m = ⊥
 AgreesText p (Some s) m = IsTrue (agrees p s m)
 
 -- a legal move that agrees with what the text spells
 abbrev pub Fits : Position → List ℕ → Move → Type 0
-Fits p text m = IsLegal p m.from.index m.to.index m.promo × AgreesText p (spelled text) m
+Fits p text m = IsLegal p m.from.index m.to.index m.promotion × AgreesText p (spelled text) m
 
-abbrev pub IsSpelled : Option Spelling → Type 0
+abbrev pub IsSpelled : Option SanSpelling → Type 0
 IsSpelled None = ⊥
 IsSpelled (Some s) = Unit {0}
 
@@ -55,10 +55,10 @@ IsRead p text (Err Ambiguous) = (a : Move) × ((b : Move) × (Fits p text a × F
 
 -- what is written of a legal move fits it alone, so reading it gives the move back
 abbrev pub IsReadBack : Type 0
-IsReadBack = (p : Position) (m : Move) (text : List ℕ) → IsLegal p m.from.index m.to.index m.promo → IsSan p m text → FitsAlone p text m
+IsReadBack = (p : Position) (m : Move) (text : List ℕ) → IsLegal p m.from.index m.to.index m.promotion → IsSan p m text → FitsAlone p text m
 
 -- different legal moves of a position have different texts
 abbrev pub TextsDiffer : Type 0
 TextsDiffer =
-    (p : Position) (a b : Move) (text : List ℕ) → IsLegal p a.from.index a.to.index a.promo → IsLegal p b.from.index b.to.index b.promo
+    (p : Position) (a b : Move) (text : List ℕ) → IsLegal p a.from.index a.to.index a.promotion → IsLegal p b.from.index b.to.index b.promotion
     → IsSan p a text → IsSan p b text → a ≡ b

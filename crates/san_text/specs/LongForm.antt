@@ -8,7 +8,7 @@ use Rattle.chess_board.specs.Position.{Position}
 use Rattle.chess_board.specs.Rules.{is_legal}
 use Rattle.chess_board.specs.Laws.{IsLegal}
 use Rattle.san_text.specs.Spelling.{Target, capture_sign, unmarked, file_named, rank_named, kind_named, square_read}
-use Rattle.san_text.specs.Writing.{same_kind, kind_at, letter, file_letter, rank_digit, promotion}
+use Rattle.san_text.specs.Writing.{same_kind, kind_at, letter, file_letter, rank_digit, promotion_letters}
 
 abbrev pub dash : ℕ
 dash = 45
@@ -31,12 +31,12 @@ pub record IsLongForm (p : Position) (m : Move) (text : List ℕ) : Type 0 where
   pub link : ℕ
   pub becomes : List ℕ
   pub linked : IsTrue (is_link link)
-  pub promotes : (becomes ≡ bare_promotion m.promo) ⊎ (becomes ≡ promotion m.promo)
+  pub promotes : (becomes ≡ bare_promotion m.promotion) ⊎ (becomes ≡ promotion_letters m.promotion)
   pub whole : text ≡ letter (kind_at p m.from.index) ++ (square_text m.from.index ++ (link ∷ (square_text m.to.index ++ becomes)))
 
 -- a legal move whose long form is the text without the signs at its end
 abbrev pub FitsLong : Position → List ℕ → Move → Type 0
-FitsLong p text m = IsLegal p m.from.index m.to.index m.promo × IsLongForm p m (unmarked text)
+FitsLong p text m = IsLegal p m.from.index m.to.index m.promotion × IsLongForm p m (unmarked text)
 
 -- what a text is read as: the one legal move that fits, or none if none does
 abbrev pub IsLongRead : Position → List ℕ → Option Move → Type 0
@@ -51,7 +51,7 @@ pub record Way : Type 0 where
   pub target : Target
 
 abbrev pub way_of : Move → Way
-way_of m = record { from = m.from.index; target = record { to = m.to.index; promo = m.promo } }
+way_of m = record { from = m.from.index; target = record { to = m.to.index; promotion = m.promotion } }
 
 abbrev pub way_from : Option ℕ → Option ℕ → Option Target → Option Way
 way_from (Some file) (Some rank) (Some target) = Some (record { from = square_at file rank; target = target })
@@ -66,7 +66,7 @@ way_read _ = None
 
 -- whether a man of such a kind may legally go so
 abbrev pub may_move : Position → Kind → Way → Bool
-may_move p man way = same_kind (kind_at p way.from) man && is_legal p way.from way.target.to way.target.promo
+may_move p man way = same_kind (kind_at p way.from) man && is_legal p way.from way.target.to way.target.promotion
 
 abbrev pub moved_by : Position → Kind → Option Way → Option Way
 moved_by p man None = None

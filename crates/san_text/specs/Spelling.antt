@@ -6,20 +6,20 @@ use Rattle.chess_board.specs.declared.board.Kind.{Kind}
 use Rattle.chess_board.specs.declared.board.Kind.TheVariants.{Pawn, Knight, Bishop, Rook, Queen, King}
 use Rattle.chess_board.specs.Board.{square_at}
 use Rattle.chess_board.specs.Text.{letter_a, letter_h, digit_one, digit_eight}
-use Rattle.san_text.specs.declared.spelling.Spelling as code
-use Rattle.san_text.specs.declared.spelling.Spelling.TheVariants as spellings
+use Rattle.san_text.specs.declared.spelling.SanSpelling as code
+use Rattle.san_text.specs.declared.spelling.SanSpelling.TheVariants as spellings
 use Rattle.san_text.specs.declared.spelling.Target as arrival
 
 -- the square reached, and what a pawn becomes there
 pub record Target : Type 0 where
   pub to : ℕ
-  pub promo : Option Kind
+  pub promotion : Option Kind
 
 -- what a text says: castling, or a man's kind, its file and rank if they are given, and the square reached
-pub data Spelling : Type 0 where
-  Short : Spelling
-  Long : Spelling
-  Goes : (kind : Kind) (file rank : Option ℕ) (target : Target) → Spelling
+pub data SanSpelling : Type 0 where
+  Short : SanSpelling
+  Long : SanSpelling
+  Goes : (kind : Kind) (file rank : Option ℕ) (target : Target) → SanSpelling
 
 abbrev pub promotion_sign : ℕ
 promotion_sign = 61
@@ -66,9 +66,9 @@ promotion_read (sign ∷ b ∷ []) = if sign == promotion_sign then promoted (ki
 promotion_read _ = None
 
 abbrev pub target_of : Option ℕ → Option ℕ → Option (Option Kind) → Option Target
-target_of (Some file) (Some rank) (Some promo) = Some (record { to = square_at file rank; promo = promo })
-target_of None rank promo = None
-target_of (Some file) None promo = None
+target_of (Some file) (Some rank) (Some promotion) = Some (record { to = square_at file rank; promotion = promotion })
+target_of None rank promotion = None
+target_of (Some file) None promotion = None
 target_of (Some file) (Some rank) None = None
 
 -- a square, and perhaps a promotion
@@ -81,40 +81,40 @@ abbrev pub target_read : List ℕ → Option Target
 target_read [] = None
 target_read (b ∷ bs) = if b == capture_sign then square_read bs else square_read (b ∷ bs)
 
-abbrev pub goes : Kind → Option ℕ → Option ℕ → Option Target → Option Spelling
+abbrev pub goes : Kind → Option ℕ → Option ℕ → Option Target → Option SanSpelling
 goes man file rank None = None
 goes man file rank (Some target) = Some (Goes man file rank target)
 
 -- the first reading, else the second
-abbrev pub first_of : Option Spelling → Option Spelling → Option Spelling
+abbrev pub first_of : Option SanSpelling → Option SanSpelling → Option SanSpelling
 first_of (Some s) other = Some s
 first_of None other = other
 
 -- a rank that is given, and the target behind it
-abbrev pub rank_read : Kind → Option ℕ → List ℕ → Option Spelling
+abbrev pub rank_read : Kind → Option ℕ → List ℕ → Option SanSpelling
 rank_read man file [] = None
 rank_read man file (r ∷ rest) = given (rank_named r) where
-  given : Option ℕ → Option Spelling
+  given : Option ℕ → Option SanSpelling
   given None = None
   given (Some rank) = goes man file (Some rank) (target_read rest)
 
 -- a file that is given, and perhaps a rank, and the target behind them
-abbrev pub file_read : Kind → List ℕ → Option Spelling
+abbrev pub file_read : Kind → List ℕ → Option SanSpelling
 file_read man [] = None
 file_read man (f ∷ rest) = given (file_named f) where
-  given : Option ℕ → Option Spelling
+  given : Option ℕ → Option SanSpelling
   given None = None
   given (Some file) = first_of (goes man (Some file) None (target_read rest)) (rank_read man (Some file) rest)
 
 -- the target alone, or behind a file, a rank, or both
-abbrev pub places_read : Kind → List ℕ → Option Spelling
+abbrev pub places_read : Kind → List ℕ → Option SanSpelling
 places_read man text = first_of (goes man None None (target_read text)) (first_of (file_read man text) (rank_read man None text))
 
 -- an officer behind its letter, or a pawn
-abbrev pub man_read : List ℕ → Option Spelling
+abbrev pub man_read : List ℕ → Option SanSpelling
 man_read [] = None
 man_read (b ∷ bs) = named (kind_named b) where
-  named : Option Kind → Option Spelling
+  named : Option Kind → Option SanSpelling
   named (Some kind) = places_read kind bs
   named None = places_read Pawn (b ∷ bs)
 
@@ -124,17 +124,17 @@ is_short text = bytes_eq text (codes "O-O") || bytes_eq text (codes "0-0")
 abbrev pub is_long : List ℕ → Bool
 is_long text = bytes_eq text (codes "O-O-O") || bytes_eq text (codes "0-0-0")
 
-abbrev pub read_unmarked : List ℕ → Option Spelling
+abbrev pub read_unmarked : List ℕ → Option SanSpelling
 read_unmarked text = if is_short text then Some Short else (if is_long text then Some Long else man_read text)
 
 -- what the text spells
-abbrev pub spelled : List ℕ → Option Spelling
+abbrev pub spelled : List ℕ → Option SanSpelling
 spelled text = read_unmarked (unmarked text)
 
 abbrev pub plain_target : arrival.Target → Target
-plain_target t = record { to = t.to.index; promo = t.promo }
+plain_target t = record { to = t.to.index; promotion = t.promotion }
 
-abbrev pub plain : code.Spelling → Spelling
+abbrev pub plain : code.SanSpelling → SanSpelling
 plain spellings.Short = Short
 plain spellings.Long = Long
 plain (spellings.Goes kind file rank target) = Goes kind file rank (plain_target target)
@@ -143,6 +143,6 @@ abbrev pub plain_targets : Option arrival.Target → Option Target
 plain_targets None = None
 plain_targets (Some t) = Some (plain_target t)
 
-abbrev pub plains : Option code.Spelling → Option Spelling
+abbrev pub plains : Option code.SanSpelling → Option SanSpelling
 plains None = None
 plains (Some s) = Some (plain s)

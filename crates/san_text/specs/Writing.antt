@@ -4,8 +4,8 @@ use Rattle.chess_board.specs.declared.board.Kind.{Kind}
 use Rattle.chess_board.specs.declared.board.Kind.TheVariants.{Pawn, Knight, Bishop, Rook, Queen, King}
 use Rattle.chess_board.specs.declared.board.Move.{Move}
 use Rattle.chess_board.specs.contracts.board.KindPartialEq.TheImpl as kinds
-use Rattle.san_text.specs.declared.men.Within.{Within}
-use Rattle.san_text.specs.declared.men.Within.TheVariants.{Board, File, Rank}
+use Rattle.san_text.specs.declared.men.RivalSquares.{RivalSquares}
+use Rattle.san_text.specs.declared.men.RivalSquares.TheVariants.{Board, File, Rank}
 use Rattle.chess_board.specs.Attack.{is_checked}
 use Rattle.chess_board.specs.Board.{man_at, file_of, rank_of, is_empty, is_king_kind, is_pawn_kind, some_square}
 use Rattle.chess_board.specs.Place.{has_any_way}
@@ -35,16 +35,16 @@ is_capture p m = not (is_empty (man_at p.men m.to.index)) || (is_pawn_kind (kind
 
 -- another man of the kind and side may legally go there, from this square
 abbrev pub is_rival : Position → Move → ℕ → Bool
-is_rival p m s = (not (s == m.from.index) && same_kind (kind_at p s) (kind_at p m.from.index)) && is_legal p s m.to.index m.promo
+is_rival p m s = (not (s == m.from.index) && same_kind (kind_at p s) (kind_at p m.from.index)) && is_legal p s m.to.index m.promotion
 
 -- on the same file, on the same rank, or anywhere
-abbrev pub is_within : Within → ℕ → ℕ → Bool
+abbrev pub is_within : RivalSquares → ℕ → ℕ → Bool
 is_within Board a b = true
 is_within File a b = file_of a == file_of b
 is_within Rank a b = rank_of a == rank_of b
 
 -- a man of the kind and side that may legally go there stands on another square, on the board, or on the man's file or rank
-abbrev pub has_rival : Position → Move → Within → Bool
+abbrev pub has_rival : Position → Move → RivalSquares → Bool
 has_rival p m within = some_square (λ s. is_within within s m.from.index && is_rival p m s)
 
 abbrev pub file_letter : ℕ → ℕ
@@ -76,12 +76,12 @@ origin p m =
     if is_pawn_kind (kind_at p m.from.index) then (if is_capture p m then file_letter m.from.index ∷ [] else [])
     else distinction p m
 
-abbrev pub promotion : Option Kind → List ℕ
-promotion None = []
-promotion (Some kind) = codes "=" ++ letter kind
+abbrev pub promotion_letters : Option Kind → List ℕ
+promotion_letters None = []
+promotion_letters (Some kind) = codes "=" ++ letter kind
 
 abbrev pub target : Move → List ℕ
-target m = file_letter m.to.index ∷ rank_digit m.to.index ∷ promotion m.promo
+target m = file_letter m.to.index ∷ rank_digit m.to.index ∷ promotion_letters m.promotion
 
 abbrev pub taking : Position → Move → List ℕ
 taking p m = if is_capture p m then codes "x" else []
@@ -94,7 +94,7 @@ body p m =
     else letter (kind_at p m.from.index) ++ (origin p m ++ (taking p m ++ target m)))
 
 abbrev pub after : Position → Move → Position
-after p m = position_after p m.from.index m.to.index m.promo
+after p m = position_after p m.from.index m.to.index m.promotion
 
 -- `#` if the side on move is mated, else `+` if it is in check, else nothing
 abbrev pub IsMark : Position → List ℕ → Type 0
@@ -125,4 +125,4 @@ IsTheText = (p : Position) (m : Move) (text : List ℕ) → IsSan p m text ↔ (
 
 -- No text of a legal move has more than seven bytes.
 abbrev pub AreShort : Type 0
-AreShort = (p : Position) (m : Move) → IsLegal p m.from.index m.to.index m.promo → length (san p m) ≤ 7
+AreShort = (p : Position) (m : Move) → IsLegal p m.from.index m.to.index m.promotion → length (san p m) ≤ 7

@@ -1,7 +1,6 @@
 // Moves in long algebraic form.
 ghost use Rattle.std.specs.Prelude.{◌≡◌, ◌||◌, ◌==◌};
 ghost use Rattle.std.specs.Option.{option_map};
-ghost use Rattle.chess_board.specs.Rules.{is_legal};
 ghost use Rattle.san_text.specs.LongForm.{is_link, way_of, way_read, moved_by, long_read, IsLongRead};
 
 use crate::men::kind_at;
@@ -12,12 +11,6 @@ fn is_link(byte: u8) -> bool
     ensures { result ≡ is_link byte }
 {
     byte == b'-' || byte == b'x'
-}
-
-fn is_legal(at: &Position, m: Move) -> bool
-    ensures { result ≡ is_legal at.now m.from.index m.to.index m.promo }
-{
-    at.legal(m)
 }
 
 // The square that is left, `-` or `x`, the square reached, and what a pawn becomes.
@@ -36,7 +29,7 @@ fn read_way(text: &[u8]) -> Option<Move>
     Some(Move {
         from: Square::at(file, rank)?,
         to: target.to,
-        promo: target.promo,
+        promotion: target.promotion,
     })
 }
 
@@ -45,7 +38,7 @@ fn read_moved(at: &Position, kind: Kind, text: &[u8]) -> Option<Move>
     ensures { option_map way_of result ≡ moved_by at.now kind (way_read text.now) }
 {
     let m = read_way(text)?;
-    if kind_at(at, m.from) == kind && is_legal(at, m) {
+    if kind_at(at, m.from) == kind && at.legal(m) {
         Some(m)
     } else {
         None

@@ -69,31 +69,31 @@ fn is_rival(at: &Position, m: Move, square: Square) -> bool
     at.legal(Move {
         from: square,
         to: m.to,
-        promo: m.promo,
+        promotion: m.promotion,
     })
 }
 
 /// The squares on which other men are looked for.
 #[derive(Clone, Copy)]
-pub enum Within {
+pub enum RivalSquares {
     Board,
     File,
     Rank,
 }
 
-fn is_within(within: Within, a: Square, b: Square) -> bool
+fn is_within(within: RivalSquares, a: Square, b: Square) -> bool
     ensures { result ≡ is_within within a.index b.index }
 {
     match within {
-        Within::Board => true,
-        Within::File => a.file() == b.file(),
-        Within::Rank => a.rank() == b.rank(),
+        RivalSquares::Board => true,
+        RivalSquares::File => a.file() == b.file(),
+        RivalSquares::Rank => a.rank() == b.rank(),
     }
 }
 
 /// Whether another man of the kind and side, on the board, or on the man's file or rank, may legally
 /// go there.
-pub fn has_rival(at: &Position, m: Move, within: Within) -> bool
+pub fn has_rival(at: &Position, m: Move, within: RivalSquares) -> bool
     ensures { result ≡ has_rival at.now m within }
 {
     for index in 0..64 {

@@ -8,7 +8,7 @@ ghost use Rattle.san_text.specs.Spelling.{Goes, plain, plain_target};
 
 use crate::SanFault;
 use crate::men::{castles_long, castles_short, kind_at};
-use crate::spelling::{Spelling, Target, read_spelling};
+use crate::spelling::{SanSpelling, Target, read_spelling};
 use chess_board::{Kind, Move, Position};
 
 // A file or rank that is given agrees, and one that is not given agrees with each.
@@ -35,18 +35,18 @@ fn goes_so(
     let castles = castles_short(at, m) || castles_long(at, m);
     let man = !castles && kind_at(at, m.from) == kind;
     let origin = allows(file, m.from.file()) && allows(rank, m.from.rank());
-    let arrival = m.to.index == target.to.index && m.promo == target.promo;
+    let arrival = m.to.index == target.to.index && m.promotion == target.promotion;
     man && (origin && arrival)
 }
 
 // Whether a move agrees with a spelling.
-fn agrees(at: &Position, spelling: &Spelling, m: Move) -> bool
+fn agrees(at: &Position, spelling: &SanSpelling, m: Move) -> bool
     ensures { result ≡ agrees at.now (plain spelling.now) m }
 {
     match spelling {
-        Spelling::Short => castles_short(at, m),
-        Spelling::Long => castles_long(at, m),
-        Spelling::Goes {
+        SanSpelling::Short => castles_short(at, m),
+        SanSpelling::Long => castles_long(at, m),
+        SanSpelling::Goes {
             kind,
             file,
             rank,
@@ -62,7 +62,7 @@ fn agrees(at: &Position, spelling: &Spelling, m: Move) -> bool
 /// check or mate, is not compared.
 pub fn read_san(at: &Position, text: &[u8]) -> Result<Move, SanFault>
     ensures read { IsRead at.now text.now result }
-    ensures written { (m : AnyMove) → IsLegal at.now m.from.index m.to.index m.promo
+    ensures written { (m : AnyMove) → IsLegal at.now m.from.index m.to.index m.promotion
         → IsSan at.now m text.now → result ≡ Ok m }
 {
     let Some(spelling) = read_spelling(text) else {

@@ -8,13 +8,13 @@ use chess_board::{Kind, Square};
 #[derive(Clone, Copy)]
 pub struct Target {
     pub to: Square,
-    pub promo: Option<Kind>,
+    pub promotion: Option<Kind>,
 }
 
 /// What a text says: castling, or a man's kind, its file and rank, counted from 0, if they are
 /// given, and the square reached.
 #[derive(Clone, Copy)]
-pub enum Spelling {
+pub enum SanSpelling {
     Short,
     Long,
     Goes {
@@ -116,10 +116,10 @@ pub fn read_square(text: &[u8]) -> Option<Target>
     };
     let file = file_named(*file)?;
     let rank = rank_named(*rank)?;
-    let promo = read_promotion(rest)?;
+    let promotion = read_promotion(rest)?;
     Some(Target {
         to: Square::at(file, rank)?,
-        promo,
+        promotion,
     })
 }
 
@@ -134,11 +134,16 @@ fn read_target(text: &[u8]) -> Option<Target>
 }
 
 // What a target behind such a man, file and rank spells.
-fn goes(kind: Kind, file: Option<u8>, rank: Option<u8>, target: Option<Target>) -> Option<Spelling>
+fn goes(
+    kind: Kind,
+    file: Option<u8>,
+    rank: Option<u8>,
+    target: Option<Target>,
+) -> Option<SanSpelling>
     ensures { plains result ≡ goes kind file rank (plain_targets target) }
 {
     match target {
-        Some(target) => Some(Spelling::Goes {
+        Some(target) => Some(SanSpelling::Goes {
             kind,
             file,
             rank,
@@ -149,7 +154,7 @@ fn goes(kind: Kind, file: Option<u8>, rank: Option<u8>, target: Option<Target>) 
 }
 
 // A rank that is given, and the target behind it.
-fn read_rank(kind: Kind, file: Option<u8>, text: &[u8]) -> Option<Spelling>
+fn read_rank(kind: Kind, file: Option<u8>, text: &[u8]) -> Option<SanSpelling>
     ensures { plains result ≡ rank_read kind file text.now }
 {
     let [rank, rest @ ..] = text else {
@@ -160,7 +165,7 @@ fn read_rank(kind: Kind, file: Option<u8>, text: &[u8]) -> Option<Spelling>
 }
 
 // A file that is given, and perhaps a rank, and the target behind them.
-fn read_file(kind: Kind, text: &[u8]) -> Option<Spelling>
+fn read_file(kind: Kind, text: &[u8]) -> Option<SanSpelling>
     ensures { plains result ≡ file_read kind text.now }
 {
     let [file, rest @ ..] = text else {
@@ -174,7 +179,7 @@ fn read_file(kind: Kind, text: &[u8]) -> Option<Spelling>
 }
 
 // The target alone, or behind a file, a rank, or both.
-fn read_places(kind: Kind, text: &[u8]) -> Option<Spelling>
+fn read_places(kind: Kind, text: &[u8]) -> Option<SanSpelling>
     ensures { plains result ≡ places_read kind text.now }
 {
     if let Some(spelling) = goes(kind, None, None, read_target(text)) {
@@ -187,7 +192,7 @@ fn read_places(kind: Kind, text: &[u8]) -> Option<Spelling>
 }
 
 // An officer behind its letter, or a pawn.
-fn read_man(text: &[u8]) -> Option<Spelling>
+fn read_man(text: &[u8]) -> Option<SanSpelling>
     ensures { plains result ≡ man_read text.now }
 {
     let [letter, rest @ ..] = text else {
@@ -204,15 +209,15 @@ fn read_man(text: &[u8]) -> Option<Spelling>
 /// Signs `+`, `#`, `!` and `?` at the end are dropped. The rest is `O-O`, `O-O-O`, `0-0` or
 /// `0-0-0`; or an optional letter of `KQRBN`, an optional file, an optional rank, an optional `x`,
 /// a square, and optionally one of `QRBN`, with or without `=` before it.
-pub fn read_spelling(text: &[u8]) -> Option<Spelling>
+pub fn read_spelling(text: &[u8]) -> Option<SanSpelling>
     ensures { plains result ≡ spelled text.now }
 {
     let text = unmarked(text);
     if text == b"O-O".as_slice() || text == b"0-0".as_slice() {
-        return Some(Spelling::Short);
+        return Some(SanSpelling::Short);
     }
     if text == b"O-O-O".as_slice() || text == b"0-0-0".as_slice() {
-        return Some(Spelling::Long);
+        return Some(SanSpelling::Long);
     }
     read_man(text)
 }

@@ -3,9 +3,9 @@ ghost use Rattle.std.specs.Prelude.{◌≡◌, ◌+◌, ◌≤◌, ◌<◌, ◌+
 ghost use Rattle.arrayvec.specs.ArrayVec.{array_vec_len};
 ghost use Rattle.chess_board.specs.Laws.{IsLegal};
 ghost use Rattle.san_text.specs.Fit.{FitsAlone};
-ghost use Rattle.san_text.specs.Writing.{letter, file_letter, rank_digit, distinction, origin, promotion, body, kind_at, san, IsMark, IsSan};
+ghost use Rattle.san_text.specs.Writing.{letter, file_letter, rank_digit, distinction, origin, promotion_letters, body, kind_at, san, IsMark, IsSan};
 
-use crate::men::{Within, castles_long, castles_short, has_rival, is_capture, kind_at};
+use crate::men::{RivalSquares, castles_long, castles_short, has_rival, is_capture, kind_at};
 use arrayvec::ArrayVec;
 use chess_board::{Kind, Move, Position, Square, State};
 
@@ -23,10 +23,10 @@ fn letter(kind: Kind) -> &'static [u8]
     }
 }
 
-fn promotion(promo: Option<Kind>) -> &'static [u8]
-    ensures { result.now ≡ promotion promo }
+fn promotion_letters(promotion: Option<Kind>) -> &'static [u8]
+    ensures { result.now ≡ promotion_letters promotion }
 {
-    match promo {
+    match promotion {
         None => b"",
         Some(Kind::Pawn) => b"=",
         Some(Kind::Knight) => b"=N",
@@ -42,14 +42,14 @@ fn distinction(at: &Position, m: Move) -> ArrayVec<u8, 2>
     ensures { result.items ≡ distinction at.now m }
 {
     let mut text = ArrayVec::new();
-    if !has_rival(at, m, Within::Board) {
+    if !has_rival(at, m, RivalSquares::Board) {
         return text;
     }
-    if !has_rival(at, m, Within::File) {
+    if !has_rival(at, m, RivalSquares::File) {
         text.push(b'a' + m.from.file());
         return text;
     }
-    if !has_rival(at, m, Within::Rank) {
+    if !has_rival(at, m, RivalSquares::Rank) {
         text.push(b'1' + m.from.rank());
         return text;
     }
@@ -92,7 +92,7 @@ fn put_square(text: &mut ArrayVec<u8, 7>, square: Square)
 
 // The text without a sign of check or mate.
 fn body(at: &Position, m: Move) -> ArrayVec<u8, 7>
-    requires { IsLegal at.now m.from.index m.to.index m.promo }
+    requires { IsLegal at.now m.from.index m.to.index m.promotion }
     ensures items { result.items ≡ body at.now m }
     ensures room { array_vec_len result ≤ 6 }
 {
@@ -111,7 +111,7 @@ fn body(at: &Position, m: Move) -> ArrayVec<u8, 7>
         text.push(b'x');
     }
     put_square(&mut text, m.to);
-    put(&mut text, promotion(m.promo));
+    put(&mut text, promotion_letters(m.promotion));
     text
 }
 
@@ -134,7 +134,7 @@ fn mark(after: &Position) -> &'static [u8]
 /// `KQRBN`, what distinguishes it from others that may go there, `x` if it captures, and the square
 /// reached. `#` follows if the move mates, else `+` if it checks.
 pub fn write_san(at: &Position, m: Move) -> ArrayVec<u8, 7>
-    requires { IsLegal at.now m.from.index m.to.index m.promo }
+    requires { IsLegal at.now m.from.index m.to.index m.promotion }
     ensures written { IsSan at.now m result.items }
     ensures text { result.items ≡ san at.now m }
     ensures alone { FitsAlone at.now result.items m }

@@ -1,7 +1,7 @@
 use Rattle.std.proofs.Common.{sym, ◌∙◌, arith, ◌≡◌, true, false, length, ap, lit<, ◌<◌, ◌+◌, ◌*◌, ◌++◌, ◌∷◌, [], ℕ, subst}
 use Rattle.chess_board.specs.declared.board.Move.{Move}
 use Rattle.chess_board.specs.Rules.{is_legal, reaches_to}
-use Rattle.chess_board.specs.Place.{IsDone, promotion, legal, legal_at, ordered_square}
+use Rattle.chess_board.specs.Place.{IsDone, nth_promotion, legal, legal_at, ordered_square}
 use Rattle.chess_board.proofs.Places.{skips_choices, IsMoveAt, is_move_at, done_push, done_skip, legal_is}
 use Rattle.chess_board.proofs.Total.{few_moves}
 use Rattle.chess_board.proofs.list.add_moves_between.Goals as goal
@@ -13,8 +13,8 @@ push-requires c =
     let f = c.args.from_place in let t = c.args.to_place in let q = c.loop-choice.choice in
     let n : ℕ = f * 320 + t * 5 + q in
     let low5 : q < 5 = omega (arith, c.choice_count-choices.ensures.few) in
-    let m : Move = record { from = c.square_in_order-from.result; to = c.square_in_order-to.result; promo = c.promotion_at-promo.result } in
-    let at : IsMoveAt m n = is_move_at m f t q c.requires.places.0 c.requires.places.1 low5 c.square_in_order-from.ensures c.square_in_order-to.ensures c.promotion_at-promo.ensures in
+    let m : Move = record { from = c.square_in_order-from.result; to = c.square_in_order-to.result; promotion = c.promotion_at-promotion.result } in
+    let at : IsMoveAt m n = is_move_at m f t q c.requires.places.0 c.requires.places.1 low5 c.square_in_order-from.ensures c.square_in_order-to.ensures c.promotion_at-promotion.ensures in
     let legal' : legal_at p n ≡ true = sym (legal_is p m n at) ∙ (sym c.is_legal_reach.ensures ∙ c.if-is_legal_reach.true) in
     let places = c.requires.places in let low = places.0 in let low' = places.1 in
     let few = few_moves p n c.requires.men (omega arith) legal' in
@@ -29,8 +29,8 @@ loop-choice-preserved c =
     let f = c.args.from_place in let t = c.args.to_place in let q = c.loop-choice.choice in
     let n : ℕ = f * 320 + t * 5 + q in
     let low5 : q < 5 = omega (arith, c.choice_count-choices.ensures.few) in
-    let m : Move = record { from = c.square_in_order-from.result; to = c.square_in_order-to.result; promo = c.promotion_at-promo.result } in
-    let at : IsMoveAt m n = is_move_at m f t q c.requires.places.0 c.requires.places.1 low5 c.square_in_order-from.ensures c.square_in_order-to.ensures c.promotion_at-promo.ensures in
+    let m : Move = record { from = c.square_in_order-from.result; to = c.square_in_order-to.result; promotion = c.promotion_at-promotion.result } in
+    let at : IsMoveAt m n = is_move_at m f t q c.requires.places.0 c.requires.places.1 low5 c.square_in_order-from.ensures c.square_in_order-to.ensures c.promotion_at-promotion.ensures in
     let places = c.requires.places in let low = places.0 in let low' = places.1 in
     let out = c.loop-choice.moves.items in
     let within : n < 20480 = omega arith in
@@ -61,5 +61,5 @@ returns c =
     skips_choices p c.loop-choice.moves.items f t n places.0 places.1 (omega (arith, c.choice_count-choices.ensures.few)) c.loop-choice.invariant
     (λ q low high.
     let rest = c.choice_count-choices.ensures.rest q (omega arith) high in
-    subst (λ (i : ℕ). is_legal p i (ordered_square t) (promotion q) ≡ false) c.square_in_order-from.ensures
-    (subst (λ (i : ℕ). is_legal p c.square_in_order-from.result.index i (promotion q) ≡ false) c.square_in_order-to.ensures rest))
+    subst (λ (i : ℕ). is_legal p i (ordered_square t) (nth_promotion q) ≡ false) c.square_in_order-from.ensures
+    (subst (λ (i : ℕ). is_legal p c.square_in_order-from.result.index i (nth_promotion q) ≡ false) c.square_in_order-to.ensures rest))

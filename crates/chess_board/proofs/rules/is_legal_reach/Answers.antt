@@ -19,8 +19,8 @@ returns-then-has_promotion c =
     let piece = c.in-Some.kind in
     let side = ap (λ (q : Position). q.side) c.setup.view_is in
     let man = sym (ap (λ (q : Position). man_at q.men m.from.index) c.setup.view_is) ∙ sym c.man.ensures ∙ c.in-Some.is in
-    let promotes' : promotes p.side piece m.to.index m.promo ≡ true = ap (λ (s : Side). promotes s piece m.to.index m.promo) (sym side) ∙ sym c.has_promotion.ensures ∙ c.if-has_promotion.true in
-    ap not c.is_checked_after.ensures ∙ sym (legal_reach p c.in-Some.field-0-0 piece m.from.index m.to.index m.promo man c.requires.reach ∙ rw promotes' refl)
+    let promotes' : promotes p.side piece m.to.index m.promotion ≡ true = ap (λ (s : Side). promotes s piece m.to.index m.promotion) (sym side) ∙ sym c.has_promotion.ensures ∙ c.if-has_promotion.true in
+    ap not c.is_checked_after.ensures ∙ sym (legal_reach p c.in-Some.field-0-0 piece m.from.index m.to.index m.promotion man c.requires.reach ∙ rw promotes' refl)
 
 pub returns-else-has_promotion : goal.returns-else-has_promotion
 returns-else-has_promotion c =
@@ -29,8 +29,8 @@ returns-else-has_promotion c =
     let piece = c.in-Some.kind in
     let side = ap (λ (q : Position). q.side) c.setup.view_is in
     let man = sym (ap (λ (q : Position). man_at q.men m.from.index) c.setup.view_is) ∙ sym c.man.ensures ∙ c.in-Some.is in
-    let promotes' : promotes p.side piece m.to.index m.promo ≡ false = ap (λ (s : Side). promotes s piece m.to.index m.promo) (sym side) ∙ sym c.has_promotion.ensures ∙ c.if-has_promotion.false in
-    c.if-has_promotion.false ∙ sym (legal_reach p c.in-Some.field-0-0 piece m.from.index m.to.index m.promo man c.requires.reach ∙ rw promotes' refl)
+    let promotes' : promotes p.side piece m.to.index m.promotion ≡ false = ap (λ (s : Side). promotes s piece m.to.index m.promotion) (sym side) ∙ sym c.has_promotion.ensures ∙ c.if-has_promotion.false in
+    c.if-has_promotion.false ∙ sym (legal_reach p c.in-Some.field-0-0 piece m.from.index m.to.index m.promotion man c.requires.reach ∙ rw promotes' refl)
 
 pub is_checked_after-requires-clause-man : goal.is_checked_after-requires-clause-man
 is_checked_after-requires-clause-man c =

@@ -16,7 +16,7 @@ pub returns-then-king-ge64 : goal.returns-then-king-ge64
 returns-then-king-ge64 c = frees_all c.args.setup.now
 
 pub returns : goal.returns
-returns c piece from to promo fl tl out man promoted =
+returns c piece from to promotion fl tl out man promoted =
     let p = c.args.setup.now in
     let kings = c.king_set-kings.result in
     let k = c.next_in-king.result in
@@ -27,7 +27,7 @@ returns c piece from to promo fl tl out man promoted =
     let low : k < 64 = omega arith in
     let apart = or_parts (has kings from) (has c.shields_of.result from) (sym (has-either kings c.shields_of.result from) ∙ out) in
     let shielded : (x : ℕ) → x < 64 → Shields p.men (other p.side) x k c.shields_of.result = λ x l. subst (λ (q : Position). Shields q.men (other q.side) x k c.shields_of.result) c.setup.view_is (subst (λ (s : Side). Shields c.setup.inside.board s x k c.shields_of.result) c.other.ensures (c.shields_of.ensures x l)) in
-    unpinned p k from to c.shields_of.result piece promo size quiet none low
+    unpinned p k from to c.shields_of.result piece promotion size quiet none low
     (λ (s : ℕ) (l : s < 64) (other : s ≢ k).
     sym (set s l) ∙ ⊎_elim (λ (h : s < k). c.next_in-king.ensures.passed s (omega arith) h) (λ (h : k ≤ s). c.next_in.ensures.passed s (omega arith) (omega arith)) (cases_lt s k))
     fl tl man promoted (sym (set from fl) ∙ apart.0) shielded apart.1

@@ -28,7 +28,7 @@ write_spaced-requires-clause-room c =
     let put = after_put c.args.out.now c.put.new.self _ c.put.ensures in
     let moves = after_put c.put.new.self c.write_moves.new.out _ c.write_moves.ensures in
     let one = ap (λ (h : Option Move). length (spaced (option_to_list (option_map ply_of h)))) c.in-Some.is in
-    let text = length-append (promotion_text c.in-Some.m.promo) [] in
+    let text = length-append (promotion_text c.in-Some.m.promotion) [] in
     omega arith
 
 pub returns-in-Some : goal.returns-in-Some

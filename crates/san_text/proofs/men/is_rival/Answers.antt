@@ -1,10 +1,8 @@
 use Rattle.std.proofs.Common.{◌∙◌, ◌==◌, ap, sym}
 use Rattle.std.proofs.lemmas.Bool.{not-false}
 use Rattle.chess_board.specs.Rules.{is_legal}
-use Rattle.chess_board.specs.Laws.{IsLegal}
-use Rattle.chess_board.proofs.Legal.{legal-law}
 use Rattle.san_text.specs.Writing.{same_kind, kind_at}
-use Rattle.san_text.proofs.Bools.{same_test, differs, rival_is}
+use Rattle.san_text.proofs.Bools.{differs, rival_is}
 use Rattle.san_text.proofs.men.is_rival.Goals as goal
 
 pub returns : goal.returns
@@ -13,7 +11,7 @@ returns c =
     let m = c.args.m in
     let p = c.args.at.now in
     let kinds = ap (λ k. same_kind k (kind_at p m.from.index)) (sym c.kind_at.ensures) ∙ ap (λ k. same_kind c.kind_at.result k) (sym c.kind_at-2.ensures) in
-    rival_is (s == m.from.index) (same_kind (kind_at p s) (kind_at p m.from.index)) (is_legal p s m.to.index m.promo) c.legal.result
+    rival_is (s == m.from.index) (same_kind (kind_at p s) (kind_at p m.from.index)) (is_legal p s m.to.index m.promotion) c.legal.result
     (differs s m.from.index c.if-square-m.false)
     (kinds ∙ not-false (same_kind c.kind_at.result c.kind_at-2.result) (sym c.ne.ensures ∙ c.if-ne.false))
-    (same_test c.legal.result (is_legal p s m.to.index m.promo) (IsLegal p s m.to.index m.promo) c.legal.ensures (legal-law p s m.to.index m.promo))
+    c.legal.ensures.value

@@ -15,7 +15,7 @@ pub returns-then-is_some-clause-read : goal.returns-then-is_some-clause-read
 returns-then-is_some-clause-read c =
     let xs = c.as_slice-m-items.result.now in
     let is = c.as_slice-m-items.ensures.value in
-    let each = subst (λ (ys : List Move). (m : Move) → Contains ys m ↔ IsLegal c.args.at.now m.from.index m.to.index m.promo) (sym is) c.moves.ensures.each in
+    let each = subst (λ (ys : List Move). (m : Move) → Contains ys m ↔ IsLegal c.args.at.now m.from.index m.to.index m.promotion) (sym is) c.moves.ensures.each in
     let ordered = subst (λ (ys : List Move). AllPairs ComesBefore ys) (sym is) c.moves.ensures.ordered in
     read_two c.args.at.now c.args.text.now (plain c.in-Some.spelling) xs c.loop-m.m-index c.m-item.result c.loop-m.found (sym c.read_spelling.ensures ∙ ap plains c.in-Some.is) each ordered c.loop-m-test.true c.m-item.is
     (sym c.agrees.ensures ∙ c.if-agrees.true) c.loop-m.invariant (sym c.is_some.ensures ∙ c.if-is_some.true)
@@ -24,7 +24,7 @@ pub returns-clause-read : goal.returns-clause-read
 returns-clause-read c =
     let xs = c.as_slice-m-items.result.now in
     let is = c.as_slice-m-items.ensures.value in
-    let each = subst (λ (ys : List Move). (m : Move) → Contains ys m ↔ IsLegal c.args.at.now m.from.index m.to.index m.promo) (sym is) c.moves.ensures.each in
+    let each = subst (λ (ys : List Move). (m : Move) → Contains ys m ↔ IsLegal c.args.at.now m.from.index m.to.index m.promotion) (sym is) c.moves.ensures.each in
     subst (λ (r : Result Move SanFault). IsRead c.args.at.now c.args.text.now r) (sym c.ok_or.ensures.value)
     (read_end c.args.at.now c.args.text.now (plain c.in-Some.spelling) xs c.loop-m.found (sym c.read_spelling.ensures ∙ ap plains c.in-Some.is) each
     (all_found (agrees c.args.at.now (plain c.in-Some.spelling)) xs c.loop-m.m-index c.loop-m.found c.loop-m-test.false c.loop-m.invariant))
