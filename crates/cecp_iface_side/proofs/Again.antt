@@ -55,7 +55,7 @@ move_token m =
     let c = black_over (97 + file_of m.to.index) (omega arith) in
     let d = black_over (49 + rank_of m.to.index) (omega arith) in
     let some : ltb 0 (length (text_of m)) ≡ true = grind (arith, nat_tests) in
-    rw (some, a, b, c, d, promotion_black m.promo) refl
+    rw (some, a, b, c, d, promotion_black m.promotion) refl
 
 move_again : (line : List ℕ) (m : Move) → HasMove line m → HasMove (codes "usermove " ++ text_of m) m
 move_again line m h = inl (text_of m, tokens_more (codes "usermove") (text_of m) 32 refl refl ∙ ap (λ ts. codes "usermove" ∷ ts) (tokens_alone (text_of m) (move_token m)), reads-back m (move_writable line m h))

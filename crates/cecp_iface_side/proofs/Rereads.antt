@@ -97,4 +97,4 @@ pub move_solid : (k : ℕ) (m : AnyMove) → k < 49 → list_all (λ b. not (eqb
 move_solid k m h =
     let a = square_bytes k m.from.index h in
     let b = square_bytes k m.to.index h in
-    rw (a.0, a.1, b.0, b.1, promotion_solid k m.promo h) refl
+    rw (a.0, a.1, b.0, b.1, promotion_solid k m.promotion h) refl

@@ -156,7 +156,7 @@ are_four f r g h i j = record {
 
 squares_no_san : (m : AnyMove) → is_san (text_of m) ≡ false
 squares_no_san m =
-    four_no_san (97 + file_of m.from.index) (49 + rank_of m.from.index) (97 + file_of m.to.index) (49 + rank_of m.to.index) (promotion_text m.promo)
+    four_no_san (97 + file_of m.from.index) (49 + rank_of m.from.index) (97 + file_of m.to.index) (49 + rank_of m.to.index) (promotion_text m.promotion)
     (are_four (file_of m.from.index) (rank_of m.from.index) (file_of m.to.index) (omega arith) (omega (arith, m.from.on_board)) (omega arith))
 
 written_no_san : (text : List ℕ) (o : Option AnyMove) → written_move text ≡ o → is_san text ≡ true → is_some o ≡ false

@@ -116,7 +116,7 @@ abbrev pub is_feature_name : List ℕ → Bool
 is_feature_name name = nat_lt 0 (length name) && list_all is_name_byte name
 
 abbrev pub IsWritable : AnyMove → Type 0
-IsWritable m = IsOfficer m.promo
+IsWritable m = IsOfficer m.promotion
 
 -- the text of a move by its squares
 pub record AreSquares (text : List ℕ) : Type 0 where

@@ -18,7 +18,7 @@ use uci_lines::{EngineMsg, OptionKind, OptionMsg};
 const E2E4: Move = Move {
     from: Square { index: 12 },
     to: Square { index: 28 },
-    promo: None,
+    promotion: None,
 };
 
 fn expect_written(rt: &impl Abort, alloc: Global, msg: &EngineMsg, want: &str) -> Result<(), Fail>

@@ -10,19 +10,19 @@ use std::test::Fail;
 const E2E4: Move = Move {
     from: Square { index: 12 },
     to: Square { index: 28 },
-    promo: None,
+    promotion: None,
 };
 
 const E1G1: Move = Move {
     from: Square { index: 4 },
     to: Square { index: 6 },
-    promo: None,
+    promotion: None,
 };
 
 const A7A8N: Move = Move {
     from: Square { index: 48 },
     to: Square { index: 56 },
-    promo: Some(Kind::Knight),
+    promotion: Some(Kind::Knight),
 };
 
 fn expect_read(rt: &impl Abort, line: &str, want: Reply) {

@@ -18,9 +18,9 @@ const KINDS: [(&str, GoKind); 6] = [
 ];
 
 // A line, its moves, and the position after them.
-type Spoken = (&'static str, &'static str, &'static str);
+type SpokenRow = (&'static str, &'static str, &'static str);
 
-const POSITIONS: [Spoken; 6] = [
+const POSITIONS: [SpokenRow; 6] = [
     ("position startpos", "", START),
     ("position startpos moves", "", START),
     (
@@ -71,7 +71,7 @@ fn expect_spoken(rt: &impl Abort, line: &str, moves: &str, end: &str) {
     }
 }
 
-fn expect_all_spoken(rt: &impl Abort, rows: &[Spoken]) {
+fn expect_all_spoken(rt: &impl Abort, rows: &[SpokenRow]) {
     for (line, moves, end) in rows {
         expect_spoken(rt, line, moves, end);
     }

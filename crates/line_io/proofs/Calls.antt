@@ -9,7 +9,7 @@ use Rattle.line_io.specs.Lending.{outcome, AnswersWhen}
 use Rattle.line_io.specs.Runs.{Runs, begins, goes, Call, goes_on, pieces_of, whole}
 use Rattle.line_io.specs.Source.{Supplied}
 use Rattle.line_io.specs.Takers.{Meaning}
-use Rattle.line_io.specs.Taken.{Place, place, InTime, starts, reads, takes, IsOver, WasWritten, Taken}
+use Rattle.line_io.specs.Taken.{Place, place, IsOver, Taken}
 use Rattle.line_io.specs.Turns.{Course, Reached, Drained, work}
 use Rattle.line_io.proofs.Found.{feed_le}
 use Rattle.line_io.proofs.Runs.{so_far, at_end, at_fault, at_wait, few_calls}
@@ -49,68 +49,46 @@ over_by : (ended : Bool) (old new : Held) (input0 input input' : Supplied) (r : 
 over_by true old new input0 input input' r n heard o g was e = over_kept input0.left input.left input'.left heard n.0 (was o) g.left (n.2.idle (inr o)) n.1.left
 over_by false old new input0 input input' r n heard o g was e = over_now input0.left input'.left (n.3 (o, e))
 
-ended_or_waits : (ended : Bool) (h : Held) → h.ended ≡ ended → feed_at h.bytes ≡ length h.bytes → IsReady h ⊎ IsWaiting h
-ended_or_waits true h e none = inl (inr e)
-ended_or_waits false h e none = inr (none, e)
-
-ready_or_waits : (h : Held) → IsReady h ⊎ IsWaiting h
-ready_or_waits h = elim (cases_lt (feed_at h.bytes) (length h.bytes)) [ inl l ↦ inl (inl l) | inr ge ↦ ended_or_waits h.ended h refl (omega (arith, feed_le h.bytes)) ]
-
--- what a read got came in time, where the reader waited
-time_read : (limit : ℕ) (W : List Piece → Type 0) (old : Held) (given got : List ℕ) (pieces : List Piece) → IsReady old ⊎ IsWaiting old → (IsWaiting old → pieces ≡ whole limit given) → (IsWaiting old → W pieces) → (IsReady old → got ≡ []) → InTime limit W given pieces → InTime limit W (given ++ got) pieces
-time_read limit W old given got pieces (inl ready) all written idle t = subst (λ (l : List ℕ). InTime limit W l pieces) (sym (append-nil given) ∙ ap (λ l. given ++ l) (sym (idle ready))) t
-time_read limit W old given got pieces (inr waits) all written idle t = reads t (all waits) (written waits) got
-
-time_taken : (limit : ℕ) (W : List Piece → Type 0) (given : List ℕ) (pieces : List Piece) (g : Given) → InTime limit W given pieces → InTime limit W given (pieces ++ pieces_of g)
-time_taken limit W given pieces (Gave piece) t = takes t piece
-time_taken limit W given pieces AtEnd t = subst (λ (ps : List Piece). InTime limit W given ps) (sym (append-nil pieces)) t
-time_taken limit W given pieces NotYet t = subst (λ (ps : List Piece). InTime limit W given ps) (sym (append-nil pieces)) t
-
-in_time_by : (limit : ℕ) (W : List Piece → Type 0) (old new : Held) (given : List ℕ) (pieces : List Piece) (input0 input input' : Supplied) (calls : ℕ) (r : Result Item ReadFault) → (IsWaiting old → W pieces) → (n : Next old new input input' r) → Course limit W old given pieces input0 input calls → InTime limit W (given ++ n.0) pieces
-in_time_by limit W old new given pieces input0 input input' calls r written n c = time_read limit W old given n.0 pieces (ready_or_waits old) (λ waits. at_wait limit calls old given pieces c.runs waits) written n.2.idle c.in_time
-
 -- one call more
-course_more : (limit : ℕ) (W : List Piece → Type 0) (old new : Held) (given : List ℕ) (pieces : List Piece) (input0 input input' : Supplied) (calls : ℕ) (r : Result Item ReadFault) (g : Given)
-    → outcome r ≡ g → IsTrue (goes_on r) → input'.faults ≡ input.faults → (IsWaiting old → W pieces) → (n : Next old new input input' r) → Course limit W old given pieces input0 input calls
-    → Course limit W new (given ++ n.0) (pieces ++ pieces_of g) input0 input' (suc calls)
-course_more limit W old new given pieces input0 input input' calls r g is on same written n c = record {
+course_more : (limit : ℕ) (old new : Held) (given : List ℕ) (pieces : List Piece) (input0 input input' : Supplied) (calls : ℕ) (r : Result Item ReadFault) (g : Given)
+    → outcome r ≡ g → IsTrue (goes_on r) → input'.faults ≡ input.faults → (n : Next old new input input' r) → Course limit old given pieces input0 input calls
+    → Course limit new (given ++ n.0) (pieces ++ pieces_of g) input0 input' (suc calls)
+course_more limit old new given pieces input0 input input' calls r g is on same n c = record {
   gave = gave_more input0 input input' given n.0 c.gave n.1;
   runs = subst (λ (x : Given). Runs limit new (given ++ n.0) (pieces ++ pieces_of x) (suc calls)) is (goes c.runs (call_of old new input input' r n) on);
-  in_time = time_taken limit W (given ++ n.0) pieces g (in_time_by limit W old new given pieces input0 input input' calls r written n c);
   at_end = over_by old.ended old new input0 input input' r n given refl c.gave c.at_end;
   no_fault = same ∙ c.no_fault;
 }
 
 -- the taker took what came
 pub went_on : {S O X : Type 0} (means : Meaning S O X) (limit : ℕ) (first now later : Place S O) (old new : Held) (calls number number' : ℕ) (r : Result Item ReadFault) (g : Given)
-    → outcome r ≡ g → IsTrue (goes_on r) → later.input.faults ≡ now.input.faults → (IsWaiting old → means.is_written now.taker) → Next old new now.input later.input r
+    → outcome r ≡ g → IsTrue (goes_on r) → later.input.faults ≡ now.input.faults → Next old new now.input later.input r
     → (h : Reached means limit first now old calls number) → number' ≡ number + length (pieces_of g)
     → means.took first.taker first.output (h.pieces ++ pieces_of g) later.taker later.output → Reached means limit first later new (suc calls) number'
-went_on means limit first now later old new calls number number' r g is on same written n h counts took = record {
+went_on means limit first now later old new calls number number' r g is on same n h counts took = record {
   given = h.given ++ n.0;
   pieces = h.pieces ++ pieces_of g;
-  course = course_more limit (WasWritten means first) old new h.given h.pieces first.input now.input later.input calls r g is on same (λ waits. (now.taker, now.output, h.took, written waits)) n h.course;
+  course = course_more limit old new h.given h.pieces first.input now.input later.input calls r g is on same n h.course;
   count = counts ∙ omega (arith, h.count, length-append h.pieces (pieces_of g));
   took = took;
 }
 
 -- no line came
 pub none_came : {S O X : Type 0} (means : Meaning S O X) (limit : ℕ) (first now : Place S O) (input : Supplied) (old new : Held) (calls number : ℕ)
-    → input.faults ≡ now.input.faults → (IsWaiting old → means.is_written now.taker) → Next old new now.input input (Ok answers.More)
+    → input.faults ≡ now.input.faults → Next old new now.input input (Ok answers.More)
     → Reached means limit first now old calls number → Reached means limit first (place now.taker now.output input) new (suc calls) number
-none_came {S} {O} {X} means limit first now input old new calls number same written n h =
-    went_on means limit first now (place now.taker now.output input) old new calls number number (Ok answers.More) NotYet refl refl same written n h (omega arith)
+none_came {S} {O} {X} means limit first now input old new calls number same n h =
+    went_on means limit first now (place now.taker now.output input) old new calls number number (Ok answers.More) NotYet refl refl same n h (omega arith)
     (subst (λ (ps : List Piece). means.took first.taker first.output ps now.taker now.output) (sym (append-nil h.pieces)) h.took)
 
 -- the taker stopped
 stops_by : {S O X : Type 0} (means : Meaning S O X) (limit : ℕ) (first now : Place S O) (held : Held) (given : List ℕ) (pieces : List Piece) (calls : ℕ) (stop : X)
-    → Course limit (WasWritten means first) held given pieces first.input now.input calls → length pieces + 1 < 2 ^ 64 → means.stopped first.taker first.output pieces stop now.taker now.output
+    → Course limit held given pieces first.input now.input calls → length pieces + 1 < 2 ^ 64 → means.stopped first.taker first.output pieces stop now.taker now.output
     → Taken means limit (ends.Stopped stop) first now
 stops_by means limit first now held given pieces calls stop c few stopped = record {
   given = given;
   pieces = pieces;
   gave = c.gave;
-  in_time = c.in_time;
   few = few;
   ends = record {
     stopped = stopped;
@@ -130,25 +108,24 @@ stopped_before means limit first now s o held calls number stop few h stopped =
 
 -- at a line
 pub stopped_at : {S O X : Type 0} (means : Meaning S O X) (limit : ℕ) (first now later : Place S O) (old new : Held) (calls number : ℕ) (r : Result Item ReadFault) (piece : Piece) (stop : X)
-    → outcome r ≡ Gave piece → IsTrue (goes_on r) → later.input.faults ≡ now.input.faults → (IsWaiting old → means.is_written now.taker) → Next old new now.input later.input r
+    → outcome r ≡ Gave piece → IsTrue (goes_on r) → later.input.faults ≡ now.input.faults → Next old new now.input later.input r
     → number + 2 < 2 ^ 64 → (h : Reached means limit first now old calls number)
     → means.stopped first.taker first.output (h.pieces ++ piece ∷ []) stop later.taker later.output → Taken means limit (ends.Stopped stop) first later
-stopped_at means limit first now later old new calls number r piece stop is on same written n few h stopped =
+stopped_at means limit first now later old new calls number r piece stop is on same n few h stopped =
     stops_by means limit first later new (h.given ++ n.0) (h.pieces ++ piece ∷ []) (suc calls) stop
-    (course_more limit (WasWritten means first) old new h.given h.pieces first.input now.input later.input calls r (Gave piece) is on same (λ waits. (now.taker, now.output, h.took, written waits)) n h.course)
+    (course_more limit old new h.given h.pieces first.input now.input later.input calls r (Gave piece) is on same n h.course)
     (omega (arith, h.count, length-append h.pieces (piece ∷ []))) stopped
 
 -- the end
 pub ended_all : {S O X : Type 0} (means : Meaning S O X) (limit : ℕ) (first now : Place S O) (input : Supplied) (old new : Held) (calls number : ℕ)
-    → input.faults ≡ now.input.faults → (IsWaiting old → means.is_written now.taker) → Next old new now.input input (Ok answers.End) → number + 2 < 2 ^ 64
+    → input.faults ≡ now.input.faults → Next old new now.input input (Ok answers.End) → number + 2 < 2 ^ 64
     → Reached means limit first now old calls number → Taken means limit ends.Ended first (place now.taker now.output input)
-ended_all means limit first now input old new calls number same written n few h =
+ended_all means limit first now input old new calls number same n few h =
     let r : Result Item ReadFault = Ok answers.End in
     record {
       given = h.given ++ n.0;
       pieces = h.pieces;
       gave = gave_more first.input now.input input h.given n.0 h.course.gave n.1;
-      in_time = in_time_by limit (WasWritten means first) old new h.given h.pieces first.input now.input input calls r (λ waits. (now.taker, now.output, h.took, written waits)) n h.course;
       few = omega (arith, h.count);
       ends = record {
         took = h.took;
@@ -168,7 +145,6 @@ read_failed means limit first now input old new calls number fault rose written 
       given = h.given ++ n.0;
       pieces = h.pieces;
       gave = gave_more first.input now.input input h.given n.0 h.course.gave n.1;
-      in_time = in_time_by limit (WasWritten means first) old new h.given h.pieces first.input now.input input calls r (λ waits. (now.taker, now.output, h.took, written waits)) n h.course;
       few = omega (arith, h.count);
       ends = record {
         took = h.took;
@@ -186,7 +162,6 @@ reached_first means limit held first fresh took = record {
   course = record {
     gave = record { given = Appends-nil first.input.given; left = Consumes-nil first.input.left };
     runs = subst (λ (x : Held). Runs limit x [] [] 0) (sym fresh) begins;
-    in_time = starts;
     at_end = λ e. cc;
     no_fault = refl;
   };
@@ -205,9 +180,8 @@ endless means limit first now held calls number many fits d =
       given = h.given;
       pieces = h.pieces;
       gave = h.course.gave;
-      in_time = h.course.in_time;
       few = omega (arith, h.count);
-      ends = record { took = h.took; all = at_wait limit d.1.0 held h.given h.pieces h.course.runs d.0; many = omega (arith, d.1.1); still_open = record { held = held; calls = d.1.0; runs = h.course.runs; waits = d.0 }; no_fault = h.course.no_fault };
+      ends = record { took = h.took; all = at_wait limit d.1.0 held h.given h.pieces h.course.runs d.0; many = omega (arith, d.1.1); no_fault = h.course.no_fault };
     }
 
 flag_le : (b : Bool) → flag b ≤ 1

@@ -1,10 +1,10 @@
 -- How the lines of an input were taken.
-use Rattle.std.specs.Prelude.{◌≡◌, ℕ, ◌+◌, ◌^◌, ◌<◌, ◌≤◌, List, [], ◌∷◌, ◌++◌, length, Bool, true, IfSome}
+use Rattle.std.specs.Prelude.{◌≡◌, ℕ, ◌+◌, ◌^◌, ◌<◌, ◌≤◌, List, [], ◌++◌, length, Bool, true, IfSome}
 use Rattle.std.specs.Io.KnownBytes.{IsAtEnd}
 use Rattle.line_io.specs.Source.{Supplied}
 use Rattle.line_io.specs.Causes.{Rose}
-use Rattle.line_io.specs.Lines.{Piece, Held, IsWaiting, Reads, items}
-use Rattle.line_io.specs.Runs.{Runs, whole}
+use Rattle.line_io.specs.Lines.{Piece, Reads, items}
+use Rattle.line_io.specs.Runs.{whole}
 use Rattle.line_io.specs.Takers.{Meaning}
 use Rattle.line_io.specs.declared.taker.LinesEnd.{LinesEnd}
 use Rattle.line_io.specs.declared.taker.LinesEnd.TheVariants as ends
@@ -21,19 +21,6 @@ place s o i = record { taker = s; output = o; input = i }
 -- if the source reports its bytes, none is left
 abbrev pub IsOver : Supplied → Supplied → Type 0
 IsOver old new = IfSome old.left (λ _. IsAtEnd new.left)
-
--- The input gave these bytes, and these lines were taken. Each read came when all lines were taken that were whole by
--- then, and all was written that was due for them.
-pub data InTime (limit : ℕ) (Written : List Piece → Type 0) : List ℕ → List Piece → Type 0 where
-  starts : InTime limit Written [] []
-  reads : {given : List ℕ} → {pieces : List Piece} → InTime limit Written given pieces
-      → pieces ≡ whole limit given → Written pieces → (got : List ℕ) → InTime limit Written (given ++ got) pieces
-  takes : {given : List ℕ} → {pieces : List Piece} → InTime limit Written given pieces
-      → (piece : Piece) → InTime limit Written given (pieces ++ piece ∷ [])
-
--- after these lines the taker stood somewhere with nothing left to write
-abbrev pub WasWritten : {S O X : Type 0} → Meaning S O X → Place S O → List Piece → Type 0
-WasWritten {S} {O} {X} means old pieces = (s : S) × (o : O) × means.took old.taker old.output pieces s o × means.is_written s
 
 -- The taker stopped. The lines are a front of those of all bytes, whatever is left behind those that were given, and
 -- nothing is left if the end was seen.
@@ -58,19 +45,11 @@ pub record TakesToFault {S O X : Type 0} (means : Meaning S O X) (limit : ℕ) (
   pub all : pieces ≡ whole limit given
   pub fault : Rose old.input.faults new.input.faults
 
--- Calls of the reader of lines got these bytes and these lines. None of them saw the end, and no line that is left is whole.
-pub record IsOpenStill (limit : ℕ) (given : List ℕ) (pieces : List Piece) : Type 0 where
-  pub held : Held
-  pub calls : ℕ
-  pub runs : Runs limit held given pieces calls
-  pub waits : IsWaiting held
-
--- the lines that were whole were taken, up to so many bytes, and the end was not seen
+-- the lines that were whole were taken, up to so many bytes
 pub record TakesMany {S O X : Type 0} (means : Meaning S O X) (limit : ℕ) (given : List ℕ) (pieces : List Piece) (old new : Place S O) : Type 0 where
   pub took : means.took old.taker old.output pieces new.taker new.output
   pub all : pieces ≡ whole limit given
   pub many : 2 ^ 32 ≤ length given
-  pub still_open : IsOpenStill limit given pieces
   pub no_fault : new.input.faults ≡ old.input.faults
 
 -- what each ending says
@@ -85,7 +64,6 @@ pub record Taken {S O X : Type 0} (means : Meaning S O X) (limit : ℕ) (ending 
   pub given : List ℕ
   pub pieces : List Piece
   pub gave : Reads old.input new.input given
-  pub in_time : InTime limit (WasWritten means old) given pieces
   -- so that their numbers fit
   pub few : length pieces + 1 < 2 ^ 64
   pub ends : EndsBy means limit ending given pieces old new

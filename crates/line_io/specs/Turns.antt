@@ -4,14 +4,13 @@ use Rattle.line_io.specs.Lines.{Piece, Held, Reads, IsWaiting, weight, flag}
 use Rattle.line_io.specs.Runs.{Runs}
 use Rattle.line_io.specs.Source.{Supplied}
 use Rattle.line_io.specs.Takers.{Meaning}
-use Rattle.line_io.specs.Taken.{Place, InTime, IsOver, WasWritten, Taken}
+use Rattle.line_io.specs.Taken.{Place, IsOver, Taken}
 use Rattle.line_io.specs.declared.taker.LinesEnd.{LinesEnd}
 
--- so many calls got these bytes and gave these lines, and each read came in time
-pub record Course (limit : ℕ) (Written : List Piece → Type 0) (held : Held) (given : List ℕ) (pieces : List Piece) (old new : Supplied) (calls : ℕ) : Type 0 where
+-- so many calls got these bytes and gave these lines
+pub record Course (limit : ℕ) (held : Held) (given : List ℕ) (pieces : List Piece) (old new : Supplied) (calls : ℕ) : Type 0 where
   pub gave : Reads old new given
   pub runs : Runs limit held given pieces calls
-  pub in_time : InTime limit Written given pieces
   pub at_end : held.ended ≡ true → IsOver old new
   pub no_fault : new.faults ≡ old.faults
 
@@ -19,7 +18,7 @@ pub record Course (limit : ℕ) (Written : List Piece → Type 0) (held : Held) 
 pub record Reached {S O X : Type 0} (means : Meaning S O X) (limit : ℕ) (first now : Place S O) (held : Held) (calls number : ℕ) : Type 0 where
   pub given : List ℕ
   pub pieces : List Piece
-  pub course : Course limit (WasWritten means first) held given pieces first.input now.input calls
+  pub course : Course limit held given pieces first.input now.input calls
   pub count : number ≡ length pieces
   pub took : means.took first.taker first.output pieces now.taker now.output
 

@@ -32,7 +32,7 @@ is_small n = IfSome n (λ k. k < 10 ^ 18)
 
 abbrev pub AllOfficers : List Move → Type 0
 AllOfficers [] = Unit {0}
-AllOfficers (m ∷ moves) = IsOfficer m.promo × AllOfficers moves
+AllOfficers (m ∷ moves) = IsOfficer m.promotion × AllOfficers moves
 
 -- the numbers are as short as those that are read, and the moves can be written
 pub record Fits (f : AnyInfo) : Type 0 where

@@ -68,7 +68,7 @@ fn put_bound(is_bound: bool, out: &mut Out)
 }
 
 fn put_move(word: &[u8], m: Move, out: &mut Out)
-    requires officer { IsOfficer m.promo }
+    requires officer { IsOfficer m.promotion }
     requires room { length out.old.text + length (word.now ++ text_of m) ≤ out.old.room }
     ensures { out.new ≡ with out.old (word.now ++ text_of m) }
 {

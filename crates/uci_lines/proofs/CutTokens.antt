@@ -1,15 +1,11 @@
 -- The tokens of a text that is cut: those before, the one at the cut, those after.
-use Rattle.std.proofs.Common.{◌≡◌, ℕ, List, [], ◌∷◌, ◌++◌, Bool, true, false, Option, Some, None, is_none, ltb, length, refl, sym, ap, ◌∙◌}
+use Rattle.std.proofs.Common.{◌≡◌, ℕ, List, [], ◌∷◌, ◌++◌, Bool, true, false, Option, Some, None, refl, sym, ap, ◌∙◌}
 use Rattle.std.specs.Option.{option_map}
-use Rattle.std.proofs.lemmas.Bool.{and_parts}
-use Rattle.chess_board.specs.declared.board.Move.{Move}
 use Rattle.peer_words.specs.Tokens.{is_white, trim_left, trimmed, tokens}
 use Rattle.peer_words.proofs.TokenLists.{tokens_some, tokens_white, tokens_trimmed}
-use Rattle.uci_lines.specs.Cuts.{Found, onto_part, cut, is_no_move}
-use Rattle.chess_board.specs.Spelling.{move_of}
-use Rattle.uci_lines.specs.Moves.{add_move, run}
+use Rattle.uci_lines.specs.Cuts.{Found, onto_part, cut}
 use Rattle.uci_lines.proofs.Fronts.{front, behind, front-white, behind-white, front-byte, behind-byte}
-use Rattle.uci_lines.proofs.Cutting.{part_at, step, here, black_first, front_kept, cut_is}
+use Rattle.uci_lines.proofs.Cutting.{part_at, step, here, black_first, front_kept}
 
 pub tokens_byte : (b : ℕ) (bs : List ℕ) → is_white b ≡ false → tokens (b ∷ bs) ≡ (b ∷ front bs) ∷ tokens (behind bs)
 tokens_byte b bs e =
@@ -77,18 +73,3 @@ both p (b ∷ bs) z =
 
 pub cut_tokens : (p : List ℕ → Bool) (text : List ℕ) (part : Found) → p [] ≡ false → cut p true text ≡ Some part → tokens text ≡ tokens part.before ++ (part.word ∷ tokens part.after)
 cut_tokens p text part z h = (both p text z).fresh part h
-
--- a run of moves ends at a token that is none
-run_stops : (ts : List (List ℕ)) (t : List ℕ) (us : List (List ℕ)) → move_of t ≡ None → run (ts ++ (t ∷ us)) ≡ run ts
-run_stops [] t us h = ap (λ m. add_move m (run us)) h
-run_stops (s ∷ ts) t us h = ap (add_move (move_of s)) (run_stops ts t us h)
-
-none_is : (m : Option Move) → is_none m ≡ true → m ≡ None
-none_is None h = refl
-none_is (Some m) h = absurd (cc)
-
-pub run_before : (text : List ℕ) (part : Found) → cut is_no_move true text ≡ Some part → run (tokens text) ≡ run (tokens part.before)
-run_before text part h =
-    let passes = (cut_is is_no_move true text part h).passes in
-    let none = none_is (move_of part.word) (and_parts (ltb 0 (length part.word)) (is_none (move_of part.word)) passes).1 in
-    ap run (cut_tokens is_no_move text part refl h) ∙ run_stops (tokens part.before) part.word (tokens part.after) none

@@ -28,4 +28,4 @@ move_token m =
     let c = black_over (97 + file_of m.to.index) (omega arith) in
     let d = black_over (49 + rank_of m.to.index) (omega arith) in
     let some : ltb 0 (length (text_of m)) ≡ true = grind (arith, nat_tests) in
-    rw (some, a, b, c, d, promotion_black m.promo) refl
+    rw (some, a, b, c, d, promotion_black m.promotion) refl

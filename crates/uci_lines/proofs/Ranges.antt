@@ -3,7 +3,7 @@ use Rattle.std.proofs.Common.{◌≡◌, ℕ, ℤ, List, [], ◌∷◌, ◌++◌
 use Rattle.std.specs.Option.{option_or}
 use Rattle.peer_words.specs.Numbers.{signed}
 use Rattle.uci_lines.specs.Cuts.{is_word}
-use Rattle.uci_lines.specs.Options.{Range, first_signed, limited, range_from}
+use Rattle.uci_lines.specs.Options.{SpinRange, first_signed, limited, range_from}
 use Rattle.uci_lines.specs.Spells.{IsLast}
 use Rattle.uci_lines.proofs.Counts.{same_text, text_same}
 
@@ -16,7 +16,7 @@ last_from word old [] = old
 last_from word old (t ∷ ts) = last_from word (newer word old t ts) ts
 
 -- each of the three numbers of a range by itself
-record Three (r : Range) (t : List ℕ) (ts : List (List ℕ)) : Type 0 where
+record Three (r : SpinRange) (t : List ℕ) (ts : List (List ℕ)) : Type 0 where
   default : (limited r t ts).default ≡ newer (codes "default") r.default t ts
   min : (limited r t ts).min ≡ newer (codes "min") r.min t ts
   max : (limited r t ts).max ≡ newer (codes "max") r.max t ts
@@ -24,7 +24,7 @@ record Three (r : Range) (t : List ℕ) (ts : List (List ℕ)) : Type 0 where
 differ : false ≡ true → ⊥
 differ h = absurd (cc)
 
-three_by : (a b c : Bool) (r : Range) (t : List ℕ) (ts : List (List ℕ)) → is_word (codes "default") t ≡ a → is_word (codes "min") t ≡ b → is_word (codes "max") t ≡ c → Three r t ts
+three_by : (a b c : Bool) (r : SpinRange) (t : List ℕ) (ts : List (List ℕ)) → is_word (codes "default") t ≡ a → is_word (codes "min") t ≡ b → is_word (codes "max") t ≡ c → Three r t ts
 three_by true true c r t ts e f g = absurd (differ (ap (is_word (codes "min")) (sym (same_text t (codes "default") e) ∙ same_text t (codes "min") f)))
 three_by true false true r t ts e f g = absurd (differ (ap (is_word (codes "max")) (sym (same_text t (codes "default") e) ∙ same_text t (codes "max") g)))
 three_by false true true r t ts e f g = absurd (differ (ap (is_word (codes "max")) (sym (same_text t (codes "min") f) ∙ same_text t (codes "max") g)))
@@ -33,18 +33,18 @@ three_by false true false r t ts e f g = record { default = rw (e, f) refl; min 
 three_by false false true r t ts e f g = record { default = rw (e, f, g) refl; min = rw (e, f, g) refl; max = rw (e, f, g) refl }
 three_by false false false r t ts e f g = record { default = rw (e, f, g) refl; min = rw (e, f, g) refl; max = rw (e, f, g) refl }
 
-three : (r : Range) (t : List ℕ) (ts : List (List ℕ)) → Three r t ts
+three : (r : SpinRange) (t : List ℕ) (ts : List (List ℕ)) → Three r t ts
 three r t ts = three_by (is_word (codes "default") t) (is_word (codes "min") t) (is_word (codes "max") t) r t ts refl refl refl
 
-pub default_is : (r : Range) (ts : List (List ℕ)) → (range_from r ts).default ≡ last_from (codes "default") r.default ts
+pub default_is : (r : SpinRange) (ts : List (List ℕ)) → (range_from r ts).default ≡ last_from (codes "default") r.default ts
 default_is r [] = refl
 default_is r (t ∷ ts) = default_is (limited r t ts) ts ∙ ap (λ o. last_from (codes "default") o ts) (three r t ts).default
 
-pub min_is : (r : Range) (ts : List (List ℕ)) → (range_from r ts).min ≡ last_from (codes "min") r.min ts
+pub min_is : (r : SpinRange) (ts : List (List ℕ)) → (range_from r ts).min ≡ last_from (codes "min") r.min ts
 min_is r [] = refl
 min_is r (t ∷ ts) = min_is (limited r t ts) ts ∙ ap (λ o. last_from (codes "min") o ts) (three r t ts).min
 
-pub max_is : (r : Range) (ts : List (List ℕ)) → (range_from r ts).max ≡ last_from (codes "max") r.max ts
+pub max_is : (r : SpinRange) (ts : List (List ℕ)) → (range_from r ts).max ≡ last_from (codes "max") r.max ts
 max_is r [] = refl
 max_is r (t ∷ ts) = max_is (limited r t ts) ts ∙ ap (λ o. last_from (codes "max") o ts) (three r t ts).max
 

@@ -7,8 +7,8 @@ use Rattle.peer_words.specs.Numbers.{centis}
 use Rattle.peer_words.proofs.Sizes.{centis_small}
 use Rattle.uci_lines.specs.declared.messages.Score.{Score}
 use Rattle.uci_lines.specs.declared.messages.Score.TheVariants.{Cp, Mate}
-use Rattle.uci_lines.specs.declared.info.Field.{Field}
-use Rattle.uci_lines.specs.declared.info.Field.TheVariants as fields
+use Rattle.uci_lines.specs.declared.info.InfoField.{InfoField}
+use Rattle.uci_lines.specs.declared.info.InfoField.TheVariants as fields
 use Rattle.uci_lines.specs.Cuts.{Found, cut, is_word, is_known}
 use Rattle.uci_lines.specs.Infos.{field_named, first_score, hear, ends_info, facts_from, facts_in, no_facts}
 use Rattle.uci_lines.specs.Messages as says
@@ -43,7 +43,7 @@ or_small : (a b : Option Score) → IfSome a IsCentis → IfSome b IsCentis → 
 or_small None b f g = g
 or_small (Some s) b f g = f
 
-hear_small : (field : Field) (f : Info) (ts : List (List ℕ)) → HasSmall f → HasSmall (hear field f ts)
+hear_small : (field : InfoField) (f : Info) (ts : List (List ℕ)) → HasSmall f → HasSmall (hear field f ts)
 hear_small fields.Score f ts h = or_small (first_score ts) f.score (first_small ts) h
 hear_small field f ts h = h
 

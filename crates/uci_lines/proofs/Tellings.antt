@@ -1,15 +1,15 @@
 -- What is told of a search, as a relation and as a function.
-use Rattle.std.proofs.Common.{◌≡◌, ◌≢◌, ℕ, zero, suc, ◌<◌, ◌≤◌, ℤ, ◌⊎◌, inl, inr, List, [], ◌∷◌, Bool, true, false, Option, Some, None, is_some, codes, cond, length, refl, sym, ap, ◌∙◌, subst, arith}
+use Rattle.std.proofs.Common.{◌≡◌, ◌≢◌, ℕ, zero, suc, ◌<◌, ◌≤◌, ℤ, ◌⊎◌, inl, inr, List, [], ◌∷◌, Bool, true, false, Option, Some, None, is_none, is_some, codes, cond, length, refl, sym, ap, ◌∙◌, subst, arith}
 use Rattle.std.specs.Option.{option_or, option_map}
 use Rattle.std.proofs.lemmas.Bool.{both_ways}
 use Rattle.chess_board.specs.declared.board.Move.{Move}
 use Rattle.peer_words.specs.Numbers.{count, centis}
 use Rattle.uci_lines.specs.declared.messages.Score.TheVariants.{Cp, Mate}
-use Rattle.uci_lines.specs.declared.info.Field.{Field}
-use Rattle.uci_lines.specs.declared.info.Field.TheVariants as fields
+use Rattle.uci_lines.specs.declared.info.InfoField.{InfoField}
+use Rattle.uci_lines.specs.declared.info.InfoField.TheVariants as fields
 use Rattle.uci_lines.specs.Cuts.{is_word}
 use Rattle.chess_board.specs.Spelling.{move_of}
-use Rattle.uci_lines.specs.Moves.{add_move, run}
+use Rattle.uci_lines.specs.Moves.{add_move, run, after_run}
 use Rattle.uci_lines.specs.Info.{Info}
 use Rattle.uci_lines.specs.Infos.{field_named, first_count, first_score, first_move, newer_run, hear, ends_info, facts_from}
 use Rattle.uci_lines.specs.Spells.{PerhapsMove, NoMoveFirst, IsRun, Takes, Tells}
@@ -56,6 +56,16 @@ run_passed : (f : Info) (ts : List (List ℕ)) (moves : List Move) (others : Lis
 run_passed f ts _ _ (IsRun.Ends h) = refl
 run_passed f _ _ others (IsRun.Goes {t = t} {m = m} {ts = ts} {moves = moves} s r) = passed f t ts (move_plain t m (spells_move t m s)) ∙ run_passed f ts moves others r
 
+after_by : (o : Option Move) (f : Info) (t : List ℕ) (ts us : List (List ℕ)) → move_of t ≡ o
+    → facts_from f us ≡ facts_from f ts → facts_from f (cond (is_none o) (t ∷ ts) us) ≡ facts_from f (t ∷ ts)
+after_by None f t ts us e h = refl
+after_by (Some m) f t ts us e h = h ∙ sym (passed f t ts (move_plain t m e))
+
+-- no move text tells anything by itself
+pub facts_after : (f : Info) (ts : List (List ℕ)) → facts_from f (after_run ts) ≡ facts_from f ts
+facts_after f [] = refl
+facts_after f (t ∷ ts) = after_by (move_of t) f t ts (after_run ts) refl (facts_after f ts)
+
 record Runs (ts : List (List ℕ)) (moves : List Move) : Type 0 where
   others : List (List ℕ)
   is_run : IsRun ts moves others
@@ -89,7 +99,7 @@ some_moves [] = false
 some_moves (m ∷ moves) = true
 
 -- whether a field takes something of the tokens behind its word
-taking_by : Field → List (List ℕ) → Bool
+taking_by : InfoField → List (List ℕ) → Bool
 taking_by fields.Depth ts = is_some (first_count ts)
 taking_by fields.Time ts = is_some (first_count ts)
 taking_by fields.Nodes ts = is_some (first_count ts)
@@ -121,7 +131,7 @@ takes_taking f _ _ _ (Takes.Current {t = t} {m = m} s) = ap (λ o. is_some o) (s
 takes_taking f _ _ _ (Takes.Pv {ts = ts} {others = others} {m = m} {moves = moves} r) = ap some_moves (run_is ts (m ∷ moves) others r)
 
 -- a token and the field that it names
-Named : Field → List ℕ → Type 0
+Named : InfoField → List ℕ → Type 0
 Named fields.Depth t = t ≡ codes "depth"
 Named fields.Time t = t ≡ codes "time"
 Named fields.Nodes t = t ≡ codes "nodes"
@@ -134,7 +144,7 @@ Named fields.Pv t = t ≡ codes "pv"
 Named fields.Text t = t ≡ codes "string"
 Named fields.Other t = Unit {0}
 
-pick : (t w : List ℕ) (k l : Field) (b : Bool) → is_word w t ≡ b → (t ≡ w → Named k t) → Named l t → Named (cond b k l) t
+pick : (t w : List ℕ) (k l : InfoField) (b : Bool) → is_word w t ≡ b → (t ≡ w → Named k t) → Named l t → Named (cond b k l) t
 pick t w k l true e f h = f (same_text t w e)
 pick t w k l false e f h = h
 
@@ -201,7 +211,7 @@ take_bound : (f : Info) (t : List ℕ) (ts : List (List ℕ)) → (t ≡ codes "
 take_bound f t ts (inl e) = given f (record f { bound = true }) t (codes "lowerbound") ts ts e (omega arith) Takes.LowerBound
 take_bound f t ts (inr e) = given f (record f { bound = true }) t (codes "upperbound") ts ts e (omega arith) Takes.UpperBound
 
-take_by : (k : Field) (f : Info) (t : List ℕ) (ts : List (List ℕ)) → Named k t → taking_by k ts ≡ true → Take f (t ∷ ts)
+take_by : (k : InfoField) (f : Info) (t : List ℕ) (ts : List (List ℕ)) → Named k t → taking_by k ts ≡ true → Take f (t ∷ ts)
 unfolding Named taking_by
 take_by fields.Depth f t (u ∷ us) e h = let s = some_of (count u) h in given f (record f { depth = Some s.0 }) t (codes "depth") (u ∷ us) us e (one_less u us) (Takes.Depth s.1)
 take_by fields.Time f t (u ∷ us) e h = let s = some_of (count u) h in given f (record f { time = Some s.0 }) t (codes "time") (u ∷ us) us e (one_less u us) (Takes.Time s.1)
@@ -229,7 +239,7 @@ unfolding some_moves
 empty_of [] h = refl
 empty_of (m ∷ moves) h = absurd (cc)
 
-unheard : (k : Field) (f : Info) (ts : List (List ℕ)) → taking_by k ts ≡ false → hear k f ts ≡ f
+unheard : (k : InfoField) (f : Info) (ts : List (List ℕ)) → taking_by k ts ≡ false → hear k f ts ≡ f
 unfolding taking_by
 unheard fields.Depth f ts h = ap (λ o. record f { depth = option_or o f.depth }) (none_of (first_count ts) h)
 unheard fields.Time f ts h = ap (λ o. record f { time = option_or o f.time }) (none_of (first_count ts) h)
@@ -242,7 +252,7 @@ unheard fields.Current f ts h = ap (λ o. record f { current = option_or o f.cur
 unheard fields.Pv f ts h = ap (λ ms. record f { pv = newer_run ms f.pv }) (empty_of (run ts) h)
 unheard k f ts h = refl
 
-ends_by : (k : Field) (t : List ℕ) → Named k t → t ≢ codes "string" → ends_info k ≡ false
+ends_by : (k : InfoField) (t : List ℕ) → Named k t → t ≢ codes "string" → ends_info k ≡ false
 unfolding Named
 ends_by fields.Text t e h = absurd (h e)
 ends_by k t e h = refl

@@ -1,13 +1,12 @@
 -- Lines that are cut at certain tokens.
-use Rattle.std.specs.Prelude.{ℕ, List, [], ◌∷◌, drop, codes, length, nat_lt, is_none, Bool, ◌&&◌, ◌||◌, if◌then◌else◌, Option, Some, None}
+use Rattle.std.specs.Prelude.{ℕ, List, [], ◌∷◌, drop, codes, Bool, ◌&&◌, ◌||◌, if◌then◌else◌, Option, Some, None}
 use Rattle.std.specs.List.{before_first}
 use Rattle.std.specs.Option.{option_map}
 use Rattle.std.specs.Str.{bytes_eq}
 use Rattle.peer_words.specs.Tokens.{is_white, token_end}
-use Rattle.chess_board.specs.Spelling.{move_of}
 use Rattle.uci_lines.specs.declared.cut.Delimiter.{Delimiter}
-use Rattle.uci_lines.specs.declared.cut.Delimiter.TheVariants.{Message, Kind, Default, Choice, Ponder, NoMove}
-use Rattle.uci_lines.specs.declared.cut.Found.{Found as CodeFound}
+use Rattle.uci_lines.specs.declared.cut.Delimiter.TheVariants.{Message, Kind, Default, Choice, Ponder}
+use Rattle.uci_lines.specs.declared.cut.FoundToken.{FoundToken as CodeFound}
 
 -- the bytes before a token, the token, and the bytes after it
 pub record Found : Type 0 where
@@ -40,17 +39,12 @@ is_known token =
 abbrev pub is_choice : List ℕ → Bool
 is_choice token = is_word (codes "default") token || is_word (codes "var") token
 
--- a token that is no move text
-abbrev pub is_no_move : List ℕ → Bool
-is_no_move token = nat_lt 0 (length token) && is_none (move_of token)
-
 abbrev pub stops : Delimiter → List ℕ → Bool
 stops Message token = is_known token
 stops Kind token = is_word (codes "type") token
 stops Default token = is_word (codes "default") token
 stops Choice token = is_choice token
 stops Ponder token = is_word (codes "ponder") token
-stops NoMove token = is_no_move token
 
 abbrev pub found_of : CodeFound → Found
 found_of found = record { before = found.before.now; word = found.word.now; after = found.after.now }

@@ -6,15 +6,15 @@ use Rattle.peer_words.specs.Numbers.{count, centis}
 use Rattle.chess_board.specs.declared.board.Move.{Move}
 use Rattle.uci_lines.specs.declared.messages.Score.{Score}
 use Rattle.uci_lines.specs.declared.messages.Score.TheVariants.{Cp, Mate}
-use Rattle.uci_lines.specs.declared.info.Field.{Field}
-use Rattle.uci_lines.specs.declared.info.Field.TheVariants as fields
+use Rattle.uci_lines.specs.declared.info.InfoField.{InfoField}
+use Rattle.uci_lines.specs.declared.info.InfoField.TheVariants as fields
 use Rattle.uci_lines.specs.Cuts.{is_word}
 use Rattle.chess_board.specs.Spelling.{move_of}
 use Rattle.uci_lines.specs.Moves.{run}
 use Rattle.uci_lines.specs.Info.{Info}
 
 -- the field that a token names
-abbrev pub field_named : List ℕ → Field
+abbrev pub field_named : List ℕ → InfoField
 field_named t =
     if is_word (codes "depth") t then fields.Depth
     else (if is_word (codes "time") t then fields.Time
@@ -53,7 +53,7 @@ newer_run [] old = old
 newer_run (m ∷ moves) old = m ∷ moves
 
 -- What a field says, with the tokens behind its word. If what must follow does not, nothing changes.
-abbrev pub hear : Field → Info → List (List ℕ) → Info
+abbrev pub hear : InfoField → Info → List (List ℕ) → Info
 hear fields.Depth f ts = record f { depth = option_or (first_count ts) f.depth }
 hear fields.Time f ts = record f { time = option_or (first_count ts) f.time }
 hear fields.Nodes f ts = record f { nodes = option_or (first_count ts) f.nodes }
@@ -66,7 +66,7 @@ hear fields.Pv f ts = record f { pv = newer_run (run ts) f.pv }
 hear fields.Text f ts = f
 hear fields.Other f ts = f
 
-abbrev pub ends_info : Field → Bool
+abbrev pub ends_info : InfoField → Bool
 ends_info fields.Text = true
 ends_info _ = false
 

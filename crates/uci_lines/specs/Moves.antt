@@ -1,5 +1,5 @@
 -- Runs of move texts.
-use Rattle.std.specs.Prelude.{ℕ, List, [], ◌∷◌, Option, Some, None}
+use Rattle.std.specs.Prelude.{ℕ, List, [], ◌∷◌, is_none, if◌then◌else◌, Option, Some, None}
 use Rattle.chess_board.specs.declared.board.Move.{Move}
 use Rattle.chess_board.specs.Spelling.{move_of}
 
@@ -11,3 +11,8 @@ add_move (Some m) moves = m ∷ moves
 abbrev pub run : List (List ℕ) → List Move
 run [] = []
 run (t ∷ ts) = add_move (move_of t) (run ts)
+
+-- the tokens after that run
+abbrev pub after_run : List (List ℕ) → List (List ℕ)
+after_run [] = []
+after_run (t ∷ ts) = if is_none (move_of t) then t ∷ ts else after_run ts

@@ -4,7 +4,7 @@ use Rattle.std.specs.Int.{int_min, int_max}
 use Rattle.std.specs.Option.{option_or}
 use Rattle.peer_words.specs.Tokens.{tokens, trimmed, first_token, rest}
 use Rattle.peer_words.specs.Numbers.{signed}
-use Rattle.uci_lines.specs.declared.range.Range.{Range as Numbers}
+use Rattle.uci_lines.specs.declared.range.SpinRange.{SpinRange as Numbers}
 use Rattle.uci_lines.specs.Cuts.{Found, cut, is_word}
 use Rattle.uci_lines.specs.Choices.{values, default_value}
 use Rattle.uci_lines.specs.Messages.{OptionKind, Check, Spin, Combo, Button, Text, EngineMsg, OptionLine, Nothing}
@@ -15,12 +15,12 @@ is_on None = false
 is_on (Some part) = is_word (codes "true") (first_token part.after)
 
 -- the three numbers of a spin, as far as they were heard
-pub record Range : Type 0 where
+pub record SpinRange : Type 0 where
   pub default : Option ℤ
   pub min : Option ℤ
   pub max : Option ℤ
 
-abbrev pub range_of : Numbers → Range
+abbrev pub range_of : Numbers → SpinRange
 range_of n = record { default = n.default; min = n.min; max = n.max }
 
 abbrev pub first_signed : List (List ℕ) → Option ℤ
@@ -28,18 +28,18 @@ first_signed [] = None
 first_signed (t ∷ ts) = signed t
 
 -- what a token says of the range, with the tokens behind it
-abbrev pub limited : Range → List ℕ → List (List ℕ) → Range
+abbrev pub limited : SpinRange → List ℕ → List (List ℕ) → SpinRange
 limited r t ts =
     if is_word (codes "default") t then record { default = option_or (first_signed ts) r.default; min = r.min; max = r.max }
     else (if is_word (codes "min") t then record { default = r.default; min = option_or (first_signed ts) r.min; max = r.max }
     else (if is_word (codes "max") t then record { default = r.default; min = r.min; max = option_or (first_signed ts) r.max }
     else r))
 
-abbrev pub range_from : Range → List (List ℕ) → Range
+abbrev pub range_from : SpinRange → List (List ℕ) → SpinRange
 range_from r [] = r
 range_from r (t ∷ ts) = range_from (limited r t ts) ts
 
-abbrev pub no_range : Range
+abbrev pub no_range : SpinRange
 no_range = record { default = None; min = None; max = None }
 
 -- The default is moved into the range.
@@ -47,7 +47,7 @@ abbrev pub spin : Option ℤ → Option ℤ → Option ℤ → Option OptionKind
 spin (Some default) (Some min) (Some max) = if int_lt max min then None else Some (Spin (int_max min (int_min default max)) min max)
 spin _ _ _ = None
 
-abbrev pub spin_in : Range → Option OptionKind
+abbrev pub spin_in : SpinRange → Option OptionKind
 spin_in r = spin r.default r.min r.max
 
 -- `<empty>` is the empty text

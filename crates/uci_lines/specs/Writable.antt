@@ -6,7 +6,7 @@ use Rattle.chess_board.specs.Text.{IsOfficer}
 use Rattle.uci_lines.specs.Messages.{EngineMsg, Best, Info}
 
 abbrev pub can_write : Option Move → Type 0
-can_write m = IfSome m (λ k. IsOfficer k.promo)
+can_write m = IfSome m (λ k. IsOfficer k.promotion)
 
 abbrev pub CanWrite : EngineMsg → Type 0
 CanWrite (Best best hint) = can_write best × can_write hint

@@ -5,7 +5,6 @@ ghost use Rattle.peer_words.specs.Tokens.{is_white, token_end};
 ghost use Rattle.std.specs.Option.{option_map};
 ghost use Rattle.uci_lines.specs.Cuts.{cut, stops, found_of};
 
-use chess_board::read_move;
 use peer_words::{is_white, split_at_white};
 
 /// The tokens at which a line is cut.
@@ -21,13 +20,11 @@ pub(crate) enum Delimiter {
     Choice,
     /// `ponder`
     Ponder,
-    /// One that is no move text.
-    NoMove,
 }
 
 /// A token, with what stands before and after it.
 #[derive(Clone, Copy)]
-pub(crate) struct Found<'a> {
+pub(crate) struct FoundToken<'a> {
     pub before: &'a [u8],
     pub word: &'a [u8],
     pub after: &'a [u8],
@@ -45,7 +42,6 @@ impl Delimiter {
             Delimiter::Default => word == b"default".as_slice(),
             Delimiter::Choice => word == b"default".as_slice() || word == b"var".as_slice(),
             Delimiter::Ponder => word == b"ponder".as_slice(),
-            Delimiter::NoMove => !word.is_empty() && read_move(word).is_none(),
         }
     }
 }
@@ -64,7 +60,7 @@ fn is_known(word: &[u8]) -> bool
 }
 
 /// The first token at which the text is to be cut.
-pub(crate) fn find_word(text: &[u8], stop: Delimiter) -> Option<Found<'_>>
+pub(crate) fn find_word(text: &[u8], stop: Delimiter) -> Option<FoundToken<'_>>
     ensures { option_map found_of result ≡ cut (stops stop) true text.now }
 {
     let mut is_fresh = true;
@@ -73,7 +69,7 @@ pub(crate) fn find_word(text: &[u8], stop: Delimiter) -> Option<Found<'_>>
             let (word, after) = split_at_white(&text[i..]);
             if stop.has(word) {
                 let before = &text[..i];
-                return Some(Found {
+                return Some(FoundToken {
                     before,
                     word,
                     after,

@@ -1,5 +1,5 @@
 // What an engine reports of its search (UCI, "info").
-ghost use Rattle.std.specs.Prelude.{◌≡◌};
+ghost use Rattle.std.specs.Prelude.{◌≡◌, ◌≤◌, length};
 ghost use Rattle.peer_words.specs.Tokens.{tokens};
 ghost use Rattle.uci_lines.specs.Infos.{ends_info, field_named, first_count, score_of, first_score, first_move, newer_run, hear, facts_in, facts_from};
 ghost use Rattle.uci_lines.specs.Moves.{run};
@@ -7,13 +7,13 @@ ghost use Rattle.uci_lines.specs.Writable.{can_write};
 ghost use Rattle.uci_lines.specs.Info.{info_of};
 
 use crate::messages::{Info, Score};
-use crate::moves::{front_moves, next_move};
+use crate::moves::{after_moves, next_move};
 use chess_board::{Move, read_move};
 use peer_words::{next_token, read_centis, read_count};
 
 /// The words of an `info` line.
 #[derive(Clone, Copy)]
-pub(crate) enum Field {
+pub(crate) enum InfoField {
     Depth,
     Time,
     Nodes,
@@ -27,39 +27,39 @@ pub(crate) enum Field {
     Other,
 }
 
-fn field_named(word: &[u8]) -> Field
+fn field_named(word: &[u8]) -> InfoField
     ensures { result ≡ field_named word.now }
 {
     if word == b"depth".as_slice() {
-        Field::Depth
+        InfoField::Depth
     } else if word == b"time".as_slice() {
-        Field::Time
+        InfoField::Time
     } else if word == b"nodes".as_slice() {
-        Field::Nodes
+        InfoField::Nodes
     } else if word == b"multipv".as_slice() {
-        Field::MultiPv
+        InfoField::MultiPv
     } else if word == b"currmovenumber".as_slice() {
-        Field::Number
+        InfoField::Number
     } else if word == b"score".as_slice() {
-        Field::Score
+        InfoField::Score
     } else if word == b"lowerbound".as_slice() || word == b"upperbound".as_slice() {
-        Field::Bound
+        InfoField::Bound
     } else if word == b"currmove".as_slice() {
-        Field::Current
+        InfoField::Current
     } else if word == b"pv".as_slice() {
-        Field::Pv
+        InfoField::Pv
     } else if word == b"string".as_slice() {
-        Field::Text
+        InfoField::Text
     } else {
-        Field::Other
+        InfoField::Other
     }
 }
 
 /// Whether what follows the word is ignored.
-fn ends_info(field: Field) -> bool
+fn ends_info(field: InfoField) -> bool
     ensures { result ≡ ends_info field }
 {
-    matches!(field, Field::Text)
+    matches!(field, InfoField::Text)
 }
 
 fn first_count(text: &[u8]) -> Option<u64>
@@ -103,48 +103,64 @@ fn newer_run<'a>(new: &'a [u8], old: &'a [u8]) -> &'a [u8]
 }
 
 /// What was reported before, and what a field reports with the text behind its word.
-fn hear<'a>(field: Field, info: Info<'a>, text: &'a [u8]) -> Info<'a>
+fn hear<'a>(field: InfoField, info: Info<'a>, text: &'a [u8]) -> Info<'a>
     ensures value { info_of result ≡ hear field (info_of info.entry) (tokens text.now) }
     ensures officer { can_write info.entry.current → can_write result.current }
 {
     match field {
-        Field::Depth => Info {
+        InfoField::Depth => Info {
             depth: first_count(text).or(info.depth),
             ..info
         },
-        Field::Time => Info {
+        InfoField::Time => Info {
             time: first_count(text).or(info.time),
             ..info
         },
-        Field::Nodes => Info {
+        InfoField::Nodes => Info {
             nodes: first_count(text).or(info.nodes),
             ..info
         },
-        Field::MultiPv => Info {
+        InfoField::MultiPv => Info {
             multipv: first_count(text).or(info.multipv),
             ..info
         },
-        Field::Number => Info {
+        InfoField::Number => Info {
             number: first_count(text).or(info.number),
             ..info
         },
-        Field::Score => Info {
+        InfoField::Score => Info {
             score: first_score(text).or(info.score),
             ..info
         },
-        Field::Bound => Info {
+        InfoField::Bound => Info {
             bound: true,
             ..info
         },
-        Field::Current => Info {
+        InfoField::Current => Info {
             current: first_move(text).or(info.current),
             ..info
         },
-        Field::Pv => Info {
-            pv: newer_run(front_moves(text), info.pv),
+        InfoField::Pv => Info {
+            pv: newer_run(text, info.pv),
             ..info
         },
-        Field::Text | Field::Other => info,
+        InfoField::Text | InfoField::Other => info,
+    }
+}
+
+/// What is reported after a field, and the text that is read on: no move of a pv is a word of
+/// `info`, and so the moves are passed over.
+#[tactic(auto, using(crate::proofs::Tellings::facts_after))]
+fn take_field<'a>(field: InfoField, info: Info<'a>, text: &'a [u8]) -> (Info<'a>, &'a [u8])
+    ensures value { facts_from (info_of result.0) (tokens result.1.now)
+        ≡ facts_from (hear field (info_of info.entry) (tokens text.now)) (tokens text.now) }
+    ensures officer { can_write info.entry.current → can_write result.0.current }
+    ensures within { length result.1.now ≤ length text.now }
+{
+    let heard = hear(field, info, text);
+    match field {
+        InfoField::Pv => (heard, after_moves(text)),
+        _ => (heard, text),
     }
 }
 
@@ -171,8 +187,7 @@ pub(crate) fn read_info(text: &[u8]) -> Info<'_>
         if ends_info(field) {
             break;
         }
-        info = hear(field, info, after);
-        others = after;
+        (info, others) = take_field(field, info, after);
     }
     info
 }

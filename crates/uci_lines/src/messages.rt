@@ -52,7 +52,7 @@ pub struct Info<'a> {
     pub bound: bool,
     /// `currmove`.
     pub current: Option<Move>,
-    /// The text of the moves of the engine's line, which `next_move` reads one by one.
+    /// The text that begins with the moves of the engine's line: `next_move` reads them one by one.
     pub pv: &'a [u8],
 }
 

@@ -1,30 +1,34 @@
 // Moves in the engine's lines.
-ghost use Rattle.std.specs.Prelude.{◌≡◌, ◌∷◌, ◌<◌, [], length, MatchOption, IfSome};
+ghost use Rattle.std.specs.Prelude.{◌≡◌, ◌∷◌, ◌<◌, ◌≤◌, [], length, MatchOption, IfSome};
 ghost use Rattle.peer_words.specs.Tokens.{tokens};
 ghost use Rattle.chess_board.specs.Text.{IsOfficer};
-ghost use Rattle.uci_lines.specs.Moves.{run};
+ghost use Rattle.uci_lines.specs.Moves.{run, after_run};
 
-use crate::cut::{Delimiter, find_word};
 use chess_board::{Move, read_move};
-use peer_words::{next_token, trim};
+use peer_words::next_token;
 
 /// The first move of a text of moves, and the text after it. None if the text begins with no move.
 pub fn next_move(text: &[u8]) -> Option<(Move, &[u8])>
     ensures first { MatchOption result (run (tokens text.now) ≡ [])
         (λ p. run (tokens text.now) ≡ p.0 ∷ run (tokens p.1.now)) }
-    ensures officer { IfSome result (λ p. IsOfficer p.0.promo) }
+    ensures officer { IfSome result (λ p. IsOfficer p.0.promotion) }
     ensures shorter { IfSome result (λ p. length p.1.now < length text.now) }
 {
     let (token, others) = next_token(text)?;
     Some((read_move(token)?, others))
 }
 
-/// The move texts at the front of a text, as many as there are, trimmed.
-pub(crate) fn front_moves(text: &[u8]) -> &[u8]
-    ensures { run (tokens result.now) ≡ run (tokens text.now) }
+/// The text after the move texts at the front of a text, as many as there are.
+pub(crate) fn after_moves(text: &[u8]) -> &[u8]
+    ensures others { tokens result.now ≡ after_run (tokens text.now) }
+    ensures within { length result.now ≤ length text.now }
 {
-    match find_word(text, Delimiter::NoMove) {
-        Some(found) => trim(found.before),
-        None => trim(text),
+    let mut others = text;
+    while let Some((token, after)) = next_token(others) {
+        if read_move(token).is_none() {
+            break;
+        }
+        others = after;
     }
+    others
 }

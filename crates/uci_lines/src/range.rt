@@ -9,13 +9,13 @@ use peer_words::{next_token, read_signed};
 
 /// The three numbers, as far as they were read.
 #[derive(Clone, Copy)]
-pub(crate) struct Range {
+pub(crate) struct SpinRange {
     pub default: Option<i64>,
     pub min: Option<i64>,
     pub max: Option<i64>,
 }
 
-impl Range {
+impl SpinRange {
     ghost use Rattle.std.specs.Option.{option_map};
     ghost use Rattle.uci_lines.specs.Options.{range_of, spin_in};
     ghost use Rattle.uci_lines.specs.Messages.{option_kind_of};
@@ -39,27 +39,27 @@ fn first_signed(text: &[u8]) -> Option<i64>
     read_signed(next_token(text)?.0)
 }
 
-fn limited(range: Range, word: &[u8], after: &[u8]) -> Range
+fn limited(range: SpinRange, word: &[u8], after: &[u8]) -> SpinRange
     ensures { range_of result ≡ limited (range_of range) word.now (tokens after.now) }
 {
     if word == b"default".as_slice() {
         let default = first_signed(after).or(range.default);
-        Range { default, ..range }
+        SpinRange { default, ..range }
     } else if word == b"min".as_slice() {
         let min = first_signed(after).or(range.min);
-        Range { min, ..range }
+        SpinRange { min, ..range }
     } else if word == b"max".as_slice() {
         let max = first_signed(after).or(range.max);
-        Range { max, ..range }
+        SpinRange { max, ..range }
     } else {
         range
     }
 }
 
-pub(crate) fn read_range(text: &[u8]) -> Range
+pub(crate) fn read_range(text: &[u8]) -> SpinRange
     ensures { range_of result ≡ range_from no_range (tokens text.now) }
 {
-    let mut range = Range {
+    let mut range = SpinRange {
         default: None,
         min: None,
         max: None,

@@ -18,7 +18,7 @@ pub record Line : Type 0 where
 
 -- the position after a move
 abbrev pub played : Position → Move → Position
-played p m = position_after p m.from.index m.to.index m.promo
+played p m = position_after p m.from.index m.to.index m.promotion
 
 abbrev pub played_if_legal : Position → Option Move → Option Position
 played_if_legal p None = None

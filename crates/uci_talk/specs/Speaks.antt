@@ -13,7 +13,7 @@ use Rattle.uci_talk.specs.Lines.{Line, played}
 pub data Leads : Position → List (List ℕ) → Position → Type 0 where
   Stays : {p : Position} → Leads p [] p
   Goes : {p q : Position} → {t : List ℕ} → {ts : List (List ℕ)} → (m : Move)
-      → Spells t m → IsLegal p m.from.index m.to.index m.promo → Leads (played p m) ts q → Leads p (t ∷ ts) q
+      → Spells t m → IsLegal p m.from.index m.to.index m.promotion → Leads (played p m) ts q → Leads p (t ∷ ts) q
 
 -- `startpos`, or `fen` and the fields of a position
 pub data Starts : List (List ℕ) → Position → Type 0 where

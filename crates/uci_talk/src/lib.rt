@@ -10,4 +10,5 @@ mod words;
 
 pub use kind::go_kind;
 pub use line::Spoken;
+pub use moves::play_all;
 pub use read::spoken;

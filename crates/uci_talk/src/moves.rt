@@ -8,12 +8,6 @@ ghost use Rattle.uci_talk.specs.Lines.{led, played, played_if_legal};
 use chess_board::{Move, Position, read_move};
 use peer_words::next_token;
 
-fn is_legal(at: &Position, m: Move) -> bool
-    ensures { result ≡ legal at.now m }
-{
-    at.legal(m)
-}
-
 fn play(at: &Position, m: Move) -> Position
     requires { legal at.now m ≡ true }
     ensures { result ≡ played at.now m }
@@ -26,15 +20,11 @@ fn play_text(at: &Position, text: &[u8]) -> Option<Position>
     ensures { result ≡ played_if_legal at.now (move_of text.now) }
 {
     let m = read_move(text)?;
-    if is_legal(at, m) {
-        Some(play(at, m))
-    } else {
-        None
-    }
+    if at.legal(m) { Some(play(at, m)) } else { None }
 }
 
 /// The position after the moves of a text, if each is legal in its turn.
-pub(crate) fn play_all(start: Position, moves: &[u8]) -> Option<Position>
+pub fn play_all(start: Position, moves: &[u8]) -> Option<Position>
     ensures { result ≡ led (tokens moves.now) (Some start) }
 {
     let mut at = start;
