@@ -6,17 +6,17 @@ use Rattle.line_io.specs.Out.{Text, with}
 use Rattle.line_io.proofs.Puts.{put_again}
 use Rattle.cecp_lines.specs.Replies.{Feature}
 use Rattle.option_map.specs.Names.{holds}
-use Rattle.option_map.specs.Settings.{Setting, features, feature_line}
+use Rattle.option_map.specs.Settings.{OptionSetting, features, feature_line}
 use Rattle.option_map.specs.Shown.{takes_memory, takes_cores, takes_tables}
 use Rattle.option_map.proofs.Short.{features_length}
 use Rattle.feature_talk.specs.Features.{shown_name, in_quotes, bit, fixed, by_options, option_feature, shown_options, feature_list, reply_line, reply_lines, IsShort, is_unfit, tables}
 
-shown_step : (w : Bool) (o : Setting) (rest : List Setting) (text : List ℕ) → text ≡ reply_lines (map option_feature rest) → (if w then [] else feature_line o ++ 10 ∷ []) ++ text ≡ reply_lines (map option_feature (cond (not w) (o ∷ rest) rest))
+shown_step : (w : Bool) (o : OptionSetting) (rest : List OptionSetting) (text : List ℕ) → text ≡ reply_lines (map option_feature rest) → (if w then [] else feature_line o ++ 10 ∷ []) ++ text ≡ reply_lines (map option_feature (cond (not w) (o ∷ rest) rest))
 shown_step true o rest text h = h
 shown_step false o rest text h = ap (λ (t : List ℕ). (feature_line o ++ 10 ∷ []) ++ t) h
 
 -- The options' lines are their replies.
-pub features_told : (os : List Setting) → features os ≡ reply_lines (map option_feature (shown_options os))
+pub features_told : (os : List OptionSetting) → features os ≡ reply_lines (map option_feature (shown_options os))
 features_told [] = refl
 features_told (o ∷ os) = shown_step o.hidden o (shown_options os) (features os) (features_told os)
 
@@ -27,7 +27,7 @@ abbrev pub done_line : List ℕ
 done_line = codes "feature done=1\n"
 
 -- the whole text, part by part
-pub list_text : (os : List Setting) (said : List ℕ) → reply_lines (feature_list os said) ≡ name_line said ++ reply_lines fixed ++ reply_lines (by_options os) ++ features os ++ done_line
+pub list_text : (os : List OptionSetting) (said : List ℕ) → reply_lines (feature_list os said) ≡ name_line said ++ reply_lines fixed ++ reply_lines (by_options os) ++ features os ++ done_line
 list_text os said =
     let name = Feature (codes "myname") (in_quotes (shown_name said)) in
     let shown = map option_feature (shown_options os) in
@@ -57,7 +57,7 @@ five o p q r s t a b d e f whole h i j k l w =
     l ∙ ap (λ (x : Text). with x f) (four o p q r s a b d e h i j k) ∙ put_again o (a ++ b ++ d ++ e) f ∙ ap (λ (x : List ℕ). with o x) (sym w)
 
 -- the features by the options, put one after the other
-pub by_bits : (o p q r : Text) (os : List Setting) (m s t : Bool) → p ≡ with o (reply_line (Feature (codes "memory") (bit m))) → q ≡ with p (reply_line (Feature (codes "smp") (bit s))) → r ≡ with q (reply_lines (tables t)) → m ≡ takes_memory os → s ≡ takes_cores os → t ≡ takes_tables os → r ≡ with o (reply_lines (by_options os))
+pub by_bits : (o p q r : Text) (os : List OptionSetting) (m s t : Bool) → p ≡ with o (reply_line (Feature (codes "memory") (bit m))) → q ≡ with p (reply_line (Feature (codes "smp") (bit s))) → r ≡ with q (reply_lines (tables t)) → m ≡ takes_memory os → s ≡ takes_cores os → t ≡ takes_tables os → r ≡ with o (reply_lines (by_options os))
 by_bits o p q r os m s t h i j e f g =
     let a = reply_line (Feature (codes "memory") (bit m)) in
     let b = reply_line (Feature (codes "smp") (bit s)) in

@@ -1,10 +1,10 @@
 -- When the feature list is due.
 use Rattle.std.specs.Prelude.{Bool, true, false}
-use Rattle.feature_talk.specs.declared.talk.Say.{Say}
-use Rattle.feature_talk.specs.declared.talk.Say.TheVariants.{Wait, List}
+use Rattle.feature_talk.specs.declared.talk.ProtoverAnswer.{ProtoverAnswer}
+use Rattle.feature_talk.specs.declared.talk.ProtoverAnswer.TheVariants.{Wait, List}
 
 -- what `protover` is answered by: before the engine has started, that the list comes later
-abbrev pub answer : Bool → Say
+abbrev pub answer : Bool → ProtoverAnswer
 answer true = Wait
 answer false = List
 

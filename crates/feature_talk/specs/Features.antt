@@ -3,7 +3,7 @@ use Rattle.std.specs.Prelude.{◌≡◌, ℕ, ◌+◌, ◌≤◌, List, [], ◌�
 use Rattle.std.specs.List.{flat_map}
 use Rattle.cecp_lines.specs.Replies.{Reply, Feature, reply_text}
 use Rattle.option_map.specs.Names.{holds}
-use Rattle.option_map.specs.Settings.{Setting, kind_text, text_size}
+use Rattle.option_map.specs.Settings.{OptionSetting, kind_text, text_size}
 use Rattle.option_map.specs.Shown.{takes_memory, takes_cores, takes_tables}
 use Rattle.feature_talk.specs.declared.features.TheConstants.{MOST_NAME, COMMON_BYTES}
 use Rattle.peer_words.specs.Bytes.{quote}
@@ -38,20 +38,20 @@ tables true = Feature (codes "egt") (in_quotes (codes "nalimov")) ∷ []
 tables false = []
 
 -- the features by the options that have commands of their own
-abbrev pub by_options : List Setting → List Reply
+abbrev pub by_options : List OptionSetting → List Reply
 by_options os =
     Feature (codes "memory") (bit (takes_memory os)) ∷ Feature (codes "smp") (bit (takes_cores os))
     ∷ tables (takes_tables os)
 
-abbrev pub option_feature : Setting → Reply
+abbrev pub option_feature : OptionSetting → Reply
 option_feature o = Feature (codes "option") (in_quotes (o.name ++ kind_text o.kind))
 
 -- the options that are not hidden
-abbrev pub shown_options : List Setting → List Setting
+abbrev pub shown_options : List OptionSetting → List OptionSetting
 shown_options os = filter (λ o. not o.hidden) os
 
 -- The whole list. The name is the one that the engine said, or nothing.
-abbrev pub feature_list : List Setting → List ℕ → List Reply
+abbrev pub feature_list : List OptionSetting → List ℕ → List Reply
 feature_list os said =
     Feature (codes "myname") (in_quotes (shown_name said)) ∷ fixed ++ by_options os ++ map option_feature (shown_options os) ++ Feature (codes "done") (codes "1") ∷ []
 
@@ -64,7 +64,7 @@ reply_lines replies = flat_map reply_line replies
 
 -- how long the list may be
 abbrev pub IsShort : Type 0
-IsShort = (os : List Setting) (said : List ℕ) → length (reply_lines (feature_list os said)) ≤ COMMON_BYTES + text_size os + length os
+IsShort = (os : List OptionSetting) (said : List ℕ) → length (reply_lines (feature_list os said)) ≤ COMMON_BYTES + text_size os + length os
 
 -- The name that is shown is shown again.
 abbrev pub ShowsAgain : Type 0

@@ -8,4 +8,4 @@ mod talk;
 
 pub use features::{MOST_NAME, shown_name, write_bare_list, write_list};
 pub use laws::feature_lists_are_short;
-pub use talk::{Say, Talk};
+pub use talk::{FeatureTalk, ProtoverAnswer};

@@ -6,7 +6,7 @@ use std::marker::Model;
 
 /// What `protover` is answered by.
 #[derive(Clone, Copy, PartialEq, Eq)]
-pub enum Say {
+pub enum ProtoverAnswer {
     /// `feature done=0`: the list comes once the engine has declared its options.
     Wait,
     /// The list.
@@ -15,11 +15,11 @@ pub enum Say {
 
 /// Whether the list of features is due.
 #[derive(Drop)]
-pub struct Talk {
+pub struct FeatureTalk {
     due: bool,
 }
 
-impl Model for Talk {
+impl Model for FeatureTalk {
     ghost use Rattle.std.specs.Prelude.{Bool};
 
     ghost Value = { Bool };
@@ -27,14 +27,14 @@ impl Model for Talk {
     ghost view = { λ t. t.due };
 }
 
-impl Talk {
+impl FeatureTalk {
     ghost use Rattle.feature_talk.specs.Due.{due_after};
 
     /// Nothing is due.
-    pub fn new() -> Talk
+    pub fn new() -> FeatureTalk
         ensures { result ≡ false }
     {
-        Talk { due: false }
+        FeatureTalk { due: false }
     }
 
     /// Whether the list is due.
@@ -45,15 +45,15 @@ impl Talk {
     }
 
     /// The interface sent `protover`; `boot` says whether the engine is still declaring its options.
-    pub fn protover(&mut self, boot: bool) -> Say
+    pub fn protover(&mut self, boot: bool) -> ProtoverAnswer
         ensures answer { result ≡ answer boot }
         ensures due { self.new ≡ due_after boot self.old }
     {
         if boot {
             self.due = true;
-            Say::Wait
+            ProtoverAnswer::Wait
         } else {
-            Say::List
+            ProtoverAnswer::List
         }
     }
 

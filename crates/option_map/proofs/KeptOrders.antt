@@ -4,10 +4,10 @@ use Rattle.std.proofs.lemmas.List.{map-append}
 use Rattle.std.proofs.lemmas.Bool.{leb-true, and_parts}
 use Rattle.std.specs.Fmt.{signed_decimal}
 use Rattle.std.specs.Option.{option_map}
-use Rattle.option_map.specs.declared.order.Value.{Value}
-use Rattle.option_map.specs.declared.order.Value.TheVariants as value
-use Rattle.option_map.specs.declared.order.Setup.{Setup}
-use Rattle.option_map.specs.declared.order.Setup.TheVariants as setup
+use Rattle.option_map.specs.declared.order.OptionValue.{OptionValue}
+use Rattle.option_map.specs.declared.order.OptionValue.TheVariants as value
+use Rattle.option_map.specs.declared.order.SetupOrder.{SetupOrder}
+use Rattle.option_map.specs.declared.order.SetupOrder.TheVariants as setup
 use Rattle.option_map.specs.declared.keeping.KeptValue.{KeptValue}
 use Rattle.option_map.specs.declared.keeping.KeptValue.TheVariants.{Nothing, Text, Number}
 use Rattle.option_map.specs.declared.keeping.KeptOrder.{KeptOrder}
@@ -59,13 +59,13 @@ one_more_order texts more new os after o c e f h is =
     ∙ ap (λ (l : List Order). l ++ order_in new o ∷ []) (orders_stay texts more os h)
     ∙ ap (λ (x : Order). orders_in texts os ++ x ∷ []) is
 
-set_less : (name : List ℕ) (v : Option Value) → length (name ++ value_bytes v) ≤ length (order_text (SetOption name (option_map value_seen v)))
+set_less : (name : List ℕ) (v : Option OptionValue) → length (name ++ value_bytes v) ≤ length (order_text (SetOption name (option_map value_seen v)))
 set_less name None = omega (arith, length-append name [], button_length name)
 set_less name (Some (value.Text t)) = omega (arith, length-append name t.now, order_length name t.now)
 set_less name (Some (value.Number n)) = omega (arith, length-append name [], order_length name (signed_decimal n))
 
 -- The texts that are kept are no longer than the order.
-pub bytes_less : (s : Setup) → length (setup_bytes s) ≤ length (order_text (setup_seen s))
+pub bytes_less : (s : SetupOrder) → length (setup_bytes s) ≤ length (order_text (setup_seen s))
 bytes_less setup.NewGame = omega arith
 bytes_less (setup.Set a) = set_less a.name.now a.value
 
@@ -104,7 +104,7 @@ join_room held asked h = omega (arith, join_short held asked h, batch_last (stay
 
 -- HOW LONG AN ORDER IS
 
-pub order_sized : (name : List ℕ) (v : Option Value) → length (order_text (SetOption name (option_map value_seen v))) ≡ order_size name v
+pub order_sized : (name : List ℕ) (v : Option OptionValue) → length (order_text (SetOption name (option_map value_seen v))) ≡ order_size name v
 order_sized name None = button_length name
 order_sized name (Some (value.Text t)) = order_length name t.now
 order_sized name (Some (value.Number n)) = order_length name (signed_decimal n)

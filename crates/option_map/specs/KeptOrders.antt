@@ -4,10 +4,10 @@ use Rattle.std.specs.Fmt.{signed_decimal}
 use Rattle.std.specs.List.{AllByRecursion}
 use Rattle.line_io.specs.Out.{Text as Buffer}
 use Rattle.uci_lines.specs.Orders.{Order, NewGame, SetOption}
-use Rattle.option_map.specs.declared.order.Value.{Value}
-use Rattle.option_map.specs.declared.order.Value.TheVariants as value
-use Rattle.option_map.specs.declared.order.Setup.{Setup}
-use Rattle.option_map.specs.declared.order.Setup.TheVariants as setup
+use Rattle.option_map.specs.declared.order.OptionValue.{OptionValue}
+use Rattle.option_map.specs.declared.order.OptionValue.TheVariants as value
+use Rattle.option_map.specs.declared.order.SetupOrder.{SetupOrder}
+use Rattle.option_map.specs.declared.order.SetupOrder.TheVariants as setup
 use Rattle.option_map.specs.declared.keeping.KeptValue.{KeptValue}
 use Rattle.option_map.specs.declared.keeping.KeptValue.TheVariants.{Nothing, Text, Number}
 use Rattle.option_map.specs.declared.keeping.KeptOrder.{KeptOrder}
@@ -42,12 +42,12 @@ abbrev pub AreIn : ℕ → List KeptOrder → Type 0
 AreIn n list = AllByRecursion (IsOrderIn n) list
 
 -- what is kept of the texts of an order
-abbrev pub value_bytes : Option Value → List ℕ
+abbrev pub value_bytes : Option OptionValue → List ℕ
 value_bytes None = []
 value_bytes (Some (value.Text text)) = text.now
 value_bytes (Some (value.Number n)) = []
 
-abbrev pub setup_bytes : Setup → List ℕ
+abbrev pub setup_bytes : SetupOrder → List ℕ
 setup_bytes setup.NewGame = []
 setup_bytes (setup.Set asked) = asked.name.now ++ value_bytes asked.value
 

@@ -6,15 +6,15 @@ ghost use Rattle.option_map.specs.Data.{value_seen, setup_seen};
 ghost use Rattle.option_map.specs.Stored.{text_at, IsSpanIn};
 ghost use Rattle.option_map.specs.KeptOrders.{value_in, order_in, IsValueIn, IsOrderIn, value_bytes, setup_bytes};
 
-use crate::order::{Asked, Setup, Value};
-use crate::setting::Span;
+use crate::order::{AskedOption, OptionValue, SetupOrder};
+use crate::setting::TextSpan;
 use crate::stored::text_at;
 use line_io::Out;
 
 #[derive(Clone, Copy)]
 pub(crate) enum KeptValue {
     Nothing,
-    Text(Span),
+    Text(TextSpan),
     Number(i64),
 }
 
@@ -23,35 +23,35 @@ pub(crate) enum KeptValue {
 pub(crate) enum KeptOrder {
     #[default]
     NewGame,
-    Set { name: Span, value: KeptValue },
+    Set { name: TextSpan, value: KeptValue },
 }
 
-fn value_in(texts: &[u8], value: KeptValue) -> Option<Value<'_>>
+fn value_in(texts: &[u8], value: KeptValue) -> Option<OptionValue<'_>>
     requires { IsValueIn (length texts.now) value }
     ensures { option_map value_seen result ≡ value_in texts.now value }
 {
     match value {
         KeptValue::Nothing => None,
-        KeptValue::Text(span) => Some(Value::Text(text_at(texts, span))),
-        KeptValue::Number(n) => Some(Value::Number(n)),
+        KeptValue::Text(span) => Some(OptionValue::Text(text_at(texts, span))),
+        KeptValue::Number(n) => Some(OptionValue::Number(n)),
     }
 }
 
 /// A kept order with its texts.
-pub(crate) fn setup_in(texts: &[u8], order: KeptOrder) -> Setup<'_>
+pub(crate) fn setup_in(texts: &[u8], order: KeptOrder) -> SetupOrder<'_>
     requires { IsOrderIn (length texts.now) order }
     ensures { setup_seen result ≡ order_in texts.now order }
 {
     match order {
-        KeptOrder::NewGame => Setup::NewGame,
-        KeptOrder::Set { name, value } => Setup::Set(Asked {
+        KeptOrder::NewGame => SetupOrder::NewGame,
+        KeptOrder::Set { name, value } => SetupOrder::Set(AskedOption {
             name: text_at(texts, name),
             value: value_in(texts, value),
         }),
     }
 }
 
-fn keep_text(text: &[u8], texts: &mut Out) -> Span
+fn keep_text(text: &[u8], texts: &mut Out) -> TextSpan
     requires { length texts.old.text + length text.now ≤ texts.old.room }
     ensures texts { texts.new ≡ with texts.old text.now }
     ensures text { text_at texts.new.text result ≡ text.now }
@@ -59,13 +59,13 @@ fn keep_text(text: &[u8], texts: &mut Out) -> Span
 {
     let at = texts.bytes().len();
     texts.put(text);
-    Span {
+    TextSpan {
         at,
         len: text.len(),
     }
 }
 
-fn keep_value(value: Option<Value>, texts: &mut Out) -> KeptValue
+fn keep_value(value: Option<OptionValue>, texts: &mut Out) -> KeptValue
     requires { length texts.old.text + length (value_bytes value) ≤ texts.old.room }
     ensures texts { texts.new ≡ with texts.old (value_bytes value.entry) }
     ensures value { value_in texts.new.text result ≡ option_map value_seen value.entry }
@@ -73,21 +73,21 @@ fn keep_value(value: Option<Value>, texts: &mut Out) -> KeptValue
 {
     match value {
         None => KeptValue::Nothing,
-        Some(Value::Text(text)) => KeptValue::Text(keep_text(text, texts)),
-        Some(Value::Number(n)) => KeptValue::Number(n),
+        Some(OptionValue::Text(text)) => KeptValue::Text(keep_text(text, texts)),
+        Some(OptionValue::Number(n)) => KeptValue::Number(n),
     }
 }
 
 /// Keeps an order, its texts behind those of the others.
-pub(crate) fn keep(setup: Setup, texts: &mut Out) -> KeptOrder
+pub(crate) fn keep(setup: SetupOrder, texts: &mut Out) -> KeptOrder
     requires { length texts.old.text + length (setup_bytes setup) ≤ texts.old.room }
     ensures texts { texts.new ≡ with texts.old (setup_bytes setup.entry) }
     ensures order { order_in texts.new.text result ≡ setup_seen setup.entry }
     ensures within { IsOrderIn (length texts.new.text) result }
 {
     match setup {
-        Setup::NewGame => KeptOrder::NewGame,
-        Setup::Set(asked) => {
+        SetupOrder::NewGame => KeptOrder::NewGame,
+        SetupOrder::Set(asked) => {
             let name = keep_text(asked.name, texts);
             let value = keep_value(asked.value, texts);
             KeptOrder::Set { name, value }

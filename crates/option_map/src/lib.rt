@@ -19,8 +19,8 @@ mod storing;
 mod translate;
 
 pub use declared::Declared;
-pub use fault::OptFault;
-pub use held::{Held, MOST_BYTES, MOST_ORDERS};
+pub use fault::OptionFault;
+pub use held::{HeldOrders, MOST_BYTES, MOST_ORDERS};
 pub use laws::{asked_orders_are_spelled, last_orders_are_held};
 pub use options::{FEATURE_BYTES, MOST_OPTIONS, Options};
-pub use order::{Asked, ORDER_BYTES, Setup, Value};
+pub use order::{AskedOption, ORDER_BYTES, OptionValue, SetupOrder};

@@ -22,23 +22,23 @@ pub const ORDER_BYTES: usize = PEER_LINE + 164;
 
 /// What an option is set to.
 #[derive(Clone, Copy, PartialEq, Eq)]
-pub enum Value<'a> {
+pub enum OptionValue<'a> {
     Text(&'a [u8]),
     Number(i64),
 }
 
 /// An order that sets an option, by its declared name. A button is set to no value.
 #[derive(Clone, Copy, PartialEq, Eq)]
-pub struct Asked<'a> {
+pub struct AskedOption<'a> {
     pub name: &'a [u8],
-    pub value: Option<Value<'a>>,
+    pub value: Option<OptionValue<'a>>,
 }
 
 /// An order that sets up the engine.
 #[derive(Clone, Copy)]
-pub enum Setup<'a> {
+pub enum SetupOrder<'a> {
     NewGame,
-    Set(Asked<'a>),
+    Set(AskedOption<'a>),
 }
 
 fn put_order(name: &[u8], value: Option<&[u8]>, out: &mut Out)
@@ -67,7 +67,7 @@ fn is_sum_within(first: usize, second: usize, third: usize, most: usize) -> bool
     first <= most && second <= most - first && third <= most - first - second
 }
 
-impl Asked<'_> {
+impl AskedOption<'_> {
     ghost use Rattle.option_map.specs.Data.{order_seen, order_size};
 
     /// Writes the order, with no line feed.
@@ -78,8 +78,8 @@ impl Asked<'_> {
     {
         match self.value {
             None => put_order(self.name, None, out),
-            Some(Value::Text(text)) => put_order(self.name, Some(text), out),
-            Some(Value::Number(n)) => put_number(self.name, n, out),
+            Some(OptionValue::Text(text)) => put_order(self.name, Some(text), out),
+            Some(OptionValue::Number(n)) => put_number(self.name, n, out),
         }
     }
 
@@ -89,10 +89,10 @@ impl Asked<'_> {
     {
         match self.value {
             None => is_sum_within(BUTTON_BYTES, self.name.len(), 0, most),
-            Some(Value::Text(text)) => {
+            Some(OptionValue::Text(text)) => {
                 is_sum_within(SETTING_BYTES, self.name.len(), text.len(), most)
             }
-            Some(Value::Number(n)) => {
+            Some(OptionValue::Number(n)) => {
                 is_sum_within(SETTING_BYTES, self.name.len(), number_length(n), most)
             }
         }
@@ -105,13 +105,13 @@ impl Asked<'_> {
     {
         match self.value {
             None => BUTTON_BYTES + self.name.len(),
-            Some(Value::Text(text)) => SETTING_BYTES + self.name.len() + text.len(),
-            Some(Value::Number(n)) => SETTING_BYTES + self.name.len() + number_length(n),
+            Some(OptionValue::Text(text)) => SETTING_BYTES + self.name.len() + text.len(),
+            Some(OptionValue::Number(n)) => SETTING_BYTES + self.name.len() + number_length(n),
         }
     }
 }
 
-impl Setup<'_> {
+impl SetupOrder<'_> {
     ghost use Rattle.option_map.specs.Data.{setup_seen};
 
     fn write(&self, out: &mut Out)
@@ -120,8 +120,8 @@ impl Setup<'_> {
         ensures { out.new ≡ with out.old (order_text (setup_seen self.now)) }
     {
         match self {
-            Setup::NewGame => write_order(&Order::NewGame, out),
-            Setup::Set(asked) => asked.write(out),
+            SetupOrder::NewGame => write_order(&Order::NewGame, out),
+            SetupOrder::Set(asked) => asked.write(out),
         }
     }
 
@@ -140,8 +140,8 @@ impl Setup<'_> {
         ensures { result ≡ nat_le (length (order_text (setup_seen self.now))) most }
     {
         match self {
-            Setup::NewGame => b"ucinewgame".len() <= most,
-            Setup::Set(asked) => asked.is_within(most),
+            SetupOrder::NewGame => b"ucinewgame".len() <= most,
+            SetupOrder::Set(asked) => asked.is_within(most),
         }
     }
 
@@ -152,26 +152,26 @@ impl Setup<'_> {
         ensures { result ≡ length (order_text (setup_seen self.now)) }
     {
         match self {
-            Setup::NewGame => b"ucinewgame".len(),
-            Setup::Set(asked) => asked.size(),
+            SetupOrder::NewGame => b"ucinewgame".len(),
+            SetupOrder::Set(asked) => asked.size(),
         }
     }
 
     /// Whether both are for a game, or for the value of the same option.
-    pub(crate) fn is_for_same(&self, other: &Setup) -> bool
+    pub(crate) fn is_for_same(&self, other: &SetupOrder) -> bool
         ensures { result ≡ are_for_same (setup_seen self.now) (setup_seen other.now) }
     {
         match (self, other) {
-            (Setup::NewGame, Setup::NewGame) => true,
+            (SetupOrder::NewGame, SetupOrder::NewGame) => true,
             (
-                Setup::Set(
-                    Asked {
+                SetupOrder::Set(
+                    AskedOption {
                         name: a,
                         value: Some(_),
                     },
                 ),
-                Setup::Set(
-                    Asked {
+                SetupOrder::Set(
+                    AskedOption {
                         name: b,
                         value: Some(_),
                     },

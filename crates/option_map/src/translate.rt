@@ -14,11 +14,11 @@ ghost use Rattle.option_map.specs.Stored.{setting_seen, kind_seen};
 ghost use Rattle.option_map.specs.Asked.{switch, number_within, text_or_empty, value_by, set_by, set_to, asked_text, is_asked, with_asked, clamped, path_for, set_found};
 
 use crate::choices::{next_choice, unstarred};
-use crate::fault::OptFault;
+use crate::fault::OptionFault;
 use crate::names::same_text;
 use crate::options::Options;
-use crate::order::{Asked, Value};
-use crate::setting::{Kind, Setting};
+use crate::order::{AskedOption, OptionValue};
+use crate::setting::{OptionSetting, SettingKind};
 use cecp_lines::IfaceMsg;
 use line_io::Out;
 use peer_words::{read_signed, trim};
@@ -73,93 +73,101 @@ fn number_within(min: i64, max: i64, value: &[u8]) -> Option<i64>
 }
 
 /// The order by a value that may be bad.
-fn set_to<'a>(name: &'a [u8], value: Option<Value<'a>>) -> Result<Option<Asked<'a>>, OptFault>
+fn set_to<'a>(
+    name: &'a [u8],
+    value: Option<OptionValue<'a>>,
+) -> Result<Option<AskedOption<'a>>, OptionFault>
     ensures { answer_seen result ≡ set_to name.now (option_map value_seen value.entry) }
 {
     match value {
-        Some(value) => Ok(Some(Asked {
+        Some(value) => Ok(Some(AskedOption {
             name,
             value: Some(value),
         })),
-        None => Err(OptFault::BadValue),
+        None => Err(OptionFault::BadValue),
     }
 }
 
-fn value_by<'a>(kind: Kind<'a>, value: &'a [u8]) -> Option<Value<'a>>
+fn value_by<'a>(kind: SettingKind<'a>, value: &'a [u8]) -> Option<OptionValue<'a>>
     ensures { option_map value_seen result ≡ value_by (kind_seen kind.entry) value.now }
 {
     match kind {
-        Kind::Check(_) => Some(Value::Text(switch(value)?)),
-        Kind::Spin { min, max, .. } => Some(Value::Number(number_within(min, max, value)?)),
-        Kind::Combo(choices) => Some(Value::Text(chosen(value, choices)?)),
-        Kind::Button => None,
-        Kind::Text(_) => Some(Value::Text(text_or_empty(trim(value)))),
+        SettingKind::Check(_) => Some(OptionValue::Text(switch(value)?)),
+        SettingKind::Spin { min, max, .. } => Some(OptionValue::Number(number_within(
+            min, max, value,
+        )?)),
+        SettingKind::Combo(choices) => Some(OptionValue::Text(chosen(value, choices)?)),
+        SettingKind::Button => None,
+        SettingKind::Text(_) => Some(OptionValue::Text(text_or_empty(trim(value)))),
     }
 }
 
 // A button takes no value, and every other option needs one.
-fn set_by<'a>(setting: Setting<'a>, value: Option<&'a [u8]>) -> Result<Option<Asked<'a>>, OptFault>
+fn set_by<'a>(
+    setting: OptionSetting<'a>,
+    value: Option<&'a [u8]>,
+) -> Result<Option<AskedOption<'a>>, OptionFault>
     ensures { answer_seen result ≡ set_by (setting_seen setting.entry) (optional_now value.entry) }
 {
     match (value, setting.kind) {
         (Some(value), kind) => set_to(setting.name, value_by(kind, value)),
-        (None, Kind::Button) => Ok(Some(Asked {
+        (None, SettingKind::Button) => Ok(Some(AskedOption {
             name: setting.name,
             value: None,
         })),
-        (None, _) => Err(OptFault::BadValue),
+        (None, _) => Err(OptionFault::BadValue),
     }
 }
 
 fn set_found<'a>(
-    found: Option<Setting<'a>>,
+    found: Option<OptionSetting<'a>>,
     value: Option<&'a [u8]>,
-) -> Result<Option<Asked<'a>>, OptFault>
+) -> Result<Option<AskedOption<'a>>, OptionFault>
     ensures { answer_seen result
         ≡ set_found (option_map setting_seen found.entry) (optional_now value.entry) }
 {
     let Some(setting) = found else {
-        return Err(OptFault::UnknownOption);
+        return Err(OptionFault::UnknownOption);
     };
     if setting.hidden {
-        return Err(OptFault::UnknownOption);
+        return Err(OptionFault::UnknownOption);
     }
     set_by(setting, value)
 }
 
 // A number, moved into the range of a spin.
-fn clamped(found: Option<Setting<'_>>, n: u32) -> Option<Asked<'_>>
+fn clamped(found: Option<OptionSetting<'_>>, n: u32) -> Option<AskedOption<'_>>
     ensures { option_map order_seen result ≡ clamped (option_map setting_seen found.entry) n }
 {
     match found {
         Some(
-            Setting {
+            OptionSetting {
                 name,
-                kind: Kind::Spin { min, max, .. },
+                kind: SettingKind::Spin { min, max, .. },
                 ..
             },
-        ) => Some(Asked {
+        ) => Some(AskedOption {
             name,
-            value: Some(Value::Number(i64::from(n).min(max).max(min))),
+            value: Some(OptionValue::Number(i64::from(n).min(max).max(min))),
         }),
         _ => None,
     }
 }
 
-fn path_for<'a>(found: Option<Setting<'a>>, path: &'a [u8]) -> Option<Asked<'a>>
+fn path_for<'a>(found: Option<OptionSetting<'a>>, path: &'a [u8]) -> Option<AskedOption<'a>>
     ensures { option_map order_seen result
         ≡ path_for (option_map setting_seen found.entry) path.now }
 {
     match found {
         Some(
-            Setting {
+            OptionSetting {
                 name,
-                kind: Kind::Text(_),
+                kind: SettingKind::Text(_),
                 ..
             },
-        ) => Some(Asked {
+        ) => Some(AskedOption {
             name,
-            value: Some(Value::Text(path)),
+            value: Some(OptionValue::Text(path)),
         }),
         _ => None,
     }
@@ -173,7 +181,7 @@ impl Options {
     /// # Errors
     /// `UnknownOption` if no option of this name is declared that is not hidden, `BadValue` if the
     /// option does not take the value.
-    pub fn asked<'a>(&'a self, msg: &IfaceMsg<'a>) -> Result<Option<Asked<'a>>, OptFault>
+    pub fn asked<'a>(&'a self, msg: &IfaceMsg<'a>) -> Result<Option<AskedOption<'a>>, OptionFault>
         ensures { answer_seen result ≡ asked self.now (message_of msg.now) }
     {
         match msg {
@@ -194,7 +202,7 @@ impl Options {
     ///
     /// # Errors
     /// As those of `asked`.
-    pub fn translate(&self, msg: &IfaceMsg, out: &mut Out) -> Result<bool, OptFault>
+    pub fn translate(&self, msg: &IfaceMsg, out: &mut Out) -> Result<bool, OptionFault>
         requires { length out.old.text + length (asked_text (asked self.now (message_of msg.now)))
             ≤ out.old.room }
         ensures answer { result ≡ is_asked (asked self.now (message_of msg.now)) }

@@ -60,31 +60,31 @@ pub struct Choice {
 
 /// A row of the table.
 #[derive(Clone, Copy)]
-pub struct Row {
+pub struct SettingRow {
     pub name: &'static str,
     pub range: Range,
     /// The text of the usual value.
     pub usual: &'static str,
 }
 
-fn truth(name: &'static str, usual: &'static str) -> Row
+fn truth(name: &'static str, usual: &'static str) -> SettingRow
     ensures name { result.name.now ≡ name.now }
     ensures range { result.range ≡ ranges.Truth }
     ensures usual { result.usual.now ≡ usual.now }
 {
-    Row {
+    SettingRow {
         name,
         range: Range::Truth,
         usual,
     }
 }
 
-fn number(name: &'static str, usual: &'static str, least: u32, most: u32) -> Row
+fn number(name: &'static str, usual: &'static str, least: u32, most: u32) -> SettingRow
     ensures name { result.name.now ≡ name.now }
     ensures range { result.range ≡ ranges.Number least most }
     ensures usual { result.usual.now ≡ usual.now }
 {
-    Row {
+    SettingRow {
         name,
         range: Range::Number { least, most },
         usual,
@@ -93,7 +93,7 @@ fn number(name: &'static str, usual: &'static str, least: u32, most: u32) -> Row
 
 impl Setting {
     /// Its row of the table.
-    pub fn row(self) -> Row
+    pub fn row(self) -> SettingRow
         ensures name { result.name.now ≡ name_of self }
         ensures range { result.range ≡ range_of self }
         ensures usual { result.usual.now ≡ usual_text self }

@@ -1,18 +1,18 @@
 // The values that a command finds in words.
-ghost use Rattle.std.specs.Prelude.{◌≡◌, ◌≤◌, ◌++◌, Err, IfSome, map, option_map, string_bytes, IfOk, OnOk};
+ghost use Rattle.std.specs.Prelude.{◌≡◌, ◌≤◌, ◌++◌, Err, map, option_map, string_bytes, IfOk, OnOk};
 ghost use Rattle.clap.specs.Words.{first_of, one_of, all_of, rows_of, found_of};
 ghost use Rattle.policy_rules.specs.Policy.{IsProper};
 ghost use Rattle.program_words.specs.Words.{bytes_of, AreUtf8};
-ghost use Rattle.program_words.specs.declared.refusal.Refusal.TheVariants as refusals;
-ghost use Rattle.setting_words.specs.Values.{AsksPolicy, HasUsualOthers, IsNumberOf, all_values, is_true, number_within, text_or_empty};
+ghost use Rattle.program_words.specs.declared.refusal.WordsRefusal.TheVariants as refusals;
+ghost use Rattle.setting_words.specs.Values.{AsksNumber, AsksPolicy, HasUsualOthers, all_values, is_true, number_within, text_or_empty};
 
 use clap::ArgMatches;
 use policy_rules::{MOST_MOVES, MOST_SCORE, Settings, USUAL_MOVES, USUAL_SCORE};
-use program_words::Refusal;
+use program_words::WordsRefusal;
 use std::alloc::{AllocError, Global};
 
 /// The words as texts. A word that is not UTF-8 is refused.
-pub fn texts<'a>(alloc: Global, words: &'a [Vec<u8>]) -> Result<Vec<&'a str>, Refusal>
+pub fn texts<'a>(alloc: Global, words: &'a [Vec<u8>]) -> Result<Vec<&'a str>, WordsRefusal>
     ensures texts { IfOk result (λ v. map (λ s. s.now) v.items ≡ bytes_of words.now) }
     ensures utf8 { OnOk result (AreUtf8 (bytes_of words.now)) }
     ensures usage { result ≡ Err refusals.Usage → ¬ (AreUtf8 (bytes_of words.now)) }
@@ -20,10 +20,10 @@ pub fn texts<'a>(alloc: Global, words: &'a [Vec<u8>]) -> Result<Vec<&'a str>, Re
     let mut texts: Vec<&'a str> = Vec::new(alloc);
     for word in words {
         let Ok(text) = str::from_utf8(word.as_slice()) else {
-            return Err(Refusal::Usage);
+            return Err(WordsRefusal::Usage);
         };
         if texts.push(text).is_err() {
-            return Err(Refusal::NoMemory);
+            return Err(WordsRefusal::NoMemory);
         }
     }
     Ok(texts)
@@ -113,8 +113,8 @@ fn put_all(
 // bounds, and the usual number stands in for such a one.
 fn number(found: &ArgMatches, name: &str, least: u32, most: u32, usual: u32) -> u32
     requires { (least ≤ usual) × (usual ≤ most) }
-    ensures value { IfSome (one_of name.now (rows_of (found_of found.now)))
-        (λ text. IsNumberOf least most usual text result) }
+    ensures value { AsksNumber least most usual
+        (one_of name.now (rows_of (found_of found.now))) result }
     ensures bounds { (least ≤ result) × (result ≤ most) }
 {
     within(found.get_one::<u32>(name), least, most, usual)

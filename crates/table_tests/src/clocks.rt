@@ -31,9 +31,9 @@ fn write(clocks: &Clocks, side: Side, plies: u32, kind: GoKind, out: &mut Out)
 }
 
 /// Two lines of the interface, then the side on move, the half-moves played and the kind of a search, and its `go` line.
-type Search = (&'static str, &'static str, Side, u32, GoKind, &'static str);
+type ClockedSearch = (&'static str, &'static str, Side, u32, GoKind, &'static str);
 
-const SEARCHES: [Search; 12] = [
+const SEARCHES: [ClockedSearch; 12] = [
     // a whole game, and a clock that ran out
     (
         "",
@@ -114,7 +114,7 @@ const SEARCHES: [Search; 12] = [
     ("st 0.5", "sd 6", White, 0, Analyse, "go infinite"),
 ];
 
-fn expect_searches(rt: &impl Abort, rows: &[Search], out: &mut Out) {
+fn expect_searches(rt: &impl Abort, rows: &[ClockedSearch], out: &mut Out) {
     for (first, second, side, plies, kind, want) in rows {
         let mut clocks = Clocks::new();
         hear(&mut clocks, first.as_bytes());

@@ -1,7 +1,9 @@
 //! Engines by their options, and the features that are offered of them.
 use super::expect::{expect_holds, expect_text, room};
 use super::options::declared;
-use feature_talk::{Say, Talk, feature_lists_are_short, shown_name, write_bare_list, write_list};
+use feature_talk::{
+    FeatureTalk, ProtoverAnswer, feature_lists_are_short, shown_name, write_bare_list, write_list,
+};
 use line_io::Out;
 use option_map::Options;
 use std::alloc::Global;
@@ -191,27 +193,27 @@ fn expect_each(rt: &impl Abort, holds: &[bool], row: &str) {
 
 #[test]
 fn tells_the_list_once_the_engine_has_started(rt: HostRuntime) {
-    let mut talk = Talk::new();
+    let mut talk = FeatureTalk::new();
     let asked = [
         !talk.is_due(),
         // before the options were declared, twice
-        talk.protover(true) == Say::Wait,
-        talk.protover(true) == Say::Wait,
+        talk.protover(true) == ProtoverAnswer::Wait,
+        talk.protover(true) == ProtoverAnswer::Wait,
         talk.is_due(),
         // at the end of the boot, and behind it
         talk.left_boot(),
         !talk.is_due(),
         // and after
-        talk.protover(false) == Say::List,
+        talk.protover(false) == ProtoverAnswer::List,
         !talk.is_due(),
     ];
     expect_each(&rt, &asked, "asked for in the boot");
 
     // an engine that declared its options before `protover` came
-    let mut talk = Talk::new();
+    let mut talk = FeatureTalk::new();
     let unasked = [
         !talk.left_boot(),
-        talk.protover(false) == Say::List,
+        talk.protover(false) == ProtoverAnswer::List,
         !talk.is_due(),
     ];
     expect_each(&rt, &unasked, "asked for behind the boot");

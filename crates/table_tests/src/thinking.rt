@@ -1,6 +1,5 @@
 //! Lines of engines, and what the interface is shown of them.
 ghost use Rattle.std.specs.Prelude.{◌≡◌, IfSome};
-ghost use Rattle.chess_board.specs.Place.{legal};
 ghost use Rattle.cecp_lines.specs.Replies.{IsWritable};
 ghost use Rattle.think_text.specs.Line.{IsPlayable};
 
@@ -10,7 +9,7 @@ use chess_board::{Move, Position, Square, read_move};
 use line_io::Out;
 use std::process::Abort;
 use think_text::{
-    Pondered, Seen, current_stays_writable, stat01, thinking, thinking_lines_are_short,
+    Pondered, SeenThinking, current_stays_writable, stat01, thinking, thinking_lines_are_short,
 };
 use uci_lines::{EngineMsg, read_engine};
 
@@ -18,19 +17,9 @@ use uci_lines::{EngineMsg, read_engine};
 fn after(moves: &[&'static str]) -> Option<Position> {
     let mut at = Position::start();
     for text in moves {
-        let m = read_move(text.as_bytes())?;
-        if !at.legal(m) {
-            return None;
-        }
-        at = at.play(m);
+        at = at.try_play(read_move(text.as_bytes())?)?;
     }
     Some(at)
-}
-
-fn is_legal(at: &Position, m: Move) -> bool
-    ensures { result ≡ legal at.now m }
-{
-    at.legal(m)
 }
 
 /// The move that is pondered on, if there is one: the last move, and the position before it.
@@ -42,7 +31,7 @@ fn pondered(moves: &[&'static str], hint: &str) -> Option<Pondered>
         return None;
     };
     let before = after(earlier)?;
-    if is_legal(&before, hint) {
+    if before.legal(hint) {
         Some(Pondered { before, hint })
     } else {
         None
@@ -302,7 +291,7 @@ fn shows_nothing(rt: HostRuntime) {
     expect_shown(&rt, Spelling::Coordinates, &UNSHOWN, &mut out);
 }
 
-fn hear(seen: &mut Seen, line: &str, at: &Position)
+fn hear(seen: &mut SeenThinking, line: &str, at: &Position)
     requires { IfSome seen.old.current IsWritable }
     ensures { IfSome seen.new.current IsWritable }
 {
@@ -313,7 +302,7 @@ fn hear(seen: &mut Seen, line: &str, at: &Position)
 }
 
 /// Writes the answer to `.`, if there is room enough.
-fn answer(seen: Seen, at: &Position, out: &mut Out)
+fn answer(seen: SeenThinking, at: &Position, out: &mut Out)
     requires { IfSome seen.current IsWritable }
 {
     out.clear();
@@ -323,10 +312,10 @@ fn answer(seen: Seen, at: &Position, out: &mut Out)
 }
 
 /// What is kept of lines of an engine. It writes the answer to `.` too.
-fn keep(moves: &[&'static str], lines: [&str; 3], out: &mut Out) -> Option<Seen> {
+fn keep(moves: &[&'static str], lines: [&str; 3], out: &mut Out) -> Option<SeenThinking> {
     let at = after(moves)?;
     let [first, second, third] = lines;
-    let mut seen = Seen::new();
+    let mut seen = SeenThinking::new();
     hear(&mut seen, first, &at);
     hear(&mut seen, second, &at);
     hear(&mut seen, third, &at);
@@ -337,16 +326,16 @@ fn keep(moves: &[&'static str], lines: [&str; 3], out: &mut Out) -> Option<Seen>
 const E2E4: Move = Move {
     from: Square { index: 12 },
     to: Square { index: 28 },
-    promo: None,
+    promotion: None,
 };
 
 const D2D4: Move = Move {
     from: Square { index: 11 },
     to: Square { index: 27 },
-    promo: None,
+    promotion: None,
 };
 
-const NOTHING_SEEN: Seen = Seen {
+const NOTHING_SEEN: SeenThinking = SeenThinking {
     depth: 0,
     time: 0,
     nodes: 0,
@@ -356,9 +345,9 @@ const NOTHING_SEEN: Seen = Seen {
 };
 
 /// Three lines at the start of a game, what is kept of them, and the answer to `.`.
-type Kept = ([&'static str; 3], Seen, &'static str);
+type KeptThinking = ([&'static str; 3], SeenThinking, &'static str);
 
-const KEPT: [Kept; 4] = [
+const KEPT: [KeptThinking; 4] = [
     (["", "", ""], NOTHING_SEEN, "stat01: 0 0 0 20 20"),
     (
         [
@@ -366,7 +355,7 @@ const KEPT: [Kept; 4] = [
             "",
             "",
         ],
-        Seen {
+        SeenThinking {
             depth: 12,
             time: 4_200,
             nodes: 900_000,
@@ -382,7 +371,7 @@ const KEPT: [Kept; 4] = [
             "info depth 5 score mate 3 pv e2e4 e7e5 a1a8",
             "info string time 1",
         ],
-        Seen {
+        SeenThinking {
             depth: 5,
             time: 4_200,
             nodes: 900_000,
@@ -399,7 +388,7 @@ const KEPT: [Kept; 4] = [
             "info currmove e7e5 currmovenumber 25",
             "info time 9",
         ],
-        Seen {
+        SeenThinking {
             depth: 3,
             time: 9,
             nodes: 0,
@@ -411,7 +400,7 @@ const KEPT: [Kept; 4] = [
     ),
 ];
 
-fn expect_kept(rt: &impl Abort, rows: &[Kept], out: &mut Out) {
+fn expect_kept(rt: &impl Abort, rows: &[KeptThinking], out: &mut Out) {
     for (lines, want, answer) in rows {
         expect_holds(rt, keep(&[], *lines, out) == Some(*want), answer);
         expect_text(rt, out.bytes(), answer, answer);

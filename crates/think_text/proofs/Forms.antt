@@ -15,8 +15,8 @@ use Rattle.chess_board.specs.Play.{AreMen}
 use Rattle.chess_board.specs.Position.{Position}
 use Rattle.chess_board.specs.Rules.{last_rank}
 use Rattle.cecp_lines.specs.San.{is_between, is_mark, has_form, forms, is_san}
-use Rattle.san_text.specs.declared.men.Within.TheVariants.{Board, File, Rank}
-use Rattle.san_text.specs.Writing.{kind_at, castles_short, castles_long, is_capture, has_rival, letter, origin, promotion, target, taking, body, after, sign, san}
+use Rattle.san_text.specs.declared.men.RivalSquares.TheVariants.{Board, File, Rank}
+use Rattle.san_text.specs.Writing.{kind_at, castles_short, castles_long, is_capture, has_rival, letter, origin, promotion_letters, target, taking, body, after, sign, san}
 use Rattle.san_text.proofs.Alone.{kind_of_move}
 use Rattle.think_text.proofs.Rivals.{pawn_ahead, inner_by, king_alone}
 
@@ -90,9 +90,9 @@ pawn_becomes : (takes : Bool) (c s t : ℕ) (sg : List ℕ) → IsLetter c → (
 pawn_becomes false c s t sg k e m = form_at _ 4 (omega arith) (rw (file_fits t, e, k) m)
 pawn_becomes true c s t sg k e m = form_at _ 5 (omega arith) (rw (file_fits s, file_fits t, e, k) m)
 
-pawn_by : (side : Side) (takes : Bool) (promo : Option Kind) (s t : ℕ) (sg : List ℕ)
-    → ((rank_of t ≡ last_rank side) × IsPromotion promo) ⊎ ((rank_of t ≢ last_rank side) × (promo ≡ None)) → (rank_of t ≢ last_rank side → (0 < rank_of t) × (rank_of t < 7)) → is_mark sg ≡ true
-    → is_san ((cond takes ((97 + file_of s) ∷ []) [] ++ (cond takes (120 ∷ []) [] ++ ((97 + file_of t) ∷ (49 + rank_of t) ∷ promotion promo))) ++ sg) ≡ true
+pawn_by : (side : Side) (takes : Bool) (promotion : Option Kind) (s t : ℕ) (sg : List ℕ)
+    → ((rank_of t ≡ last_rank side) × IsPromotion promotion) ⊎ ((rank_of t ≢ last_rank side) × (promotion ≡ None)) → (rank_of t ≢ last_rank side → (0 < rank_of t) × (rank_of t < 7)) → is_mark sg ≡ true
+    → is_san ((cond takes ((97 + file_of s) ∷ []) [] ++ (cond takes (120 ∷ []) [] ++ ((97 + file_of t) ∷ (49 + rank_of t) ∷ promotion_letters promotion))) ++ sg) ≡ true
 pawn_by side takes None s t sg (inl e) i m = absurd e.1
 pawn_by side takes (Some Pawn) s t sg (inl e) i m = absurd e.1
 pawn_by side takes (Some King) s t sg (inl e) i m = absurd e.1
@@ -110,29 +110,29 @@ abbrev man_text : Kind → Position → Move → List ℕ
 man_text Pawn p m = cond (is_capture p m) ((97 + file_of m.from.index) ∷ []) [] ++ (taking p m ++ target m)
 man_text k p m = letter k ++ (origin_text (has_rival p m Board) (has_rival p m File) (has_rival p m Rank) m.from.index ++ (taking p m ++ target m))
 
-bare_target : (m : Move) → m.promo ≡ None → target m ≡ (97 + file_of m.to.index) ∷ (49 + rank_of m.to.index) ∷ []
-bare_target m e = ap (λ (o : Option Kind). (97 + file_of m.to.index) ∷ (49 + rank_of m.to.index) ∷ promotion o) e
+bare_target : (m : Move) → m.promotion ≡ None → target m ≡ (97 + file_of m.to.index) ∷ (49 + rank_of m.to.index) ∷ []
+bare_target m e = ap (λ (o : Option Kind). (97 + file_of m.to.index) ∷ (49 + rank_of m.to.index) ∷ promotion_letters o) e
 
 pawn_inner : (p : Position) (m : Move) → Goes p Pawn m.from.index m.to.index → rank_of m.to.index ≢ last_rank p.side → (0 < rank_of m.to.index) × (rank_of m.to.index < 7)
 pawn_inner p m g n =
     let a = pawn_ahead p m.from.index m.to.index g in
     inner_by p.side (rank_of m.from.index) (rank_of m.to.index) a.0 a.1.0 a.1.1 (omega (arith, m.from.on_board)) (omega (arith, m.to.on_board)) n
 
-officer_by : (p : Position) (m : Move) (c : ℕ) (sg : List ℕ) → IsLetter c → m.promo ≡ None → is_mark sg ≡ true
+officer_by : (p : Position) (m : Move) (c : ℕ) (sg : List ℕ) → IsLetter c → m.promotion ≡ None → is_mark sg ≡ true
     → is_san ((c ∷ (origin_text (has_rival p m Board) (has_rival p m File) (has_rival p m Rank) m.from.index ++ (taking p m ++ target m))) ++ sg) ≡ true
 officer_by p m c sg k e g =
     ap (λ t. is_san ((c ∷ (origin_text (has_rival p m Board) (has_rival p m File) (has_rival p m Rank) m.from.index ++ (taking p m ++ t))) ++ sg)) (bare_target m e)
     ∙ officer_form c (is_capture p m) (has_rival p m Board) (has_rival p m File) (has_rival p m Rank) m.from.index m.to.index sg k m.from.on_board m.to.on_board g
 
-king_by : (p : Position) (m : Move) (sg : List ℕ) → m.promo ≡ None → has_rival p m Board ≡ false → is_mark sg ≡ true
+king_by : (p : Position) (m : Move) (sg : List ℕ) → m.promotion ≡ None → has_rival p m Board ≡ false → is_mark sg ≡ true
     → is_san ((75 ∷ (origin_text (has_rival p m Board) (has_rival p m File) (has_rival p m Rank) m.from.index ++ (taking p m ++ target m))) ++ sg) ≡ true
 king_by p m sg e n g =
     ap (λ t. is_san ((75 ∷ (origin_text (has_rival p m Board) (has_rival p m File) (has_rival p m Rank) m.from.index ++ (taking p m ++ t))) ++ sg)) (bare_target m e)
     ∙ king_form (is_capture p m) (has_rival p m Board) (has_rival p m File) (has_rival p m Rank) m.from.index m.to.index sg n m.to.on_board g
 
-man_form : (k : Kind) (p : Position) (m : Move) (sg : List ℕ) → (k ≡ King → has_rival p m Board ≡ false) → Goes p k m.from.index m.to.index → Promotes p.side k m.to.index m.promo → is_mark sg ≡ true
+man_form : (k : Kind) (p : Position) (m : Move) (sg : List ℕ) → (k ≡ King → has_rival p m Board ≡ false) → Goes p k m.from.index m.to.index → Promotes p.side k m.to.index m.promotion → is_mark sg ≡ true
     → is_san (man_text k p m ++ sg) ≡ true
-man_form Pawn p m sg n g e k = pawn_by p.side (is_capture p m) m.promo m.from.index m.to.index sg e (pawn_inner p m g) k
+man_form Pawn p m sg n g e k = pawn_by p.side (is_capture p m) m.promotion m.from.index m.to.index sg e (pawn_inner p m g) k
 man_form Knight p m sg n g e k = officer_by p m 78 sg refl e k
 man_form Bishop p m sg n g e k = officer_by p m 66 sg refl e k
 man_form Rook p m sg n g e k = officer_by p m 82 sg refl e k
@@ -148,14 +148,14 @@ man_is Rook p m e = rw e refl
 man_is Queen p m e = rw e refl
 man_is King p m e = rw e refl
 
-body_form : (short long : Bool) (p : Position) (m : Move) (sg : List ℕ) → AreMen p.men → IsLegal p m.from.index m.to.index m.promo → is_mark sg ≡ true
+body_form : (short long : Bool) (p : Position) (m : Move) (sg : List ℕ) → AreMen p.men → IsLegal p m.from.index m.to.index m.promotion → is_mark sg ≡ true
     → is_san (cond short (79 ∷ 45 ∷ 79 ∷ []) (cond long (79 ∷ 45 ∷ 79 ∷ 45 ∷ 79 ∷ []) (letter (kind_at p m.from.index) ++ (origin p m ++ (taking p m ++ target m)))) ++ sg) ≡ true
 body_form true long p m sg are h k = form_at _ 0 (omega arith) k
 body_form false true p m sg are h k = form_at _ 1 (omega arith) k
 body_form false false p m sg are h k =
-    let kind = kind_of_move p m.from.index m.to.index m.promo h in
+    let kind = kind_of_move p m.from.index m.to.index m.promotion h in
     ap (λ t. is_san (t ++ sg)) (man_is h.piece p m kind) ∙ man_form h.piece p m sg (λ e. king_alone p m are h (kind ∙ e)) h.way h.promoted k
 
-pub san_form : (p : Position) (m : Move) → AreMen p.men → IsLegal p m.from.index m.to.index m.promo → is_san (san p m) ≡ true
+pub san_form : (p : Position) (m : Move) → AreMen p.men → IsLegal p m.from.index m.to.index m.promotion → is_san (san p m) ≡ true
 unfolding san
 san_form p m are h = body_form (castles_short p m) (castles_long p m) p m (sign (after p m)) are h (is_sign (after p m))

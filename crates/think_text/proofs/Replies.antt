@@ -31,7 +31,7 @@ move_text San p m is e = san_form p m is.men (is_legal p m e)
 
 still : (p : Position) (m : Move) → IsPosition p → legal p m ≡ true → IsPosition (played p m)
 still p m is e =
-    position_kept p m.from.index m.to.index m.promo is m.from.on_board m.to.on_board
+    position_kept p m.from.index m.to.index m.promotion is m.from.on_board m.to.on_board
     (passed_low p.side (kind_on (man_at p.men m.from.index)) m.from.index m.to.index m.from.on_board m.to.on_board) e
 
 run_step : (s : Spelling) (p : Position) (m : Move) (moves : List Move) (b : Bool) → legal p m ≡ b → IsPosition p → (IsPosition (played p m) → AllByRecursion (IsMoveText s) (run_texts s (played p m) moves))

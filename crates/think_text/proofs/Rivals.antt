@@ -18,7 +18,7 @@ use Rattle.chess_board.proofs.Bools.{same_side-refl}
 use Rattle.chess_board.proofs.Equal.{kinds-Decides}
 use Rattle.chess_board.proofs.Legal.{legal-law}
 use Rattle.chess_board.proofs.Moved.{bit, count-set}
-use Rattle.san_text.specs.declared.men.Within.TheVariants.{Board}
+use Rattle.san_text.specs.declared.men.RivalSquares.TheVariants.{Board}
 use Rattle.san_text.specs.Writing.{same_kind, kind_at, is_rival, has_rival}
 use Rattle.san_text.proofs.Alone.{kind_of_move}
 
@@ -64,19 +64,19 @@ nowhere (suc n) test h = by (test n) (some_below n test) (h n (omega arith)) (no
   by false b e f = f
   by true b e f = cc
 
-rival_by : (p : Position) (m : Move) (s : ℕ) (b : Bool) → AreMen p.men → IsLegal p m.from.index m.to.index m.promo → kind_at p m.from.index ≡ King → s < 64 → is_rival p m s ≡ b → b ≡ false
+rival_by : (p : Position) (m : Move) (s : ℕ) (b : Bool) → AreMen p.men → IsLegal p m.from.index m.to.index m.promotion → kind_at p m.from.index ≡ King → s < 64 → is_rival p m s ≡ b → b ≡ false
 rival_by p m s false are h k l e = refl
 rival_by p m s true are h k l e =
-    let both = and_parts (not (eqb s m.from.index) && same_kind (kind_at p s) (kind_at p m.from.index)) (is_legal p s m.to.index m.promo) e in
+    let both = and_parts (not (eqb s m.from.index) && same_kind (kind_at p s) (kind_at p m.from.index)) (is_legal p s m.to.index m.promotion) e in
     let front = and_parts (not (eqb s m.from.index)) (same_kind (kind_at p s) (kind_at p m.from.index)) both.0 in
-    let other = (legal-law p s m.to.index m.promo).0 both.1 in
+    let other = (legal-law p s m.to.index m.promotion).0 both.1 in
     let mine : kind_at p s ≡ King = (kinds-Decides (kind_at p s) (kind_at p m.from.index)).0 front.1 ∙ k in
-    let theirs = sym (kind_of_move p s m.to.index m.promo other) ∙ mine in
-    let his = sym (kind_of_move p m.from.index m.to.index m.promo h) ∙ k in
+    let theirs = sym (kind_of_move p s m.to.index m.promotion other) ∙ mine in
+    let his = sym (kind_of_move p m.from.index m.to.index m.promotion h) ∙ k in
     let a : man_at p.men m.from.index ≡ Some (p.side, King) = h.man ∙ ap (λ x. Some (p.side, x)) his in
     let b : man_at p.men s ≡ Some (p.side, King) = other.man ∙ ap (λ x. Some (p.side, x)) theirs in
     let apart : s ≢ m.from.index = λ same. (let t : eqb s m.from.index ≡ true = (Decides-eqb s m.from.index).1 same in let f : not (eqb s m.from.index) ≡ false = ap not t in cc (front.0, f)) in
     absurd (one_king p.men p.side m.from.index s are.whole (kings_are p.men p.side are) m.from.on_board l a b apart)
 
-pub king_alone : (p : Position) (m : Move) → AreMen p.men → IsLegal p m.from.index m.to.index m.promo → kind_at p m.from.index ≡ King → has_rival p m Board ≡ false
+pub king_alone : (p : Position) (m : Move) → AreMen p.men → IsLegal p m.from.index m.to.index m.promotion → kind_at p m.from.index ≡ King → has_rival p m Board ≡ false
 king_alone p m are h k = some_square-none (λ s. true && is_rival p m s) 64 (omega arith) (nowhere 64 (λ s. true && is_rival p m s) (λ s l. rival_by p m s (is_rival p m s) are h k l refl))

@@ -31,7 +31,7 @@ use Rattle.uci_lines.specs.Scores.{IsCentis}
 use Rattle.uci_lines.proofs.Rows.{read_spells}
 use Rattle.uci_lines.proofs.Scores.{scores_are_centis}
 use Rattle.think_text.specs.declared.line.Pondered.{Pondered}
-use Rattle.think_text.specs.declared.seen.Seen.{Seen}
+use Rattle.think_text.specs.declared.seen.SeenThinking.{SeenThinking}
 use Rattle.think_text.specs.Line.{value_of, played, legal_run, written, run_texts, spaced, line_with, hint_text, IsPlayable}
 use Rattle.think_text.specs.Kept.{after_info, stat01_of}
 use Rattle.think_text.specs.Short.{most_bytes, LinesAreShort, IsBounded, StaysBounded, StatIsShort}
@@ -243,7 +243,7 @@ newer_bounded : (o : Option ℕ) (old : ℕ) → IfSome o IsCount → old < 2 ^ 
 newer_bounded None old h k = k
 newer_bounded (Some n) old h k = omega arith
 
-after_bounded : (seen : Seen) (f : AnyInfo) (p : Position) (most : ℕ) → IsBounded seen → IsWithin most f → IsBounded (after_info seen f p)
+after_bounded : (seen : SeenThinking) (f : AnyInfo) (p : Position) (most : ℕ) → IsBounded seen → IsWithin most f → IsBounded (after_info seen f p)
 after_bounded seen f p most b w = record {
   depth = newer_bounded f.depth seen.depth w.depth b.depth;
   time = newer_bounded f.time seen.time w.time b.time;

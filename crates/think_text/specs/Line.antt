@@ -31,7 +31,7 @@ value_of (Cp score) = score
 value_of (Mate moves) = if int_lt (pos 0) moves then MATE +ℤ moves else neg_ℤ (MATE -ℤ moves)
 
 abbrev pub played : Position → Move → Position
-played p m = position_after p m.from.index m.to.index m.promo
+played p m = position_after p m.from.index m.to.index m.promotion
 
 -- the longest run of moves, from the first on, of which each is legal in its turn
 abbrev pub legal_run : Position → List Move → List Move

@@ -9,7 +9,7 @@ use Rattle.uci_lines.specs.Info.{Info as AnyInfo}
 use Rattle.uci_lines.specs.Messages.{Info}
 use Rattle.uci_lines.specs.Engine.{engine_message}
 use Rattle.think_text.specs.declared.line.Pondered.{Pondered}
-use Rattle.think_text.specs.declared.seen.Seen.{Seen}
+use Rattle.think_text.specs.declared.seen.SeenThinking.{SeenThinking}
 use Rattle.think_text.specs.Line.{IsHeard, IsPlayable, thinking_line}
 use Rattle.think_text.specs.Kept.{nothing_seen, after_info, stat01_of}
 
@@ -38,7 +38,7 @@ LinesAreReplies =
     → SpellsReply (reply_text t) t
 
 -- the numbers that are kept have at most 64 bits
-pub record IsBounded (seen : Seen) : Type 0 where
+pub record IsBounded (seen : SeenThinking) : Type 0 where
   pub depth : seen.depth < 2 ^ 64
   pub time : seen.time < 2 ^ 64
   pub nodes : seen.nodes < 2 ^ 64
@@ -46,8 +46,8 @@ pub record IsBounded (seen : Seen) : Type 0 where
 
 -- They have from the start, and once more was reported by a line of the engine.
 abbrev pub StaysBounded : Type 0
-StaysBounded = IsBounded nothing_seen × ((seen : Seen) (facts : AnyInfo) (p : Position) → IsBounded seen → IsHeard facts → IsBounded (after_info seen facts p))
+StaysBounded = IsBounded nothing_seen × ((seen : SeenThinking) (facts : AnyInfo) (p : Position) → IsBounded seen → IsHeard facts → IsBounded (after_info seen facts p))
 
 -- The answer to `.` has at most 128 bytes.
 abbrev pub StatIsShort : Type 0
-StatIsShort = (seen : Seen) (p : Position) → IsBounded seen → length (reply_text (stat01_of seen p)) ≤ 128
+StatIsShort = (seen : SeenThinking) (p : Position) → IsBounded seen → length (reply_text (stat01_of seen p)) ≤ 128

@@ -9,4 +9,4 @@ mod value;
 
 pub use laws::{current_stays_writable, thinking_lines_are_short};
 pub use line::{Pondered, thinking};
-pub use seen::{Seen, stat01};
+pub use seen::{SeenThinking, stat01};

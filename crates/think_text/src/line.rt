@@ -12,7 +12,7 @@ ghost use Rattle.think_text.specs.Line.{IsHeard, IsPlayable, HasRoom, legal_run,
 ghost use Rattle.peer_words.specs.Bytes.{blank};
 
 use crate::texts::{bytes_of, hint_text, written};
-use crate::value::{is_legal, play, value_of};
+use crate::value::{play, value_of};
 use cecp_lines::{Reply, Spelling, write_reply};
 use chess_board::{Move, Position};
 use line_io::Out;
@@ -34,11 +34,7 @@ fn next_legal<'a>(moves: &'a [u8], at: &Position) -> Option<(Move, &'a [u8])>
         ≡ p.0 ∷ legal_run (played at.now p.0) (run (tokens p.1.now)))) }
 {
     let (m, others) = next_move(moves)?;
-    if is_legal(at, m) {
-        Some((m, others))
-    } else {
-        None
-    }
+    if at.legal(m) { Some((m, others)) } else { None }
 }
 
 /// Writes a move of a position behind a blank.

@@ -6,7 +6,7 @@ ghost use Rattle.uci_lines.specs.Info.{info_of};
 ghost use Rattle.think_text.specs.Line.{IsHeard};
 ghost use Rattle.think_text.specs.Kept.{nothing_seen, after_info, newer_move, newer_score, is_first, stat01_of};
 
-use crate::value::{is_legal, value_of};
+use crate::value::value_of;
 use cecp_lines::{Reply, write_reply};
 use chess_board::{Move, Position};
 use line_io::Out;
@@ -15,7 +15,7 @@ use uci_lines::Info;
 /// What the engine reported of its search, each value as it was reported last; else 0 or None. The time is
 /// in milliseconds, the score in hundredths of a pawn.
 #[derive(Clone, Copy, PartialEq, Eq)]
-pub struct Seen {
+pub struct SeenThinking {
     pub depth: u64,
     pub time: u64,
     pub nodes: u64,
@@ -30,7 +30,7 @@ fn newer_move(at: &Position, new: Option<Move>, old: Option<Move>) -> Option<Mov
     ensures { result ≡ newer_move at.now new old }
 {
     match new {
-        Some(m) if is_legal(at, m) => Some(m),
+        Some(m) if at.legal(m) => Some(m),
         _ => old,
     }
 }
@@ -54,12 +54,12 @@ fn newer_score(info: &Info, old: Option<i64>) -> Option<i64>
     }
 }
 
-impl Seen {
+impl SeenThinking {
     /// Nothing was reported.
-    pub fn new() -> Seen
+    pub fn new() -> SeenThinking
         ensures { result ≡ nothing_seen }
     {
-        Seen {
+        SeenThinking {
             depth: 0,
             time: 0,
             nodes: 0,
@@ -85,7 +85,7 @@ impl Seen {
 
 /// Writes the line that answers `.` during analysis, with the present position (Chess Engine Communication
 /// Protocol, version 2, section "Analyze Mode").
-pub fn stat01(seen: &Seen, at: &Position, out: &mut Out)
+pub fn stat01(seen: &SeenThinking, at: &Position, out: &mut Out)
     requires current { IfSome seen.now.current IsWritable }
     requires room { length out.old.text + length (reply_text (stat01_of seen.now at.now))
         ≤ out.old.room }

@@ -27,12 +27,6 @@ pub(crate) fn value_of(score: Score) -> i64
     }
 }
 
-pub(crate) fn is_legal(at: &Position, m: Move) -> bool
-    ensures { result ≡ legal at.now m }
-{
-    at.legal(m)
-}
-
 pub(crate) fn play(at: &Position, m: Move) -> Position
     requires { legal at.now m ≡ true }
     ensures { result ≡ played at.now m }

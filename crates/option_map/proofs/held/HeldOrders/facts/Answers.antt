@@ -4,7 +4,7 @@ use Rattle.uci_lines.specs.Orders.{Order}
 use Rattle.option_map.specs.declared.held.TheConstants.{MOST_BYTES}
 use Rattle.option_map.specs.Held.{batch_text}
 use Rattle.option_map.specs.KeptOrders.{order_in}
-use Rattle.option_map.proofs.held.Held.facts.Goals as goal
+use Rattle.option_map.proofs.held.HeldOrders.facts.Goals as goal
 
 pub returns-clause-few : goal.returns-clause-few
 returns-clause-few c =

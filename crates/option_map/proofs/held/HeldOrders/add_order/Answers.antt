@@ -7,7 +7,7 @@ use Rattle.option_map.specs.Data.{setup_seen}
 use Rattle.option_map.specs.Held.{staying_beside, batch_text, can_join}
 use Rattle.option_map.specs.KeptOrders.{orders_in, AreIn}
 use Rattle.option_map.proofs.KeptOrders.{join_few, join_short, join_room}
-use Rattle.option_map.proofs.held.Held.add_order.Goals as goal
+use Rattle.option_map.proofs.held.HeldOrders.add_order.Goals as goal
 
 pub put_staying-requires-clause-room : goal.put_staying-requires-clause-room
 put_staying-requires-clause-room c =
