@@ -15,8 +15,8 @@ use Rattle.cecp_lines.specs.declared.iface.IfaceFault.{IfaceFault}
 use Rattle.cecp_lines.specs.Reading.{Spells, reading, name_at, value_at, is_equals}
 use Rattle.cecp_lines.proofs.Spellings.{reading_spells}
 use Rattle.uci_lines.specs.Orders.{Order, order_text}
-use Rattle.option_map.specs.declared.fault.OptFault.{OptFault}
-use Rattle.option_map.specs.Settings.{Setting, Kind, Check, Spin, Combo, Button, Text, found}
+use Rattle.option_map.specs.declared.fault.OptionFault.{OptionFault}
+use Rattle.option_map.specs.Settings.{OptionSetting, SettingKind, Check, Spin, Combo, Button, Text, found}
 use Rattle.option_map.specs.Asked.{asked, asked_text, repeated, AreShort, IsRange, HasRange}
 use Rattle.option_map.specs.Spelled.{AreDeclared, IsSpelled}
 use Rattle.option_map.proofs.Short.{orders_short}
@@ -32,18 +32,18 @@ count_fits : (z : ℤ) → IsCount z → FitsSigned w64 z
 count_fits (pos n) h = record { sfits = omega arith }
 count_fits (negsuc n) h = record { sfits = omega arith }
 
-kind_range : (k : Kind) → IsSound k → IsRange k
+kind_range : (k : SettingKind) → IsSound k → IsRange k
 kind_range (Spin default min max) s = (count_fits min s.0, count_fits max s.1)
 kind_range (Check on) s = tt
 kind_range (Combo choices) s = tt
 kind_range Button s = tt
 kind_range (Text default) s = tt
 
-found_range : (o : Option Setting) → IfSome o IsUsable → HasRange o
+found_range : (o : Option OptionSetting) → IfSome o IsUsable → HasRange o
 found_range None u = tt
 found_range (Some o) u = kind_range o.kind u.kind
 
-declared_short : (os : List Setting) → AreDeclared os → AreShort os
+declared_short : (os : List OptionSetting) → AreDeclared os → AreShort os
 declared_short os d =
     orders_short os (found_range (found (codes "Hash") os) (found_usable (codes "Hash") os d))
     (found_range (found (codes "Threads") os) (found_usable (codes "Threads") os d))
@@ -70,26 +70,26 @@ repeated_short line m s = omega arith
 abbrev pub IsShortFor : List ℕ → Order → Type 0
 IsShortFor line order = length (order_text order) ≤ 64 + length line
 
-short_answer : (line : List ℕ) (m : IfaceMsg) (a : Result (Option Order) OptFault) → length (asked_text a) ≤ 64 + repeated m → repeated m ≤ length line → IfSome (asked_by a) (IsShortFor line)
+short_answer : (line : List ℕ) (m : IfaceMsg) (a : Result (Option Order) OptionFault) → length (asked_text a) ≤ 64 + repeated m → repeated m ≤ length line → IfSome (asked_by a) (IsShortFor line)
 short_answer line m (Ok None) s r = tt
 short_answer line m (Ok (Some order)) s r = omega (arith, s, r)
 short_answer line m (Err fault) s r = tt
 
-short_reading : (os : List Setting) (line : List ℕ) (r : Result IfaceMsg IfaceFault) → AreDeclared os → reading line ≡ r → IfSome (asked_by (answered_by os r)) (IsShortFor line)
+short_reading : (os : List OptionSetting) (line : List ℕ) (r : Result IfaceMsg IfaceFault) → AreDeclared os → reading line ≡ r → IfSome (asked_by (answered_by os r)) (IsShortFor line)
 short_reading os line (Ok m) d e = short_answer line m (asked os m) (declared_short os d m) (repeated_short line m (reading_spells line m e))
 short_reading os line (Err fault) d e = tt
 
-pub early_short : (os : List Setting) (line : List ℕ) → AreDeclared os → IfSome (asked_by (early_answer os line)) (IsShortFor line)
+pub early_short : (os : List OptionSetting) (line : List ℕ) → AreDeclared os → IfSome (asked_by (early_answer os line)) (IsShortFor line)
 early_short os line d = short_reading os line (reading line) d refl
 
 -- THE ORDERS
 
-spelled_answer : (a b : Result (Option Order) OptFault) → a ≡ b → ((order : Order) → a ≡ Ok (Some order) → IsSpelled 65700 order) → IfSome (asked_by b) (IsSpelled 65700)
+spelled_answer : (a b : Result (Option Order) OptionFault) → a ≡ b → ((order : Order) → a ≡ Ok (Some order) → IsSpelled 65700 order) → IfSome (asked_by b) (IsSpelled 65700)
 spelled_answer a (Ok None) e f = tt
 spelled_answer a (Ok (Some order)) e f = f order e
 spelled_answer a (Err fault) e f = tt
 
-spelled_reading : (os : List Setting) (line : List ℕ) (r : Result IfaceMsg IfaceFault) → AreDeclared os → is_line line ≡ true → reading line ≡ r → IfSome (asked_by (answered_by os r)) (IsSpelled 65700)
+spelled_reading : (os : List OptionSetting) (line : List ℕ) (r : Result IfaceMsg IfaceFault) → AreDeclared os → is_line line ≡ true → reading line ≡ r → IfSome (asked_by (answered_by os r)) (IsSpelled 65700)
 spelled_reading os line (Ok m) d l e = spelled_answer (asked os m) (asked os m) refl (λ order x. asked_spelled os line m order d l e x)
 spelled_reading os line (Err fault) d l e = tt
 
@@ -98,11 +98,11 @@ list_of P None later h k = k
 list_of P (Some order) later h k = (h, k)
 
 -- each order that early lines ask for is of the kind that each line asks for
-pub early_all : (P : Order → Type 0) (os : List Setting) (lines : List (List ℕ)) → AllByRecursion (λ line. IfSome (asked_by (early_answer os line)) P) lines → AllByRecursion P (early_orders os lines)
+pub early_all : (P : Order → Type 0) (os : List OptionSetting) (lines : List (List ℕ)) → AllByRecursion (λ line. IfSome (asked_by (early_answer os line)) P) lines → AllByRecursion P (early_orders os lines)
 early_all P os [] h = tt
 early_all P os (line ∷ lines) h = list_of P (asked_by (early_answer os line)) (early_orders os lines) h.0 (early_all P os lines h.1)
 
-pub early_spelled : (os : List Setting) (lines : List (List ℕ)) → AreDeclared os → AllByRecursion (λ line. is_line line ≡ true) lines → AllByRecursion (IsSpelled 65700) (early_orders os lines)
+pub early_spelled : (os : List OptionSetting) (lines : List (List ℕ)) → AreDeclared os → AllByRecursion (λ line. is_line line ≡ true) lines → AllByRecursion (IsSpelled 65700) (early_orders os lines)
 early_spelled os lines d l = early_all (IsSpelled 65700) os lines (each lines l) where
   each : (lines : List (List ℕ)) → AllByRecursion (λ line. is_line line ≡ true) lines → AllByRecursion (λ line. IfSome (asked_by (early_answer os line)) (IsSpelled 65700)) lines
   each [] l = tt

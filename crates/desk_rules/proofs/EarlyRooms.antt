@@ -6,9 +6,9 @@ use Rattle.cecp_lines.specs.Replies.{reply_text}
 use Rattle.cecp_lines.specs.Replies as told
 use Rattle.cecp_lines.specs.declared.reply.Reason.TheVariants as reasons
 use Rattle.uci_lines.specs.Orders.{Order}
-use Rattle.option_map.specs.declared.fault.OptFault.{OptFault}
-use Rattle.option_map.specs.declared.fault.OptFault.TheVariants.{UnknownOption, BadValue}
-use Rattle.option_map.specs.Settings.{Setting}
+use Rattle.option_map.specs.declared.fault.OptionFault.{OptionFault}
+use Rattle.option_map.specs.declared.fault.OptionFault.TheVariants.{UnknownOption, BadValue}
+use Rattle.option_map.specs.Settings.{OptionSetting}
 use Rattle.feature_talk.specs.Features.{reply_line, reply_lines}
 use Rattle.desk_rules.specs.declared.desk.Desk.{Desk}
 use Rattle.desk_rules.specs.Early.{fed, AreEarly}
@@ -26,12 +26,12 @@ unknown_le line = omega (arith, ap length (lines-one (told.Error reasons.Unknown
 bad_le : (line : List ℕ) → length (reply_lines (told.Error reasons.BadValue (trimmed line) ∷ [])) ≤ 64 + length line
 bad_le line = omega (arith, ap length (lines-one (told.Error reasons.BadValue (trimmed line))), behind (codes "Error (" ++ codes "bad value" ++ codes "): ") line)
 
-refusal_le : (a : Result (Option Order) OptFault) (line : List ℕ) → length (reply_lines (early_refusal (refused_option a) line)) ≤ 64 + length line
+refusal_le : (a : Result (Option Order) OptionFault) (line : List ℕ) → length (reply_lines (early_refusal (refused_option a) line)) ≤ 64 + length line
 refusal_le (Ok order) line = omega arith
 refusal_le (Err UnknownOption) line = unknown_le line
 refusal_le (Err BadValue) line = bad_le line
 
-pub refusals_le : (os : List Setting) (lines : List (List ℕ)) → length (reply_lines (early_refusals os lines)) ≤ length (fed lines) + 64 * length lines
+pub refusals_le : (os : List OptionSetting) (lines : List (List ℕ)) → length (reply_lines (early_refusals os lines)) ≤ length (fed lines) + 64 * length lines
 refusals_le os [] = omega arith
 refusals_le os (line ∷ lines) =
     let first = early_refusal (refused_option (early_answer os line)) line in

@@ -24,8 +24,8 @@ use Rattle.uci_lines.specs.Info.{Info}
 use Rattle.uci_lines.specs.Messages.{EngineMsg}
 use Rattle.uci_lines.specs.Messages as hears
 use Rattle.uci_lines.specs.Engine.{engine_message}
-use Rattle.option_map.specs.declared.fault.OptFault.{OptFault}
-use Rattle.option_map.specs.declared.fault.OptFault.TheVariants.{UnknownOption, BadValue}
+use Rattle.option_map.specs.declared.fault.OptionFault.{OptionFault}
+use Rattle.option_map.specs.declared.fault.OptionFault.TheVariants.{UnknownOption, BadValue}
 use Rattle.option_map.specs.Asked.{asked}
 use Rattle.game_record.specs.Game.{Game, now_of}
 use Rattle.search_epochs.specs.declared.words.EngineState.{EngineState}
@@ -82,7 +82,7 @@ position_tells : (m : IfaceMsg) → IfSome (illegal_position m) IsTellable
 position_tells (says.SetBoard text) = no_position_tells (position_of text)
 position_tells m = tt
 
-option_tells : (r : Result (Option Order) OptFault) → IfSome (refused_option r) IsTellable
+option_tells : (r : Result (Option Order) OptionFault) → IfSome (refused_option r) IsTellable
 option_tells (Ok order) = tt
 option_tells (Err UnknownOption) = tt
 option_tells (Err BadValue) = tt

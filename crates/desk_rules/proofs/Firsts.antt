@@ -9,7 +9,7 @@ use Rattle.cecp_lines.specs.Messages as says
 use Rattle.uci_lines.specs.Orders.{Order}
 use Rattle.uci_lines.specs.Orders as orders
 use Rattle.option_map.specs.Names.{same_text}
-use Rattle.option_map.specs.Settings.{Setting}
+use Rattle.option_map.specs.Settings.{OptionSetting}
 use Rattle.option_map.specs.Asked.{asked}
 use Rattle.option_map.specs.Held.{with_order, with_orders}
 use Rattle.desk_rules.specs.declared.desk.Desk.{Desk}
@@ -34,10 +34,10 @@ IsNewGame (Some order) = ⊥
 no_order : (o : Option Order) → o ≡ None → IsNewGame o
 no_order o e = subst IsNewGame (sym e) tt
 
-pub tells_none : (os : List Setting) (name : List ℕ) (on : Bool) → os ≡ [] → tells os name on ≡ None
-tells_none os name on e = ap (λ (l : List Setting). tells l name on) e
+pub tells_none : (os : List OptionSetting) (name : List ℕ) (on : Bool) → os ≡ [] → tells os name on ≡ None
+tells_none os name on e = ap (λ (l : List OptionSetting). tells l name on) e
 
-mode_none : (os : List Setting) (before after : Bool) → os ≡ [] → asks_for_mode os before after ≡ None
+mode_none : (os : List OptionSetting) (before after : Bool) → os ≡ [] → asks_for_mode os before after ≡ None
 mode_none os false true e = tells_none os analyse_name true e
 mode_none os true false e = tells_none os analyse_name false e
 mode_none os true true e = refl
@@ -51,8 +51,8 @@ sets_none : (m : IfaceMsg) → asked_by (asked [] m) ≡ None
 sets_none (says.EgtPath kind path) = either_none (same_text (codes "nalimov") kind)
 sets_none m = refl
 
-set_none : (os : List Setting) (m : IfaceMsg) → os ≡ [] → asked_by (asked os m) ≡ None
-set_none os m e = ap (λ (l : List Setting). asked_by (asked l m)) e ∙ sets_none m
+set_none : (os : List OptionSetting) (m : IfaceMsg) → os ≡ [] → asked_by (asked os m) ≡ None
+set_none os m e = ap (λ (l : List OptionSetting). asked_by (asked l m)) e ∙ sets_none m
 
 desk_first : (d : Desk) (m : IfaceMsg) → table d ≡ [] → IsNewGame (asks_of d m)
 desk_first d says.New e = tt
@@ -86,7 +86,7 @@ order_first held None f n = f
 order_first held (Some orders.NewGame) f n = joined_first held f
 order_first held (Some order) f n = absurd n
 
-pub no_table : (b : Bool) (os : List Setting) → b ≡ false → cond b os [] ≡ []
+pub no_table : (b : Bool) (os : List OptionSetting) → b ≡ false → cond b os [] ≡ []
 no_table true os e = cc
 no_table false os e = refl
 

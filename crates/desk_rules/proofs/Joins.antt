@@ -4,7 +4,7 @@ use Rattle.std.specs.Prelude.{IfSome, codes}
 use Rattle.std.specs.Option.{option_map, option_to_list}
 use Rattle.std.proofs.lemmas.Bool.Decides.{nat_tests}
 use Rattle.uci_lines.specs.Orders.{Order, NewGame, order_text}
-use Rattle.option_map.specs.Settings.{Setting}
+use Rattle.option_map.specs.Settings.{OptionSetting}
 use Rattle.option_map.specs.Shown.{check_named}
 use Rattle.option_map.specs.Held.{are_for_same, staying_beside, with_order, with_orders, batch_text, can_join}
 use Rattle.option_map.specs.Spelled.{AreDeclared, IsSpelled}
@@ -25,12 +25,12 @@ use Rattle.desk_rules.proofs.Passes.{passes}
 abbrev IfSpelled : ℕ → Option Order → Type 0
 IfSpelled most o = IfSome o (IsSpelled most)
 
-switched : (os : List Setting) (name : List ℕ) (on : Bool) (o : Option (List ℕ)) → AreDeclared os → check_named name os ≡ o → IfSpelled 200 (option_map (switches on) o)
+switched : (os : List OptionSetting) (name : List ℕ) (on : Bool) (o : Option (List ℕ)) → AreDeclared os → check_named name os ≡ o → IfSpelled 200 (option_map (switches on) o)
 switched os name on None h e = tt
 switched os name true (Some spelled) h e = switches_spelled os name spelled (codes "true") h e refl refl (omega arith)
 switched os name false (Some spelled) h e = switches_spelled os name spelled (codes "false") h e refl refl (omega arith)
 
-tells_spelled : (os : List Setting) (name : List ℕ) (on : Bool) → AreDeclared os → IfSpelled 200 (tells os name on)
+tells_spelled : (os : List OptionSetting) (name : List ℕ) (on : Bool) → AreDeclared os → IfSpelled 200 (tells os name on)
 tells_spelled os name on h = switched os name on (check_named name os) h refl
 
 ponder_spelled : (d : Desk) → AreDeclared d.options → IfSpelled 200 (ponder_at_boot d)
@@ -98,7 +98,7 @@ parts_join held [] ys a = (tt, a)
 parts_join held (x ∷ xs) ys a = let p = parts_join (with_order held x) xs ys a.1 in ((a.0, p.0), p.1)
 
 -- the orders of early lines join
-early_join : (os : List Setting) (lines : List (List ℕ)) (n b : ℕ) (held : List Order) → AreDeclared os → n + length lines ≤ 255 → b + (length (fed lines) + 64 * length lines) ≤ 65000 → AreFew n b held
+early_join : (os : List OptionSetting) (lines : List (List ℕ)) (n b : ℕ) (held : List Order) → AreDeclared os → n + length lines ≤ 255 → b + (length (fed lines) + 64 * length lines) ≤ 65000 → AreFew n b held
     → Join (n + length lines) (b + (length (fed lines) + 64 * length lines)) held (early_orders os lines)
 early_join os [] n b held d m l f = record { join = tt; few = wider_few n b (n + 0) (b + (0 + 64 * 0)) held (omega arith) (omega arith) f }
 early_join os (line ∷ lines) n b held d m l f = by_order (asked_by (early_answer os line)) (early_short os line d) (λ k c later m' l' f'. early_join os lines k c later d m' l' f') where

@@ -14,6 +14,7 @@ pub mod Calls
 pub mod Plays
 pub mod Serves
 pub mod Sound
+pub mod Starts
 pub mod Quiet
 pub mod Firsts
 pub mod EarlyRooms

@@ -16,7 +16,7 @@ use Rattle.uci_lines.specs.Messages.{Info}
 use Rattle.think_text.specs.declared.line.Pondered.{Pondered}
 use Rattle.think_text.specs.Line.{thinking_line, with_line, HasRoom, IsPlayable}
 use Rattle.think_text.specs.Short.{most_bytes}
-use Rattle.option_map.specs.Settings.{Setting, text_size}
+use Rattle.option_map.specs.Settings.{OptionSetting, text_size}
 use Rattle.feature_talk.specs.Features.{feature_list, reply_line, reply_lines}
 use Rattle.feature_talk.proofs.Lists.{short_list}
 use Rattle.desk_rules.specs.Fits.{IsSaid}
@@ -63,7 +63,7 @@ put_le old new piece n e h = (omega (arith, h, ap (λ (t : Text). length t.text)
 
 -- LISTS AND THINKING
 
-pub list_le : (os : List Setting) (said : List ℕ) → text_size os ≤ 65536 → length os ≤ 256 → length (reply_lines (feature_list os said)) ≤ 67000
+pub list_le : (os : List OptionSetting) (said : List ℕ) → text_size os ≤ 65536 → length os ≤ 256 → length (reply_lines (feature_list os said)) ≤ 67000
 list_le os said h k = omega (arith, h, k, short_list os said)
 
 pub line_le : (line : List ℕ) → is_line line ≡ true → length line ≤ 65536

@@ -17,7 +17,7 @@ use Rattle.game_record.specs.Game.{Game, ply_of, now_of, IsPlayable}
 use Rattle.clock_map.specs.declared.clocks.Clocks.{Clocks}
 use Rattle.clock_map.specs.Clocks.{AreShort, after_new}
 use Rattle.clock_map.proofs.Messages.{stay_short}
-use Rattle.think_text.specs.declared.seen.Seen.{Seen}
+use Rattle.think_text.specs.declared.seen.SeenThinking.{SeenThinking}
 use Rattle.think_text.specs.Kept.{nothing_seen}
 use Rattle.think_text.proofs.Legal.{stays_writable}
 use Rattle.option_map.proofs.Usable.{stay_declared}
@@ -74,7 +74,7 @@ stays_sound h held (Thinks k facts) s f =
 stays_sound h held (Shows best hint) s f = record { hint = hint_sound (played h.desk.game best) hint; clocks = s.clocks; current = s.current; options = s.options; early = s.early }
 stays_sound h held d s f = record { hint = s.hint; clocks = s.clocks; current = s.current; options = s.options; early = s.early }
 
-cleared_sound : (b : Bool) (seen : Seen) → IfSome seen.current IsWritable → IfSome (cond b nothing_seen seen).current IsWritable
+cleared_sound : (b : Bool) (seen : SeenThinking) → IfSome seen.current IsWritable → IfSome (cond b nothing_seen seen).current IsWritable
 cleared_sound true seen s = tt
 cleared_sound false seen s = s
 

@@ -10,14 +10,14 @@ use Rattle.uci_lines.specs.Written.{is_text}
 use Rattle.uci_lines.specs.Orders.{Order}
 use Rattle.uci_lines.specs.Orders as orders
 use Rattle.uci_lines.specs.OrderReading.{is_order}
-use Rattle.option_map.specs.declared.fault.OptFault.{OptFault}
-use Rattle.option_map.specs.declared.fault.OptFault.TheVariants.{UnknownOption, BadValue}
+use Rattle.option_map.specs.declared.fault.OptionFault.{OptionFault}
+use Rattle.option_map.specs.declared.fault.OptionFault.TheVariants.{UnknownOption, BadValue}
 use Rattle.option_map.specs.Names.{same_text}
 use Rattle.option_map.specs.Shown.{check_named}
 use Rattle.option_map.specs.Asked.{asked}
 use Rattle.option_map.specs.Held.{IsLine}
 use Rattle.option_map.specs.Spelled.{AreDeclared}
-use Rattle.option_map.specs.Settings.{Setting, Kind, Spin, Text, found}
+use Rattle.option_map.specs.Settings.{OptionSetting, SettingKind, Spin, Text, found}
 use Rattle.option_map.specs.Asked.{set_found, set_by, set_to, value_by, is_button, clamped, clamped_by, path_for, path_by}
 use Rattle.option_map.proofs.Orders.{all_stay}
 use Rattle.option_map.proofs.Asking.{asked_spelled, switches_spelled}
@@ -47,31 +47,31 @@ set_button : (name : List ℕ) (b : Bool) → IfSome (asked_by (cond b (Ok (Some
 set_button name true = tt
 set_button name false = tt
 
-set_option : (o : Setting) (value : Option (List ℕ)) → IfSome (asked_by (set_by o value)) IsSetting
+set_option : (o : OptionSetting) (value : Option (List ℕ)) → IfSome (asked_by (set_by o value)) IsSetting
 set_option o None = set_button o.name (is_button o.kind)
 set_option o (Some value) = set_value o.name (value_by o.kind value)
 
-unless_hidden : (b : Bool) (r : Result (Option Order) OptFault) → IfSome (asked_by r) IsSetting → IfSome (asked_by (cond b (Err UnknownOption) r)) IsSetting
+unless_hidden : (b : Bool) (r : Result (Option Order) OptionFault) → IfSome (asked_by r) IsSetting → IfSome (asked_by (cond b (Err UnknownOption) r)) IsSetting
 unless_hidden true r i = tt
 unless_hidden false r i = i
 
-set_named : (o : Option Setting) (value : Option (List ℕ)) → IfSome (asked_by (set_found o value)) IsSetting
+set_named : (o : Option OptionSetting) (value : Option (List ℕ)) → IfSome (asked_by (set_found o value)) IsSetting
 set_named None value = tt
 set_named (Some o) value = unless_hidden o.hidden (set_by o value) (set_option o value)
 
-set_spin : (name : List ℕ) (k : Kind) (n : ℕ) → IfSome (clamped_by name k n) IsSetting
+set_spin : (name : List ℕ) (k : SettingKind) (n : ℕ) → IfSome (clamped_by name k n) IsSetting
 set_spin name (Spin default min max) n = tt
 set_spin name k n = tt
 
-set_number : (o : Option Setting) (n : ℕ) → IfSome (clamped o n) IsSetting
+set_number : (o : Option OptionSetting) (n : ℕ) → IfSome (clamped o n) IsSetting
 set_number None n = tt
 set_number (Some o) n = set_spin o.name o.kind n
 
-set_text : (name : List ℕ) (k : Kind) (path : List ℕ) → IfSome (path_by name k path) IsSetting
+set_text : (name : List ℕ) (k : SettingKind) (path : List ℕ) → IfSome (path_by name k path) IsSetting
 set_text name (Text default) path = tt
 set_text name k path = tt
 
-set_path : (o : Option Setting) (path : List ℕ) → IfSome (path_for o path) IsSetting
+set_path : (o : Option OptionSetting) (path : List ℕ) → IfSome (path_for o path) IsSetting
 set_path None path = tt
 set_path (Some o) path = set_text o.name o.kind path
 
@@ -79,7 +79,7 @@ where_some : (P : Order → Type 0) (b : Bool) (o : Option Order) → IfSome o P
 where_some P true o h = h
 where_some P false o h = tt
 
-asked_sets : (os : List Setting) (m : IfaceMsg) → IfSome (asked_by (asked os m)) IsSetting
+asked_sets : (os : List OptionSetting) (m : IfaceMsg) → IfSome (asked_by (asked os m)) IsSetting
 asked_sets os (says.SetOption name value) = set_named (found name os) value
 asked_sets os (says.Memory n) = set_number (found (codes "Hash") os) n
 asked_sets os (says.Cores n) = set_number (found (codes "Threads") os) n
@@ -106,21 +106,21 @@ switch_is_short true = omega arith
 switch_is_short false = omega arith
 
 -- what is told may be held
-told_held : (os : List Setting) (name : List ℕ) (on : Bool) → AreDeclared os → IfSome (tells os name on) IsHeld
+told_held : (os : List OptionSetting) (name : List ℕ) (on : Bool) → AreDeclared os → IfSome (tells os name on) IsHeld
 told_held os name on d = named (check_named name os) refl where
   named : (o : Option (List ℕ)) → check_named name os ≡ o → IfSome (option_map (switches on) o) IsHeld
   named None e = tt
   named (Some spelled) e = (switches_spelled os name spelled (switch_text on) d e (switch_is_text on) (switch_is_line on) (switch_is_short on)).fits
 
-mode_held : (os : List Setting) (before after : Bool) → AreDeclared os → IfSome (asks_for_mode os before after) IsHeld
+mode_held : (os : List OptionSetting) (before after : Bool) → AreDeclared os → IfSome (asks_for_mode os before after) IsHeld
 mode_held os false true d = told_held os analyse_name true d
 mode_held os true false d = told_held os analyse_name false d
 mode_held os true true d = tt
 mode_held os false false d = tt
 
-set_held : (os : List Setting) (line : List ℕ) (m : IfaceMsg) → AreDeclared os → is_line line ≡ true → reading line ≡ Ok m → IfSome (asked_by (asked os m)) IsHeld
+set_held : (os : List OptionSetting) (line : List ℕ) (m : IfaceMsg) → AreDeclared os → is_line line ≡ true → reading line ≡ Ok m → IfSome (asked_by (asked os m)) IsHeld
 set_held os line m d l r = by_answer (asked os m) refl (asked_sets os m) where
-  by_answer : (a : Result (Option Order) OptFault) → asked os m ≡ a → IfSome (asked_by a) IsSetting → IfSome (asked_by a) IsHeld
+  by_answer : (a : Result (Option Order) OptionFault) → asked os m ≡ a → IfSome (asked_by a) IsSetting → IfSome (asked_by a) IsHeld
   by_answer (Ok None) e s = tt
   by_answer (Ok (Some order)) e s = setting_held order s (asked_spelled os line m order d l r e).fits
   by_answer (Err fault) e s = tt
@@ -137,7 +137,7 @@ desk_held d line says.Hard o l r = told_held (table d) ponder_name true o
 desk_held d line says.Easy o l r = told_held (table d) ponder_name false o
 desk_held d line m o l r = set_held (table d) line m o l r
 
-pub table_declared : (b : Bool) (os : List Setting) → AreDeclared os → AreDeclared (cond b os [])
+pub table_declared : (b : Bool) (os : List OptionSetting) → AreDeclared os → AreDeclared (cond b os [])
 table_declared true os d = d
 table_declared false os d = tt
 
@@ -162,11 +162,11 @@ both_held (x ∷ xs) ys f g = (f.0, both_held xs ys f.1 g)
 three_held : (xs : List Order) (a b : Option Order) → AreHeld xs → IfSome a IsHeld → IfSome b IsHeld → AreHeld (xs ++ option_to_list a ++ option_to_list b)
 three_held xs a b f g h = both_held (xs ++ option_to_list a) (option_to_list b) (both_held xs (option_to_list a) f (one_held a g)) (one_held b h)
 
-early_answer_held : (os : List Setting) (line : List ℕ) (r : Result IfaceMsg IfaceFault) → AreDeclared os → is_line line ≡ true → reading line ≡ r → IfSome (asked_by (answered_by os r)) IsHeld
+early_answer_held : (os : List OptionSetting) (line : List ℕ) (r : Result IfaceMsg IfaceFault) → AreDeclared os → is_line line ≡ true → reading line ≡ r → IfSome (asked_by (answered_by os r)) IsHeld
 early_answer_held os line (Ok m) d l e = set_held os line m d l e
 early_answer_held os line (Err fault) d l e = tt
 
-early_held : (os : List Setting) (lines : List (List ℕ)) → AreDeclared os → AllByRecursion (λ line. is_line line ≡ true) lines → AreHeld (early_orders os lines)
+early_held : (os : List OptionSetting) (lines : List (List ℕ)) → AreDeclared os → AllByRecursion (λ line. is_line line ≡ true) lines → AreHeld (early_orders os lines)
 early_held os lines d l = early_all IsHeld os lines (each lines l) where
   each : (lines : List (List ℕ)) → AllByRecursion (λ line. is_line line ≡ true) lines → AllByRecursion (λ line. IfSome (asked_by (early_answer os line)) IsHeld) lines
   each [] l = tt

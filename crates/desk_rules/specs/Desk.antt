@@ -8,13 +8,13 @@ use Rattle.chess_board.specs.Board.{same_side}
 use Rattle.chess_board.specs.Play.{start_position}
 use Rattle.peer_words.specs.declared.kinds.GoKind.{GoKind}
 use Rattle.game_record.specs.declared.game.TheConstants.{MOST_PLIES}
-use Rattle.game_record.specs.declared.ending.End.{End}
-use Rattle.game_record.specs.declared.ending.End.TheVariants as ends
+use Rattle.game_record.specs.declared.ending.GameEnd.{GameEnd}
+use Rattle.game_record.specs.declared.ending.GameEnd.TheVariants as ends
 use Rattle.game_record.specs.Game.{Game, ply_of, begun, with_ply, now_of}
 use Rattle.game_record.specs.Ending.{has_legal, ended_of}
 use Rattle.clock_map.specs.Clocks.{first_clocks}
 use Rattle.think_text.specs.Kept.{nothing_seen}
-use Rattle.option_map.specs.Settings.{Setting}
+use Rattle.option_map.specs.Settings.{OptionSetting}
 use Rattle.option_map.specs.Shown.{check_named}
 use Rattle.feature_talk.specs.Features.{shown_name}
 use Rattle.policy_rules.specs.declared.settings.Settings.{Settings}
@@ -47,7 +47,7 @@ opening_desk = record {
 }
 
 -- the options that count as declared: none before `uciok`
-abbrev pub table : Desk → List Setting
+abbrev pub table : Desk → List OptionSetting
 table d = if d.booted then d.options else []
 
 abbrev pub analyses : Mode → Bool
@@ -81,7 +81,7 @@ abbrev pub has_ended : Game → Bool
 has_ended g = is_some (ended_of g)
 
 -- it has ended since the side on move has no legal move
-abbrev pub is_moveless : Option End → Bool
+abbrev pub is_moveless : Option GameEnd → Bool
 is_moveless (Some ends.Mate) = true
 is_moveless (Some ends.Stale) = true
 is_moveless end = false

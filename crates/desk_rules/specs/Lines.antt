@@ -18,9 +18,9 @@ use Rattle.uci_lines.specs.Orders.{Order}
 use Rattle.uci_lines.specs.Orders as orders
 use Rattle.game_record.specs.Game.{Game, begun, now_of, without_last}
 use Rattle.clock_map.specs.Clocks.{after_message, after_new}
-use Rattle.option_map.specs.declared.fault.OptFault.{OptFault}
-use Rattle.option_map.specs.declared.fault.OptFault.TheVariants.{UnknownOption, BadValue}
-use Rattle.option_map.specs.Settings.{Setting}
+use Rattle.option_map.specs.declared.fault.OptionFault.{OptionFault}
+use Rattle.option_map.specs.declared.fault.OptionFault.TheVariants.{UnknownOption, BadValue}
+use Rattle.option_map.specs.Settings.{OptionSetting}
 use Rattle.option_map.specs.Shown.{check_named}
 use Rattle.option_map.specs.Asked.{asked}
 use Rattle.option_map.specs.Held.{can_join}
@@ -45,16 +45,16 @@ abbrev pub switches : Bool → List ℕ → Order
 switches on name = orders.SetOption name (Some (switch_text on))
 
 -- the order that sets a check option, if it is declared
-abbrev pub tells : List Setting → List ℕ → Bool → Option Order
+abbrev pub tells : List OptionSetting → List ℕ → Bool → Option Order
 tells os name on = option_map (switches on) (check_named name os)
 
 -- a line by which the mode enters or leaves Analyse asks for UCI_AnalyseMode
-abbrev pub asks_for_mode : List Setting → Bool → Bool → Option Order
+abbrev pub asks_for_mode : List OptionSetting → Bool → Bool → Option Order
 asks_for_mode os false true = tells os analyse_name true
 asks_for_mode os true false = tells os analyse_name false
 asks_for_mode os before after = None
 
-abbrev pub asked_by : Answer (Option Order) OptFault → Option Order
+abbrev pub asked_by : Answer (Option Order) OptionFault → Option Order
 asked_by (Ok order) = order
 asked_by (Err fault) = None
 
@@ -120,7 +120,7 @@ abbrev pub illegal_position : IfaceMsg → Option Refusal
 illegal_position (says.SetBoard text) = no_position (position_of text)
 illegal_position m = None
 
-abbrev pub refused_option : Answer (Option Order) OptFault → Option Refusal
+abbrev pub refused_option : Answer (Option Order) OptionFault → Option Refusal
 refused_option (Ok order) = None
 refused_option (Err UnknownOption) = because reasons.UnknownOption
 refused_option (Err BadValue) = because reasons.BadValue
@@ -172,11 +172,11 @@ verdict h held line (Err faults.BadArgument) = Refused (refusals.Because reasons
 verdict h held line (Ok m) = if is_early h m then deferred (may_wait h.desk.early line) else judged m (refusal h held m)
 
 -- what the options answer to an early line, once they are declared
-abbrev pub answered_by : List Setting → Answer IfaceMsg IfaceFault → Answer (Option Order) OptFault
+abbrev pub answered_by : List OptionSetting → Answer IfaceMsg IfaceFault → Answer (Option Order) OptionFault
 answered_by os (Ok m) = asked os m
 answered_by os (Err fault) = Ok None
 
-abbrev pub early_answer : List Setting → List ℕ → Answer (Option Order) OptFault
+abbrev pub early_answer : List OptionSetting → List ℕ → Answer (Option Order) OptionFault
 early_answer os line = answered_by os (reading line)
 
 -- EPOCH LINES
@@ -203,6 +203,15 @@ is_epoch_line owes asked (says.EgtPath kind path) = is_some asked && not owes
 is_epoch_line owes asked m = false
 
 -- CHANGES
+
+abbrev pub spelled : Answer Position FenFault → Option Position
+spelled (Ok p) = Some p
+spelled (Err fault) = None
+
+-- the position that a message sets up, if it sets one up
+abbrev pub set_up : IfaceMsg → Option Position
+set_up (says.SetBoard text) = spelled (position_of text)
+set_up m = None
 
 abbrev pub new_mode : Mode → Mode
 new_mode modes.Analyse = modes.Analyse

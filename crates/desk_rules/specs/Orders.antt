@@ -23,11 +23,11 @@ use Rattle.search_epochs.specs.declared.words.Orders.{Orders}
 use Rattle.search_epochs.specs.declared.words.Orders.TheVariants as chosen
 use Rattle.search_epochs.specs.Tickets.{Word, kind_of}
 use Rattle.search_epochs.specs.Tickets as word
-use Rattle.desk_rules.specs.declared.effect.Asks.{Asks}
-use Rattle.desk_rules.specs.declared.effect.Asks.TheVariants as asks
+use Rattle.desk_rules.specs.declared.effect.AskedOrders.{AskedOrders}
+use Rattle.desk_rules.specs.declared.effect.AskedOrders.TheVariants as asks
 use Rattle.desk_rules.specs.declared.desk.Desk.{Desk}
 use Rattle.desk_rules.specs.Desk.{Situation, is_gone, analyses, on_move, plies, played, ponder_name, analyse_name}
-use Rattle.option_map.specs.Settings.{Setting}
+use Rattle.option_map.specs.Settings.{OptionSetting}
 use Rattle.desk_rules.specs.Lines.{tells, asks as asked_of, asked_by, early_answer}
 use Rattle.desk_rules.specs.Steps.{Effect, Accepts, Boots}
 use Rattle.peer_words.specs.Bytes.{blank}
@@ -42,11 +42,11 @@ abbrev pub analysis_at_boot : Desk → Option Order
 analysis_at_boot d = if analyses d.mode then tells d.options analyse_name true else None
 
 -- the order that an early line asks for, if it asks for one
-abbrev pub early_order : List Setting → List ℕ → List Order
+abbrev pub early_order : List OptionSetting → List ℕ → List Order
 early_order os line = option_to_list (asked_by (early_answer os line))
 
 -- the orders that early lines ask for, in turn
-abbrev pub early_orders : List Setting → List (List ℕ) → List Order
+abbrev pub early_orders : List OptionSetting → List (List ℕ) → List Order
 early_orders os lines = flat_map (early_order os) lines
 
 -- the orders that are asked for when Boot is left: those of the early lines, and what is set then
@@ -60,7 +60,7 @@ asked_by_effect h Boots = asked_at_boot h.desk
 asked_by_effect h d = []
 
 -- what is asked for as data
-abbrev pub orders_asked : Asks → List Order
+abbrev pub orders_asked : AskedOrders → List Order
 orders_asked (asks.One order) = option_to_list (option_map setup_seen order)
 orders_asked (asks.AtBoot desk) = asked_at_boot desk.now
 

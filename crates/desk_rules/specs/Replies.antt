@@ -19,23 +19,23 @@ use Rattle.cecp_lines.specs.declared.reply.UserError.TheVariants as tell
 use Rattle.cecp_lines.specs.declared.reply.Outcome.{Outcome}
 use Rattle.cecp_lines.specs.declared.reply.Outcome.TheVariants as outcomes
 use Rattle.uci_lines.specs.Info.{Info}
-use Rattle.game_record.specs.declared.ending.End.{End}
-use Rattle.game_record.specs.declared.ending.End.TheVariants as ends
+use Rattle.game_record.specs.declared.ending.GameEnd.{GameEnd}
+use Rattle.game_record.specs.declared.ending.GameEnd.TheVariants as ends
 use Rattle.game_record.specs.Game.{Game, now_of}
 use Rattle.game_record.specs.Ending.{ended_of}
 use Rattle.policy_rules.specs.declared.settings.Settings.{Settings}
 use Rattle.think_text.specs.declared.line.Pondered.{Pondered}
 use Rattle.think_text.specs.Line.{thinking_line}
 use Rattle.think_text.specs.Kept.{stat01_of}
-use Rattle.feature_talk.specs.declared.talk.Say.{Say}
-use Rattle.feature_talk.specs.declared.talk.Say.TheVariants as say
+use Rattle.feature_talk.specs.declared.talk.ProtoverAnswer.{ProtoverAnswer}
+use Rattle.feature_talk.specs.declared.talk.ProtoverAnswer.TheVariants as say
 use Rattle.feature_talk.specs.Due.{answer}
 use Rattle.feature_talk.specs.Features.{feature_list}
 use Rattle.desk_rules.specs.declared.effect.Refusal.{Refusal}
 use Rattle.desk_rules.specs.declared.effect.Refusal.TheVariants as refusals
 use Rattle.desk_rules.specs.declared.desk.Desk.{Desk}
 use Rattle.desk_rules.specs.Desk.{Situation, table, plays, is_boot, on_move, played, has_ended}
-use Rattle.option_map.specs.Settings.{Setting}
+use Rattle.option_map.specs.Settings.{OptionSetting}
 use Rattle.desk_rules.specs.Lines.{change, refused_option, early_answer}
 use Rattle.desk_rules.specs.Steps.{Effect, LongLine, Refuses, Accepts, Boots, Thinks, Shows, Forfeits, Dies, desk_after_effect, searched_by, resigns_after, resigns_at_end, resigns_when_gone}
 
@@ -51,7 +51,7 @@ refused (refusals.GameTooLong m) line = told.IllegalLong m
 refused refusals.IllegalPosition line = told.TellError tell.Position
 
 -- who is on move when the game is over by mate has lost it
-abbrev pub outcome_of : Side → End → Outcome
+abbrev pub outcome_of : Side → GameEnd → Outcome
 outcome_of White ends.Mate = outcomes.BlackMates
 outcome_of Black ends.Mate = outcomes.WhiteMates
 outcome_of s ends.Stale = outcomes.Stalemate
@@ -59,7 +59,7 @@ outcome_of s ends.Dead = outcomes.Dead
 outcome_of s ends.Repetition = outcomes.Repetition
 outcome_of s ends.Fifty = outcomes.Fifty
 
-abbrev pub result_by : Side → Option End → List Reply
+abbrev pub result_by : Side → Option GameEnd → List Reply
 result_by s None = []
 result_by s (Some end) = told.Result (outcome_of s end) ∷ []
 
@@ -75,7 +75,7 @@ abbrev pub not_yet : Reply
 not_yet = told.Feature (codes "done") (codes "0")
 
 -- `protover` is answered by `done=0` in Boot, and later by the list
-abbrev pub protover_row : Say → Desk → List Reply
+abbrev pub protover_row : ProtoverAnswer → Desk → List Reply
 protover_row say.Wait d = not_yet ∷ []
 protover_row say.List d = feature_list (table d) d.name
 
@@ -157,7 +157,7 @@ early_refusal None line = []
 early_refusal (Some r) line = refused r line ∷ []
 
 -- the lines for the early lines that are refused, in turn
-abbrev pub early_refusals : List Setting → List (List ℕ) → List Reply
+abbrev pub early_refusals : List OptionSetting → List (List ℕ) → List Reply
 early_refusals os lines = flat_map (λ line. early_refusal (refused_option (early_answer os line)) line) lines
 
 -- the engine leaves Boot: the list if it is due, and the early lines that are refused

@@ -4,6 +4,7 @@ use Rattle.line_io.specs.Event.{Event}
 use Rattle.line_io.specs.Event as events
 use Rattle.chess_board.specs.declared.board.Move.{Move}
 use Rattle.chess_board.specs.Place.{legal}
+use Rattle.chess_board.specs.Position.{Position}
 use Rattle.peer_words.specs.declared.kinds.GoKind.{GoKind}
 use Rattle.peer_words.specs.declared.kinds.GoKind.TheVariants as kinds
 use Rattle.cecp_lines.specs.Messages.{IfaceMsg, message_of}
@@ -34,7 +35,7 @@ use Rattle.desk_rules.specs.declared.effect.Effect as code
 use Rattle.desk_rules.specs.declared.effect.Effect.TheVariants as effects
 use Rattle.desk_rules.specs.declared.desk.Desk.{Desk}
 use Rattle.desk_rules.specs.Desk.{Situation, is_gone, is_boot, is_getting, current, call_of, owes_move, played, has_ended}
-use Rattle.desk_rules.specs.Lines.{Verdict, Refused, Accepted, Early, verdict, asks, is_epoch_line, change, clears_scores}
+use Rattle.desk_rules.specs.Lines.{Verdict, Refused, Accepted, Early, verdict, asks, is_epoch_line, set_up, change, clears_scores}
 
 -- what comes of an event, whatever memory its line lies in
 pub data Effect : Type 0 where
@@ -138,6 +139,11 @@ what_of Forfeits = word.Says said.Best
 what_of Answers = word.Says said.Best
 what_of Dies = word.Says said.Ended
 what_of d = Quiet
+
+-- the position that an accepted line sets up, if it sets one up
+abbrev pub starts_from : Effect → Option Position
+starts_from (Accepts m) = set_up m
+starts_from d = None
 
 -- the epoch rises with each accepted epoch line and each shown move
 abbrev pub begins_epoch : Situation → Effect → Bool

@@ -11,8 +11,8 @@ ghost use Rattle.think_text.specs.Line.{IsHeard};
 ghost use Rattle.think_text.specs.Kept.{after_info, nothing_seen};
 ghost use Rattle.feature_talk.specs.Features.{reply_lines};
 ghost use Rattle.desk_rules.specs.Desk.{at, is_boot};
-ghost use Rattle.desk_rules.specs.Lines.{change};
-ghost use Rattle.desk_rules.specs.Steps.{effect_of, hint_after, searched_by, resigns_at_end, owes_when_gone, over_where, desk_with_move, desk_after_effect, answers_pings};
+ghost use Rattle.desk_rules.specs.Lines.{set_up, change};
+ghost use Rattle.desk_rules.specs.Steps.{effect_of, starts_from, hint_after, searched_by, resigns_at_end, owes_when_gone, over_where, desk_with_move, desk_after_effect, answers_pings};
 ghost use Rattle.desk_rules.specs.Replies.{row_accepted, resign_where, thought, shown_row, boot_row, end_row, row, pongs};
 ghost use Rattle.desk_rules.specs.Early.{AreEarly};
 ghost use Rattle.desk_rules.specs.Fits.{IsHintPlayable, IsSound, IsFit, IsServed, IsSaid, CanChange};
@@ -24,17 +24,15 @@ use crate::answers::{
     put_thinking, spelling_of,
 };
 use crate::call::{has_ended, is_boot, is_move};
-use crate::change::play;
-use crate::refuse::is_legal;
-use crate::{Context, Desk, Effect, Mode};
+use crate::{Context, Desk, Effect, Mode, Ruling};
 use cecp_lines::{IfaceMsg, Reason};
 use chess_board::{Move, Position};
-use feature_talk::Talk;
+use feature_talk::FeatureTalk;
 use game_record::Game;
 use line_io::Out;
 use peer_words::GoKind;
 use policy_rules::Settings;
-use think_text::Seen;
+use think_text::SeenThinking;
 use uci_lines::Info;
 
 // The hint of a shown move counts if it is legal after that move.
@@ -42,7 +40,7 @@ fn hint_after(game: &Game, hint: Option<Move>) -> Option<Move>
     ensures { result ≡ hint_after game.now hint }
 {
     match hint {
-        Some(m) => { if is_legal(game, m) { Some(m) } else { None } }
+        Some(m) => { if game.now().legal(m) { Some(m) } else { None } }
         None => None,
     }
 }
@@ -62,7 +60,7 @@ pub(crate) fn position_after(game: &Game, m: Move) -> Position
 }
 
 // In a closed session it stays as it is.
-fn leave_boot(due: &mut Talk, closed: bool)
+fn leave_boot(due: &mut FeatureTalk, closed: bool)
     ensures { due.new ≡ (due.old && closed) }
 {
     if !closed {
@@ -90,8 +88,9 @@ impl Desk {
         self.owes_move(context) && !context.closed
     }
 
-    // Obeys a line.
-    fn obey(&mut self, context: Context, message: &IfaceMsg, out: &mut Out)
+    // Obeys a line; `start` is the position that it sets up.
+    fn obey(&mut self, context: Context, message: &IfaceMsg, start: Option<Position>, out: &mut Out)
+        requires start { start ≡ set_up (message_of message.now) }
         requires sound { IsSound self.old }
         requires change { CanChange self.old (message_of message.now) }
         requires read { CanBeRead (message_of message.now) }
@@ -105,7 +104,7 @@ impl Desk {
             (message_of message.now))) ≤ OBEYED }
     {
         self.put_before(context, message, out);
-        self.change(is_boot(context.engine), message);
+        self.change(is_boot(context.engine), message, start);
         self.put_after(message, out);
     }
 
@@ -158,7 +157,7 @@ impl Desk {
             ≡ with out.old (reply_lines (shown_row (at context self.old) best)) }
         ensures short { length (reply_lines (shown_row (at context self.old) best)) ≤ SHOWN_MOVE }
     {
-        play(&mut self.game, best);
+        self.game.play(best);
         let resigns = context.resigns && !has_ended(self.game.ended());
         self.hint = hint_after(&self.game, hint);
         self.mode = over_where(resigns, self.mode);
@@ -187,7 +186,8 @@ impl Desk {
 
     // Writes the lines of an effect, except pongs, and changes the desk.
     #[tactic(auto, unfolding(crate::specs::Steps::desk_after_effect, crate::specs::Replies::row))]
-    fn follow(&mut self, context: Context, effect: &Effect, out: &mut Out)
+    fn follow(&mut self, context: Context, effect: &Effect, start: Option<Position>, out: &mut Out)
+        requires start { start ≡ starts_from (effect_of effect.now) }
         requires sound { IsSound self.old }
         requires fits { IsFit (at context self.old) (effect_of effect.now) }
         requires served { IsServed (at context self.old) }
@@ -202,7 +202,7 @@ impl Desk {
         match effect {
             Effect::Refuses { refusal, line } => put_refused(*refusal, line, out),
             Effect::LongLine => put_error(Reason::LineTooLong, b"...", out),
-            Effect::Accepts(message) => self.obey(context, message, out),
+            Effect::Accepts(message) => self.obey(context, message, start, out),
             Effect::Defers(line) => self.early.add(line),
             Effect::Names(text) => self.name.set(text),
             Effect::Declares(option) => {
@@ -221,21 +221,24 @@ impl Desk {
         }
     }
 
-    /// Writes the lines of an effect, except pongs, none if the session is closed then, and changes the desk.
-    pub fn commit(&mut self, context: Context, effect: &Effect, closed: bool, out: &mut Out)
+    /// Writes the lines of the effect of a ruling, except pongs, none if the session is closed then, and changes the desk.
+    pub fn commit(&mut self, context: Context, ruling: &Ruling, closed: bool, out: &mut Out)
         requires sound { IsSound self.old }
-        requires fits { IsFit (at context self.old) (effect_of effect.now) }
+        requires start { ruling.now.start ≡ starts_from (effect_of ruling.now.effect) }
+        requires fits { IsFit (at context self.old) (effect_of ruling.now.effect) }
         requires served { IsServed (at context self.old) }
         requires pings { length self.old.pings ≤ MOST_PINGS }
         requires empty { out.old ≡ empty out.old.room }
         requires room { STEP_REPLIES ≤ out.old.room }
-        ensures desk { self.new ≡ desk_after_effect (at context self.old) (effect_of effect.now) }
+        ensures desk { self.new
+            ≡ desk_after_effect (at context self.old) (effect_of ruling.now.effect) }
         ensures lines { out.new
             ≡ with out.old
-            (reply_lines (cond closed [] (row (at context self.old) (effect_of effect.now)))) }
+            (reply_lines
+            (cond closed [] (row (at context self.old) (effect_of ruling.now.effect)))) }
         ensures short { length out.new.text ≤ STEP_REPLIES }
     {
-        self.follow(context, effect, out);
+        self.follow(context, &ruling.effect, ruling.start, out);
         if closed {
             out.clear();
         }
@@ -276,7 +279,7 @@ impl Desk {
             } }
     {
         if clears {
-            self.seen = Seen::new();
+            self.seen = SeenThinking::new();
         }
         if closed {
             self.early.clear();

@@ -23,11 +23,11 @@ use crate::{Context, Desk, Refusal};
 use cecp_lines::{IfaceMsg, Outcome, Reason, Reply, Spelling, UserError, write_reply};
 use chess_board::{Move, Position, Side};
 use feature_talk::{write_bare_list, write_list};
-use game_record::{End, Game};
+use game_record::{Game, GameEnd};
 use line_io::Out;
 use peer_words::{GoKind, trim};
 use policy_rules::Settings;
-use think_text::{Pondered, Seen, stat01, thinking};
+use think_text::{Pondered, SeenThinking, stat01, thinking};
 use uci_lines::Info;
 
 // Puts a reply and its line feed.
@@ -86,20 +86,20 @@ pub(crate) fn put_refused(refusal: Refusal, line: &[u8], out: &mut Out)
     }
 }
 
-fn outcome_of(side: Side, end: End) -> Outcome
+fn outcome_of(side: Side, end: GameEnd) -> Outcome
     ensures { result ≡ outcome_of side end }
 {
     match (side, end) {
-        (Side::White, End::Mate) => Outcome::BlackMates,
-        (Side::Black, End::Mate) => Outcome::WhiteMates,
-        (_, End::Stale) => Outcome::Stalemate,
-        (_, End::Dead) => Outcome::Dead,
-        (_, End::Repetition) => Outcome::Repetition,
-        (_, End::Fifty) => Outcome::Fifty,
+        (Side::White, GameEnd::Mate) => Outcome::BlackMates,
+        (Side::Black, GameEnd::Mate) => Outcome::WhiteMates,
+        (_, GameEnd::Stale) => Outcome::Stalemate,
+        (_, GameEnd::Dead) => Outcome::Dead,
+        (_, GameEnd::Repetition) => Outcome::Repetition,
+        (_, GameEnd::Fifty) => Outcome::Fifty,
     }
 }
 
-fn put_result(side: Side, end: Option<End>, out: &mut Out)
+fn put_result(side: Side, end: Option<GameEnd>, out: &mut Out)
     requires { length out.old.text + SHORT_REPLY ≤ out.old.room }
     ensures line { out.new ≡ with out.old (reply_lines (result_by side end)) }
     ensures short { length (reply_lines (result_by side end)) ≤ SHORT_REPLY }
@@ -149,7 +149,7 @@ fn put_hint(hint: Option<Move>, out: &mut Out)
     }
 }
 
-fn put_stat(seen: &Seen, at: &Position, out: &mut Out)
+fn put_stat(seen: &SeenThinking, at: &Position, out: &mut Out)
     requires current { IfSome seen.now.current IsWritable }
     requires room { length out.old.text + SHORT_REPLY ≤ out.old.room }
     ensures line { out.new ≡ with out.old (reply_lines (stat01_of seen.now at.now ∷ [])) }
@@ -248,7 +248,13 @@ impl Desk {
         ensures short { length (reply_lines (protover_row (answer boot) self.now)) ≤ FEATURE_LIST }
     {
         if boot {
-            out.put(b"feature done=0\n");
+            put_reply(
+                &Reply::Feature {
+                    name: b"done",
+                    value: b"0",
+                },
+                out,
+            );
         } else {
             self.put_list(self.booted, out);
         }

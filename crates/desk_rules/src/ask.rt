@@ -12,7 +12,7 @@ ghost use Rattle.desk_rules.specs.Orders.{ponder_at_boot, analysis_at_boot};
 use crate::Desk;
 use crate::call::analyses;
 use cecp_lines::IfaceMsg;
-use option_map::{Asked, OptFault, Setup, Value};
+use option_map::{AskedOption, OptionFault, OptionValue, SetupOrder};
 
 fn switch_text(on: bool) -> &'static [u8]
     ensures { result.now ≡ switch_text on }
@@ -21,47 +21,47 @@ fn switch_text(on: bool) -> &'static [u8]
 }
 
 // The order that switches a check option, if there is one.
-fn switch(spelled: Option<&[u8]>, on: bool) -> Option<Setup<'_>>
+fn switch(spelled: Option<&[u8]>, on: bool) -> Option<SetupOrder<'_>>
     ensures { option_map setup_seen result ≡ option_map (switches on) (optional_now spelled.entry) }
 {
     match spelled {
-        Some(name) => Some(Setup::Set(Asked {
+        Some(name) => Some(SetupOrder::Set(AskedOption {
             name,
-            value: Some(Value::Text(switch_text(on))),
+            value: Some(OptionValue::Text(switch_text(on))),
         })),
         None => None,
     }
 }
 
 // What sets an option if none is declared.
-fn no_options(message: &IfaceMsg) -> Result<Option<Asked<'static>>, OptFault>
+fn no_options(message: &IfaceMsg) -> Result<Option<AskedOption<'static>>, OptionFault>
     ensures { answer_seen result ≡ asked [] (message_of message.now) }
 {
     match message {
-        IfaceMsg::SetOption { name: _, value: _ } => Err(OptFault::UnknownOption),
+        IfaceMsg::SetOption { name: _, value: _ } => Err(OptionFault::UnknownOption),
         _ => Ok(None),
     }
 }
 
 // The order that sets an option, or none if it is not set.
-pub(crate) fn set(answer: Result<Option<Asked<'_>>, OptFault>) -> Option<Setup<'_>>
+pub(crate) fn set(answer: Result<Option<AskedOption<'_>>, OptionFault>) -> Option<SetupOrder<'_>>
     ensures { option_map setup_seen result ≡ asked_by (answer_seen answer.entry) }
 {
     match answer {
-        Ok(Some(asked)) => Some(Setup::Set(asked)),
+        Ok(Some(asked)) => Some(SetupOrder::Set(asked)),
         _ => None,
     }
 }
 
 impl Desk {
     // The order that sets a check option, if that counts as declared.
-    fn tells(&self, name: &'static [u8], on: bool) -> Option<Setup<'_>>
+    fn tells(&self, name: &'static [u8], on: bool) -> Option<SetupOrder<'_>>
         ensures { option_map setup_seen result ≡ tells (table self.now) name.now on }
     {
         switch(self.spelled(name), on)
     }
 
-    fn asks_for_mode(&self, to: bool) -> Option<Setup<'_>>
+    fn asks_for_mode(&self, to: bool) -> Option<SetupOrder<'_>>
         ensures { option_map setup_seen result
             ≡ asks_for_mode (table self.now) (analyses self.now.mode) to }
     {
@@ -76,7 +76,7 @@ impl Desk {
     pub(crate) fn asked<'l: 's, 's>(
         &'s self,
         message: &IfaceMsg<'l>,
-    ) -> Result<Option<Asked<'s>>, OptFault>
+    ) -> Result<Option<AskedOption<'s>>, OptionFault>
         ensures { answer_seen result ≡ asked (table self.now) (message_of message.now) }
     {
         if self.booted {
@@ -92,8 +92,8 @@ impl Desk {
         &'s self,
         gone: bool,
         message: &IfaceMsg<'l>,
-        answer: Result<Option<Asked<'s>>, OptFault>,
-    ) -> Option<Setup<'s>>
+        answer: Result<Option<AskedOption<'s>>, OptionFault>,
+    ) -> Option<SetupOrder<'s>>
         requires { answer_seen answer ≡ asked (table self.now) (message_of message.now) }
         ensures { option_map setup_seen result ≡ asks gone self.now (message_of message.now) }
     {
@@ -101,7 +101,7 @@ impl Desk {
             return None;
         }
         match message {
-            IfaceMsg::New => Some(Setup::NewGame),
+            IfaceMsg::New => Some(SetupOrder::NewGame),
             IfaceMsg::Force
             | IfaceMsg::Go
             | IfaceMsg::PlayOther
@@ -115,14 +115,14 @@ impl Desk {
     }
 
     // The order that sets whether to ponder, when Boot is left.
-    pub(crate) fn ponder_at_boot(&self) -> Option<Setup<'_>>
+    pub(crate) fn ponder_at_boot(&self) -> Option<SetupOrder<'_>>
         ensures { option_map setup_seen result ≡ ponder_at_boot self.now }
     {
         switch(self.options.check_name(b"Ponder"), self.pondering)
     }
 
     // The order that sets analysis, when Boot is left.
-    pub(crate) fn analysis_at_boot(&self) -> Option<Setup<'_>>
+    pub(crate) fn analysis_at_boot(&self) -> Option<SetupOrder<'_>>
         ensures { option_map setup_seen result ≡ analysis_at_boot self.now }
     {
         if analyses(self.mode) {

@@ -12,7 +12,7 @@ ghost use Rattle.desk_rules.specs.Fits.{IsHintPlayable};
 
 use crate::{Context, Desk, Mode};
 use chess_board::Side;
-use game_record::{End, Game, MOST_PLIES};
+use game_record::{Game, GameEnd, MOST_PLIES};
 use search_epochs::{Call, EngineState};
 
 /// Whether the engine is Gone.
@@ -77,17 +77,17 @@ pub(crate) fn is_full(game: &Game) -> bool
     game.plies() as usize >= MOST_PLIES
 }
 
-pub(crate) fn has_ended(end: Option<End>) -> bool
+pub(crate) fn has_ended(end: Option<GameEnd>) -> bool
     ensures { result ≡ is_some end }
 {
     end.is_some()
 }
 
-fn is_moveless(end: Option<End>) -> bool
+fn is_moveless(end: Option<GameEnd>) -> bool
     ensures { result ≡ is_moveless end }
 {
     match end {
-        Some(End::Mate) | Some(End::Stale) => true,
+        Some(GameEnd::Mate) | Some(GameEnd::Stale) => true,
         _ => false,
     }
 }

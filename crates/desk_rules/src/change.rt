@@ -1,13 +1,12 @@
 // What accepted lines of the interface change.
 ghost use Rattle.std.specs.Prelude.{◌≡◌, ◌<◌, ◌≤◌, length, None};
 ghost use Rattle.chess_board.specs.Play.{start_position};
-ghost use Rattle.fen_text.specs.Fen.{position_of};
 ghost use Rattle.cecp_lines.specs.Messages.{message_of};
 ghost use Rattle.cecp_lines.specs.Reading.{CanBeRead};
 ghost use Rattle.game_record.specs.Game.{ply_of, begun, with_ply, without_last, now_of, IsPlayable};
 ghost use Rattle.clock_map.specs.Clocks.{after_new};
 ghost use Rattle.desk_rules.specs.Desk.{other};
-ghost use Rattle.desk_rules.specs.Lines.{new_mode, with_game, at_position, change, clears_scores};
+ghost use Rattle.desk_rules.specs.Lines.{new_mode, with_game, set_up, change, clears_scores};
 ghost use Rattle.desk_rules.specs.Fits.{CanChange};
 ghost use Rattle.game_record.specs.declared.game.TheConstants.{MOST_PLIES};
 
@@ -15,7 +14,6 @@ use crate::call::on_move;
 use crate::{Desk, Mode};
 use cecp_lines::IfaceMsg;
 use chess_board::{Move, Position, Side};
-use fen_text::read_fen;
 use game_record::Game;
 
 /// Whether an accepted line clears the scores of shown moves.
@@ -51,15 +49,6 @@ fn new_mode(mode: Mode) -> Mode
     }
 }
 
-/// Plays a move for which there is room.
-pub(crate) fn play(game: &mut Game, m: Move)
-    requires legal { IsPlayable (now_of game.old) (ply_of m) }
-    requires room { length game.old.moves < MOST_PLIES }
-    ensures { game.new ≡ with_ply game.old (ply_of m) }
-{
-    let _ = game.push(m);
-}
-
 // Takes moves back that were played.
 fn take_back(game: &mut Game, n: u32)
     requires { n ≤ length game.old.moves }
@@ -74,7 +63,7 @@ impl Desk {
         requires room { length self.old.game.moves < MOST_PLIES }
         ensures { self.new ≡ with_game self.old (with_ply self.old.game (ply_of m)) }
     {
-        play(&mut self.game, m);
+        self.game.play(m);
         self.hint = None;
     }
 
@@ -86,13 +75,11 @@ impl Desk {
         self.hint = None;
     }
 
-    fn set_board(&mut self, text: &[u8])
-        ensures { self.new ≡ at_position self.old (position_of text.now) }
+    fn set_board(&mut self, start: Position)
+        ensures { self.new ≡ with_game self.old (begun start) }
     {
-        if let Ok(start) = read_fen(text) {
-            self.game.reset(start);
-            self.hint = None;
-        }
+        self.game.reset(start);
+        self.hint = None;
     }
 
     fn begin_game(&mut self)
@@ -110,9 +97,10 @@ impl Desk {
         self.clocks.reset();
     }
 
-    // Changes the desk as an accepted line commands.
-    #[tactic(auto, unfolding(crate::specs::Lines::change))]
-    pub(crate) fn change(&mut self, boot: bool, message: &IfaceMsg)
+    // Changes the desk as an accepted line commands; `start` is the position that it sets up.
+    #[tactic(auto, unfolding(crate::specs::Lines::change), using(crate::proofs::Starts::placed, crate::proofs::Starts::not_placed))]
+    pub(crate) fn change(&mut self, boot: bool, message: &IfaceMsg, start: Option<Position>)
+        requires start { start ≡ set_up (message_of message.now) }
         requires change { CanChange self.old (message_of message.now) }
         requires read { CanBeRead (message_of message.now) }
         ensures { self.new ≡ change boot self.old (message_of message.now) }
@@ -128,7 +116,11 @@ impl Desk {
             IfaceMsg::UserMove(m) => self.enter(*m),
             IfaceMsg::Undo => self.undo(1),
             IfaceMsg::Remove => self.undo(2),
-            IfaceMsg::SetBoard(text) => self.set_board(text),
+            IfaceMsg::SetBoard(_) => {
+                if let Some(start) = start {
+                    self.set_board(start);
+                }
+            }
             IfaceMsg::Analyze => self.mode = Mode::Analyse,
             IfaceMsg::Result => self.mode = Mode::Over,
             IfaceMsg::Hard => self.pondering = true,

@@ -5,12 +5,12 @@ ghost use Rattle.desk_rules.specs.Desk.{opening_desk};
 use crate::{Early, EngineName, Mode, Pings};
 use chess_board::{Move, Side};
 use clock_map::Clocks;
-use feature_talk::Talk;
+use feature_talk::FeatureTalk;
 use game_record::Game;
 use line_io::NoMemory;
 use option_map::Options;
 use std::alloc::Global;
-use think_text::Seen;
+use think_text::SeenThinking;
 
 /// What the interface commanded and the engine answered.
 #[derive(Drop)]
@@ -29,11 +29,11 @@ pub struct Desk {
     pub booted: bool,
     pub name: EngineName,
     /// Whether the feature list is due.
-    pub due: Talk,
+    pub due: FeatureTalk,
     /// The settings that came before the options are known.
     pub early: Early,
     /// What the open search reported.
-    pub seen: Seen,
+    pub seen: SeenThinking,
 }
 
 impl Desk {
@@ -52,9 +52,9 @@ impl Desk {
             options: Options::make(alloc)?,
             booted: false,
             name: EngineName::new(),
-            due: Talk::new(),
+            due: FeatureTalk::new(),
             early: Early::make(alloc)?,
-            seen: Seen::new(),
+            seen: SeenThinking::new(),
         })
     }
 }

@@ -17,7 +17,7 @@ use crate::ask::set;
 use crate::orders::hold;
 use cecp_lines::{Reason, read_iface};
 use line_io::{NoMemory, Out};
-use option_map::{Asked, Held, OptFault, Options};
+use option_map::{AskedOption, HeldOrders, OptionFault, Options};
 use peer_words::trim;
 use std::alloc::Global;
 use std::marker::Model;
@@ -79,7 +79,10 @@ fn next_line(text: &[u8]) -> Option<(&[u8], &[u8])>
 }
 
 // What the options answer to an early line.
-fn early_answer<'a>(options: &'a Options, line: &'a [u8]) -> Result<Option<Asked<'a>>, OptFault>
+fn early_answer<'a>(
+    options: &'a Options,
+    line: &'a [u8],
+) -> Result<Option<AskedOption<'a>>, OptionFault>
     ensures { answer_seen result ≡ early_answer options.now line.now }
 {
     match read_iface(line) {
@@ -89,7 +92,7 @@ fn early_answer<'a>(options: &'a Options, line: &'a [u8]) -> Result<Option<Asked
 }
 
 // Holds what the lines of a text ask for, in turn.
-fn hold_lines(text: &[u8], options: &Options, held: &mut Held)
+fn hold_lines(text: &[u8], options: &Options, held: &mut HeldOrders)
     requires { AllJoin held.old (early_orders options.now (parts text.now)) }
     ensures { held.new ≡ with_orders held.old (early_orders options.now (parts text.now)) }
 {
@@ -112,8 +115,8 @@ fn put_refusal(line: &[u8], options: &Options, out: &mut Out)
 {
     match early_answer(options, line) {
         Ok(_) => {}
-        Err(OptFault::UnknownOption) => put_error_line(Reason::UnknownOption, trim(line), out),
-        Err(OptFault::BadValue) => put_error_line(Reason::BadValue, trim(line), out),
+        Err(OptionFault::UnknownOption) => put_error_line(Reason::UnknownOption, trim(line), out),
+        Err(OptionFault::BadValue) => put_error_line(Reason::BadValue, trim(line), out),
     }
 }
 
@@ -171,7 +174,7 @@ impl Early {
     }
 
     /// Holds what the lines ask of the options, in turn.
-    pub fn hold_all(&self, options: &Options, held: &mut Held)
+    pub fn hold_all(&self, options: &Options, held: &mut HeldOrders)
         requires { AllJoin held.old (early_orders options.now self.now) }
         ensures { held.new ≡ with_orders held.old (early_orders options.now self.now) }
     {

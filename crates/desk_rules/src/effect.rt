@@ -7,8 +7,8 @@ ghost use Rattle.desk_rules.specs.Steps.{effect_of, what_of, is_boots, is_death,
 use crate::Desk;
 use crate::change::clears_scores;
 use cecp_lines::{IfaceMsg, Reason};
-use chess_board::Move;
-use option_map::Setup;
+use chess_board::{Move, Position};
+use option_map::SetupOrder;
 use peer_words::GoKind;
 use policy_rules::{Scores, Settings};
 use search_epochs::{Dialogue, EngineState, Said};
@@ -72,9 +72,9 @@ pub enum Effect<'a> {
 
 /// The orders that an event asks for, in turn.
 #[derive(Clone, Copy)]
-pub enum Asks<'a> {
+pub enum AskedOrders<'a> {
     /// What a line asks for, if it asks for anything.
-    One(Option<Setup<'a>>),
+    One(Option<SetupOrder<'a>>),
     /// What is set when the engine leaves Boot: what the early lines of the desk ask for, and then pondering and analysis.
     AtBoot(&'a Desk),
 }
@@ -83,6 +83,8 @@ pub enum Asks<'a> {
 #[derive(Clone, Copy)]
 pub struct Ruling<'a> {
     pub effect: Effect<'a>,
+    /// The position that an accepted line sets up, if it sets one up.
+    pub start: Option<Position>,
     pub begins_epoch: bool,
     /// The interface sends `quit`.
     pub quits: bool,
@@ -93,7 +95,7 @@ pub struct Ruling<'a> {
 #[derive(Clone, Copy)]
 pub struct Decision<'l, 's> {
     pub ruling: Ruling<'l>,
-    pub asks: Asks<'s>,
+    pub asks: AskedOrders<'s>,
 }
 
 impl Effect<'_> {

@@ -13,18 +13,18 @@ ghost use Rattle.desk_rules.specs.declared.effect.Context.{Context as AnyContext
 ghost use Rattle.desk_rules.specs.Desk.{at, is_getting, current, owes_move};
 ghost use Rattle.desk_rules.specs.Early.{is_setting, may_wait};
 ghost use Rattle.desk_rules.specs.Lines.{is_early, deferred, judged, refusal, verdict, is_epoch_line};
-ghost use Rattle.desk_rules.specs.Steps.{Refuses, effect_of, line_effect, shows, answers, engine_says, dies, classify, begins_epoch as epoch_begun, quits as event_quits};
+ghost use Rattle.desk_rules.specs.Steps.{Refuses, effect_of, line_effect, starts_from, shows, answers, engine_says, dies, classify, begins_epoch as epoch_begun, quits as event_quits};
 ghost use Rattle.desk_rules.specs.Orders.{orders_asked, asked_by_effect};
 ghost use Rattle.desk_rules.specs.Fits.{IsHintPlayable, IsNoLine, IsNoIfaceLine};
 
 use crate::call::{is_boot, is_gone};
-use crate::refuse::is_legal;
-use crate::{Asks, Context, Decision, Desk, Effect, Refusal, Ruling};
+use crate::refuse::set_up;
+use crate::{AskedOrders, Context, Decision, Desk, Effect, Refusal, Ruling};
 use cecp_lines::{IfaceFault, IfaceMsg, Reason, is_quit, read_iface};
 use chess_board::Move;
 use game_record::Game;
 use line_io::Event;
-use option_map::{Held, Setup};
+use option_map::{HeldOrders, SetupOrder};
 use peer_words::GoKind;
 use search_epochs::EngineState;
 use uci_lines::{EngineMsg, read_engine};
@@ -90,7 +90,7 @@ fn shows(game: &Game, best: Option<Move>, hint: Option<Move>) -> Effect<'static>
     let Some(best) = best else {
         return Effect::Forfeits;
     };
-    if is_legal(game, best) {
+    if game.now().legal(best) {
         Effect::Shows { best, hint }
     } else {
         Effect::Forfeits
@@ -144,7 +144,7 @@ impl Desk {
 
     // Whether an accepted line begins an epoch; `asks` is what it asks for.
     #[tactic(auto, unfolding(crate::specs::Lines::is_epoch_line))]
-    fn begins_epoch(&self, context: Context, message: &IfaceMsg, asks: &Option<Setup>) -> bool
+    fn begins_epoch(&self, context: Context, message: &IfaceMsg, asks: &Option<SetupOrder>) -> bool
         requires { IsHintPlayable self.now }
         ensures { result
             ≡ is_epoch_line (owes_move (at context self.now)) (option_map setup_seen asks.now)
@@ -196,6 +196,7 @@ impl Desk {
     fn decision<'l, 's>(&'s self, effect: Effect<'l>, quits: bool) -> Decision<'l, 's>
         requires { IsNoLine (effect_of effect) }
         ensures effect { effect_of result.ruling.effect ≡ effect_of effect.entry }
+        ensures start { result.ruling.start ≡ starts_from (effect_of effect.entry) }
         ensures asks { (s : AnyContext) → orders_asked result.asks
             ≡ asked_by_effect (at s self.now) (effect_of effect.entry) }
         ensures epoch { (s : AnyContext) → result.ruling.begins_epoch
@@ -203,11 +204,12 @@ impl Desk {
         ensures quits { result.ruling.quits ≡ quits }
     {
         let asks = match effect {
-            Effect::Boots => Asks::AtBoot(self),
-            _ => Asks::One(None),
+            Effect::Boots => AskedOrders::AtBoot(self),
+            _ => AskedOrders::One(None),
         };
         let ruling = Ruling {
             effect,
+            start: None,
             begins_epoch: matches!(effect, Effect::Shows { best: _, hint: _ }),
             quits,
         };
@@ -219,13 +221,14 @@ impl Desk {
     fn decide_line<'l: 's, 's>(
         &'s self,
         context: Context,
-        held: &Held,
+        held: &HeldOrders,
         line: &'l [u8],
     ) -> Decision<'l, 's>
         requires { IsHintPlayable self.now }
         ensures effect { effect_of result.ruling.effect
             ≡ line_effect (verdict (at context self.now) held.now line.now (reading line.now))
             line.now }
+        ensures start { result.ruling.start ≡ starts_from (effect_of result.ruling.effect) }
         ensures asks { orders_asked result.asks
             ≡ asked_by_effect (at context self.now) (effect_of result.ruling.effect) }
         ensures epoch { result.ruling.begins_epoch
@@ -252,7 +255,7 @@ impl Desk {
     fn decide_message<'l: 's, 's>(
         &'s self,
         context: Context,
-        held: &Held,
+        held: &HeldOrders,
         message: IfaceMsg<'l>,
         line: &'l [u8],
     ) -> Decision<'l, 's>
@@ -260,6 +263,7 @@ impl Desk {
         ensures effect { effect_of result.ruling.effect
             ≡ line_effect (judged (message_of message.entry)
             (refusal (at context self.now) held.now (message_of message.entry))) line.now }
+        ensures start { result.ruling.start ≡ starts_from (effect_of result.ruling.effect) }
         ensures asks { orders_asked result.asks
             ≡ asked_by_effect (at context self.now) (effect_of result.ruling.effect) }
         ensures epoch { result.ruling.begins_epoch
@@ -267,17 +271,19 @@ impl Desk {
         ensures quits { result.ruling.quits ≡ is_quit_message (Ok (message_of message.entry)) }
     {
         let quits = matches!(message, IfaceMsg::Quit);
+        let start = set_up(&message);
         let answer = self.asked(&message);
         let asks = self.asks(is_gone(context.engine), &message, answer);
-        if let Some(refusal) = self.refusal(context, held, &message, &answer, &asks) {
+        if let Some(refusal) = self.refusal(context, held, &message, &start, &answer, &asks) {
             return self.decision(Effect::Refuses { refusal, line }, quits);
         }
         let ruling = Ruling {
             effect: Effect::Accepts(message),
+            start,
             begins_epoch: self.begins_epoch(context, &message, &asks),
             quits,
         };
-        let asks = Asks::One(asks);
+        let asks = AskedOrders::One(asks);
         Decision { ruling, asks }
     }
 
@@ -303,12 +309,13 @@ impl Desk {
     pub fn decide<'l: 's, 's>(
         &'s self,
         context: Context,
-        held: &Held,
+        held: &HeldOrders,
         event: &Event<'l>,
     ) -> Decision<'l, 's>
         requires { IsHintPlayable self.now }
         ensures effect { effect_of result.ruling.effect
             ≡ classify (at context self.now) held.now (event_of event.now) }
+        ensures start { result.ruling.start ≡ starts_from (effect_of result.ruling.effect) }
         ensures asks { orders_asked result.asks
             ≡ asked_by_effect (at context self.now) (effect_of result.ruling.effect) }
         ensures epoch { result.ruling.begins_epoch

@@ -2,7 +2,7 @@
 ghost use Rattle.std.specs.Prelude.{◌≡◌, ◌+◌, ◌≤◌, ◌∷◌, ◌++◌, [], length, IfSome};
 ghost use Rattle.std.specs.Option.{option_map, option_to_list};
 ghost use Rattle.line_io.specs.Out.{with};
-ghost use Rattle.uci_lines.specs.Orders.{IsReady};
+ghost use Rattle.uci_lines.specs.Orders.{IsReady, order_of};
 ghost use Rattle.game_record.specs.Game.{ply_of, now_of, IsPlayable};
 ghost use Rattle.game_record.specs.Line.{position_text};
 ghost use Rattle.clock_map.specs.Search.{search_order};
@@ -18,13 +18,14 @@ ghost use Rattle.line_io.specs.Lines.{line_feed};
 
 use crate::after::position_after;
 use crate::call::on_move;
-use crate::{Asks, Desk};
+use crate::{AskedOrders, Desk};
 use chess_board::{Move, Side};
 use game_record::Game;
 use line_io::Out;
-use option_map::{Held, Setup};
+use option_map::{HeldOrders, SetupOrder};
 use peer_words::GoKind;
 use search_epochs::{Call, Orders};
+use uci_lines::{Order, write_order};
 
 fn kind_of(call: Call) -> GoKind
     ensures { result ≡ kind_of call }
@@ -47,7 +48,7 @@ fn pondered(call: Call) -> Option<Move>
 }
 
 // Holds what is asked for, if anything is.
-pub(crate) fn hold(asked: Option<Setup>, held: &mut Held)
+pub(crate) fn hold(asked: Option<SetupOrder>, held: &mut HeldOrders)
     requires { AllJoin held.old (option_to_list (option_map setup_seen asked)) }
     ensures { held.new ≡ with_orders held.old (option_to_list (option_map setup_seen asked.entry)) }
 {
@@ -58,7 +59,7 @@ pub(crate) fn hold(asked: Option<Setup>, held: &mut Held)
 
 impl Desk {
     // Holds what is asked for when Boot is left.
-    fn hold_at_boot(&self, held: &mut Held)
+    fn hold_at_boot(&self, held: &mut HeldOrders)
         requires { AllJoin held.old (asked_at_boot self.now) }
         ensures { held.new ≡ with_orders held.old (asked_at_boot self.now) }
     {
@@ -68,17 +69,17 @@ impl Desk {
     }
 }
 
-impl Asks<'_> {
+impl AskedOrders<'_> {
     ghost use Rattle.desk_rules.specs.Orders.{orders_asked};
 
     /// Holds what is asked for.
-    pub fn hold(&self, held: &mut Held)
+    pub fn hold(&self, held: &mut HeldOrders)
         requires { AllJoin held.old (orders_asked self.now) }
         ensures { held.new ≡ with_orders held.old (orders_asked self.now) }
     {
         match self {
-            Asks::One(order) => hold(*order, held),
-            Asks::AtBoot(desk) => desk.hold_at_boot(held),
+            AskedOrders::One(order) => hold(*order, held),
+            AskedOrders::AtBoot(desk) => desk.hold_at_boot(held),
         }
     }
 }
@@ -160,20 +161,30 @@ impl Desk {
     }
 }
 
+/// Puts an order, with its line feed.
+pub fn put_order(order: &Order, out: &mut Out)
+    requires { length out.old.text + length (order_line (order_of order.now)) ≤ out.old.room }
+    ensures { out.new ≡ with out.old (order_line (order_of order.now)) }
+{
+    write_order(order, out);
+    out.put(b"\n");
+}
+
 // Puts the held orders, and what ends a batch.
-fn put_batch(held: &Held, out: &mut Out)
+#[tactic(auto, using(crate::proofs::Batches::ready_size))]
+fn put_batch(held: &HeldOrders, out: &mut Out)
     requires { length out.old.text + STEP_ORDERS ≤ out.old.room }
     ensures lines { out.new ≡ with out.old (order_lines (held.now ++ IsReady ∷ [])) }
     ensures short { length (order_lines (held.now ++ IsReady ∷ [])) ≤ STEP_ORDERS }
 {
     held.facts();
     held.write(out);
-    out.put(b"isready\n");
+    put_order(&Order::IsReady, out);
 }
 
 /// Puts the orders that were chosen, if these are held.
 #[tactic(auto, unfolding(uci_lines::specs::Orders::order_text))]
-pub fn put_chosen(held: &Held, desk: &Desk, orders: Orders, out: &mut Out)
+pub fn put_chosen(held: &HeldOrders, desk: &Desk, orders: Orders, out: &mut Out)
     requires sound { IsSound desk.now }
     requires hint { CanWrite desk.now.game orders }
     requires room { length out.old.text + STEP_ORDERS ≤ out.old.room }
@@ -184,7 +195,7 @@ pub fn put_chosen(held: &Held, desk: &Desk, orders: Orders, out: &mut Out)
         Orders::None => {}
         Orders::Batch => put_batch(held, out),
         Orders::Begin(call) => desk.put_search(call, out),
-        Orders::Hit => out.put(b"ponderhit\n"),
-        Orders::Stop => out.put(b"stop\n"),
+        Orders::Hit => put_order(&Order::PonderHit, out),
+        Orders::Stop => put_order(&Order::Stop, out),
     }
 }

@@ -1,31 +1,22 @@
 // Which lines of the interface are refused.
 ghost use Rattle.std.specs.Prelude.{◌≡◌};
 ghost use Rattle.std.specs.Option.{option_map};
-ghost use Rattle.chess_board.specs.Place.{legal};
 ghost use Rattle.cecp_lines.specs.Messages.{message_of};
-ghost use Rattle.game_record.specs.Game.{now_of};
 ghost use Rattle.option_map.specs.Asked.{asked};
 ghost use Rattle.option_map.specs.Data.{setup_seen, answer_seen};
 ghost use Rattle.desk_rules.specs.Desk.{at, table, is_gone};
-ghost use Rattle.desk_rules.specs.Lines.{because, needs_engine, needs_analysis, lacks_moves, illegal_move, move_too_many, illegal_position, refused_option, does_not_fit, asks as asks_for, pings_too_often, refusal};
+ghost use Rattle.desk_rules.specs.Lines.{because, needs_engine, needs_analysis, lacks_moves, illegal_move, move_too_many, set_up, illegal_position, refused_option, does_not_fit, asks as asks_for, pings_too_often, refusal};
 ghost use Rattle.desk_rules.specs.Fits.{IsHintPlayable};
 
 use crate::call::{analyses, is_full, is_gone};
 use crate::pings::MOST_PINGS;
 use crate::{Context, Desk, Refusal};
 use cecp_lines::{IfaceMsg, Reason};
-use chess_board::Move;
+use chess_board::Position;
 use fen_text::read_fen;
 use game_record::Game;
-use option_map::{Asked, Held, OptFault, Setup};
+use option_map::{AskedOption, HeldOrders, OptionFault, SetupOrder};
 use policy_rules::Settings;
-
-/// Whether a move is legal now.
-pub(crate) fn is_legal(game: &Game, m: Move) -> bool
-    ensures { result ≡ legal (now_of game.now) m }
-{
-    game.now().legal(m)
-}
 
 fn because(reason: Reason) -> Option<Refusal>
     ensures { result ≡ because reason }
@@ -64,7 +55,7 @@ fn illegal_move(game: &Game, message: &IfaceMsg) -> Option<Refusal>
 {
     match message {
         IfaceMsg::UserMove(m) => {
-            if is_legal(game, *m) {
+            if game.now().legal(*m) {
                 None
             } else {
                 Some(Refusal::IllegalMove(*m))
@@ -89,29 +80,41 @@ fn move_too_many(game: &Game, message: &IfaceMsg) -> Option<Refusal>
     }
 }
 
-fn illegal_position(message: &IfaceMsg) -> Option<Refusal>
-    ensures { result ≡ illegal_position (message_of message.now) }
+/// The position that a message sets up, if it sets one up.
+pub(crate) fn set_up(message: &IfaceMsg) -> Option<Position>
+    ensures { result ≡ set_up (message_of message.now) }
 {
     match message {
         IfaceMsg::SetBoard(text) => match read_fen(text) {
-            Ok(_) => None,
-            Err(_) => Some(Refusal::IllegalPosition),
+            Ok(start) => Some(start),
+            Err(_) => None,
         },
         _ => None,
     }
 }
 
-fn refused_option(answer: &Result<Option<Asked>, OptFault>) -> Option<Refusal>
+#[tactic(auto, using(crate::proofs::Starts::no_start, crate::proofs::Starts::some_start))]
+fn illegal_position(message: &IfaceMsg, start: &Option<Position>) -> Option<Refusal>
+    requires { start.now ≡ set_up (message_of message.now) }
+    ensures { result ≡ illegal_position (message_of message.now) }
+{
+    match (message, start) {
+        (IfaceMsg::SetBoard(_), None) => Some(Refusal::IllegalPosition),
+        _ => None,
+    }
+}
+
+fn refused_option(answer: &Result<Option<AskedOption>, OptionFault>) -> Option<Refusal>
     ensures { result ≡ refused_option (answer_seen answer.now) }
 {
     match answer {
         Ok(_) => None,
-        Err(OptFault::UnknownOption) => because(Reason::UnknownOption),
-        Err(OptFault::BadValue) => because(Reason::BadValue),
+        Err(OptionFault::UnknownOption) => because(Reason::UnknownOption),
+        Err(OptionFault::BadValue) => because(Reason::BadValue),
     }
 }
 
-fn does_not_fit(held: &Held, asks: &Option<Setup>) -> bool
+fn does_not_fit(held: &HeldOrders, asks: &Option<SetupOrder>) -> bool
     ensures { result ≡ does_not_fit held.now (option_map setup_seen asks.now) }
 {
     match asks {
@@ -131,18 +134,20 @@ impl Desk {
         }
     }
 
-    // Why a message is refused, if it is: the first that applies. `answer` is what sets an option by it, and `asks` what
-    // it asks for.
+    // Why a message is refused, if it is: the first that applies. `start` is the position that it sets up, `answer`
+    // what sets an option by it, and `asks` what it asks for.
     #[tactic(auto, unfolding(crate::specs::Lines::refusal))]
     pub(crate) fn refusal(
         &self,
         context: Context,
-        held: &Held,
+        held: &HeldOrders,
         message: &IfaceMsg,
-        answer: &Result<Option<Asked>, OptFault>,
-        asks: &Option<Setup>,
+        start: &Option<Position>,
+        answer: &Result<Option<AskedOption>, OptionFault>,
+        asks: &Option<SetupOrder>,
     ) -> Option<Refusal>
         requires hint { IsHintPlayable self.now }
+        requires start { start.now ≡ set_up (message_of message.now) }
         requires answer { answer_seen answer.now ≡ asked (table self.now) (message_of message.now) }
         requires asks { option_map setup_seen asks.now
             ≡ asks_for (is_gone context.engine) self.now (message_of message.now) }
@@ -163,7 +168,7 @@ impl Desk {
         if let Some(refusal) = move_too_many(&self.game, message) {
             return Some(refusal);
         }
-        if let Some(refusal) = illegal_position(message) {
+        if let Some(refusal) = illegal_position(message, start) {
             return Some(refusal);
         }
         if let Some(refusal) = refused_option(answer) {
