@@ -12,8 +12,8 @@ use Rattle.cecp_lines.specs.declared.iface.IfaceFault.{IfaceFault}
 use Rattle.cecp_lines.specs.declared.iface.IfaceFault.TheVariants as faults
 use Rattle.cecp_lines.specs.declared.reply.Reason.TheVariants as reasons
 use Rattle.uci_lines.specs.Orders.{Order}
-use Rattle.option_map.specs.declared.fault.OptFault.{OptFault}
-use Rattle.option_map.specs.declared.fault.OptFault.TheVariants.{UnknownOption, BadValue}
+use Rattle.option_map.specs.declared.fault.OptionFault.{OptionFault}
+use Rattle.option_map.specs.declared.fault.OptionFault.TheVariants.{UnknownOption, BadValue}
 use Rattle.option_map.specs.Asked.{asked}
 use Rattle.policy_rules.specs.declared.settings.Settings.{Settings}
 use Rattle.policy_rules.specs.Scores.{Score, does_accept}
@@ -93,7 +93,7 @@ setting_refusal h held (says.Cores n) p = refl
 setting_refusal h held (says.EgtPath kind path) p = refl
 setting_refusal h held m p = cc
 
-tells_judged : (m : IfaceMsg) (a : Result (Option Order) OptFault) (b : Bool) (line : List ℕ) → is_setting m ≡ true
+tells_judged : (m : IfaceMsg) (a : Result (Option Order) OptionFault) (b : Bool) (line : List ℕ) → is_setting m ≡ true
     → (let d = line_effect (judged m (or_else (refused_option a) (or_else (where_true b reasons.TooManySettings) None))) line in is_overfull d ≡ false → tells_of_engine d ≡ false → ⊥)
 tells_judged m (Err UnknownOption) b line p n t = cc
 tells_judged m (Err BadValue) b line p n t = cc

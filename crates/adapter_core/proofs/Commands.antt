@@ -5,7 +5,7 @@ use Rattle.cecp_lines.specs.Messages as says
 use Rattle.cecp_lines.specs.declared.reply.Reason.TheVariants as reasons
 use Rattle.uci_lines.specs.Orders.{Order, order_text}
 use Rattle.game_record.specs.Game.{Game, begun}
-use Rattle.option_map.specs.Settings.{Setting}
+use Rattle.option_map.specs.Settings.{OptionSetting}
 use Rattle.option_map.specs.Asked.{asked}
 use Rattle.policy_rules.specs.declared.settings.Settings.{Settings}
 use Rattle.desk_rules.specs.declared.mode.Mode.{Mode}
@@ -49,7 +49,7 @@ setting_changes boot d (says.EgtPath kind path) e = refl
 setting_changes boot d m e = cc
 
 -- other messages set none
-pub plain_option : (os : List Setting) (m : IfaceMsg) → is_setting m ≡ false → refused_option (asked os m) ≡ None
+pub plain_option : (os : List OptionSetting) (m : IfaceMsg) → is_setting m ≡ false → refused_option (asked os m) ≡ None
 plain_option os (says.SetOption name value) e = cc
 plain_option os (says.Memory n) e = cc
 plain_option os (says.Cores n) e = cc
@@ -129,7 +129,7 @@ unfilled o gone g mode pings owes option b m n =
 
 -- WITH NO OPTIONS
 
-none_for_mode : (os : List Setting) (before after : Bool) → os ≡ [] → asks_for_mode os before after ≡ None
+none_for_mode : (os : List OptionSetting) (before after : Bool) → os ≡ [] → asks_for_mode os before after ≡ None
 none_for_mode os false true e = tells_none os analyse_name true e
 none_for_mode os true false e = tells_none os analyse_name false e
 none_for_mode os true true e = refl

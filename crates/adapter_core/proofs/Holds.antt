@@ -14,7 +14,7 @@ use Rattle.desk_rules.specs.Fits.{IsSound}
 use Rattle.adapter_core.specs.Ends.{may}
 use Rattle.adapter_core.specs.Trace.{State, Step, Lawful, state, state_after, situation, effect, turn, mid, has_ready, iface_text, engine_text}
 use Rattle.adapter_core.specs.Parts as parts
-use Rattle.adapter_core.specs.Parts.{Parts, advance}
+use Rattle.adapter_core.specs.Parts.{CoreParts, advance}
 use Rattle.adapter_core.specs.Stands.{parts_of, Holds, Keeps, TicketIsWithin, Stands, Extends, step_by}
 use Rattle.adapter_core.proofs.Closing.{opened_later, line_event}
 use Rattle.adapter_core.proofs.Square.{within, held, lawful, stands, step_situation, step_is}
@@ -61,45 +61,45 @@ same_step o t to_iface to_engine e m d l h =
     subst (λ (x : Step). Lawful o (x ∷ t) × Stands o (advance old e) (x ∷ t)) (sym (step_is s to_iface to_engine e h d i))
     ((l, lawful s to_iface to_engine e h d i m), (stands s to_iface to_engine e h d i m, holds_on s (step_situation s to_iface to_engine e h d i) h (held s to_iface to_engine e h d i) m))
 
-pub extended : (o : Settings) (core : Parts) (t : List Step) (e : Event) → may core.ends e ≡ true → IsSound core.desk → Lawful o t → Stands o core t
+pub extended : (o : Settings) (core : CoreParts) (t : List Step) (e : Event) → may core.ends e ≡ true → IsSound core.desk → Lawful o t → Stands o core t
     → Lawful o (step_by core e ∷ t) × Stands o (advance core e) (step_by core e ∷ t)
 extended o core t e m d l st =
-    let m' : may (state o t).ends e ≡ true = subst (λ (w : Parts). may w.ends e ≡ true) st.0 m in
-    let d' : IsSound (state o t).desk = subst (λ (w : Parts). IsSound w.desk) st.0 d in
-    subst (λ (w : Parts). Lawful o (step_by w e ∷ t) × Stands o (advance w e) (step_by w e ∷ t)) (sym st.0)
+    let m' : may (state o t).ends e ≡ true = subst (λ (w : CoreParts). may w.ends e ≡ true) st.0 m in
+    let d' : IsSound (state o t).desk = subst (λ (w : CoreParts). IsSound w.desk) st.0 d in
+    subst (λ (w : CoreParts). Lawful o (step_by w e ∷ t) × Stands o (advance w e) (step_by w e ∷ t)) (sym st.0)
     (same_step o t core.to_iface core.to_engine e m' d' l st.1)
 
 -- TEXTS
 
-pub told_text_is : (core : Parts) (e : Event) → (advance core e).to_iface.text ≡ iface_text (step_by core e)
+pub told_text_is : (core : CoreParts) (e : Event) → (advance core e).to_iface.text ≡ iface_text (step_by core e)
 unfolding advance step_by
 told_text_is core e = refl
 
-pub ordered_text_is : (core : Parts) (e : Event) → (advance core e).to_engine.text ≡ engine_text (step_by core e)
+pub ordered_text_is : (core : CoreParts) (e : Event) → (advance core e).to_engine.text ≡ engine_text (step_by core e)
 unfolding advance step_by
 ordered_text_is core e = refl
 
 -- THE STEP
 
-pub event_is : (core : Parts) (e : Event) → (step_by core e).event ≡ e
+pub event_is : (core : CoreParts) (e : Event) → (step_by core e).event ≡ e
 unfolding step_by
 event_is core e = refl
 
 -- a step of a core that gives these texts
-pub extends_to : (core new : Parts) (e : Event) (iface engine : List ℕ) → Keeps core → may core.ends e ≡ true → new ≡ advance core e → iface ≡ new.to_iface.text → engine ≡ new.to_engine.text
+pub extends_to : (core new : CoreParts) (e : Event) (iface engine : List ℕ) → Keeps core → may core.ends e ≡ true → new ≡ advance core e → iface ≡ new.to_iface.text → engine ≡ new.to_engine.text
     → Extends core new e iface engine
 extends_to core new e iface engine k m n i g = record {
   step = step_by core e;
   event = event_is core e;
-  iface_is = i ∙ ap (λ (v : Parts). v.to_iface.text) n ∙ told_text_is core e;
-  engine_is = g ∙ ap (λ (v : Parts). v.to_engine.text) n ∙ ordered_text_is core e;
-  extends = λ o t l st. subst (λ (v : Parts). Lawful o (step_by core e ∷ t) × Stands o v (step_by core e ∷ t)) (sym n) (extended o core t e m k.sound l st);
+  iface_is = i ∙ ap (λ (v : CoreParts). v.to_iface.text) n ∙ told_text_is core e;
+  engine_is = g ∙ ap (λ (v : CoreParts). v.to_engine.text) n ∙ ordered_text_is core e;
+  extends = λ o t l st. subst (λ (v : CoreParts). Lawful o (step_by core e ∷ t) × Stands o v (step_by core e ∷ t)) (sym n) (extended o core t e m k.sound l st);
 }
 
 -- the texts are those of its buffers
-pub extends : (core : Parts) (e : Event) → Keeps core → may core.ends e ≡ true → Extends core (advance core e) e (advance core e).to_iface.text (advance core e).to_engine.text
+pub extends : (core : CoreParts) (e : Event) → Keeps core → may core.ends e ≡ true → Extends core (advance core e) e (advance core e).to_iface.text (advance core e).to_engine.text
 extends core e k m = extends_to core (advance core e) e (advance core e).to_iface.text (advance core e).to_engine.text k m refl refl refl
 
 -- or equal ones
-pub with_texts : (core new : Parts) (e : Event) (iface engine : List ℕ) → Extends core new e new.to_iface.text new.to_engine.text → iface ≡ new.to_iface.text → engine ≡ new.to_engine.text → Extends core new e iface engine
+pub with_texts : (core new : CoreParts) (e : Event) (iface engine : List ℕ) → Extends core new e new.to_iface.text new.to_engine.text → iface ≡ new.to_iface.text → engine ≡ new.to_engine.text → Extends core new e iface engine
 with_texts core new e iface engine x i g = record { step = x.step; event = x.event; iface_is = i ∙ x.iface_is; engine_is = g ∙ x.engine_is; extends = x.extends }

@@ -26,7 +26,7 @@ use Rattle.desk_rules.proofs.EarlyLines.{none_early}
 use Rattle.desk_rules.proofs.Effects.{comes_fits}
 use Rattle.desk_rules.proofs.Quiet.{quiet_pings, effect_pings, owed_ping, ping_call}
 use Rattle.adapter_core.specs.Ends.{may, ends_after, is_open}
-use Rattle.adapter_core.specs.Parts.{Parts, situation, advance, opening, choice, is_unsent, IsReadyFor}
+use Rattle.adapter_core.specs.Parts.{CoreParts, situation, advance, opening, choice, is_unsent, IsReadyFor}
 use Rattle.adapter_core.specs.Stands.{Keeps}
 use Rattle.adapter_core.proofs.Closing.{line_event, open_before, Closes, closing}
 use Rattle.adapter_core.proofs.Serving.{still, chosen_serves, not_gone_served, call_settled}
@@ -75,7 +75,7 @@ holds : (h : Situation) (held : List Order) (d : Effect) → (h.engine ≡ state
 holds h held Boots b f = b (in_boot h.engine f.1)
 holds h held d b f = tt
 
-module _ (v : Parts) (e : Event) (k : Keeps v) (m : may v.ends e ≡ true) where
+module _ (v : CoreParts) (e : Event) (k : Keeps v) (m : may v.ends e ≡ true) where
   abbrev h : Situation
   h = situation v
 

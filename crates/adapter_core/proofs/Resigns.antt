@@ -23,7 +23,7 @@ use Rattle.desk_rules.proofs.Rooms.{two_lines}
 use Rattle.adapter_core.specs.declared.ends.Ends.{Ends}
 use Rattle.adapter_core.specs.declared.session.TheConstants.{ROOM}
 use Rattle.adapter_core.specs.Ends.{ends_after, is_open}
-use Rattle.adapter_core.specs.Parts.{Parts, is_unsent, orders_of, advance_from}
+use Rattle.adapter_core.specs.Parts.{CoreParts, is_unsent, orders_of, advance_from}
 use Rattle.adapter_core.proofs.Fresh.{closed_calls}
 
 -- none resigns in a closed session
@@ -50,7 +50,7 @@ all_told room false false wants gone rows d pings = three_lines room rows (resig
 
 -- THE CORE AFTER AN EVENT, PART BY PART
 
-pub went_on : (context : Context) (v : Parts) (d : Effect) (e : Event) (ends : Ends) (opens gone rose owes unsent clears : Bool) (scores : Scores) (desk given_up desk' : Desk) (call : Call)
+pub went_on : (context : Context) (v : CoreParts) (d : Effect) (e : Event) (ends : Ends) (opens gone rose owes unsent clears : Bool) (scores : Scores) (desk given_up desk' : Desk) (call : Call)
     (dialogue : Dialogue) (orders : Orders) (row_told resign_told iface engine : Text) (held : List Order)
     → opens ≡ is_open e
     → ends ≡ ends_after v.ends e
@@ -72,7 +72,7 @@ pub went_on : (context : Context) (v : Parts) (d : Effect) (e : Event) (ends : E
     → engine ≡ with (empty v.to_engine.room) (order_lines (orders_of opens v.ends.closed ends.closed gone v.held desk' orders))
     → held ≡ cond (is_batch_order orders) [] v.held
     → v.to_iface.room ≡ ROOM
-    → (let p : Parts = record { settings = v.settings; ends = ends; desk = desk'; scores = scores; held = held; dialogue = dialogue; to_iface = iface; to_engine = engine } in p)
+    → (let p : CoreParts = record { settings = v.settings; ends = ends; desk = desk'; scores = scores; held = held; dialogue = dialogue; to_iface = iface; to_engine = engine } in p)
     ≡ advance_from (at context v.desk) d e v v.held v.dialogue
 went_on context v d e ends opens gone rose owes unsent clears scores desk given_up desk' call dialogue orders row_told resign_told iface engine held
     opens_is ends_is gone_is rose_is scores_are desk_is row_is call_is owes_is unsent_is orders_are dialogue_is clears_is resign_is given_is iface_is desk_after_is engine_is held_is room =
@@ -82,5 +82,5 @@ went_on context v d e ends opens gone rose owes unsent clears scores desk given_
     let gone_now = is_gone context.engine || is_death d in
     let owes_now = is_move (owed_by_dialogue v.dialogue (call_of closed gone_now (desk_after_effect h d))) in
     rw (held_is, engine_is, desk_after_is, iface_is, given_is, resign_is, clears_is, dialogue_is, orders_are, unsent_is, owes_is, call_is, row_is, desk_is, scores_are, rose_is, gone_is, ends_is, opens_is)
-    (ap (λ (t : Text). let p : Parts = record after { to_iface = t } in p) (all_told ROOM closed owes_now context.settings.resign_when_gone gone_now (row h d) (desk_after_effect h d) (desk_after_effect h d).pings)
-    ∙ ap (λ (n : ℕ). let p : Parts = record after { to_iface = with (empty n) (reply_lines (replies_of closed owes_now h d)) } in p) (sym room))
+    (ap (λ (t : Text). let p : CoreParts = record after { to_iface = t } in p) (all_told ROOM closed owes_now context.settings.resign_when_gone gone_now (row h d) (desk_after_effect h d) (desk_after_effect h d).pings)
+    ∙ ap (λ (n : ℕ). let p : CoreParts = record after { to_iface = with (empty n) (reply_lines (replies_of closed owes_now h d)) } in p) (sym room))

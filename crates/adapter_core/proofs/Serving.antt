@@ -9,7 +9,7 @@ use Rattle.search_epochs.specs.declared.words.Said.TheVariants as said
 use Rattle.search_epochs.specs.declared.words.EngineState.{EngineState}
 use Rattle.search_epochs.specs.declared.words.EngineState.TheVariants as states
 use Rattle.search_epochs.specs.Tickets.{What, Says, Serves, kind_of, is_move}
-use Rattle.think_text.specs.declared.seen.Seen.{Seen}
+use Rattle.think_text.specs.declared.seen.SeenThinking.{SeenThinking}
 use Rattle.search_epochs.specs.Dialogue as dialogues
 use Rattle.search_epochs.specs.Dialogue.{after_what, mid_dialogue, stale_state, heard_state, settled_state, choose}
 use Rattle.search_epochs.proofs.Current.{IfCurrent, settled_current}
@@ -148,7 +148,7 @@ given_up : (closed gone : Bool) (d : Desk) (b : Bool) → (b ≡ true → gone �
 given_up closed gone d true f = gone_calls closed gone d (f refl) ∙ sym (gone_calls closed gone (record d { mode = over_where true d.mode }) (f refl))
 given_up closed gone d false f = refl
 
-other_parts : (closed gone : Bool) (d : Desk) (pings : List ℕ) (early : List (List ℕ)) (seen : Seen) → call_of closed gone d ≡ call_of closed gone (record d { pings = pings; early = early; seen = seen })
+other_parts : (closed gone : Bool) (d : Desk) (pings : List ℕ) (early : List (List ℕ)) (seen : SeenThinking) → call_of closed gone d ≡ call_of closed gone (record d { pings = pings; early = early; seen = seen })
 unfolding call_of
 other_parts closed gone d pings early seen = refl
 

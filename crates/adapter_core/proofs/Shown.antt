@@ -24,15 +24,15 @@ use Rattle.uci_lines.specs.Info.{Info}
 use Rattle.uci_lines.specs.Messages.{EngineMsg}
 use Rattle.uci_lines.specs.Messages as hears
 use Rattle.uci_lines.specs.Engine.{engine_message}
-use Rattle.game_record.specs.declared.ending.End.{End}
+use Rattle.game_record.specs.declared.ending.GameEnd.{GameEnd}
 use Rattle.game_record.specs.Game.{Game, now_of}
 use Rattle.game_record.specs.Ending.{ended_of}
-use Rattle.option_map.specs.Settings.{Setting}
+use Rattle.option_map.specs.Settings.{OptionSetting}
 use Rattle.option_map.specs.Shown.{takes_tables}
 use Rattle.uci_lines.specs.declared.messages.Score.{Score}
 use Rattle.think_text.specs.Line.{thinking_line, line_with, legal_run, run_texts, hint_text}
-use Rattle.feature_talk.specs.declared.talk.Say.{Say}
-use Rattle.feature_talk.specs.declared.talk.Say.TheVariants as say
+use Rattle.feature_talk.specs.declared.talk.ProtoverAnswer.{ProtoverAnswer}
+use Rattle.feature_talk.specs.declared.talk.ProtoverAnswer.TheVariants as say
 use Rattle.feature_talk.specs.Due.{answer}
 use Rattle.feature_talk.specs.Features.{feature_list, tables, option_feature, shown_options}
 use Rattle.policy_rules.specs.declared.settings.Settings.{Settings}
@@ -101,7 +101,7 @@ no_pongs true ns = refl
 no_pongs false [] = refl
 no_pongs false (n ∷ ns) = no_pongs false ns
 
-no_options : (os : List Setting) → moves_told (map option_feature os) ≡ []
+no_options : (os : List OptionSetting) → moves_told (map option_feature os) ≡ []
 no_options [] = refl
 no_options (o ∷ os) = no_options os
 
@@ -109,7 +109,7 @@ no_tables : (b : Bool) → moves_told (tables b) ≡ []
 no_tables true = refl
 no_tables false = refl
 
-no_features : (os : List Setting) (said : List ℕ) → moves_told (feature_list os said) ≡ []
+no_features : (os : List OptionSetting) (said : List ℕ) → moves_told (feature_list os said) ≡ []
 no_features os said =
     let last = reply.Feature (codes "done") (codes "1") ∷ [] in
     none_joined (tables (takes_tables os) ++ map option_feature (shown_options os)) last
@@ -127,7 +127,7 @@ no_offer : (b : Bool) → moves_told (offer_where b) ≡ []
 no_offer true = refl
 no_offer false = refl
 
-no_result : (side : Side) (end : Option End) → moves_told (result_by side end) ≡ []
+no_result : (side : Side) (end : Option GameEnd) → moves_told (result_by side end) ≡ []
 no_result side None = refl
 no_result side (Some end) = refl
 
@@ -139,7 +139,7 @@ no_hint : (hint : Option AnyMove) → moves_told (hint_row hint) ≡ []
 no_hint None = refl
 no_hint (Some m) = refl
 
-no_wait : (s : Say) (d : Desk) → moves_told (protover_row s d) ≡ []
+no_wait : (s : ProtoverAnswer) (d : Desk) → moves_told (protover_row s d) ≡ []
 no_wait say.Wait d = refl
 no_wait say.List d = no_features (table d) d.name
 
@@ -173,7 +173,7 @@ no_early_line : (o : Option Refusal) (line : List ℕ) → moves_told (early_ref
 no_early_line None line = refl
 no_early_line (Some r) line = no_refusal r line
 
-no_early : (os : List Setting) (lines : List (List ℕ)) → moves_told (early_refusals os lines) ≡ []
+no_early : (os : List OptionSetting) (lines : List (List ℕ)) → moves_told (early_refusals os lines) ≡ []
 no_early os [] = refl
 no_early os (line ∷ lines) =
     let first = refused_option (early_answer os line) in

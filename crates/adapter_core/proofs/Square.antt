@@ -35,7 +35,7 @@ use Rattle.desk_rules.specs.Orders.{AreHeld}
 use Rattle.adapter_core.specs.Ends.{may, ends_after, is_open}
 use Rattle.adapter_core.specs.Trace.{State, Step, IsLawful, AreSettled, state_after, situation, effect, turn, mid, owing, closed_after, desk_of, gone_after, replies, still_held, has_ready, last_orders}
 use Rattle.adapter_core.specs.Parts as parts
-use Rattle.adapter_core.specs.Parts.{Parts, advance, advance_at, advance_from, finish, choice, desk_with, none_held, orders_of}
+use Rattle.adapter_core.specs.Parts.{CoreParts, advance, advance_at, advance_from, finish, choice, desk_with, none_held, orders_of}
 use Rattle.adapter_core.specs.Stands.{parts_of, Holds, TicketIsWithin, step_from, step_at, step_by}
 use Rattle.adapter_core.proofs.Policy.{situation_kept, counts_kept}
 use Rattle.adapter_core.proofs.Closing.{closed_stays, closes_later, closed_rises, open_rises}
@@ -76,7 +76,7 @@ open_engine s events.Open o m b = b (not-true s.ends.opened m)
 open_engine s e o m b = cc
 
 module _ (s : State) (to_iface to_engine : Text) (e : Event) (holds : Holds s) (sound : IsSound s.desk) (line : IsLineEvent e) where
-  abbrev old : Parts
+  abbrev old : CoreParts
   old = parts_of s to_iface to_engine
 
   abbrev dialogue_mid : dialogues.Dialogue
@@ -271,7 +271,7 @@ module _ (s : State) (to_iface to_engine : Text) (e : Event) (holds : Holds s) (
   ready_case false true o c = rw (o, c) (elim (s.ends.closed || gone_after s e) as (λ b. false ≡ has_ready (map word_of (cond b [] (orders.Quit ∷ [])))) [ true ↦ refl | false ↦ refl ])
   ready_case false false o c = sym (ready_words (map word_of waits) choice_situation setup) ∙ ap has_ready (sym (words_settled o c))
 
-  abbrev part : Scores → List Order → dialogues.Dialogue → Parts
+  abbrev part : Scores → List Order → dialogues.Dialogue → CoreParts
   part scores held dialogue = record {
     settings = s.settings;
     ends = ends_after s.ends e;
@@ -283,7 +283,7 @@ module _ (s : State) (to_iface to_engine : Text) (e : Event) (holds : Holds s) (
     to_engine = with (empty to_engine.room) (order_lines orders_situation);
   }
 
-  abbrev StandsAfter : Parts → Type 0
+  abbrev StandsAfter : CoreParts → Type 0
   StandsAfter v = v ≡ parts_of (state_after s step_situation) v.to_iface v.to_engine
 
   held_kept : cond (is_batch_order choice_situation) [] waits ≡ still_held waits (map word_of orders_situation)

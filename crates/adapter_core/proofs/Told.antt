@@ -7,7 +7,7 @@ use Rattle.uci_lines.specs.Orders.{Order, order_text}
 use Rattle.feature_talk.specs.Features.{reply_lines, reply_line}
 use Rattle.option_map.specs.Held.{order_line}
 use Rattle.desk_rules.specs.Texts.{order_lines}
-use Rattle.adapter_core.specs.Parts.{Parts}
+use Rattle.adapter_core.specs.Parts.{CoreParts}
 use Rattle.adapter_core.specs.Stands.{AreLines, Extends}
 
 told_each : (ts : List Reply) → reply_lines ts ≡ flat_map (λ line. line ++ 10 ∷ []) (map reply_text ts)
@@ -26,8 +26,8 @@ ordered_are_lines : (cs : List Order) (text : List ℕ) → text ≡ order_lines
 ordered_are_lines cs text e = record { lines = map order_text cs; text_is = e ∙ ordered_each cs }
 
 -- so both texts of a step are
-pub iface_lines : (old new : Parts) (e : Event) (iface engine : List ℕ) → Extends old new e iface engine → AreLines iface
+pub iface_lines : (old new : CoreParts) (e : Event) (iface engine : List ℕ) → Extends old new e iface engine → AreLines iface
 iface_lines old new e iface engine x = told_are_lines x.step.replies iface x.iface_is
 
-pub engine_lines : (old new : Parts) (e : Event) (iface engine : List ℕ) → Extends old new e iface engine → AreLines engine
+pub engine_lines : (old new : CoreParts) (e : Event) (iface engine : List ℕ) → Extends old new e iface engine → AreLines engine
 engine_lines old new e iface engine x = ordered_are_lines x.step.orders engine x.engine_is

@@ -23,15 +23,15 @@ use Rattle.desk_rules.specs.Replies.{replies_of}
 use Rattle.desk_rules.specs.Texts.{order_lines}
 use Rattle.desk_rules.specs.Fits.{Fits, IsFit, IsSound, IsServed, CanHold}
 use Rattle.adapter_core.specs.declared.session.TheConstants.{ROOM}
-use Rattle.adapter_core.specs.declared.session.Parts as code
+use Rattle.adapter_core.specs.declared.session.CoreParts as code
 use Rattle.adapter_core.specs.Ends.{ends_after, is_open, at_start}
 use Rattle.desk_rules.specs.declared.pings.TheConstants.{MOST_PINGS}
 
 -- the parts of the core
-abbrev pub Parts : Type 0
-Parts = code.Parts
+abbrev pub CoreParts : Type 0
+CoreParts = code.CoreParts
 
-abbrev pub opening : Settings → Parts
+abbrev pub opening : Settings → CoreParts
 opening o = record {
   settings = o;
   ends = at_start;
@@ -53,7 +53,7 @@ context_of o closed engine spent score scores = record {
   accepts = accepts_by scores;
 }
 
-abbrev pub situation : Parts → Situation
+abbrev pub situation : CoreParts → Situation
 situation v = at (context_of v.settings v.ends.closed v.dialogue.state v.dialogue.spent v.desk.seen.score v.scores) v.desk
 
 abbrev pub none_held : List Order → Bool
@@ -78,7 +78,7 @@ orders_of opens closed closed_now gone held desk choice =
 
 -- the core after an event: its parts, by what stood, what came of the event, what is held then, what the dialogue is then, whether a
 -- Move is owed then, what was chosen and the desk then
-abbrev pub finish : Situation → Effect → Event → Parts → List Order → dialogues.Dialogue → Bool → Orders → Desk → Parts
+abbrev pub finish : Situation → Effect → Event → CoreParts → List Order → dialogues.Dialogue → Bool → Orders → Desk → CoreParts
 finish h d e v held m owes o desk = record {
   settings = v.settings;
   ends = ends_after v.ends e;
@@ -92,19 +92,19 @@ finish h d e v held m owes o desk = record {
       (order_lines (orders_of (is_open e) v.ends.closed (ends_after v.ends e).closed (is_gone h.engine || is_death d) held desk o));
 }
 
-abbrev pub desk_with : Situation → Effect → Event → Parts → Bool → Orders → Desk
+abbrev pub desk_with : Situation → Effect → Event → CoreParts → Bool → Orders → Desk
 desk_with h d e v owes o = desk_after (ends_after v.ends e).closed owes (is_hit_order o) h d
 
-abbrev pub advance_from : Situation → Effect → Event → Parts → List Order → dialogues.Dialogue → Parts
+abbrev pub advance_from : Situation → Effect → Event → CoreParts → List Order → dialogues.Dialogue → CoreParts
 advance_from h d e v held m =
     let owes = is_move (owed_by_dialogue m (call_after (ends_after v.ends e).closed h d)) in
     let o = choice (is_open e) (ends_after v.ends e).closed h held d m in
     finish h d e v held m owes o (desk_with h d e v owes o)
 
-abbrev pub advance_at : Situation → Effect → Parts → Event → Parts
+abbrev pub advance_at : Situation → Effect → CoreParts → Event → CoreParts
 advance_at h d v e = advance_from h d e v (waiting h v.held d) (mid_dialogue v.dialogue (what_of d) (begins_epoch h d))
 
-unfoldable pub advance : Parts → Event → Parts
+unfoldable pub advance : CoreParts → Event → CoreParts
 advance v e = advance_at (situation v) (classify (situation v) v.held e) v e
 
 -- What the core needs to go on from what comes of an event.
@@ -118,7 +118,7 @@ pub record CanFollow (h : Situation) (d : Effect) : Type 0 where
   pub pings_then : length (desk_after_effect h d).pings ≤ MOST_PINGS + 1
 
 -- What the core needs to take an event, if this stands and this comes of it.
-pub record IsReadyFor (h : Situation) (v : Parts) (d : Effect) : Type 0 where
+pub record IsReadyFor (h : Situation) (v : CoreParts) (d : Effect) : Type 0 where
   pub follow : CanFollow h d
   pub fits : Fits h v.held d
   pub holds : CanHold v.held d

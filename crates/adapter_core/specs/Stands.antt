@@ -19,13 +19,13 @@ use Rattle.desk_rules.specs.Fits.{IsSound, IsFirst, IsServed}
 use Rattle.adapter_core.specs.declared.session.TheConstants.{ROOM}
 use Rattle.adapter_core.specs.Ends.{ends_after, is_open}
 use Rattle.adapter_core.specs.Parts as parts
-use Rattle.adapter_core.specs.Parts.{Parts, choice, desk_with, orders_of}
+use Rattle.adapter_core.specs.Parts.{CoreParts, choice, desk_with, orders_of}
 use Rattle.adapter_core.specs.Trace.{State, Step, Lawful, state, event_in, iface_text, engine_text}
 use Rattle.line_io.specs.Lines.{line_feed}
 use Rattle.desk_rules.specs.declared.pings.TheConstants.{MOST_PINGS}
 
 -- what the core keeps of a state, if these are its buffers
-abbrev pub parts_of : State → Text → Text → Parts
+abbrev pub parts_of : State → Text → Text → CoreParts
 parts_of s to_iface to_engine = record {
   settings = s.settings;
   ends = s.ends;
@@ -51,11 +51,11 @@ pub record Holds (s : State) : Type 0 where
   pub held : AreHeld s.held
 
 -- The core stands for the trace.
-abbrev pub Stands : Settings → Parts → List Step → Type 0
+abbrev pub Stands : Settings → CoreParts → List Step → Type 0
 Stands o core trace = (core ≡ parts_of (state o trace) core.to_iface core.to_engine) × Holds (state o trace)
 
 -- What holds of the core itself, whatever it stands for.
-pub record Keeps (v : Parts) : Type 0 where
+pub record Keeps (v : CoreParts) : Type 0 where
   pub settings : IsProper v.settings
   pub sound : IsSound v.desk
   -- a current search serves the call
@@ -66,7 +66,7 @@ pub record Keeps (v : Parts) : Type 0 where
   pub to_engine : v.to_engine.room ≡ ROOM
 
 -- the step that an event gives, by what stood, what came of the event, what is held then and what the dialogue is then
-abbrev pub step_from : Situation → Effect → Parts → Event → List Order → dialogues.Dialogue → Step
+abbrev pub step_from : Situation → Effect → CoreParts → Event → List Order → dialogues.Dialogue → Step
 step_from h d v e held m =
     let owes = is_move (owed_by_dialogue m (call_after (ends_after v.ends e).closed h d)) in
     let o = choice (is_open e) (ends_after v.ends e).closed h held d m in
@@ -76,10 +76,10 @@ step_from h d v e held m =
       orders = orders_of (is_open e) v.ends.closed (ends_after v.ends e).closed (is_gone h.engine || is_death d) held (desk_with h d e v owes o) o;
     }
 
-abbrev pub step_at : Situation → Effect → Parts → Event → Step
+abbrev pub step_at : Situation → Effect → CoreParts → Event → Step
 step_at h d v e = step_from h d v e (waiting h v.held d) (mid_dialogue v.dialogue (what_of d) (begins_epoch h d))
 
-unfoldable pub step_by : Parts → Event → Step
+unfoldable pub step_by : CoreParts → Event → Step
 step_by v e = step_at (parts.situation v) (classify (parts.situation v) v.held e) v e
 
 -- two lawful traces with the same settings and the same events are equal
@@ -95,7 +95,7 @@ abbrev pub IsSilentToEngine : Settings → Type 0
 IsSilentToEngine o = (t : List Step) (step : Step) → Lawful o (step ∷ t) → ((state o (step ∷ t)).ends.engine || (state o (step ∷ t)).ends.engine_lost) ≡ true → step.orders ≡ []
 
 -- There is a step of this event with these lines. It extends each lawful trace that the core stood for, and then the core stands for that.
-pub record Extends (old new : Parts) (e : Event) (iface engine : List ℕ) : Type 0 where
+pub record Extends (old new : CoreParts) (e : Event) (iface engine : List ℕ) : Type 0 where
   pub step : Step
   pub event : step.event ≡ e
   pub iface_is : iface ≡ iface_text step

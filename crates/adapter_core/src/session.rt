@@ -5,7 +5,7 @@ ghost use Rattle.line_io.specs.Event.{event_of};
 ghost use Rattle.line_io.specs.Out.{empty};
 ghost use Rattle.policy_rules.specs.Policy.{IsProper};
 ghost use Rattle.desk_rules.specs.Desk.{at};
-ghost use Rattle.desk_rules.specs.Steps.{effect_of, begins_epoch as epoch_begun, classify, quits as quits_by};
+ghost use Rattle.desk_rules.specs.Steps.{effect_of, starts_from, begins_epoch as epoch_begun, classify, quits as quits_by};
 ghost use Rattle.adapter_core.specs.Ends.{may, is_over};
 ghost use Rattle.adapter_core.specs.Parts.{opening, situation, CanFollow, IsReadyFor};
 ghost use Rattle.line_io.specs.declared.limits.TheConstants.{SCRIPT_LINE};
@@ -13,11 +13,11 @@ ghost use Rattle.adapter_core.specs.declared.session.TheConstants.{ALL_REPLIES, 
 ghost use Rattle.desk_rules.specs.declared.sizes.TheConstants.{STEP_ORDERS};
 
 use crate::Ends;
-use crate::steps::{Stage, choose, is_hit, is_move, is_open, is_unsent, put_orders, release};
-use desk_rules::{Context, Desk, Ruling, STEP_REPLIES, is_gone};
+use crate::steps::{StepStage, choose, is_hit, is_move, is_open, is_unsent, put_orders, release};
+use desk_rules::{Context, Desk, Effect, Ruling, STEP_REPLIES, is_gone};
 use game_record::Game;
 use line_io::{Event, NoMemory, Out, SCRIPT_LINE};
-use option_map::Held;
+use option_map::HeldOrders;
 use policy_rules::{Scores, Settings};
 use search_epochs::{Dialogue, EngineState};
 use std::alloc::Global;
@@ -31,18 +31,18 @@ pub(crate) const ALL_REPLIES: usize = STEP_REPLIES + 2_000;
 
 // The parts of the core.
 #[derive(Drop)]
-pub(crate) struct Parts {
+pub(crate) struct CoreParts {
     settings: Settings,
     ends: Ends,
     desk: Desk,
     scores: Scores,
-    held: Held,
+    held: HeldOrders,
     dialogue: Dialogue,
     to_iface: Out,
     to_engine: Out,
 }
 
-impl Parts {
+impl CoreParts {
     ghost use Rattle.adapter_core.specs.Parts.{advance, advance_from};
 
     // What is seen beside the desk.
@@ -76,6 +76,8 @@ impl Parts {
         let decision = self.desk.decide(context, &self.held, event);
         decision.asks.hold(&mut self.held);
         let ruling = decision.ruling;
+        // Read for the proof alone, which then knows the type.
+        let _effect: Effect = ruling.effect;
         ruling.hear(&mut self.dialogue);
         self.go_on(context, &ruling, event);
     }
@@ -85,6 +87,7 @@ impl Parts {
         requires follow { CanFollow (at context self.old.desk) (effect_of ruling.now.effect) }
         requires to_iface { self.old.to_iface ≡ empty ROOM }
         requires to_engine { self.old.to_engine ≡ empty ROOM }
+        requires start { ruling.now.start ≡ starts_from (effect_of ruling.now.effect) }
         requires epoch { ruling.now.begins_epoch
             ≡ epoch_begun (at context self.old.desk) (effect_of ruling.now.effect) }
         requires quits { ruling.now.quits ≡ quits_by (event_of event.now) }
@@ -97,7 +100,7 @@ impl Parts {
         let effect = &ruling.effect;
         let closed_before = self.ends.closed;
         self.ends = self.ends.after(event, ruling.quits);
-        let stage = Stage {
+        let stage = StepStage {
             opens: is_open(event),
             closed_before,
             closed: self.ends.closed,
@@ -105,7 +108,7 @@ impl Parts {
         };
         effect.count(&mut self.scores, self.desk.seen.score);
         self.desk
-            .commit(context, effect, stage.closed, &mut self.to_iface);
+            .commit(context, ruling, stage.closed, &mut self.to_iface);
         let call = self.desk.call(stage.closed, stage.gone);
         let owes = is_move(self.dialogue.owed(call));
         let unsent = is_unsent(&self.held, effect);
@@ -127,11 +130,11 @@ impl Parts {
 /// The core of a session: it takes what happens, and gives the lines to both peers.
 #[derive(Drop)]
 pub struct Core {
-    parts: Parts,
+    parts: CoreParts,
 }
 
 impl Model for Core {
-    ghost use Rattle.adapter_core.specs.Parts.{Parts as AnyParts};
+    ghost use Rattle.adapter_core.specs.Parts.{CoreParts as AnyParts};
     ghost use Rattle.adapter_core.specs.Stands.{Keeps};
 
     ghost Value = { AnyParts };
@@ -242,10 +245,10 @@ impl Core {
     }
 }
 
-fn make_parts(alloc: Global, settings: Settings) -> Result<Parts, NoMemory>
+fn make_parts(alloc: Global, settings: Settings) -> Result<CoreParts, NoMemory>
     ensures { IfOk result (λ parts. parts ≡ opening settings) }
 {
-    Ok(Parts {
+    Ok(CoreParts {
         settings,
         ends: Ends {
             opened: false,
@@ -257,7 +260,7 @@ fn make_parts(alloc: Global, settings: Settings) -> Result<Parts, NoMemory>
         },
         desk: Desk::make(alloc)?,
         scores: Scores::new(&settings),
-        held: Held::make(alloc)?,
+        held: HeldOrders::make(alloc)?,
         dialogue: Dialogue::new(),
         to_iface: Out::make(alloc, ROOM)?,
         to_engine: Out::make(alloc, ROOM)?,

@@ -1,9 +1,7 @@
 // The parts of a step.
-ghost use Rattle.std.specs.Prelude.{◌≡◌, ◌+◌, ◌≤◌, ◌||◌, length, cond, []};
+ghost use Rattle.std.specs.Prelude.{◌≡◌, ◌≤◌, ◌||◌, length, cond, []};
 ghost use Rattle.line_io.specs.Event.{event_of};
 ghost use Rattle.line_io.specs.Out.{empty, with};
-ghost use Rattle.uci_lines.specs.Orders.{order_of};
-ghost use Rattle.option_map.specs.Held.{order_line};
 ghost use Rattle.search_epochs.specs.Tickets.{is_move, is_hurry};
 ghost use Rattle.search_epochs.specs.Dialogue.{settle, after_settled, played_of, is_hit_order, is_batch_order};
 ghost use Rattle.search_epochs.specs.declared.words.Orders.TheVariants as chosen;
@@ -15,11 +13,11 @@ ghost use Rattle.adapter_core.specs.Parts.{is_unsent, orders_of};
 ghost use Rattle.adapter_core.specs.declared.session.TheConstants.{ROOM};
 ghost use Rattle.desk_rules.specs.declared.sizes.TheConstants.{STEP_ORDERS};
 
-use desk_rules::{Desk, Effect, put_chosen};
+use desk_rules::{Desk, Effect, put_chosen, put_order};
 use line_io::{Event, Out};
-use option_map::Held;
+use option_map::HeldOrders;
 use search_epochs::{Call, Dialogue, Orders};
-use uci_lines::{Order, write_order};
+use uci_lines::Order;
 
 /// Whether the event opens the session.
 pub fn is_open(event: &Event) -> bool
@@ -29,7 +27,7 @@ pub fn is_open(event: &Event) -> bool
 }
 
 /// Whether orders wait, or Boot was left.
-pub fn is_unsent(held: &Held, effect: &Effect) -> bool
+pub fn is_unsent(held: &HeldOrders, effect: &Effect) -> bool
     ensures { result ≡ is_unsent held.now (effect_of effect.now) }
 {
     effect.is_boots() || held.count() != 0
@@ -51,7 +49,7 @@ pub fn is_hit(orders: Orders) -> bool
 
 /// When the session opens and closes, and whether the engine is there.
 #[derive(Clone, Copy)]
-pub struct Stage {
+pub struct StepStage {
     pub opens: bool,
     pub closed_before: bool,
     pub closed: bool,
@@ -61,7 +59,7 @@ pub struct Stage {
 /// The orders that are chosen: none at Open and in a closed session.
 pub fn choose(
     dialogue: &mut Dialogue,
-    stage: Stage,
+    stage: StepStage,
     call: Call,
     unsent: bool,
     effect: &Effect,
@@ -83,17 +81,9 @@ pub fn choose(
     dialogue.settle(call, unsent, effect.played(), effect.is_hurry())
 }
 
-fn put_order(order: &Order, out: &mut Out)
-    requires { length out.old.text + length (order_line (order_of order.now)) ≤ out.old.room }
-    ensures { out.new ≡ with out.old (order_line (order_of order.now)) }
-{
-    write_order(order, out);
-    out.put(b"\n");
-}
-
 /// Puts the orders of a step, with a line feed each.
 #[tactic(auto, unfolding(uci_lines::specs::Orders::order_text))]
-pub fn put_orders(stage: Stage, held: &Held, desk: &Desk, orders: Orders, out: &mut Out)
+pub fn put_orders(stage: StepStage, held: &HeldOrders, desk: &Desk, orders: Orders, out: &mut Out)
     requires empty { out.old ≡ empty ROOM }
     requires sound { IsSound desk.now }
     requires search { CanWrite desk.now.game orders }
@@ -117,7 +107,7 @@ pub fn put_orders(stage: Stage, held: &Held, desk: &Desk, orders: Orders, out: &
 }
 
 /// Lets go of the held orders that were written.
-pub fn release(held: &mut Held, orders: Orders)
+pub fn release(held: &mut HeldOrders, orders: Orders)
     ensures { held.new ≡ cond (is_batch_order orders) [] held.old }
 {
     if let Orders::Batch = orders {

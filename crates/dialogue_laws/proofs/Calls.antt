@@ -9,7 +9,7 @@ use Rattle.peer_words.specs.declared.kinds.GoKind.{GoKind}
 use Rattle.peer_words.specs.declared.kinds.GoKind.TheVariants as kinds
 use Rattle.cecp_lines.specs.Messages.{IfaceMsg}
 use Rattle.cecp_lines.specs.Messages as says
-use Rattle.option_map.specs.Settings.{Setting}
+use Rattle.option_map.specs.Settings.{OptionSetting}
 use Rattle.option_map.specs.Shown.{check_named}
 use Rattle.search_epochs.specs.declared.words.Call.{Call}
 use Rattle.search_epochs.specs.declared.words.Call.TheVariants as calls
@@ -89,7 +89,7 @@ boots_call : (closed gone : Bool) (d : Desk) → d.hint ≡ None → call_of clo
 unfolding call_of
 boots_call closed gone d e = ap (λ (c : Call). cond (closed || gone || is_full d.game) calls.Nothing c) (in_boots d d.mode e)
 
-unbooted_call : (closed gone : Bool) (d : Desk) (os : List Setting) → d.booted ≡ false → call_of closed gone (record d { options = os }) ≡ call_of closed gone d
+unbooted_call : (closed gone : Bool) (d : Desk) (os : List OptionSetting) → d.booted ≡ false → call_of closed gone (record d { options = os }) ≡ call_of closed gone d
 unfolding call_of
 unbooted_call closed gone d os e =
     ap (λ (b : Bool). call_of closed gone (record d { booted = b; options = os })) e

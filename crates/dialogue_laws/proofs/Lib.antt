@@ -1,12 +1,3 @@
-pub mod Numerals
-pub mod Pieces
-pub mod OptionTexts
-pub mod Boards
-pub mod Games
-pub mod Sans
-pub mod ReplyLines
-pub mod OrderLines
-pub mod OneLine
 pub mod Heard
 pub mod Reached
 pub mod Dialogues
@@ -16,3 +7,4 @@ pub mod Pongs
 pub mod Calls
 pub mod Steadily
 pub mod Asked
+pub mod All

@@ -9,15 +9,15 @@ use Rattle.cecp_lines.specs.declared.reply.Spelling.{Spelling}
 use Rattle.cecp_lines.specs.Replies.{Reply}
 use Rattle.cecp_lines.specs.Replies as told
 use Rattle.uci_lines.specs.Info.{Info}
-use Rattle.game_record.specs.declared.ending.End.{End}
+use Rattle.game_record.specs.declared.ending.GameEnd.{GameEnd}
 use Rattle.game_record.specs.Game.{Game, now_of}
 use Rattle.game_record.specs.Ending.{ended_of}
-use Rattle.option_map.specs.Settings.{Setting}
+use Rattle.option_map.specs.Settings.{OptionSetting}
 use Rattle.option_map.specs.Shown.{takes_tables}
 use Rattle.uci_lines.specs.declared.messages.Score.{Score}
 use Rattle.think_text.specs.Line.{thinking_line, line_with, legal_run, run_texts, hint_text}
-use Rattle.feature_talk.specs.declared.talk.Say.{Say}
-use Rattle.feature_talk.specs.declared.talk.Say.TheVariants as say
+use Rattle.feature_talk.specs.declared.talk.ProtoverAnswer.{ProtoverAnswer}
+use Rattle.feature_talk.specs.declared.talk.ProtoverAnswer.TheVariants as say
 use Rattle.feature_talk.specs.Due.{answer}
 use Rattle.feature_talk.specs.Features.{feature_list, tables, option_feature, shown_options}
 use Rattle.policy_rules.specs.declared.settings.Settings.{Settings}
@@ -47,7 +47,7 @@ none_joined xs ys a b = joined xs ys ∙ ap (λ (l : List ℕ). l ++ pongs_told 
 
 -- ROWS WITHOUT A PONG
 
-no_options : (os : List Setting) → pongs_told (map option_feature os) ≡ []
+no_options : (os : List OptionSetting) → pongs_told (map option_feature os) ≡ []
 no_options [] = refl
 no_options (o ∷ os) = no_options os
 
@@ -55,7 +55,7 @@ no_tables : (b : Bool) → pongs_told (tables b) ≡ []
 no_tables true = refl
 no_tables false = refl
 
-no_features : (os : List Setting) (said : List ℕ) → pongs_told (feature_list os said) ≡ []
+no_features : (os : List OptionSetting) (said : List ℕ) → pongs_told (feature_list os said) ≡ []
 no_features os said =
     let last = told.Feature (codes "done") (codes "1") ∷ [] in
     none_joined (tables (takes_tables os) ++ map option_feature (shown_options os)) last
@@ -73,7 +73,7 @@ no_offer : (b : Bool) → pongs_told (offer_where b) ≡ []
 no_offer true = refl
 no_offer false = refl
 
-no_result : (side : Side) (end : Option End) → pongs_told (result_by side end) ≡ []
+no_result : (side : Side) (end : Option GameEnd) → pongs_told (result_by side end) ≡ []
 no_result side None = refl
 no_result side (Some end) = refl
 
@@ -85,7 +85,7 @@ no_hint : (hint : Option AnyMove) → pongs_told (hint_row hint) ≡ []
 no_hint None = refl
 no_hint (Some m) = refl
 
-no_wait : (s : Say) (d : Desk) → pongs_told (protover_row s d) ≡ []
+no_wait : (s : ProtoverAnswer) (d : Desk) → pongs_told (protover_row s d) ≡ []
 no_wait say.Wait d = refl
 no_wait say.List d = no_features (table d) d.name
 
@@ -99,7 +99,7 @@ no_early_line : (o : Option Refusal) (line : List ℕ) → pongs_told (early_ref
 no_early_line None line = refl
 no_early_line (Some r) line = no_refusal r line
 
-no_early : (os : List Setting) (lines : List (List ℕ)) → pongs_told (early_refusals os lines) ≡ []
+no_early : (os : List OptionSetting) (lines : List (List ℕ)) → pongs_told (early_refusals os lines) ≡ []
 no_early os [] = refl
 no_early os (line ∷ lines) =
     let first = refused_option (early_answer os line) in

@@ -13,7 +13,7 @@ use Rattle.desk_rules.proofs.Joins.{asked_join}
 use Rattle.adapter_core.specs.Ends.{may, ends_after}
 use Rattle.adapter_core.specs.Trace.{Step, Lawful, state, event_in}
 use Rattle.adapter_core.specs.Parts as parts
-use Rattle.adapter_core.specs.Parts.{Parts, advance}
+use Rattle.adapter_core.specs.Parts.{CoreParts, advance}
 use Rattle.adapter_core.specs.Stands.{Keeps, Stands, step_by}
 use Rattle.adapter_core.proofs.Keeps.{keeps, is_ready, opening_keeps}
 use Rattle.adapter_core.proofs.Holds.{stands_first, extended, event_is}
@@ -45,7 +45,7 @@ left : (b : Bool) (held : List Order) → AreFew held → AreFew (cond b [] held
 left true held f = none_few
 left false held f = f
 
-few_after : (v : Parts) (e : Event) (k : Keeps v) (m : may v.ends e ≡ true) → AreFew v.held → AreFew (advance v e).held
+few_after : (v : CoreParts) (e : Event) (k : Keeps v) (m : may v.ends e ≡ true) → AreFew v.held → AreFew (advance v e).held
 unfolding advance
 few_after v e k m f =
     let h = parts.situation v in
@@ -56,7 +56,7 @@ few_after v e k m f =
 -- A CORE FOR EACH LAWFUL TRACE
 
 pub record Reached (o : Settings) (trace : List Step) : Type 0 where
-  pub core : Parts
+  pub core : CoreParts
   pub keeps_it : Keeps core
   pub stands : Stands o core trace
   few : AreFew core.held
@@ -64,8 +64,8 @@ pub record Reached (o : Settings) (trace : List Step) : Type 0 where
 first_reached : (o : Settings) → IsProper o → Reached o []
 first_reached o p = record { core = parts.opening o; keeps_it = opening_keeps o p; stands = stands_first o p; few = none_few }
 
-same_ends : (o : Settings) (core : Parts) (t : List Step) (e : Event) → Stands o core t → may (state o t).ends e ≡ true → may core.ends e ≡ true
-same_ends o core t e st m = ap (λ (v : Parts). may v.ends e) st.0 ∙ m
+same_ends : (o : Settings) (core : CoreParts) (t : List Step) (e : Event) → Stands o core t → may (state o t).ends e ≡ true → may core.ends e ≡ true
+same_ends o core t e st m = ap (λ (v : CoreParts). may v.ends e) st.0 ∙ m
 
 reached_on : (o : Settings) (t : List Step) (step : Step) → Lawful o (step ∷ t) → Reached o t → Reached o (step ∷ t)
 reached_on o t step l r =
@@ -86,10 +86,10 @@ reached o (step ∷ t) p l = reached_on o t step l (reached o t p l.0)
 
 -- LIMITS
 
-kept_in : (o : Settings) (core core' : Parts) (t : List Step) → Stands o core t → Stands o core' t → core ≡ record core' { to_iface = core.to_iface; to_engine = core.to_engine }
-kept_in o core core' t a b = a.0 ∙ ap (λ (v : Parts). let w : Parts = record v { to_iface = core.to_iface; to_engine = core.to_engine } in w) (sym b.0)
+kept_in : (o : Settings) (core core' : CoreParts) (t : List Step) → Stands o core t → Stands o core' t → core ≡ record core' { to_iface = core.to_iface; to_engine = core.to_engine }
+kept_in o core core' t a b = a.0 ∙ ap (λ (v : CoreParts). let w : CoreParts = record v { to_iface = core.to_iface; to_engine = core.to_engine } in w) (sym b.0)
 
-within : (core : Parts) → AreFew core.held → Keeps core → IsWithinLimits core
+within : (core : CoreParts) → AreFew core.held → Keeps core → IsWithinLimits core
 within core f k = record {
   orders = f.orders;
   bytes = f.bytes;
@@ -97,7 +97,7 @@ within core f k = record {
   search = λ g stopped c s. k.serves c g (ap current s);
 }
 
-texts_within : (core core' : Parts) → IsWithinLimits core' → IsWithinLimits (record core' { to_iface = core.to_iface; to_engine = core.to_engine })
+texts_within : (core core' : CoreParts) → IsWithinLimits core' → IsWithinLimits (record core' { to_iface = core.to_iface; to_engine = core.to_engine })
 texts_within core core' w = record { orders = w.orders; bytes = w.bytes; pings = w.pings; search = w.search }
 
 pub within_limits : (o : Settings) → CoresAreWithinLimits o

@@ -4,4 +4,4 @@ pub mod Limits
 pub mod Dialogue
 pub mod Pings
 pub mod Values
-pub mod OneLine
+pub mod Laws

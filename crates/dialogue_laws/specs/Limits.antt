@@ -10,12 +10,12 @@ use Rattle.search_epochs.specs.Tickets.{Serves}
 use Rattle.desk_rules.specs.declared.pings.TheConstants.{MOST_PINGS}
 use Rattle.desk_rules.specs.Desk.{call_before}
 use Rattle.adapter_core.specs.Trace.{Step, Lawful}
-use Rattle.adapter_core.specs.Parts.{Parts, situation}
+use Rattle.adapter_core.specs.Parts.{CoreParts, situation}
 use Rattle.adapter_core.specs.Stands.{Stands}
 
 -- Orders are held up to their number and their bytes, pings up to their number, and in a session that is not closed an open current
 -- search is of the kind that is called for.
-pub record IsWithinLimits (core : Parts) : Type 0 where
+pub record IsWithinLimits (core : CoreParts) : Type 0 where
   pub orders : length core.held ≤ MOST_ORDERS
   pub bytes : length (batch_text core.held) ≤ MOST_BYTES
   pub pings : length core.desk.pings ≤ MOST_PINGS
@@ -25,4 +25,4 @@ pub record IsWithinLimits (core : Parts) : Type 0 where
 
 abbrev pub CoresAreWithinLimits : Settings → Type 0
 CoresAreWithinLimits o =
-    (core : Parts) (trace : List Step) → IsProper o → Lawful o trace → Stands o core trace → IsWithinLimits core
+    (core : CoreParts) (trace : List Step) → IsProper o → Lawful o trace → Stands o core trace → IsWithinLimits core

@@ -1,14 +1,14 @@
 //! What holds of every lawful trace of a session: functions that do nothing, whose contracts are laws.
 #![tactic(auto)]
 
-mod lines;
+mod laws;
 mod pings;
 mod searches;
 mod settings;
 mod traces;
 mod wire;
 
-pub use lines::written_texts_are_lines;
+pub use laws::laws_hold;
 pub use pings::pings_get_pongs;
 pub use searches::{searches_end_once, searches_serve, traces_are_dialogues};
 pub use settings::last_settings_stand;

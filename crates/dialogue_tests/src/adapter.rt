@@ -33,10 +33,10 @@ const GO_AFTER_E4: &str =
     "position startpos moves e2e4\ngo wtime 300000 btime 300000 winc 0 binc 0\n";
 
 /// A mark, and the lines to the interface and to the engine after it.
-pub type Step = (&'static str, &'static str, &'static str);
+pub type ScriptStep = (&'static str, &'static str, &'static str);
 
 /// The state of the engine at the end, the plies of the game, and whether the session is over.
-pub type End = (EngineState, u32, bool);
+pub type SessionEnd = (EngineState, u32, bool);
 
 /// Lets a core go. That is proved here once, and not in each function that makes one.
 pub fn end_core(_core: Core) {}
@@ -59,7 +59,7 @@ pub fn check_event(rt: &impl Abort, core: &mut Core, event: &Event, iface: &str,
 }
 
 /// Takes the event of each mark, and compares the lines to the interface and to the engine.
-pub fn check_steps(rt: &impl Abort, core: &mut Core, steps: &[Step]) {
+pub fn check_steps(rt: &impl Abort, core: &mut Core, steps: &[ScriptStep]) {
     for (mark, iface, engine) in steps {
         check_event(rt, core, &event_in(rt, mark), iface, engine);
     }
@@ -70,8 +70,8 @@ pub fn check_session(
     rt: &impl Abort,
     alloc: Global,
     settings: Settings,
-    steps: &[Step],
-    end: End,
+    steps: &[ScriptStep],
+    end: SessionEnd,
 ) -> Result<(), NoMemory>
     requires { IsProper settings }
 {
@@ -104,7 +104,7 @@ fn laws_can_be_called(_rt: HostRuntime) -> Result<(), Fail> {
     Ok(())
 }
 
-const SHORT_GAME: [Step; 6] = [
+const SHORT_GAME: [ScriptStep; 6] = [
     ("u uciok", "", "isready\n"),
     ("u readyok", "", ""),
     ("x usermove e2e4", "", GO_AFTER_E4),
@@ -120,7 +120,7 @@ fn plays_a_short_game(rt: HostRuntime) -> Result<(), Fail> {
     Ok(())
 }
 
-const STALE_SEARCH: [Step; 5] = [
+const STALE_SEARCH: [ScriptStep; 5] = [
     ("u uciok", "", "isready\n"),
     ("u readyok", "", ""),
     ("x usermove e2e4", "", GO_AFTER_E4),
@@ -148,7 +148,7 @@ fn shows_nothing_of_a_stale_search(rt: HostRuntime) -> Result<(), Fail> {
     Ok(())
 }
 
-const WITHOUT_ENGINE: [Step; 9] = [
+const WITHOUT_ENGINE: [ScriptStep; 9] = [
     ("u uciok", "", "isready\n"),
     ("u readyok", "", ""),
     ("x usermove e2e4", "", GO_AFTER_E4),

@@ -1,5 +1,5 @@
 // Short sessions with other settings than the usual ones, step by step.
-use crate::adapter::{Step, check_event, check_session, check_steps, end_core};
+use crate::adapter::{ScriptStep, check_event, check_session, check_steps, end_core};
 use adapter_core::Core;
 use line_io::Event;
 use policy_rules::Settings;
@@ -13,7 +13,7 @@ const ENDED: &str = "tellusererror Engine ended\n";
 
 // DRAWS
 
-const DRAW_IS_ANSWERED: [Step; 6] = [
+const DRAW_IS_ANSWERED: [ScriptStep; 6] = [
     ("u uciok", "", "isready\n"),
     ("u readyok", "", ""),
     ("x usermove e2e4", "", GO_AFTER_E4),
@@ -22,7 +22,7 @@ const DRAW_IS_ANSWERED: [Step; 6] = [
     ("x draw", "offer draw\n", ""),
 ];
 
-const DRAW_IS_PASSED_OVER: [Step; 6] = [
+const DRAW_IS_PASSED_OVER: [ScriptStep; 6] = [
     ("u uciok", "", "isready\n"),
     ("u readyok", "", ""),
     ("x usermove e2e4", "", GO_AFTER_E4),
@@ -49,7 +49,7 @@ fn draws_are_answered_unless_switched_off(rt: HostRuntime) -> Result<(), Fail> {
 
 // AN ENGINE THAT IS GONE
 
-const OFF_MOVE: [Step; 9] = [
+const OFF_MOVE: [ScriptStep; 9] = [
     ("u uciok", "", "isready\n"),
     ("u?", ENDED, ""),
     ("x ping 3", "pong 3\n", ""),
@@ -61,7 +61,7 @@ const OFF_MOVE: [Step; 9] = [
     ("x exit", "Error (not analyzing): exit\n", ""),
 ];
 
-const TOLD_TO_PLAY: [Step; 8] = [
+const TOLD_TO_PLAY: [ScriptStep; 8] = [
     ("u.", ENDED, ""),
     ("x go", "resign\n", ""),
     ("x go", "resign\n", ""),
@@ -72,7 +72,7 @@ const TOLD_TO_PLAY: [Step; 8] = [
     ("x setboard 4k3/8/8/8/8/8/8/4K2R b K - 0 1", "resign\n", ""),
 ];
 
-const ENDED_GAME: [Step; 9] = [
+const ENDED_GAME: [ScriptStep; 9] = [
     ("x force", "", ""),
     ("x usermove f2f3", "", ""),
     ("x usermove e7e5", "", ""),
@@ -84,7 +84,7 @@ const ENDED_GAME: [Step; 9] = [
     ("x undo", "resign\n", ""),
 ];
 
-const ONCE: [Step; 4] = [
+const ONCE: [ScriptStep; 4] = [
     ("x usermove e2e4", "", ""),
     ("x ping 7", "", ""),
     ("u.", "tellusererror Engine ended\nresign\npong 7\n", ""),
@@ -107,7 +107,7 @@ fn an_engine_that_is_gone_resigns(rt: HostRuntime) -> Result<(), Fail> {
 
 // OPTIONS THAT LIMIT THE STRENGTH
 
-const STRENGTH: [Step; 8] = [
+const STRENGTH: [ScriptStep; 8] = [
     (
         "u option name uci_elo type spin default 1500 min 1000 max 2000",
         "",
@@ -134,7 +134,7 @@ const STRENGTH: [Step; 8] = [
     ),
 ];
 
-const NO_STRENGTH: [Step; 4] = [
+const NO_STRENGTH: [ScriptStep; 4] = [
     (
         "u option name UCI_LimitStrength type check default false",
         "",
@@ -163,7 +163,7 @@ fn options_that_limit_the_strength_are_set_if_they_are_shown(rt: HostRuntime) ->
 
 // EARLY SETTINGS
 
-const EARLY: [Step; 11] = [
+const EARLY: [ScriptStep; 11] = [
     ("x protover 2", "feature done=0\n", ""),
     ("x option Style=Solid", "", ""),
     ("x memory 2000", "", ""),
@@ -214,7 +214,7 @@ Error (bad value): option Style
 ];
 
 // the last value of an option stands behind what was asked for before it, and no epoch begins
-const IN_TURN: [Step; 9] = [
+const IN_TURN: [ScriptStep; 9] = [
     ("x option S=a", "", ""),
     ("x new", "", ""),
     ("x option B", "", ""),
@@ -230,7 +230,7 @@ const IN_TURN: [Step; 9] = [
     ),
 ];
 
-const NO_EPOCH: [Step; 7] = [
+const NO_EPOCH: [ScriptStep; 7] = [
     ("x go", "", ""),
     ("x ping 1", "", ""),
     ("x option S=a", "", ""),
@@ -245,7 +245,7 @@ const NO_EPOCH: [Step; 7] = [
 ];
 
 // nothing is written for lines that wait when the engine ends
-const LOST_EARLY: [Step; 5] = [
+const LOST_EARLY: [ScriptStep; 5] = [
     ("x option S=a", "", ""),
     ("x memory", "Error (bad argument): memory\n", ""),
     ("u.", ENDED, ""),
@@ -253,7 +253,7 @@ const LOST_EARLY: [Step; 5] = [
     ("x memory 4", "", ""),
 ];
 
-const CLOSED_EARLY: [Step; 3] = [
+const CLOSED_EARLY: [ScriptStep; 3] = [
     ("x option Nope=1", "", ""),
     ("x quit", "", "quit\n"),
     ("u uciok", "", ""),
@@ -277,7 +277,7 @@ fn early_settings_wait_for_the_options(rt: HostRuntime) -> Result<(), Fail> {
     Ok(())
 }
 
-const ONE_MORE: [Step; 2] = [
+const ONE_MORE: [ScriptStep; 2] = [
     ("x option B", "Error (too many settings): option B\n", ""),
     ("x cores 2", "Error (too many settings): cores 2\n", ""),
 ];

@@ -5,7 +5,7 @@ ghost use Rattle.line_io.specs.Out.{empty};
 ghost use Rattle.peer_words.specs.declared.kinds.GoKind.{GoKind as AnyKind};
 ghost use Rattle.search_epochs.specs.Tickets.{Serves};
 ghost use Rattle.desk_rules.specs.Desk.{at, current};
-ghost use Rattle.desk_rules.specs.Steps.{effect_of};
+ghost use Rattle.desk_rules.specs.Steps.{effect_of, starts_from};
 ghost use Rattle.desk_rules.specs.Fits.{IsSound, IsHintPlayable, IsServed, IsLineEvent, IsFit, CanHold};
 ghost use Rattle.line_io.specs.declared.limits.TheConstants.{SCRIPT_LINE};
 ghost use Rattle.desk_rules.specs.declared.pings.TheConstants.{MOST_PINGS};
@@ -18,7 +18,7 @@ use crate::rows::{call_in, engine_in, event_in, expect, expect_text};
 use chess_board::Move;
 use desk_rules::{Context, Desk, Effect, Mode, Pings, Ruling, is_gone};
 use line_io::{Event, NoMemory, Out, SCRIPT_LINE};
-use option_map::Held;
+use option_map::HeldOrders;
 use peer_words::GoKind;
 use policy_rules::Settings;
 use search_epochs::{Call, EngineState};
@@ -54,7 +54,7 @@ const PONDER_IS_OPTION: &str = "u option name Ponder type check default false";
 #[derive(Drop)]
 struct Bench {
     desk: Desk,
-    held: Held,
+    held: HeldOrders,
     told: Out,
 }
 
@@ -115,7 +115,7 @@ fn is_served(desk: &Desk, context: Context) -> bool
 }
 
 /// Whether there is room for the orders of an effect.
-fn can_hold(held: &Held, effect: &Effect) -> bool
+fn can_hold(held: &HeldOrders, effect: &Effect) -> bool
     ensures { result ≡ true → CanHold held.now (effect_of effect.now) }
 {
     match effect {
@@ -125,7 +125,7 @@ fn can_hold(held: &Held, effect: &Effect) -> bool
 }
 
 /// There is room for the orders of an effect.
-fn expect_room(rt: &impl Abort, held: &Held, effect: &Effect)
+fn expect_room(rt: &impl Abort, held: &HeldOrders, effect: &Effect)
     ensures { CanHold held.now (effect_of effect.now) }
 {
     assert!(rt; can_hold(held, effect));
@@ -156,7 +156,7 @@ impl Bench {
         ensures { IfOk result (λ bench. IsSound bench.desk) }
     {
         let told = Out::make(alloc, 131_072)?;
-        let held = Held::make(alloc)?;
+        let held = HeldOrders::make(alloc)?;
         let desk = Desk::make(alloc)?;
         Ok(Bench { desk, held, told })
     }
@@ -200,6 +200,7 @@ impl Bench {
 
     fn follow(&mut self, context: Context, ruling: &Ruling) -> (&'static str, bool, Call)
         requires sound { IsSound self.old.desk }
+        requires start { ruling.now.start ≡ starts_from (effect_of ruling.now.effect) }
         requires fits { IsFit (at context self.old.desk) (effect_of ruling.now.effect) }
         requires served { IsServed (at context self.old.desk) }
         requires pings { length self.old.desk.pings ≤ MOST_PINGS }
@@ -208,7 +209,7 @@ impl Bench {
     {
         let effect = &ruling.effect;
         self.desk
-            .commit(context, effect, context.closed, &mut self.told);
+            .commit(context, ruling, context.closed, &mut self.told);
         let gone = is_gone(context.engine) || effect.is_death();
         let call = self.desk.call(context.closed, gone);
         (word_of(effect), ruling.begins_epoch, call)
@@ -262,6 +263,6 @@ fn expect_plies(rt: &impl Abort, desk: &Desk, want: u32) {
     expect(rt, desk.game.plies() == want, "the plies");
 }
 
-fn expect_none_held(rt: &impl Abort, held: &Held) {
+fn expect_none_held(rt: &impl Abort, held: &HeldOrders) {
     expect(rt, held.count() == 0, "no orders are held");
 }

@@ -9,7 +9,7 @@ use search_epochs::{
 use std::process::Abort;
 
 #[derive(Clone, Copy)]
-enum Event {
+enum EpochEvent {
     Says(Said),
     Plays(Move),
     Hurries,
@@ -30,13 +30,13 @@ type Turn = (
 const E2E4: Move = Move {
     from: Square { index: 12 },
     to: Square { index: 28 },
-    promo: None,
+    promotion: None,
 };
 
 const D2D4: Move = Move {
     from: Square { index: 11 },
     to: Square { index: 27 },
-    promo: None,
+    promotion: None,
 };
 
 const BOOTED: Turn = ("uciok", "booted", false, "nothing", true, "batch");
@@ -148,17 +148,17 @@ const ENDED: [Turn; 5] = [
     ("end", "nothing", false, "nothing", false, "none"),
 ];
 
-fn event_in(rt: &impl Abort, word: &str) -> Event {
+fn event_in(rt: &impl Abort, word: &str) -> EpochEvent {
     match word {
-        "uciok" => Event::Says(Said::UciOk),
-        "readyok" => Event::Says(Said::ReadyOk),
-        "bestmove" => Event::Says(Said::Best),
-        "end" => Event::Says(Said::Ended),
-        "plays e2e4" => Event::Plays(E2E4),
-        "plays g1f3" => Event::Plays(G1F3),
-        "plays d2d4" => Event::Plays(D2D4),
-        "hurries" => Event::Hurries,
-        "line" => Event::Line,
+        "uciok" => EpochEvent::Says(Said::UciOk),
+        "readyok" => EpochEvent::Says(Said::ReadyOk),
+        "bestmove" => EpochEvent::Says(Said::Best),
+        "end" => EpochEvent::Says(Said::Ended),
+        "plays e2e4" => EpochEvent::Plays(E2E4),
+        "plays g1f3" => EpochEvent::Plays(G1F3),
+        "plays d2d4" => EpochEvent::Plays(D2D4),
+        "hurries" => EpochEvent::Hurries,
+        "line" => EpochEvent::Line,
         _ => panic!(rt; "no event: {word}"),
     }
 }
@@ -207,7 +207,7 @@ fn walk(rt: &impl Abort, name: &str, turns: &[Turn]) {
 fn take_turn(rt: &impl Abort, dialogue: &mut Dialogue, turn: &Turn, name: &str, k: usize) {
     let (event, meaning, begins_epoch, call, unsent, want) = *turn;
     let event = event_in(rt, event);
-    if let Event::Says(said) = event {
+    if let EpochEvent::Says(said) = event {
         let holds = dialogue.heard(said) == heard_in(rt, meaning);
         expect_in_turn(rt, holds, name, "what is heard in", k);
     }
@@ -223,7 +223,7 @@ fn take_turn(rt: &impl Abort, dialogue: &mut Dialogue, turn: &Turn, name: &str, 
 fn settle(
     rt: &impl Abort,
     dialogue: &mut Dialogue,
-    event: Event,
+    event: EpochEvent,
     call: &str,
     unsent: bool,
 ) -> Orders {
@@ -231,15 +231,15 @@ fn settle(
     dialogue.settle(call, unsent, played(event), hurries(event))
 }
 
-fn played(event: Event) -> Option<Move> {
+fn played(event: EpochEvent) -> Option<Move> {
     match event {
-        Event::Plays(m) => Some(m),
+        EpochEvent::Plays(m) => Some(m),
         _ => None,
     }
 }
 
-fn hurries(event: Event) -> bool {
-    matches!(event, Event::Hurries)
+fn hurries(event: EpochEvent) -> bool {
+    matches!(event, EpochEvent::Hurries)
 }
 
 fn expect_in_turn(rt: &impl Abort, holds: bool, name: &str, what: &str, k: usize) {

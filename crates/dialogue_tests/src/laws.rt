@@ -1,8 +1,9 @@
 // The laws of lawful traces.
 use dialogue_laws::{
-    cores_within_limits, engine_on_wire, last_settings_stand, order_places, pings_get_pongs,
-    searches_end_once, searches_serve, traces_are_dialogues, traces_exist, written_texts_are_lines,
+    cores_within_limits, engine_on_wire, last_settings_stand, laws_hold, order_places,
+    pings_get_pongs, searches_end_once, searches_serve, traces_are_dialogues, traces_exist,
 };
+use line_laws::written_texts_are_lines;
 use policy_rules::Settings;
 use std::test::Fail;
 
@@ -19,5 +20,6 @@ fn laws_can_be_called(_rt: HostRuntime) -> Result<(), Fail> {
     last_settings_stand(settings);
     pings_get_pongs(settings);
     written_texts_are_lines(settings);
+    laws_hold(settings);
     Ok(())
 }

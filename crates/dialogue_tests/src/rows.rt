@@ -13,7 +13,7 @@ use std::process::Abort;
 pub const G1F3: Move = Move {
     from: Square { index: 6 },
     to: Square { index: 21 },
-    promo: None,
+    promotion: None,
 };
 
 /// What a row wants holds, or the test ends with the row.

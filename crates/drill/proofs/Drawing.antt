@@ -7,7 +7,7 @@ use Rattle.chess_board.specs.Laws.{IsLegal}
 use Rattle.chess_board.specs.Position.{Position}
 use Rattle.chess_board.specs.Play.{HasLegal}
 use Rattle.chess_board.specs.Text.{AreLegalMoves}
-use Rattle.game_record.specs.declared.ending.End.{End}
+use Rattle.game_record.specs.declared.ending.GameEnd.{GameEnd}
 use Rattle.game_record.specs.Game.{Game, now_of}
 use Rattle.game_record.specs.Ending.{ended_of, Ends}
 use Rattle.game_record.proofs.States.{ending-law}
@@ -22,7 +22,7 @@ some_legal p moves are h = let c = (are.each h.move).1 h.legal in omega (arith, 
 -- a game that has not ended has a legal move
 pub open_legal : (g : Game) → has_ended g ≡ false → HasLegal (now_of g)
 open_legal g e = by (ended_of g) e (ending-law g) where
-  by : (end : Option End) → is_some end ≡ false → Ends g end → HasLegal (now_of g)
+  by : (end : Option GameEnd) → is_some end ≡ false → Ends g end → HasLegal (now_of g)
   by None e x = x.0.0
   by (Some end) e x = cc
 
@@ -34,5 +34,5 @@ drawn_at s moves k m are place within is = record {
   drawn = ap (slice_get moves) (sym place) ∙ slice_get_read moves (length moves) k m refl within is;
 }
 
-pub place_legal : (p : Position) (moves : List Move) (k : ℕ) (m : Move) → AreLegalMoves p moves → k < length moves → m ≡ get_or moves k m → IsLegal p m.from.index m.to.index m.promo
+pub place_legal : (p : Position) (moves : List Move) (k : ℕ) (m : Move) → AreLegalMoves p moves → k < length moves → m ≡ get_or moves k m → IsLegal p m.from.index m.to.index m.promotion
 place_legal p moves k m are within is = (are.each m).0 (k, within, sym is)

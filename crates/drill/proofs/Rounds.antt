@@ -8,7 +8,7 @@ use Rattle.desk_rules.specs.Desk.{has_ended}
 use Rattle.drill.specs.declared.round.Drill.{Drill}
 use Rattle.drill.specs.Generator.{next}
 use Rattle.drill.specs.Rounds.{Drill as AnyDrill, Draws, Misses, Answers, Alone, WithHint, moved, hinted, ponders, renewal, renewed, entry, answer, answer_with}
-use Rattle.drill.specs.Sent.{Session, Sent}
+use Rattle.drill.specs.Sent.{DrillSession, Sent}
 use Rattle.drill.specs.Stood.{stand_of, UserMoves, HintDrawn, EngineMoves, RoundPlayed, RoundsPlayed}
 use Rattle.drill.proofs.Sending.{sent_both}
 
@@ -56,7 +56,7 @@ hint_kept old drawn hint kept e k =
     ap (λ (h : Option Move). stand drawn.seed drawn.game h) k ∙ ap (λ (d : Drill). stand d.seed d.game (if ponders d.game hint then Some hint else None)) e
 
 -- a move that was drawn was played
-pub move_played : (old drawn new : Drill) (m : Move) (session : Session) → drawn ≡ record old { seed = next old.seed } → new ≡ record drawn { session = session; game = with_ply drawn.game (ply_of m) }
+pub move_played : (old drawn new : Drill) (m : Move) (session : DrillSession) → drawn ≡ record old { seed = next old.seed } → new ≡ record drawn { session = session; game = with_ply drawn.game (ply_of m) }
     → (new.seed ≡ next old.seed) × (new.game ≡ with_ply old.game (ply_of m)) × (new.hint ≡ old.hint) × (new.session ≡ session)
 move_played old drawn new m session e f = (
   ap (λ (d : Drill). d.seed) f ∙ ap (λ (d : Drill). d.seed) e,
@@ -70,7 +70,7 @@ stand_moved old m seed game e f = ap (λ n. stand n game None) e ∙ ap (λ (g :
 
 -- THE MOVES OF A ROUND
 
-pub user_moves : (old drawn new : Drill) (m : Move) (entered answered : Session) → Draws (stand_of old) m → drawn ≡ record old { seed = next old.seed }
+pub user_moves : (old drawn new : Drill) (m : Move) (entered answered : DrillSession) → Draws (stand_of old) m → drawn ≡ record old { seed = next old.seed }
     → Sent drawn.session entered (entry m) → (missed : (es : List Event) × Misses drawn.hint m es × Sent entered answered es) → new ≡ record drawn { session = answered; game = with_ply drawn.game (ply_of m) }
     → UserMoves old (record { session = new.session; game = new.game; seed = new.seed; hint = None })
 user_moves old drawn new m entered answered d e enters missed f =
@@ -81,12 +81,12 @@ user_moves old drawn new m entered answered d e enters missed f =
       drawn = d;
       missed = missed.0;
       misses = subst (λ (x : Drill). Misses x.hint m missed.0) e missed.1;
-      sent = subst (λ (x : Session). Sent old.session x (entry m ++ missed.0)) (sym p.3) (sent_both old.session entered answered (entry m) missed.0 enters' missed.2);
+      sent = subst (λ (x : DrillSession). Sent old.session x (entry m ++ missed.0)) (sym p.3) (sent_both old.session entered answered (entry m) missed.0 enters' missed.2);
       stand = stand_moved old m new.seed new.game p.0 p.1;
     }
 
 -- the engine answers without a hint
-pub answers_alone : (old drawn played : Drill) (m : Move) (answered : Session) → old.hint ≡ None → has_ended old.game ≡ false → Draws (stand_of old) m → drawn ≡ record old { seed = next old.seed }
+pub answers_alone : (old drawn played : Drill) (m : Move) (answered : DrillSession) → old.hint ≡ None → has_ended old.game ≡ false → Draws (stand_of old) m → drawn ≡ record old { seed = next old.seed }
     → played ≡ record drawn { session = drawn.session; game = with_ply drawn.game (ply_of m) } → (HasLegal (now_of played.game) → ⊥) → Sent played.session answered (answer m)
     → EngineMoves old (record { session = answered; game = played.game; seed = played.seed; hint = played.hint })
 answers_alone old drawn played m answered none still d e f stuck sends =
@@ -94,7 +94,7 @@ answers_alone old drawn played m answered none still d e f stuck sends =
     record {
       answered = answer m;
       answers = Alone m still d (λ h. stuck (subst (λ (g : Game). HasLegal (now_of g)) (sym p.1) h)) refl (ap (λ (h : Option Move). stand played.seed played.game h) (p.2 ∙ none) ∙ stand_moved old m played.seed played.game p.0 p.1);
-      sent = subst (λ (x : Session). Sent x answered (answer m)) (p.3 ∙ ap (λ (x : Drill). x.session) e) sends;
+      sent = subst (λ (x : DrillSession). Sent x answered (answer m)) (p.3 ∙ ap (λ (x : Drill). x.session) e) sends;
     }
 
 -- or with one
@@ -106,5 +106,5 @@ answers_hinted old drawn played new m none still d e f h =
     record {
       answered = answer_with m h.hint;
       answers = WithHint m h.hint still d (subst (λ (s : AnyDrill). Draws s h.hint) stands h.drawn) refl (h.stand ∙ ap (λ (s : AnyDrill). hinted s h.hint) stands);
-      sent = subst (λ (x : Session). Sent x new.session (answer_with m h.hint)) (p.3 ∙ ap (λ (x : Drill). x.session) e) h.sent;
+      sent = subst (λ (x : DrillSession). Sent x new.session (answer_with m h.hint)) (p.3 ∙ ap (λ (x : Drill). x.session) e) h.sent;
     }

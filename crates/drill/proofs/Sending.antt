@@ -7,24 +7,24 @@ use Rattle.adapter_core.specs.Stands.{Stands}
 use Rattle.session_script.specs.Script.{events}
 use Rattle.drill.specs.declared.tally.Tally.{Tally}
 use Rattle.drill.specs.Tally.{counted, tally_of}
-use Rattle.drill.specs.Sent.{Session, Sends, Sent}
+use Rattle.drill.specs.Sent.{DrillSession, Sends, Sent}
 
-pub sent_one : (a b : Session) (e : Event) → Sends a b e → Sent a b (e ∷ [])
+pub sent_one : (a b : DrillSession) (e : Event) → Sends a b e → Sent a b (e ∷ [])
 sent_one a b e s = (b, s, refl)
 
-pub sent_both : (a b c : Session) (es fs : List Event) → Sent a b es → Sent b c fs → Sent a c (es ++ fs)
-sent_both a b c [] fs s t = subst (λ (p : Session). Sent p c fs) s t
+pub sent_both : (a b c : DrillSession) (es fs : List Event) → Sent a b es → Sent b c fs → Sent a c (es ++ fs)
+sent_both a b c [] fs s t = subst (λ (p : DrillSession). Sent p c fs) s t
 sent_both a b c (e ∷ es) fs s t = (s.0, s.1, sent_both s.0 b c es fs s.2 t)
 
 -- a lawful trace of these events, for which the core stands, and its counts
-pub record Traced (p : Session) (es : List Event) : Type 0 where
+pub record Traced (p : DrillSession) (es : List Event) : Type 0 where
   pub trace : List Step
   pub lawful : Lawful usual trace
   pub stands : Stands usual p.core trace
   pub events_are : events trace ≡ es
   pub tally_is : p.tally ≡ tally_of trace
 
-one_more : (a b : Session) (es : List Event) (e : Event) → Traced a es → Sends a b e → Traced b (es ++ e ∷ [])
+one_more : (a b : DrillSession) (es : List Event) (e : Event) → Traced a es → Sends a b e → Traced b (es ++ e ∷ [])
 one_more a b es e t s =
     let more = s.extends usual t.trace t.lawful t.stands in
     record {
@@ -35,6 +35,6 @@ one_more a b es e t s =
       tally_is = s.tally_is ∙ ap (λ (x : Tally). counted x s.step) t.tally_is;
     }
 
-pub traced : (a b : Session) (es fs : List Event) → Traced a es → Sent a b fs → Traced b (es ++ fs)
-traced a b es [] t s = subst (λ (l : List Event). Traced b l) (sym (append-nil es)) (subst (λ (p : Session). Traced p es) (sym s) t)
+pub traced : (a b : DrillSession) (es fs : List Event) → Traced a es → Sent a b fs → Traced b (es ++ fs)
+traced a b es [] t s = subst (λ (l : List Event). Traced b l) (sym (append-nil es)) (subst (λ (p : DrillSession). Traced p es) (sym s) t)
 traced a b es (f ∷ fs) t s = subst (λ (l : List Event). Traced b l) (append_assoc es (f ∷ []) fs) (traced s.0 b (es ++ f ∷ []) fs (one_more a s.0 es f t s.1) s.2)

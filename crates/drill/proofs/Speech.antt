@@ -38,7 +38,7 @@ move_bare m =
     let b = no_feed_over (49 + rank_of m.from.index) (omega arith) in
     let c = no_feed_over (97 + file_of m.to.index) (omega arith) in
     let d = no_feed_over (49 + rank_of m.to.index) (omega arith) in
-    rw (a, b, c, d, promotion_bare m.promo) refl
+    rw (a, b, c, d, promotion_bare m.promotion) refl
 
 bare_behind : (words text : List ℕ) → has_feed words ≡ false → has_feed text ≡ false → has_feed (words ++ text) ≡ false
 bare_behind words text e f = list_any-append (λ b. nat_eq b 10) words text ∙ or_from (has_feed words) (has_feed text) e f
@@ -61,12 +61,12 @@ is_hint_line m hint =
     (bare_behind (codes "bestmove ") behind refl bare)
 
 -- an entered move does not end the session
-entry_speaks : (m : Move) → IsOfficer m.promo → is_quit (codes "usermove " ++ text_of m) ≡ false
+entry_speaks : (m : Move) → IsOfficer m.promotion → is_quit (codes "usermove " ++ text_of m) ≡ false
 entry_speaks m h =
     let line = codes "usermove " ++ text_of m in
     let tokens_are = tokens_more (codes "usermove") (text_of m) 32 refl refl ∙ ap (λ ts. codes "usermove" ∷ ts) (tokens_alone (text_of m) (move_token m)) in
     let entered : HasMove line m = inl (text_of m, tokens_are, reads-back m h) in
     ap is_quit_message (spells_reading line (says.UserMove m) entered)
 
-pub entry_heard : (m : Move) → IsOfficer m.promo → IsSpeech (codes "usermove " ++ text_of m)
+pub entry_heard : (m : Move) → IsOfficer m.promotion → IsSpeech (codes "usermove " ++ text_of m)
 entry_heard m h = (is_move_line (codes "usermove ") m (omega arith) refl, entry_speaks m h)

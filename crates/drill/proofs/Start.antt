@@ -6,8 +6,8 @@ use Rattle.chess_board.specs.Board.{squares}
 use Rattle.chess_board.specs.Play.{start_men, start_position, HasLegal, IsDead}
 use Rattle.chess_board.specs.Rules.{is_legal, is_legal_of, men_after}
 use Rattle.chess_board.proofs.Legal.{legal-law}
-use Rattle.game_record.specs.declared.ending.End.{End}
-use Rattle.game_record.specs.declared.ending.End.TheVariants.{Mate, Stale, Dead, Repetition, Fifty}
+use Rattle.game_record.specs.declared.ending.GameEnd.{GameEnd}
+use Rattle.game_record.specs.declared.ending.GameEnd.TheVariants.{Mate, Stale, Dead, Repetition, Fifty}
 use Rattle.game_record.specs.Game.{begun}
 use Rattle.game_record.specs.Ending.{ended_of, repeats_of, is_same, Ends}
 use Rattle.game_record.proofs.States.{ending-law}
@@ -20,7 +20,7 @@ knight_goes = refl
 
 start_legal : HasLegal start_position
 start_legal = record {
-  move = record { from = record { index = 6; on_board = omega arith }; to = record { index = 21; on_board = omega arith }; promo = None };
+  move = record { from = record { index = 6; on_board = omega arith }; to = record { index = 21; on_board = omega arith }; promotion = None };
   legal = (legal-law start_position 6 21 None).0 knight_goes;
 }
 
@@ -30,7 +30,7 @@ not_dead (inr e) = let z : 32 ≡ 3 = e.0 in absurd (omega (arith, z))
 
 pub start_open : has_ended (begun start_position) ≡ false
 start_open = by (ended_of (begun start_position)) (ending-law (begun start_position)) where
-  by : (end : Option End) → Ends (begun start_position) end → is_some end ≡ false
+  by : (end : Option GameEnd) → Ends (begun start_position) end → is_some end ≡ false
   by None x = refl
   by (Some Mate) x = absurd (x.1 start_legal)
   by (Some Stale) x = absurd (x.1 start_legal)

@@ -4,14 +4,14 @@ use Rattle.line_io.specs.Event.{Event}
 use Rattle.policy_rules.specs.Policy.{usual}
 use Rattle.adapter_core.specs.Ends.{ends_after}
 use Rattle.adapter_core.specs.Trace.{state}
-use Rattle.adapter_core.specs.Parts.{Parts}
+use Rattle.adapter_core.specs.Parts.{CoreParts}
 use Rattle.drill.specs.declared.tally.Tally.{Tally}
-use Rattle.drill.specs.Sent.{Session, Sends, Steps, IsSteady}
+use Rattle.drill.specs.Sent.{DrillSession, Sends, Steps, IsSteady}
 
-abbrev pub progress : Parts → Tally → Session
+abbrev pub progress : CoreParts → Tally → DrillSession
 progress core tally = record { core = core; tally = tally }
 
-module _ (old new : Parts) (e : Event) (tally_old tally_new : Tally) (s : IsSteady (progress old tally_old)) (x : Steps old new e tally_old tally_new) where
+module _ (old new : CoreParts) (e : Event) (tally_old tally_new : Tally) (s : IsSteady (progress old tally_old)) (x : Steps old new e tally_old tally_new) where
   pub steady_on : IsSteady (progress new tally_new)
   steady_on =
       let more = x.extends usual s.trace s.lawful s.stands in
@@ -23,4 +23,4 @@ module _ (old new : Parts) (e : Event) (tally_old tally_new : Tally) (s : IsStea
   pub ends_on : new.ends ≡ ends_after old.ends e
   ends_on =
       let more = x.extends usual s.trace s.lawful s.stands in
-      ap (λ (v : Parts). v.ends) (more.1.0) ∙ ap (λ (y : Event). ends_after (state usual s.trace).ends y) x.event ∙ ap (λ (v : Parts). ends_after v.ends e) (sym (s.stands.0))
+      ap (λ (v : CoreParts). v.ends) (more.1.0) ∙ ap (λ (y : Event). ends_after (state usual s.trace).ends y) x.event ∙ ap (λ (v : CoreParts). ends_after v.ends e) (sym (s.stands.0))

@@ -10,11 +10,11 @@ use Rattle.drill.specs.declared.tally.Tally.{Tally}
 use Rattle.drill.specs.Rounds.{Drill as AnyDrill, Rounds, starting, greeting, preparation, closing}
 use Rattle.drill.specs.Tally.{nothing, line_of}
 use Rattle.drill.specs.Played.{Drills}
-use Rattle.drill.specs.Sent.{Session, Sent}
+use Rattle.drill.specs.Sent.{DrillSession, Sent}
 use Rattle.drill.specs.Stood.{stand_of, RoundsPlayed}
 use Rattle.drill.proofs.Sending.{Traced, traced, sent_both}
 
-pub drilled : (number count : ℕ) (fresh greeted closed : Session) (ready played : Drill) (line : List ℕ) → Stands usual fresh.core [] → fresh.tally ≡ nothing
+pub drilled : (number count : ℕ) (fresh greeted closed : DrillSession) (ready played : Drill) (line : List ℕ) → Stands usual fresh.core [] → fresh.tally ≡ nothing
     → Sent fresh greeted (Open ∷ greeting) → Sent greeted ready.session preparation → stand_of ready ≡ starting number → RoundsPlayed count ready played → Sent played.session closed closing
     → line ≡ line_of number count closed.tally (written (now_of played.game)) → Drills number count line
 drilled number count fresh greeted closed ready played line stands none hello prepares stand r ends is =

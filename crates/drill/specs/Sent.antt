@@ -8,7 +8,7 @@ use Rattle.policy_rules.specs.Policy.{usual}
 use Rattle.adapter_core.specs.declared.ends.Ends.{Ends}
 use Rattle.cecp_lines.specs.Quit.{is_quit}
 use Rattle.adapter_core.specs.Trace.{Step, Lawful}
-use Rattle.adapter_core.specs.Parts.{Parts}
+use Rattle.adapter_core.specs.Parts.{CoreParts}
 use Rattle.adapter_core.specs.Stands.{Stands}
 use Rattle.drill.specs.declared.tally.Tally.{Tally}
 use Rattle.drill.specs.Tally.{counted}
@@ -22,12 +22,12 @@ pub record AreFew (t : Tally) : Type 0 where
   pub shown : t.shown ≤ t.steps
 
 -- the core, and what was counted of its steps
-pub record Session : Type 0 where
-  pub core : Parts
+pub record DrillSession : Type 0 where
+  pub core : CoreParts
   pub tally : Tally
 
 -- a step of this event extends each lawful trace for which the core stood, and is counted
-pub record Sends (old new : Session) (e : Event) : Type 0 where
+pub record Sends (old new : DrillSession) (e : Event) : Type 0 where
   pub step : Step
   pub event : step.event ≡ e
   pub extends : (o : Settings) (t : List Step) → Lawful o t → Stands o old.core t → Lawful o (step ∷ t) × Stands o new.core (step ∷ t)
@@ -47,7 +47,7 @@ counted_texts t iface engine = record {
 }
 
 -- a step of this event was taken; if it is lawful, it was counted
-pub record Steps (old new : Parts) (e : Event) (tally_old tally_new : Tally) : Type 0 where
+pub record Steps (old new : CoreParts) (e : Event) (tally_old tally_new : Tally) : Type 0 where
   pub step : Step
   pub event : step.event ≡ e
   pub extends : (o : Settings) (t : List Step) → Lawful o t → Stands o old t → Lawful o (step ∷ t) × Stands o new (step ∷ t)
@@ -55,16 +55,16 @@ pub record Steps (old new : Parts) (e : Event) (tally_old tally_new : Tally) : T
   pub few : AreFew tally_new
 
 -- the events were sent, the first one first
-abbrev pub Sent : Session → Session → List Event → Type 0
+abbrev pub Sent : DrillSession → DrillSession → List Event → Type 0
 Sent old new [] = new ≡ old
-Sent old new (e ∷ es) = (between : Session) × Sends old between e × Sent between new es
+Sent old new (e ∷ es) = (between : DrillSession) × Sends old between e × Sent between new es
 
 -- both sides talk
 abbrev pub talking : Ends
 talking = record { opened = true; iface = false; engine = false; iface_lost = false; engine_lost = false; closed = false }
 
 -- so many steps more may be counted
-abbrev pub HasRoom : ℕ → Session → Type 0
+abbrev pub HasRoom : ℕ → DrillSession → Type 0
 HasRoom n p = p.tally.steps + n ≤ MOST_STEPS
 
 -- a line of the interface that does not end the session
@@ -72,7 +72,7 @@ abbrev pub IsSpeech : List ℕ → Type 0
 IsSpeech line = (is_line line ≡ true) × (is_quit line ≡ false)
 
 -- the core stands for a lawful trace, and the counts are small
-pub record IsSteady (p : Session) : Type 0 where
+pub record IsSteady (p : DrillSession) : Type 0 where
   pub trace : List Step
   pub lawful : Lawful usual trace
   pub stands : Stands usual p.core trace

@@ -7,13 +7,13 @@ ghost use Rattle.drill.specs.Rounds.{Misses, answer, answer_with, closing, entry
 ghost use Rattle.drill.specs.Sent.{HasRoom, Sends, Sent, talking};
 
 use crate::lines::{answer_with, line_with};
-use crate::session::Session;
+use crate::session::DrillSession;
 use chess_board::{Move, equal_moves};
 use line_io::Event;
 
 const NO_MOVE: &[u8] = b"bestmove 0000";
 
-impl Session {
+impl DrillSession {
     /// Opens the session, up to the engine's first `readyok`.
     pub fn greet(&mut self)
         requires start { self.old.core.ends ≡ at_start }
@@ -75,7 +75,7 @@ impl Session {
 
     /// Enters a move of the user.
     pub fn enter(&mut self, m: Move)
-        requires officer { IsOfficer m.promo }
+        requires officer { IsOfficer m.promotion }
         requires talking { self.old.core.ends ≡ talking }
         requires room { HasRoom 3 self.old }
         ensures sent { Sent self.old self.new (entry m) }
@@ -104,7 +104,7 @@ impl Session {
 
     // Reports what the engine thinks of.
     fn think(&mut self, m: Move)
-        requires officer { IsOfficer m.promo }
+        requires officer { IsOfficer m.promotion }
         requires talking { self.old.core.ends ≡ talking }
         requires room { HasRoom 1 self.old }
         ensures sends { Sends self.old self.new (thinks m) }
@@ -116,7 +116,7 @@ impl Session {
 
     /// Answers a search with a move.
     pub fn answer(&mut self, m: Move)
-        requires officer { IsOfficer m.promo }
+        requires officer { IsOfficer m.promotion }
         requires talking { self.old.core.ends ≡ talking }
         requires room { HasRoom 2 self.old }
         ensures sent { Sent self.old self.new (answer m) }
@@ -129,8 +129,8 @@ impl Session {
 
     /// Answers a search with a move and a hint.
     pub fn answer_with(&mut self, m: Move, hint: Move)
-        requires officer { IsOfficer m.promo }
-        requires hint { IsOfficer hint.promo }
+        requires officer { IsOfficer m.promotion }
+        requires hint { IsOfficer hint.promotion }
         requires talking { self.old.core.ends ≡ talking }
         requires room { HasRoom 2 self.old }
         ensures sent { Sent self.old self.new (answer_with m hint) }

@@ -10,7 +10,7 @@ pub type Line = ArrayVec<u8, 72>;
 
 /// Words, and a move behind them.
 pub fn line_with(words: &[u8], m: Move) -> Line
-    requires officer { IsOfficer m.promo }
+    requires officer { IsOfficer m.promotion }
     requires short { length words.now ≤ 48 }
     ensures text { result.items ≡ words.now ++ text_of m }
     ensures short { length result.items ≤ length words.now + 5 }
@@ -24,8 +24,8 @@ pub fn line_with(words: &[u8], m: Move) -> Line
 
 /// An answer with a hint.
 pub fn answer_with(best: Move, hint: Move) -> Line
-    requires best { IsOfficer best.promo }
-    requires hint { IsOfficer hint.promo }
+    requires best { IsOfficer best.promotion }
+    requires hint { IsOfficer hint.promotion }
     ensures { result.items
         ≡ codes "bestmove " ++ (text_of best ++ (codes " ponder " ++ text_of hint)) }
 {

@@ -17,7 +17,7 @@ ghost use Rattle.game_record.specs.declared.game.TheConstants.{MOST_PLIES};
 ghost use Rattle.drill.specs.declared.round.TheConstants.{SPENT_PLIES};
 
 use crate::generator::{next, place_of};
-use crate::session::Session;
+use crate::session::DrillSession;
 use chess_board::{Move, Position, State};
 use game_record::Game;
 use line_io::NoMemory;
@@ -30,7 +30,7 @@ const SPENT_PLIES: u32 = 10_000;
 /// engine ponder on.
 #[derive(Drop)]
 pub struct Drill {
-    pub session: Session,
+    pub session: DrillSession,
     pub game: Game,
     seed: u32,
     hint: Option<Move>,
@@ -58,7 +58,7 @@ impl Drill {
         ensures tally { IfOk result (λ drill. drill.session.tally ≡ nothing) }
     {
         Ok(Drill {
-            session: Session::make(alloc)?,
+            session: DrillSession::make(alloc)?,
             game: Game::make(alloc)?,
             seed: number,
             hint: None,
@@ -105,8 +105,8 @@ impl Drill {
         requires { HasLegal (now_of self.old.game) }
         ensures drawn { Draws (stand_of self.old) result }
         ensures legal { IsLegal
-            (now_of self.old.game) result.from.index result.to.index result.promo }
-        ensures officer { IsOfficer result.promo }
+            (now_of self.old.game) result.from.index result.to.index result.promotion }
+        ensures officer { IsOfficer result.promotion }
         ensures after { self.new ≡ record self.old { seed = next self.old.seed } }
     {
         self.seed = next(self.seed);
@@ -116,11 +116,11 @@ impl Drill {
 
     // Plays a move in the game of the drill.
     fn play(&mut self, m: Move)
-        requires legal { IsLegal (now_of self.old.game) m.from.index m.to.index m.promo }
+        requires legal { IsLegal (now_of self.old.game) m.from.index m.to.index m.promotion }
         requires plies { length self.old.game.moves < MOST_PLIES }
         ensures { self.new ≡ record self.old { game = with_ply self.old.game (ply_of m) } }
     {
-        let _ = self.game.push(m);
+        self.game.play(m);
     }
 
     // Draws and enters a move of the user.
@@ -166,7 +166,7 @@ impl Drill {
 
     // Answers with a move that was played, and draws a hint.
     fn answer_with_hint(&mut self, m: Move)
-        requires officer { IsOfficer m.promo }
+        requires officer { IsOfficer m.promotion }
         requires legal { HasLegal (now_of self.old.game) }
         requires talking { self.old.session.core.ends ≡ talking }
         requires room { HasRoom 2 self.old.session }
@@ -208,7 +208,7 @@ impl Drill {
 
 // Whether the engine ponders on a hint.
 fn ponders(game: &Game, hint: Move) -> bool
-    requires { IsLegal (now_of game.now) hint.from.index hint.to.index hint.promo }
+    requires { IsLegal (now_of game.now) hint.from.index hint.to.index hint.promotion }
     ensures { result ≡ ponders game.now hint }
 {
     game.ended().is_none() && game.ended_after(hint).is_none()
@@ -216,7 +216,7 @@ fn ponders(game: &Game, hint: Move) -> bool
 
 // The hint, if the engine ponders on it.
 fn kept(game: &Game, hint: Move) -> Option<Move>
-    requires { IsLegal (now_of game.now) hint.from.index hint.to.index hint.promo }
+    requires { IsLegal (now_of game.now) hint.from.index hint.to.index hint.promotion }
     ensures { result ≡ (if ponders game.now hint then Some hint else None) }
 {
     if ponders(game, hint) {

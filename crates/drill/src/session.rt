@@ -17,13 +17,13 @@ use std::marker::Model;
 
 /// The core, and what was counted of its steps.
 #[derive(Drop)]
-pub struct Session {
+pub struct DrillSession {
     core: Core,
     tally: Tally,
 }
 
-impl Model for Session {
-    ghost use Rattle.drill.specs.Sent.{Session as AnySession, IsSteady};
+impl Model for DrillSession {
+    ghost use Rattle.drill.specs.Sent.{DrillSession as AnySession, IsSteady};
 
     ghost Value = { AnySession };
 
@@ -42,14 +42,14 @@ fn step(core: &mut Core, event: &Event, tally: &mut Tally)
     tally.count(lines.iface, lines.engine);
 }
 
-impl Session {
+impl DrillSession {
     /// A session before its first step.
-    pub fn make(alloc: Global) -> Result<Session, NoMemory>
+    pub fn make(alloc: Global) -> Result<DrillSession, NoMemory>
         ensures core { IfOk result (λ session. Stands usual session.core []) }
         ensures ends { IfOk result (λ session. session.core.ends ≡ at_start) }
         ensures tally { IfOk result (λ session. session.tally ≡ nothing) }
     {
-        Ok(Session {
+        Ok(DrillSession {
             core: Core::make(alloc, &Settings::usual())?,
             tally: Tally::nothing(),
         })

@@ -9,7 +9,7 @@ use chess_board::{Move, Square, read_move};
 use desk_rules::{Desk, Effect, EngineName, Pings, is_gone, put_chosen, put_pongs};
 use game_record::Game;
 use line_io::Out;
-use option_map::Held;
+use option_map::HeldOrders;
 use policy_rules::{Scores, Settings};
 use search_epochs::{Call, EngineState, Orders};
 use std::process::Abort;
@@ -36,7 +36,7 @@ fn can_write(game: &Game, orders: Orders) -> bool
 /// Puts the orders that were chosen.
 fn check_chosen(
     rt: &impl Abort,
-    held: &Held,
+    held: &HeldOrders,
     desk: &Desk,
     orders: Orders,
     out: &mut Out,
@@ -54,7 +54,7 @@ fn check_chosen(
 const E7E5: Move = Move {
     from: Square { index: 52 },
     to: Square { index: 36 },
-    promo: None,
+    promotion: None,
 };
 
 const AFTER_E4: [Turn; 2] = [
@@ -83,7 +83,7 @@ const ANALYSIS_AFTER_E4: &str = "position startpos moves e2e4\ngo infinite\n";
 
 fn check_all_chosen(
     rt: &impl Abort,
-    held: &Held,
+    held: &HeldOrders,
     desk: &Desk,
     rows: &[(Orders, &str)],
     out: &mut Out,

@@ -1,0 +1,64 @@
+use Rattle.std.proofs.Common.{◌≡◌, Bool, [], cond, ◌&&◌, ◌||◌, not, true, false, sym, ap, subst, ◌∙◌}
+use Rattle.game_record.specs.Game.{Game}
+use Rattle.search_epochs.specs.Tickets.{is_hurry, is_move}
+use Rattle.search_epochs.specs.Dialogue.{played_of}
+use Rattle.desk_rules.specs.declared.desk.Desk.{Desk}
+use Rattle.line_io.specs.Event.{event_of}
+use Rattle.line_io.specs.Out.{Text, empty, with}
+use Rattle.feature_talk.specs.Features.{reply_lines}
+use Rattle.search_epochs.specs.Dialogue.{is_hit_order}
+use Rattle.desk_rules.specs.Desk.{at, is_gone}
+use Rattle.desk_rules.specs.Replies.{row}
+use Rattle.desk_rules.specs.Steps.{effect_of, what_of, is_death}
+use Rattle.desk_rules.specs.Fits.{IsHintPlayable, CanSearch, CanWrite}
+use Rattle.adapter_core.proofs.Writes.{call_search, settled_writes}
+use Rattle.desk_rules.specs.Texts.{order_lines}
+use Rattle.adapter_core.specs.Parts.{orders_of}
+use Rattle.adapter_core.proofs.Resigns.{went_on}
+use Rattle.adapter_core.proofs.session.CoreParts.go_on.Goals as goal
+use Rattle.adapter_core.proofs.session.CoreParts.go_on.Goals.{then-is_gone, else-is_gone, then-ruling, else-ruling}
+
+pub put_orders-requires-clause-search : goal.put_orders-requires-clause-search
+put_orders-requires-clause-search c =
+    let d = c.commit.new.self in
+    let w = what_of (effect_of c.args.ruling.now.effect) in
+    let hint : IsHintPlayable d = subst IsHintPlayable (sym c.commit.ensures.desk) c.requires.follow.sound_then.hint in
+    let search : CanSearch d.game c.call-call.result = subst (CanSearch d.game) (sym c.call-call.ensures) (call_search _ _ d hint) in
+    let written = settled_writes d.game c.args.self.now.dialogue c.call-call.result (c.is_open.result || c.after-self.result.closed) c.is_unsent-unsent.result (played_of w) (is_hurry w) search in
+    let writes : CanWrite d.game c.choose-orders.result = subst (CanWrite d.game) (sym c.choose-orders.ensures.orders) written in
+    subst (λ (g : Game). CanWrite g c.choose-orders.result) (sym (ap (λ (x : Desk). x.game) c.finish.ensures.desk ∙ ap (λ (x : Desk). x.game) c.resign_when_gone.ensures.desk)) writes
+
+either_so : (s r g d : Bool) → s ≡ r → r ≡ true → r ≡ g → s ≡ (g || d)
+either_so s r g d q t e = q ∙ t ∙ ap (λ (b : Bool). b || d) (sym t ∙ e)
+
+or_else : (s x r g d : Bool) → s ≡ x → x ≡ d → r ≡ false → r ≡ g → s ≡ (g || d)
+or_else s x r g d q f t e = q ∙ f ∙ ap (λ (b : Bool). b || d) (sym t ∙ e)
+
+gone_is : (c : goal.After-release) → c.if-is_gone.stage ≡ (is_gone c.args.context.engine || is_death (effect_of c.args.ruling.now.effect))
+gone_is c =
+    let died = is_death (effect_of c.args.ruling.now.effect) in
+    let gone = is_gone c.args.context.engine in
+    elim c.if-is_gone.branch [
+      | then-is_gone w ↦ either_so c.if-is_gone.stage c.is_gone.result gone died w.stage-is w.if-is_gone.true c.is_gone.ensures
+      | else-is_gone w ↦ or_else c.if-is_gone.stage w.is_death.result c.is_gone.result gone died w.stage-is w.is_death.ensures w.if-is_gone.false c.is_gone.ensures
+    ]
+
+clears_is : (c : goal.After-release) → c.if-ruling.clears ≡ (c.args.ruling.now.begins_epoch && not (is_hit_order c.choose-orders.result))
+clears_is c =
+    let hit = is_hit_order c.choose-orders.result in
+    elim c.if-ruling.branch [
+      | then-ruling w ↦ w.clears-is ∙ ap not w.is_hit.ensures ∙ ap (λ (b : Bool). b && not hit) (sym w.if-ruling.true)
+      | else-ruling w ↦ w.clears-is ∙ w.if-ruling.false ∙ ap (λ (b : Bool). b && not hit) (sym w.if-ruling.false)
+    ]
+
+pub returns-clause-after : goal.returns-clause-after
+returns-clause-after c =
+    went_on c.args.context c.args.self.now (effect_of c.args.ruling.now.effect) (event_of c.args.event.now) c.after-self.result c.is_open.result c.if-is_gone.stage c.args.ruling.now.begins_epoch c.is_move-owes.result c.is_unsent-unsent.result
+    c.if-ruling.clears c.count.new.scores c.commit.new.self c.resign_when_gone.new.self c.finish.new.self c.call-call.result c.choose-orders.new.dialogue c.choose-orders.result c.commit.new.out c.resign_when_gone.new.out
+    c.finish.new.out c.put_orders.new.out c.release.new.held
+    c.is_open.ensures c.after-self.ensures (gone_is c) c.requires.epoch c.count.ensures c.commit.ensures.desk
+    (c.commit.ensures.lines ∙ ap (λ (t : Text). with t (reply_lines (cond c.after-self.result.closed [] (row (at c.args.context c.args.self.now.desk) (effect_of c.args.ruling.now.effect))))) c.requires.to_iface)
+    c.call-call.ensures (c.is_move-owes.ensures ∙ ap is_move c.owed.ensures.value) c.is_unsent-unsent.ensures c.choose-orders.ensures.orders c.choose-orders.ensures.after (clears_is c) c.resign_when_gone.ensures.lines c.resign_when_gone.ensures.desk
+    c.finish.ensures.lines c.finish.ensures.desk
+    (c.put_orders.ensures.orders ∙ ap (λ (t : Text). with t (order_lines (orders_of c.is_open.result c.args.self.now.ends.closed c.after-self.result.closed c.if-is_gone.stage c.args.self.now.held c.finish.new.self c.choose-orders.result))) (c.requires.to_engine ∙ ap empty (sym (ap (λ (t : Text). t.room) c.requires.to_engine))))
+    c.release.ensures (ap (λ (t : Text). t.room) c.requires.to_iface)
