@@ -1,22 +1,26 @@
 -- What the status of a run says.
-use Rattle.std.proofs.Common.{◌≡◌, ◌⊎◌, inl, inr, ℕ, List, Some, None, refl, sym, ap, subst}
+use Rattle.std.proofs.Common.{◌≡◌, ◌⊎◌, inl, inr, ◌∙◌, ℕ, List, [], ◌++◌, take, length, Option, Some, None, append-nil, refl, sym, ap, subst}
+use Rattle.std.proofs.Math.Seq.{take-length}
 use Rattle.std.specs.Io.KnownBytes.{Appends}
 use Rattle.line_io.specs.Lines.{Piece, items}
 use Rattle.line_io.specs.Runs.{whole}
 use Rattle.command_endings.specs.declared.ending.Ending.{Ending}
 use Rattle.command_endings.specs.declared.ending.Ending.TheVariants as endings
 use Rattle.command_endings.specs.Ran.{Ran}
+use Rattle.command_endings.specs.Reads.{AreRead}
 use Rattle.command_endings.specs.Streams.{Streams}
 use Rattle.line_scribe.specs.Putting.{IsOfLine}
-use Rattle.line_scribe.specs.Scribed.{EndsBy, WroteAll, WroteTo, WroteWhole}
-use Rattle.line_scribe.specs.Outcomes.{Outcome, LineReported}
+use Rattle.line_scribe.specs.Scribed.{AreAll, EndsBy, EndsRightly, HasReason, IsText, WroteAll, WroteFront, WroteTo, WroteWhole}
+use Rattle.line_scribe.specs.Outcomes.{Outcome, LineReported, WroteLast}
+use Rattle.line_scribe.proofs.Fronts.{IsFront, all_front, later_of, none_later, take_front}
 use Rattle.line_scribe.proofs.Outcomes.{outcome}
 use Rattle.session_judge.specs.declared.listener.Listener.{Listener}
 use Rattle.session_judge.specs.Talks.{opening}
 use Rattle.judge_report.specs.Reports.{report, last_lines}
 use Rattle.judge_report.specs.Reads.{Stops, Closes}
 use Rattle.judge_report.specs.Judging.{judges, Reported}
-use Rattle.judge_report.specs.Judged.{whole_report, AllJudged, FaultFound, WholeJudged, Judged}
+use Rattle.judge_report.specs.Judged.{whole_report, due_by, due_report, AllJudged, FaultFound, FrontReported, WholeJudged, Judged}
+use Rattle.judge_report.proofs.Grows.{report_front}
 
 -- no line is the reason: all were read
 closed : (listener : Listener) (lines : List Piece) (ending : Ending) (text : List ℕ) → (IsOfLine ending → ⊥) → Reported listener lines ending text → Closes listener lines ending text
@@ -28,7 +32,63 @@ stopped : (listener : Listener) (lines : List Piece) (ending : Ending) (text : L
 stopped listener lines ending text of (inl s) = s
 stopped listener lines ending text of (inr c) = absurd (c.0 of)
 
+-- A FRONT OF WHAT IS DUE
+
+-- the text is the report that is due for these lines, if they are all, or the part of it that no later line changes
+data IsSoFar (listener : Listener) (left : Option (List ℕ)) (lines : List Piece) (text : List ℕ) : Type 0 where
+  HasSoFar : (report listener lines).text ≡ text → IsSoFar listener left lines text
+  HasAll : AreAll left lines → due_report listener lines ≡ text → IsSoFar listener left lines text
+
+stops_so_far : (listener : Listener) (left : Option (List ℕ)) (lines : List Piece) (ending : Ending) (text : List ℕ) → Stops listener lines ending text → IsSoFar listener left lines text
+stops_so_far listener left lines ending text s = HasSoFar s.text_is
+
+nothing_last : (listener : Listener) (left : Option (List ℕ)) (lines : List Piece) (text : List ℕ) → (report listener lines).text ++ [] ≡ text → IsSoFar listener left lines text
+nothing_last listener left lines text e = HasSoFar (sym (append-nil (report listener lines).text) ∙ e)
+
+closes_so_far : (listener : Listener) (left : Option (List ℕ)) (lines : List Piece) (ending : Ending) (text : List ℕ) → EndsRightly left lines ending → Closes listener lines ending text → IsSoFar listener left lines text
+closes_so_far listener left lines endings.Done text w c =
+    let course = report listener lines in
+    HasAll w (ap (λ (e : Option Ending). due_by e course) c.goes_on ∙ c.text_is)
+closes_so_far listener left lines ending text w c = nothing_last listener left lines text c.text_is
+
+said_so_far : (listener : Listener) (left : Option (List ℕ)) (lines : List Piece) (ending : Ending) (text : List ℕ) → EndsRightly left lines ending → Reported listener lines ending text → IsSoFar listener left lines text
+said_so_far listener left lines ending text w (inl s) = stops_so_far listener left lines ending text s
+said_so_far listener left lines ending text w (inr c) = closes_so_far listener left lines ending text w c.1
+
+so_far : (listener : Listener) (left : Option (List ℕ)) (lines : List Piece) (text : List ℕ) (i : IsText judges (opening listener) lines text) → HasReason (EndsRightly left lines) i → IsSoFar listener left lines text
+so_far listener left lines text (inl p) w = HasSoFar (p.1 listener refl).text_is
+so_far listener left lines text (inr p) w = said_so_far listener left lines p.0 text w (p.1 listener refl)
+
 module _ (listener : Listener) (U : Type 0) (start now : Streams) (code : ℕ) where
+  abbrev Wrote : List ℕ → Type 0
+  Wrote text = Appends start.output.taken now.output.taken text
+
+  front_by : (lines later : List Piece) (text : List ℕ) (n : ℕ) → AreRead start now lines → IsFront text (due_report listener lines) → AreAll start.input.left (lines ++ later) → IsFront text (due_report listener (lines ++ later)) → Wrote (take n text)
+      → FrontReported listener start now
+  front_by lines later text n read r all f wrote =
+      let j = take_front n text (due_report listener lines) r in
+      let k = take_front n text (due_report listener (lines ++ later)) f in
+      record { lines = lines; read = read; of_read = (j.0, subst Wrote j.1 wrote); later = later; all = all; written = (k.0, subst Wrote k.1 wrote) }
+
+  -- the report that is due for these lines, which are followed by none
+  none_more : (lines : List Piece) (text : List ℕ) → IsFront text (due_report listener (lines ++ [])) → IsFront text (due_report listener lines)
+  none_more lines text f = subst (λ (ls : List Piece). IsFront text (due_report listener ls)) (append-nil lines) f
+
+  front_of : (lines : List Piece) (text : List ℕ) (n : ℕ) → AreRead start now lines → IsSoFar listener start.input.left lines text → Wrote (take n text) → FrontReported listener start now
+  front_of lines text n read (HasSoFar e) wrote =
+      let later = later_of start.input.left lines read.of_left in
+      let of_read = subst (λ (t : List ℕ). IsFront t (due_report listener (lines ++ []))) e (report_front listener lines []) in
+      front_by lines later.0 text n read (none_more lines text of_read) later.1 (subst (λ (t : List ℕ). IsFront t (due_report listener (lines ++ later.0))) e (report_front listener lines later.0)) wrote
+  front_of lines text n read (HasAll all e) wrote =
+      let whole = subst (λ (t : List ℕ). IsFront text t) (sym e) (all_front text) in
+      front_by lines [] text n read whole (none_later start.input.left lines all) (subst (λ (ls : List Piece). IsFront text (due_report listener ls)) (sym (append-nil lines)) whole) wrote
+
+  broken : U ⊎ WroteFront judges (opening listener) start now ⊎ WroteLast judges (opening listener) start now → U ⊎ FrontReported listener start now
+  broken (inl u) = inl u
+  broken (inr (inl w)) = inr (front_of w.lines w.text w.front w.read (so_far listener start.input.left w.lines w.text w.is_text w.reason) w.written)
+  broken (inr (inr w)) =
+      inr (front_of w.lines w.text (length w.text) w.read (said_so_far listener start.input.left w.lines w.ending w.text w.reason (w.says listener refl)) (subst Wrote (sym (take-length w.text)) w.written))
+
   all_judged : WroteAll judges (opening listener) start now → AllJudged listener start now
   all_judged w =
       let c = closed listener (items 131072 w.got) endings.Done w.text (λ x. x) (w.says listener refl) in
@@ -79,7 +139,7 @@ module _ (listener : Listener) (U : Type 0) (start now : Streams) (code : ℕ) w
     no_mark = λ z. fault_found 2 (o.fault z);
     memory = o.memory;
     reading_failed = λ z. let d = o.reading z in (d.0, whole_judged endings.ReadingFailed 0 (λ x. x) d.1);
-    writing_failed = λ z. (o.writing z).0;
+    writing_failed = λ z. let d = o.writing z in (d.0, broken d.1);
     too_long = λ z. whole_judged endings.TooLong 4294967296 (λ x. x) (o.too_long z);
     complete = λ x e l s. completed (o.complete x e l s);
   }

@@ -7,7 +7,7 @@ use Rattle.command_endings.specs.declared.ending.Ending.TheVariants as endings
 use Rattle.session_judge.specs.declared.deed.Deed.{Deed}
 use Rattle.session_judge.specs.declared.rule.Rule.{Rule}
 use Rattle.session_judge.specs.declared.listener.Listener.{Listener}
-use Rattle.session_judge.specs.declared.talk.Talk.{Talk}
+use Rattle.session_judge.specs.declared.talk.JudgedTalk.{JudgedTalk}
 use Rattle.session_judge.specs.Clean.{verdict}
 use Rattle.session_judge.specs.Talks.{after, opening}
 use Rattle.std.specs.Prelude.{Ok, Err, IfSome}
@@ -24,29 +24,29 @@ read_more c n m p e = ap (λ k. read_on c.ending c k p) e
 -- WHAT IS PUT FOR A MARK
 
 -- for one that breaks no rule
-pub put_ok : (t : Talk) (n : ℕ) (d : Deed) (o : Option Rule) (held held' : Text) → Ok tt ≡ verdict o → held' ≡ with held (brought_out t.search d) → held' ≡ with held (of_deed t n d o).more
+pub put_ok : (t : JudgedTalk) (n : ℕ) (d : Deed) (o : Option Rule) (held held' : Text) → Ok tt ≡ verdict o → held' ≡ with held (brought_out t.search d) → held' ≡ with held (of_deed t n d o).more
 put_ok t n d None held held' e h = h
 put_ok t n d (Some r) held held' e h = absurd (cc)
 
 -- and for one that breaks this one first
-pub put_err : (t : Talk) (n : ℕ) (d : Deed) (o : Option Rule) (rule : Rule) (held held' : Text) → Err rule ≡ verdict o → held' ≡ with held (summed t ++ unlawful_line n rule) → held' ≡ with held (of_deed t n d o).more
+pub put_err : (t : JudgedTalk) (n : ℕ) (d : Deed) (o : Option Rule) (rule : Rule) (held held' : Text) → Err rule ≡ verdict o → held' ≡ with held (summed t ++ unlawful_line n rule) → held' ≡ with held (of_deed t n d o).more
 put_err t n d None rule held held' e h = absurd (cc)
 put_err t n d (Some r) rule held held' e h = let same : rule ≡ r = cc in h ∙ ap (λ x. with held (summed t ++ unlawful_line n x)) same
 
 -- the reason to end, and the talk then
-pub ending_ok : (t : Talk) (n : ℕ) (d : Deed) (o : Option Rule) → Ok tt ≡ verdict o → None ≡ (of_deed t n d o).ending
+pub ending_ok : (t : JudgedTalk) (n : ℕ) (d : Deed) (o : Option Rule) → Ok tt ≡ verdict o → None ≡ (of_deed t n d o).ending
 ending_ok t n d None e = refl
 ending_ok t n d (Some r) e = absurd (cc)
 
-pub ending_err : (t : Talk) (n : ℕ) (d : Deed) (o : Option Rule) (rule : Rule) → Err rule ≡ verdict o → Some (endings.Unlawful n) ≡ (of_deed t n d o).ending
+pub ending_err : (t : JudgedTalk) (n : ℕ) (d : Deed) (o : Option Rule) (rule : Rule) → Err rule ≡ verdict o → Some (endings.Unlawful n) ≡ (of_deed t n d o).ending
 ending_err t n d None rule e = absurd (cc)
 ending_err t n d (Some r) rule e = refl
 
-pub talk_ok : (t u : Talk) (n : ℕ) (d : Deed) (o : Option Rule) → Ok tt ≡ verdict o → u ≡ after t n d → u ≡ (of_deed t n d o).talk
+pub talk_ok : (t u : JudgedTalk) (n : ℕ) (d : Deed) (o : Option Rule) → Ok tt ≡ verdict o → u ≡ after t n d → u ≡ (of_deed t n d o).talk
 talk_ok t u n d None e h = h
 talk_ok t u n d (Some r) e h = absurd (cc)
 
-pub talk_err : (t u : Talk) (n : ℕ) (d : Deed) (o : Option Rule) (rule : Rule) → Err rule ≡ verdict o → u ≡ t → u ≡ (of_deed t n d o).talk
+pub talk_err : (t u : JudgedTalk) (n : ℕ) (d : Deed) (o : Option Rule) (rule : Rule) → Err rule ≡ verdict o → u ≡ t → u ≡ (of_deed t n d o).talk
 talk_err t u n d None rule e h = absurd (cc)
 talk_err t u n d (Some r) rule e h = h
 
@@ -59,10 +59,10 @@ over_last c n (q ∷ qs) p =
     i ∙ read_more (over d (n + 1) qs) ((n + 1) + length qs) (n + suc (length qs)) p (omega arith)
 
 -- what comes of a line behind these
-abbrev grown : Talk → List ℕ → ℕ → Piece → Course
+abbrev grown : JudgedTalk → List ℕ → ℕ → Piece → Course
 grown t text n p = record { talk = (of_kind t n (kind_of n p)).talk; text = text ++ (of_kind t n (kind_of n p)).more; ending = (of_kind t n (kind_of n p)).ending }
 
-next : (listener : Listener) (lines : List Piece) (t : Talk) (text : List ℕ) (number : ℕ) (piece : Piece) → Stands listener lines t text → number ≡ length lines + 1 → report listener (lines ++ piece ∷ []) ≡ grown t text number piece
+next : (listener : Listener) (lines : List Piece) (t : JudgedTalk) (text : List ℕ) (number : ℕ) (piece : Piece) → Stands listener lines t text → number ≡ length lines + 1 → report listener (lines ++ piece ∷ []) ≡ grown t text number piece
 next listener lines t text number piece s e =
     let c : Course = report listener lines in
     over_last (record { talk = opening listener; text = []; ending = None }) 1 lines piece
@@ -71,7 +71,7 @@ next listener lines t text number piece s e =
     ∙ ap (λ u. grown u c.text number piece) s.talk_is
     ∙ ap (λ x. grown t x number piece) s.text_is
 
-comes : (listener : Listener) (o : Option Ending) (lines : List Piece) (t : Talk) (text : List ℕ) (c : Course) → IfSome o IsOfLine → report listener lines ≡ c → o ≡ c.ending → t ≡ c.talk → text ≡ c.text → Comes listener lines o t text
+comes : (listener : Listener) (o : Option Ending) (lines : List Piece) (t : JudgedTalk) (text : List ℕ) (c : Course) → IfSome o IsOfLine → report listener lines ≡ c → o ≡ c.ending → t ≡ c.talk → text ≡ c.text → Comes listener lines o t text
 comes listener None lines t text c w e o h x = record {
   talk_is = ap (λ (d : Course). d.talk) e ∙ sym h;
   text_is = ap (λ (d : Course). d.text) e ∙ sym x;
@@ -84,7 +84,7 @@ comes listener (Some ending) lines t text c w e o h x = record {
 }
 
 -- A line is read by what comes of it.
-pub reads : (number : ℕ) (piece : Piece) (result : Option Ending) (t t' : Talk) (held held' : Text)
+pub reads : (number : ℕ) (piece : Piece) (result : Option Ending) (t t' : JudgedTalk) (held held' : Text)
     → result ≡ (of_kind t number (kind_of number piece)).ending → t' ≡ (of_kind t number (kind_of number piece)).talk
     → held' ≡ with held (of_kind t number (kind_of number piece)).more → IfSome result IsOfLine → Reads number piece result t t' held held'
 reads number piece result t t' held held' r h p w = record {
@@ -95,30 +95,30 @@ reads number piece result t t' held held' r h p w = record {
 }
 
 -- The report is closed by what is put last.
-pub ends : (ending : Ending) (t : Talk) (held held' : Text) → held' ≡ with held (last_lines t ending) → Ends ending t held held'
+pub ends : (ending : Ending) (t : JudgedTalk) (held held' : Text) → held' ≡ with held (last_lines t ending) → Ends ending t held held'
 ends ending t held held' p = record {
   more = last_lines t ending;
   put = p;
   goes = λ listener lines text s. record {
     goes_on = s.goes_on;
-    text_is = ap (λ (u : Talk). (report listener lines).text ++ last_lines u ending) s.talk_is ∙ ap (λ x. x ++ last_lines t ending) s.text_is;
+    text_is = ap (λ (u : JudgedTalk). (report listener lines).text ++ last_lines u ending) s.talk_is ∙ ap (λ x. x ++ last_lines t ending) s.text_is;
   };
 }
 
 -- AS A SCRIBE
 
-then_by : (o : Option Ending) (t0 : Talk) (lines : List Piece) (t : Talk) (text : List ℕ) → ((listener : Listener) → t0 ≡ opening listener → Comes listener lines o t text) → Then judges t0 lines o t text
+then_by : (o : Option Ending) (t0 : JudgedTalk) (lines : List Piece) (t : JudgedTalk) (text : List ℕ) → ((listener : Listener) → t0 ≡ opening listener → Comes listener lines o t text) → Then judges t0 lines o t text
 then_by None t0 lines t text h = h
 then_by (Some ending) t0 lines t text h = λ listener first. inl (h listener first)
 
-pub puts : (number : ℕ) (piece : Piece) (result : Option Ending) (t t' : Talk) (held held' : Text) → Reads number piece result t t' held held' → Puts judges number piece result t held t' held'
+pub puts : (number : ℕ) (piece : Piece) (result : Option Ending) (t t' : JudgedTalk) (held held' : Text) → Reads number piece result t t' held held' → Puts judges number piece result t held t' held'
 puts number piece result t t' held held' r = record {
   more = r.more;
   put = r.put;
   goes = λ t0 lines text p e. then_by result t0 (lines ++ piece ∷ []) t' (text ++ r.more) (λ listener first. r.goes listener lines text (p listener first) e);
 }
 
-pub closes : (ending : Ending) (t : Talk) (held held' : Text) → (IsOfLine ending → ⊥) → Ends ending t held held' → scribe.Closes judges ending t held held'
+pub closes : (ending : Ending) (t : JudgedTalk) (held held' : Text) → (IsOfLine ending → ⊥) → Ends ending t held held' → scribe.Closes judges ending t held held'
 closes ending t held held' unlined r = record {
   more = r.more;
   put = r.put;
@@ -126,5 +126,5 @@ closes ending t held held' unlined r = record {
 }
 
 -- before the first line
-pub stands_fresh : (listener : Listener) (t : Talk) → t ≡ opening listener → Stands listener [] t []
+pub stands_fresh : (listener : Listener) (t : JudgedTalk) → t ≡ opening listener → Stands listener [] t []
 stands_fresh listener t e = record { talk_is = sym e; text_is = refl; goes_on = refl }

@@ -1,19 +1,20 @@
 -- What the command `judge` promises.
-use Rattle.std.specs.Prelude.{◌≡◌, ◌⊎◌, ℕ, ◌^◌, ◌≤◌, ◌<◌, List, ◌++◌, length, take, Some, None}
+use Rattle.std.specs.Prelude.{◌≡◌, ◌⊎◌, ℕ, ◌^◌, ◌≤◌, ◌<◌, List, ◌++◌, length, Option, Some, None}
 use Rattle.std.specs.Io.KnownBytes.{Appends}
 use Rattle.line_io.specs.Causes.{Rose}
 use Rattle.line_io.specs.Lines.{Piece, items}
 use Rattle.line_io.specs.Runs.{whole}
+use Rattle.line_io.specs.Source.{TakesPrefix}
 use Rattle.command_endings.specs.declared.ending.Ending.{Ending}
 use Rattle.command_endings.specs.declared.ending.Ending.TheVariants as endings
 use Rattle.command_endings.specs.Diagnostics.{code_of, diagnostic}
 use Rattle.command_endings.specs.Ran.{Ran, WritingBroke}
 use Rattle.command_endings.specs.Reads.{Got, IsAll, AreFirst, AreRead}
 use Rattle.command_endings.specs.Streams.{Streams, AreSame, IsSteady}
-use Rattle.line_scribe.specs.Scribed.{EndsBy}
+use Rattle.line_scribe.specs.Scribed.{AreAll, EndsBy}
 use Rattle.session_judge.specs.declared.listener.Listener.{Listener}
 use Rattle.session_judge.specs.Talks.{opening}
-use Rattle.judge_report.specs.Reports.{report, last_lines}
+use Rattle.judge_report.specs.Reports.{Course, report, last_lines}
 use Rattle.judge_report.specs.Judging.{judges}
 use Rattle.line_io.specs.declared.limits.TheConstants.{SCRIPT_LINE}
 
@@ -21,6 +22,15 @@ use Rattle.line_io.specs.declared.limits.TheConstants.{SCRIPT_LINE}
 abbrev pub whole_report : Listener → List Piece → Ending → List ℕ
 whole_report listener lines ending =
     (report listener lines).text ++ last_lines (report listener lines).talk ending
+
+-- the report that is due for these lines, if they are a whole log: up to the line that is a fault, if one is, and else with
+-- what is written last
+abbrev pub due_by : Option Ending → Course → List ℕ
+due_by (Some fault) c = c.text
+due_by None c = c.text ++ last_lines c.talk endings.Done
+
+abbrev pub due_report : Listener → List Piece → List ℕ
+due_report listener lines = due_by (report listener lines).ending (report listener lines)
 
 -- All of the input was read, no mark of it breaks a rule and none of its lines has no mark; and the report on it was
 -- written, whose last line is `lawful talk`.
@@ -53,6 +63,17 @@ pub record WholeJudged (listener : Listener) (ending : Ending) (least : ℕ) (be
   pub written : Appends before.output.taken after.output.taken
       (whole_report listener (whole SCRIPT_LINE got) ending)
 
+-- The output took a front of the report that is due for all lines of the input, of which the first were read; and whatever the
+-- input tells, of the report that would be due if the lines that were read were all.
+pub record FrontReported (listener : Listener) (before after : Streams) : Type 0 where
+  pub lines : List Piece
+  pub read : AreRead before after lines
+  pub of_read : TakesPrefix before.output.taken after.output.taken (due_report listener lines)
+  pub later : List Piece
+  pub all : AreAll before.input.left (lines ++ later)
+  pub written : TakesPrefix before.output.taken after.output.taken
+      (due_report listener (lines ++ later))
+
 abbrev pub Completes : Listener → Streams → Streams → ℕ → Type 0
 Completes listener before after code =
     (x : List ℕ) → before.input.left ≡ Some x → length x < 2 ^ 32 → IsSteady before after
@@ -68,7 +89,8 @@ pub record Judged (listener : Listener) (Untouched : Type 0) (before after : Str
   pub memory : code ≡ 3 → Untouched
   pub reading_failed : code ≡ 4 → Rose before.input.faults after.input.faults
       × WholeJudged listener endings.ReadingFailed 0 before after
-  pub writing_failed : code ≡ 5 → WritingBroke before after
+  pub writing_failed : code ≡ 5
+      → WritingBroke before after × (Untouched ⊎ FrontReported listener before after)
   pub too_long : code ≡ 6 → WholeJudged listener endings.TooLong (2 ^ 32) before after
   -- an input of fewer than 2^32 bytes is judged to its end or to its first fault, or there was no memory
   pub complete : Completes listener before after code

@@ -5,11 +5,11 @@ use Rattle.line_io.specs.Out.{Text, with}
 use Rattle.command_endings.specs.declared.ending.Ending.{Ending}
 use Rattle.line_scribe.specs.Putting.{IsOfLine}
 use Rattle.session_judge.specs.declared.listener.Listener.{Listener}
-use Rattle.session_judge.specs.declared.talk.Talk.{Talk}
+use Rattle.session_judge.specs.declared.talk.JudgedTalk.{JudgedTalk}
 use Rattle.judge_report.specs.Reports.{report, last_lines}
 
 -- These lines were read, and more may be: the talk then, and the text of the report so far.
-pub record Stands (listener : Listener) (lines : List Piece) (t : Talk) (text : List ℕ) : Type 0 where
+pub record Stands (listener : Listener) (lines : List Piece) (t : JudgedTalk) (text : List ℕ) : Type 0 where
   pub talk_is : (report listener lines).talk ≡ t
   pub text_is : (report listener lines).text ≡ text
   pub goes_on : (report listener lines).ending ≡ None
@@ -25,19 +25,19 @@ pub record Closes (listener : Listener) (lines : List Piece) (ending : Ending) (
   pub goes_on : (report listener lines).ending ≡ None
   pub text_is : (report listener lines).text ++ last_lines (report listener lines).talk ending ≡ text
 
-abbrev pub Comes : Listener → List Piece → Option Ending → Talk → List ℕ → Type 0
+abbrev pub Comes : Listener → List Piece → Option Ending → JudgedTalk → List ℕ → Type 0
 Comes listener lines None t text = Stands listener lines t text
 Comes listener lines (Some ending) t text = Stops listener lines ending text
 
 -- Whatever lines were read, one more was, of the next number, and this was put for it.
-pub record Reads (number : ℕ) (piece : Piece) (result : Option Ending) (t t' : Talk) (held held' : Text) : Type 0 where
+pub record Reads (number : ℕ) (piece : Piece) (result : Option Ending) (t t' : JudgedTalk) (held held' : Text) : Type 0 where
   pub more : List ℕ
   pub put : held' ≡ with held more
   pub goes : (listener : Listener) (lines : List Piece) (text : List ℕ) → Stands listener lines t text
       → number ≡ length lines + 1 → Comes listener (lines ++ piece ∷ []) result t' (text ++ more)
 
 -- Whatever lines were read, no more are, and this was put last.
-pub record Ends (ending : Ending) (t : Talk) (held held' : Text) : Type 0 where
+pub record Ends (ending : Ending) (t : JudgedTalk) (held held' : Text) : Type 0 where
   pub more : List ℕ
   pub put : held' ≡ with held more
   pub goes : (listener : Listener) (lines : List Piece) (text : List ℕ) → Stands listener lines t text

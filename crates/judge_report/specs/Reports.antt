@@ -7,12 +7,12 @@ use Rattle.script_lines.specs.StepLine.{step_of}
 use Rattle.command_endings.specs.declared.ending.Ending.{Ending}
 use Rattle.command_endings.specs.declared.ending.Ending.TheVariants as endings
 use Rattle.session_judge.specs.declared.listener.Listener.{Listener}
-use Rattle.session_judge.specs.declared.deed.Order.TheVariants as orders
+use Rattle.session_judge.specs.declared.deed.OrderKind.TheVariants as orders
 use Rattle.session_judge.specs.declared.deed.Deed.{Deed}
 use Rattle.session_judge.specs.declared.deed.Deed.TheVariants as deeds
 use Rattle.session_judge.specs.declared.rule.Rule.{Rule}
 use Rattle.session_judge.specs.declared.search.Search.{Search}
-use Rattle.session_judge.specs.declared.talk.Talk.{Talk}
+use Rattle.session_judge.specs.declared.talk.JudgedTalk.{JudgedTalk}
 use Rattle.session_judge.specs.Deeds.{deed_of}
 use Rattle.session_judge.specs.Rules.{broken}
 use Rattle.session_judge.specs.Talks.{after, opening}
@@ -38,7 +38,7 @@ kind_of number TooLong = HasNone
 
 -- what comes of a line: the talk then, what is written for it, and whether it is the last
 pub record Outcome : Type 0 where
-  pub talk : Talk
+  pub talk : JudgedTalk
   pub more : List ℕ
   pub ending : Option Ending
 
@@ -48,22 +48,22 @@ brought_out search (deeds.Writes (orders.Go kind)) = searched search
 brought_out search deed = []
 
 -- what comes before the last line: the line of the last search, and how many orders crossed
-abbrev pub summed : Talk → List ℕ
+abbrev pub summed : JudgedTalk → List ℕ
 summed t = searched t.search ++ crossings_line t.crossings
 
-abbrev pub of_deed : Talk → ℕ → Deed → Option Rule → Outcome
+abbrev pub of_deed : JudgedTalk → ℕ → Deed → Option Rule → Outcome
 of_deed t number deed None = record { talk = after t number deed; more = brought_out t.search deed; ending = None }
 of_deed t number deed (Some rule) =
     record { talk = t; more = summed t ++ unlawful_line number rule; ending = Some (endings.Unlawful number) }
 
-abbrev pub of_kind : Talk → ℕ → Kind → Outcome
+abbrev pub of_kind : JudgedTalk → ℕ → Kind → Outcome
 of_kind t number (Marks mark) = of_deed t number (deed_of mark) (broken t (deed_of mark))
 of_kind t number Passes = record { talk = t; more = []; ending = None }
 of_kind t number HasNone = record { talk = t; more = []; ending = Some (endings.NoMark number) }
 
 -- the report so far: the talk, what was written, and why no more lines are read
 pub record Course : Type 0 where
-  pub talk : Talk
+  pub talk : JudgedTalk
   pub text : List ℕ
   pub ending : Option Ending
 
@@ -84,6 +84,6 @@ abbrev pub report : Listener → List Piece → Course
 report listener lines = over (record { talk = opening listener; text = []; ending = None }) 1 lines
 
 -- what is written at the end of the input; nothing is written if it was not read to its end
-abbrev pub last_lines : Talk → Ending → List ℕ
+abbrev pub last_lines : JudgedTalk → Ending → List ℕ
 last_lines t endings.Done = summed t ++ lawful_line
 last_lines t ending = []

@@ -14,7 +14,8 @@ use command_endings::Ending;
 use line_io::Out;
 use line_scribe::Scribe;
 use script_lines::{read_header, read_mark, read_step};
-use session_judge::{Deed, Judge, Listener, Order, Search, deed_of};
+use session_judge::{Deed, Judge, Listener, OrderKind, Search};
+use std::alloc::Global;
 use std::marker::Model;
 
 /// How many bytes are put for a line, or last, at most.
@@ -27,9 +28,9 @@ pub struct Report {
 }
 
 impl Model for Report {
-    ghost use Rattle.session_judge.specs.declared.talk.Talk.{Talk};
+    ghost use Rattle.session_judge.specs.declared.talk.JudgedTalk.{JudgedTalk};
 
-    ghost Value = { Talk };
+    ghost Value = { JudgedTalk };
 
     ghost view = { λ r. r.judge };
 }
@@ -40,7 +41,7 @@ fn put_brought_out(before: Option<Search>, deed: &Deed, text: &mut Out)
     ensures { text.new ≡ with text.old (brought_out before deed.now) }
 {
     match deed {
-        Deed::Writes(Order::Go(_)) => put_search(before, text),
+        Deed::Writes(OrderKind::Go(_)) => put_search(before, text),
         _ => text.put(b""),
     }
 }
@@ -54,12 +55,12 @@ fn is_passed(number: u64, line: &[u8]) -> bool
 
 impl Report {
     /// The report on a log that this one wrote. No line was read yet.
-    pub fn new(listener: Listener) -> Report
+    pub fn new(alloc: Global, listener: Listener) -> Report
         ensures opening { result ≡ opening listener }
         ensures stands { Stands listener [] result [] }
     {
         Report {
-            judge: Judge::new(listener),
+            judge: Judge::new(alloc, listener),
         }
     }
 
@@ -98,7 +99,10 @@ impl Report {
         ensures of_line { IfSome result (λ ending. IsOfLine ending) }
     {
         match read_mark(line) {
-            Ok(mark) => self.hear(number, &deed_of(&mark), text),
+            Ok(mark) => {
+                let deed = self.judge.deed_of(&mark);
+                self.hear(number, &deed, text)
+            }
             Err(_) if is_passed(number, line) => None,
             Err(_) => Some(Ending::NoMark(number)),
         }

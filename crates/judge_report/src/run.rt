@@ -25,5 +25,5 @@ pub fn run_judge<I: Source, O: Sink, D: Sink>(
         (streams (I.state input.old) (O.state output.old) (D.state diag.old))
         (streams (I.state input.new) (O.state output.new) (D.state diag.new)) (code_of result) }
 {
-    run_scribe(alloc, Report::new(listener), input, output, diag)
+    run_scribe(alloc, Report::new(alloc, listener), input, output, diag)
 }

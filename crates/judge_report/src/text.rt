@@ -59,7 +59,7 @@ fn put_move(m: Move, out: &mut Out)
         b'1' + m.to.rank(),
     ];
     out.put(&squares);
-    out.put(letter_of(m.promo));
+    out.put(letter_of(m.promotion));
 }
 
 fn put_end(ended: Option<u64>, out: &mut Out)

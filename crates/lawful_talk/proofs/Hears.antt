@@ -30,12 +30,12 @@ use Rattle.adapter_core.specs.Shown.{moves_told}
 use Rattle.dialogue_laws.specs.Wire.{said_in, said_by}
 use Rattle.session_judge.specs.declared.deed.Deed.{Deed}
 use Rattle.session_judge.specs.declared.deed.Deed.TheVariants as deeds
-use Rattle.session_judge.specs.declared.talk.Answer.{Answer}
-use Rattle.session_judge.specs.declared.engine.Engine.{Engine as Wire}
-use Rattle.session_judge.specs.declared.engine.Engine.TheVariants as wires
-use Rattle.session_judge.specs.declared.talk.Stage.{Stage}
-use Rattle.session_judge.specs.declared.talk.Stage.TheVariants as stages
-use Rattle.session_judge.specs.declared.talk.Talk.{Talk}
+use Rattle.session_judge.specs.declared.talk.HeardAnswer.{HeardAnswer}
+use Rattle.session_judge.specs.declared.engine.EnginePhase.{EnginePhase as Wire}
+use Rattle.session_judge.specs.declared.engine.EnginePhase.TheVariants as wires
+use Rattle.session_judge.specs.declared.talk.OrderStage.{OrderStage}
+use Rattle.session_judge.specs.declared.talk.OrderStage.TheVariants as stages
+use Rattle.session_judge.specs.declared.talk.JudgedTalk.{JudgedTalk}
 use Rattle.session_judge.specs.Deeds.{deed_of, answer_told, shows}
 use Rattle.session_judge.specs.Rules.{broken, is_answer}
 use Rattle.session_judge.specs.Engines.{engine_after, gone_after, heard_of}
@@ -51,7 +51,7 @@ abbrev pub is_order : Deed → Bool
 is_order (deeds.Writes o) = true
 is_order d = false
 
-same_stage : (s : Stage) (d : Deed) → is_order d ≡ false → stage_after s d ≡ s
+same_stage : (s : OrderStage) (d : Deed) → is_order d ≡ false → stage_after s d ≡ s
 same_stage stages.Start (deeds.Writes o) n = cc
 same_stage stages.Placed (deeds.Writes o) n = cc
 same_stage stages.Open (deeds.Writes o) n = cc
@@ -86,7 +86,7 @@ still_no_order (deeds.Writes o) gone n = cc
 still_no_order d true n = refl
 still_no_order d false n = refl
 
-heard_so : (t : Talk) (e e' : Engine) (p : Place) (d : Deed) (line : ℕ) → Agrees t e p → is_order d ≡ false → Shows (after t line d) e' → Agrees (after t line d) e' p
+heard_so : (t : JudgedTalk) (e e' : Engine) (p : Place) (d : Deed) (line : ℕ) → Agrees t e p → is_order d ≡ false → Shows (after t line d) e' → Agrees (after t line d) e' p
 heard_so t e e' p d line a n h =
     let m = still_no_order d t.gone n in
     record {
@@ -97,9 +97,9 @@ heard_so t e e' p d line a n h =
 
 -- the engine as this one is, after a deed
 abbrev Hears : Engine → Deed → Engine → Type 0
-Hears e d e' = (t : Talk) (line : ℕ) → Shows t e → Shows (after t line d) e'
+Hears e d e' = (t : JudgedTalk) (line : ℕ) → Shows t e → Shows (after t line d) e'
 
-now_is : (t : Talk) (line : ℕ) (w w' : Wire) (d : Deed) → is_end d ≡ false → engine_after w d ≡ w' → Is t w → Is (after t line d) w'
+now_is : (t : JudgedTalk) (line : ℕ) (w w' : Wire) (d : Deed) → is_end d ≡ false → engine_after w d ≡ w' → Is t w → Is (after t line d) w'
 now_is t line w w' d n h i = record {
   engine = ap (λ (b : Bool). engine_after t.engine (heard_of d b)) i.there ∙ ap (λ (x : Deed). engine_after t.engine x) (all_heard d) ∙ ap (λ (x : Wire). engine_after x d) i.engine ∙ h;
   there = ap (λ (b : Bool). gone_after b (heard_of d b)) i.there ∙ ap (gone_after false) (all_heard d) ∙ not_end false d n;
@@ -181,7 +181,7 @@ event_heard e events.EngineEnd = ends_heard e
 event_heard e events.EngineLost = ends_heard e
 event_heard e ev = nothing_heard e
 
-answer_passes : (t : Talk) (m : EngineMsg) → broken t (answer_told m) ≡ None
+answer_passes : (t : JudgedTalk) (m : EngineMsg) → broken t (answer_told m) ≡ None
 answer_passes t (says.Name text) = refl
 answer_passes t (says.OptionLine name shape) = refl
 answer_passes t (says.Info facts) = refl
@@ -191,7 +191,7 @@ answer_passes t says.ReadyOk = refl
 answer_passes t (says.Best best hint) = refl
 
 -- an event breaks no rule
-event_passes : (t : Talk) (ev : Event) → broken t (deed_of (Happens ev)) ≡ None
+event_passes : (t : JudgedTalk) (ev : Event) → broken t (deed_of (Happens ev)) ≡ None
 event_passes t (events.Engine line) = answer_passes t (engine_message line)
 event_passes t ev = refl
 
@@ -200,10 +200,10 @@ one_mark events.Open n = cc
 one_mark ev n = refl
 
 -- what is heard of an event that is not Open
-pub event_runs : (t : Talk) (ev : Event) (P : Talk → Type 0) → is_open ev ≡ false → ((line : ℕ) → P (after t line (deed_of (Happens ev)))) → Runs t (event_marks ev) P
+pub event_runs : (t : JudgedTalk) (ev : Event) (P : JudgedTalk → Type 0) → is_open ev ≡ false → ((line : ℕ) → P (after t line (deed_of (Happens ev)))) → Runs t (event_marks ev) P
 event_runs t ev P n f = subst (λ ms. Runs t ms P) (sym (one_mark ev n)) (event_passes t ev, f)
 
-pub event_agrees : (t : Talk) (e : Engine) (p : Place) (ev : Event) (line : ℕ) → Agrees t e p → Agrees (after t line (deed_of (Happens ev))) (heard e (said_by false ev)) p
+pub event_agrees : (t : JudgedTalk) (e : Engine) (p : Place) (ev : Event) (line : ℕ) → Agrees t e p → Agrees (after t line (deed_of (Happens ev))) (heard e (said_by false ev)) p
 event_agrees t e p ev line a = heard_so t e (heard e (said_by false ev)) p (deed_of (Happens ev)) line a (event_quiet ev) (event_heard e ev t line a.engine)
 
 -- REPLIES
@@ -217,13 +217,13 @@ reply_quiet (told.Move m) rs e = absurd (cc)
 reply_quiet r rs e = record { first = refl; later = e }
 
 -- replies that show no move
-pub quiet_runs : (rs : List Reply) (t : Talk) (P : Talk → Type 0) → moves_told rs ≡ [] → ((u : Talk) → (line : ℕ) → P u → P (after u line deeds.Nothing)) → P t → Runs t (map iface_mark rs) P
+pub quiet_runs : (rs : List Reply) (t : JudgedTalk) (P : JudgedTalk → Type 0) → moves_told rs ≡ [] → ((u : JudgedTalk) → (line : ℕ) → P u → P (after u line deeds.Nothing)) → P t → Runs t (map iface_mark rs) P
 quiet_runs [] t P e f x = x
 quiet_runs (r ∷ rs) t P e f x =
     let q = reply_quiet r rs e in
     first_runs t (iface_mark r) (map iface_mark rs) P deeds.Nothing (reply_deed r q.first) refl (λ line. quiet_runs rs (after t line deeds.Nothing) P q.later f (f t line x))
 
-pub still_agrees : (e : Engine) (p : Place) (u : Talk) (line : ℕ) → Agrees u e p → Agrees (after u line deeds.Nothing) e p
+pub still_agrees : (e : Engine) (p : Place) (u : JudgedTalk) (line : ℕ) → Agrees u e p → Agrees (after u line deeds.Nothing) e p
 still_agrees e p u line a = heard_so u e e p deeds.Nothing line a refl (nothing_heard e u line a.engine)
 
 -- THE MOVE THAT IS SHOWN
@@ -236,15 +236,15 @@ same_kinds Rook = refl
 same_kinds Queen = refl
 same_kinds King = refl
 
-same_promos : (o : Option Kind) → option_eq same_kind o o ≡ true
-same_promos None = refl
-same_promos (Some k) = same_kinds k
+same_promotions : (o : Option Kind) → option_eq same_kind o o ≡ true
+same_promotions None = refl
+same_promotions (Some k) = same_kinds k
 
 same_number : (n : ℕ) → eqb n n ≡ true
 same_number n = grind (arith, nat_tests)
 
 same_moves : (m : Move) → same_move m m ≡ true
-same_moves m = rw (same_number m.from.index, same_number m.to.index, same_promos m.promo) refl
+same_moves m = rw (same_number m.from.index, same_number m.to.index, same_promotions m.promotion) refl
 
 shown_deed : (m : Move) (p : Place) → legal p m ≡ true → deed_of (iface_mark (told.Move m)) ≡ deeds.Shows m
 shown_deed m p l =
@@ -253,10 +253,10 @@ shown_deed m p l =
     ∙ ap (λ b. cond b (deeds.Shows m) deeds.Nothing) (text_same (text_of m) (text_of m) refl)
 
 -- the answer of a search for a move that was heard, with this move, in this place
-abbrev pub answered : Move → Place → Answer
+abbrev pub answered : Move → Place → HeardAnswer
 answered m p = record { kind = kinds.Move; best = Some m; at = p; told = false }
 
-answers_it : (o : Option Answer) (m : Move) (p : Place) → o ≡ Some (answered m p) → legal p m ≡ true → is_answer o m ≡ true
+answers_it : (o : Option HeardAnswer) (m : Move) (p : Place) → o ≡ Some (answered m p) → legal p m ≡ true → is_answer o m ≡ true
 answers_it o m p e l = rw e (rw (same_moves m, l) refl)
 
 -- a reply that tells the move, or one before it
@@ -268,7 +268,7 @@ front : (r : Reply) (rs : List Reply) (m : Move) → moves_told (r ∷ rs) ≡ m
 front (told.Move b) rs m e = let same : b ≡ m = cc in let none : moves_told rs ≡ [] = cc in Front.Here (ap told.Move same) none
 front r rs m e = Front.Later refl e
 
-pub move_runs : (rs : List Reply) (t : Talk) (e : Engine) (p : Place) (m : Move) → moves_told rs ≡ m ∷ [] → Agrees t e p → t.answer ≡ Some (answered m p) → legal p m ≡ true
+pub move_runs : (rs : List Reply) (t : JudgedTalk) (e : Engine) (p : Place) (m : Move) → moves_told rs ≡ m ∷ [] → Agrees t e p → t.answer ≡ Some (answered m p) → legal p m ≡ true
     → Runs t (map iface_mark rs) (λ u. Agrees u e p)
 move_runs [] t e p m x a w l = absurd (cc)
 move_runs (r ∷ rs) t e p m x a w l = by (front r rs m x) (λ line y. move_runs rs (after t line deeds.Nothing) e p m y (still_agrees e p t line a) w l) where

@@ -17,22 +17,22 @@ use Rattle.adapter_core.proofs.Closing.{opened_later, closed_stays}
 use Rattle.adapter_core.proofs.Traces.{lasts}
 use Rattle.dialogue_laws.proofs.Heard as hearing
 use Rattle.dialogue_laws.proofs.Places.{opening_may, opening_says}
-use Rattle.session_judge.specs.declared.engine.Engine.TheVariants as wires
+use Rattle.session_judge.specs.declared.engine.EnginePhase.TheVariants as wires
 use Rattle.session_judge.specs.declared.listener.Listener.{Listener}
 use Rattle.session_judge.specs.declared.listener.Listener.TheVariants as listeners
-use Rattle.session_judge.specs.declared.talk.Stage.TheVariants as stages
-use Rattle.session_judge.specs.declared.talk.Talk.{Talk}
+use Rattle.session_judge.specs.declared.talk.OrderStage.TheVariants as stages
+use Rattle.session_judge.specs.declared.talk.JudgedTalk.{JudgedTalk}
 use Rattle.session_judge.specs.Clean.{Entry, IsClean, talk}
 use Rattle.session_judge.specs.Talks.{opening}
 use Rattle.lawful_talk.specs.Logs.{NoOrderCrosses, SearchesAt, SearchesTheDesk, step_marks, marks_in, marks_of, LogsAreClean}
 use Rattle.lawful_talk.proofs.Runs.{Runs, apart_runs, more_runs, both_run, clean_runs}
 use Rattle.lawful_talk.proofs.Writes.{Is, Shows, Agrees}
-use Rattle.dialogue_laws.proofs.Games.{game_is}
+use Rattle.line_laws.proofs.Games.{game_is}
 use Rattle.lawful_talk.proofs.Steps.{open_parts, opening_parts, closing_parts, closed_parts}
 use Rattle.lawful_talk.proofs.Settles.{settles}
 
 -- the talk goes with the trace
-record Matches (s : State) (t : Talk) : Type 0 where
+record Matches (s : State) (t : JudgedTalk) : Type 0 where
   begins : s.ends.opened ≡ false → Is t wires.Boot × (t.stage ≡ stages.Start)
   goes_on : s.ends.opened ≡ true → s.ends.closed ≡ false → (p : Place) × Agrees t s.dialogue.engine p × SearchesAt s p
 
@@ -61,7 +61,7 @@ module _ (o : Settings) (step : Step) (trace : List Step) (l : Lawful o (step �
   opened = opened_later s.ends ev l.1.may_come
 
   -- once the session is closed nothing more need be known
-  once_closed : (u : Talk) → closed_after s ev ≡ true → Matches next u
+  once_closed : (u : JudgedTalk) → closed_after s ev ≡ true → Matches next u
   once_closed u c = record { begins = λ n. absurd (both_ways next.ends.opened n opened); goes_on = λ y n. absurd (both_ways (closed_after s ev) n c) }
 
   boots : is_open ev ≡ true → next.dialogue.engine ≡ talks.Boot
@@ -70,7 +70,7 @@ module _ (o : Settings) (step : Step) (trace : List Step) (l : Lawful o (step �
       let heard_none : m.engine ≡ talks.Boot = hearing.event_heard s ev ∙ ap (heard s.dialogue.engine) (opening_says s.ends.closed ev n) ∙ none in
       ap (λ (os : List Order). sent_all m.epoch m.engine (map word_of os)) (l.1.opens n) ∙ ap (λ (y : Engine). sent_all m.epoch y (talks.Uci ∷ [])) heard_none
 
-  at_opening : (t : Talk) → is_open ev ≡ true → Matches s t → Runs t (step_marks step) (Matches next)
+  at_opening : (t : JudgedTalk) → is_open ev ≡ true → Matches s t → Runs t (step_marks step) (Matches next)
   at_opening t n a =
       let b = a.begins (opening_may s ev n l.1.may_come) in
       more_runs t (step_marks step) _ (Matches next) (opening_parts o step trace l t n b.0 b.1) (λ u w. record {
@@ -82,20 +82,20 @@ module _ (o : Settings) (step : Step) (trace : List Step) (l : Lawful o (step �
         );
       })
 
-  by_close : (t : Talk) (p : Place) → is_open ev ≡ false → s.ends.closed ≡ false → Agrees t s.dialogue.engine p → SearchesAt s p → (c : Bool) → closed_after s ev ≡ c → Runs t (step_marks step) (Matches next)
+  by_close : (t : JudgedTalk) (p : Place) → is_open ev ≡ false → s.ends.closed ≡ false → Agrees t s.dialogue.engine p → SearchesAt s p → (c : Bool) → closed_after s ev ≡ c → Runs t (step_marks step) (Matches next)
   by_close t p n b a f true c = more_runs t (step_marks step) _ (Matches next) (closing_parts o step trace l t p n b c a) (λ u w. once_closed u c)
   by_close t p n b a f false c =
       more_runs t (step_marks step) _ (Matches next)
       (open_parts o step trace l t p _ n c f a (λ u w. settles o step trace l (game_is o trace l.0) u p n c f w))
       (λ u w. record { begins = λ x. absurd (both_ways next.ends.opened x opened); goes_on = λ x y. w })
 
-  by_stage : (t : Talk) → is_open ev ≡ false → Matches s t → (b : Bool) → s.ends.closed ≡ b → Runs t (step_marks step) (Matches next)
+  by_stage : (t : JudgedTalk) → is_open ev ≡ false → Matches s t → (b : Bool) → s.ends.closed ≡ b → Runs t (step_marks step) (Matches next)
   by_stage t n a true b = more_runs t (step_marks step) _ (Matches next) (closed_parts o step trace l t n b) (λ u w. once_closed u (closed_stays s.ends ev b))
   by_stage t n a false b =
       let f = a.goes_on (sym (still_opened s.ends ev n) ∙ opened) b in
       by_close t f.0 n b f.1 f.2 (closed_after s ev) refl
 
-  step_matches : (t : Talk) → Matches s t → Runs t (step_marks step) (Matches next)
+  step_matches : (t : JudgedTalk) → Matches s t → Runs t (step_marks step) (Matches next)
   step_matches t a = by_open (is_open ev) refl where
     by_open : (b : Bool) → is_open ev ≡ b → Runs t (step_marks step) (Matches next)
     by_open true n = at_opening t n a

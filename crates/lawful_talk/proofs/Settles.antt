@@ -44,14 +44,14 @@ use Rattle.adapter_core.specs.Ends.{is_open}
 use Rattle.adapter_core.specs.Trace.{State, Step, Lawful, AreSettled, state, state_after, situation, effect, turn, mid, owing, closed_after, desk_of}
 use Rattle.adapter_core.proofs.Traces.{lasts, fits}
 use Rattle.adapter_core.proofs.Square.{for_owed}
-use Rattle.session_judge.specs.declared.deed.Order.TheVariants as hears
-use Rattle.session_judge.specs.declared.talk.Talk.{Talk}
+use Rattle.session_judge.specs.declared.deed.OrderKind.TheVariants as hears
+use Rattle.session_judge.specs.declared.talk.JudgedTalk.{JudgedTalk}
 use Rattle.session_judge.specs.Deeds.{end_of}
 use Rattle.lawful_talk.specs.Logs.{SearchesAt, engine_mark}
 use Rattle.lawful_talk.proofs.Runs.{Runs, more_runs}
 use Rattle.lawful_talk.proofs.Texts.{as_order, kind_heard}
 use Rattle.lawful_talk.proofs.Writes.{Shows as Told, Agrees, plain_runs, search_runs}
-use Rattle.dialogue_laws.proofs.Games.{IsGame, played_is, effect_is}
+use Rattle.line_laws.proofs.Games.{IsGame, played_is, effect_is}
 use Rattle.lawful_talk.proofs.Games.{line_leads}
 
 -- WHAT STAYS
@@ -149,23 +149,23 @@ same_kind_is Queen Queen e = refl
 same_kind_is King King e = refl
 same_kind_is a b e = cc
 
-same_promo_is : (a b : Option Kind) → option_eq same_kind a b ≡ true → a ≡ b
-same_promo_is None None e = refl
-same_promo_is None (Some b) e = cc
-same_promo_is (Some a) None e = cc
-same_promo_is (Some a) (Some b) e = ap Some (same_kind_is a b e)
+same_promotion_is : (a b : Option Kind) → option_eq same_kind a b ≡ true → a ≡ b
+same_promotion_is None None e = refl
+same_promotion_is None (Some b) e = cc
+same_promotion_is (Some a) None e = cc
+same_promotion_is (Some a) (Some b) e = ap Some (same_kind_is a b e)
 
 abbrev ply_with : ℕ → ℕ → Option Kind → Ply
-ply_with from to promo = record { from = from; to = to; promo = promo }
+ply_with from to promotion = record { from = from; to = to; promotion = promotion }
 
 same_ply : (a b : Move) → same_move a b ≡ true → ply_of a ≡ ply_of b
 same_ply a b x =
-    let first = and_parts (a.from.index == b.from.index) ((a.to.index == b.to.index) && option_eq same_kind a.promo b.promo) x in
-    let second = and_parts (a.to.index == b.to.index) (option_eq same_kind a.promo b.promo) first.1 in
+    let first = and_parts (a.from.index == b.from.index) ((a.to.index == b.to.index) && option_eq same_kind a.promotion b.promotion) x in
+    let second = and_parts (a.to.index == b.to.index) (option_eq same_kind a.promotion b.promotion) first.1 in
     let from : a.from.index ≡ b.from.index = let e = first.0 in grind (arith, nat_tests) in
     let to : a.to.index ≡ b.to.index = let e = second.0 in grind (arith, nat_tests) in
-    let promo = same_promo_is a.promo b.promo second.1 in
-    ap (λ y. ply_with y a.to.index a.promo) from ∙ ap (λ y. ply_with b.from.index y a.promo) to ∙ ap (λ (y : Option Kind). ply_with b.from.index b.to.index y) promo
+    let promotion = same_promotion_is a.promotion b.promotion second.1 in
+    ap (λ y. ply_with y a.to.index a.promotion) from ∙ ap (λ y. ply_with b.from.index y a.promotion) to ∙ ap (λ (y : Option Kind). ply_with b.from.index b.to.index y) promotion
 
 -- an effect that plays the hint
 record Plays (h : Situation) (d : Effect) : Type 0 where
@@ -275,13 +275,13 @@ module _ (o : Settings) (step : Step) (trace : List Step) (l : Lawful o (step �
       (λ g e. call_hint (closed_after s ev) (is_gone h.engine || is_death d) (desk_after_effect h d) g (for_owed (spent m) (turn s ev).call g e))
 
   -- the talk after the orders
-  abbrev Follows : Talk → Type 0
+  abbrev Follows : JudgedTalk → Type 0
   Follows t = (p : Place) × Agrees t next.dialogue.engine p × SearchesAt next p
 
   begun_at : (k k' : GoKind) (n : ℕ) (st : Bool) (q : Place) (x : Desk) → talks.Search k n false ≡ talks.Search k' n st → q ≡ now_of (searched_by k x.game x.hint) → q ≡ now_of (searched_by k' x.game x.hint)
   begun_at k k' n st q x e f = let same : k ≡ k' = cc in f ∙ ap (λ (y : GoKind). now_of (searched_by y x.game x.hint)) same
 
-  begins : (t : Talk) (p : Place) → AreSettled s ev step.orders → has_go ws ≡ true → Agrees t m.engine p → Runs t (map engine_mark step.orders) Follows
+  begins : (t : JudgedTalk) (p : Place) → AreSettled s ev step.orders → has_go ws ≡ true → Agrees t m.engine p → Runs t (map engine_mark step.orders) Follows
   begins t p a g b =
       let c = owing s ev in
       let x = desk_of s ev in
@@ -331,13 +331,13 @@ module _ (o : Settings) (step : Step) (trace : List Step) (l : Lawful o (step �
           ∙ ap (λ (z : Game). now_of (searched_by k z s.desk.hint)) (sym (game_kept h d b))
           ∙ ap (λ (z : Option Move). now_of (searched_by k (desk_of s ev).game z)) (sym (hint_kept h d b))
 
-  goes_on_so : (t : Talk) (p : Place) → AreSettled s ev step.orders → has_go ws ≡ false → SearchesAt s p → Agrees t m.engine p → Runs t (map engine_mark step.orders) Follows
+  goes_on_so : (t : JudgedTalk) (p : Place) → AreSettled s ev step.orders → has_go ws ≡ false → SearchesAt s p → Agrees t m.engine p → Runs t (map engine_mark step.orders) Follows
   goes_on_so t p a g f b =
       more_runs t (map engine_mark step.orders) (λ u. Agrees u (sent_all m.epoch m.engine ws) p) Follows
       (plain_runs m.epoch m.engine step.orders t p b a.words.may_send a.words.paired g a.words.no_quit)
       (λ u w. (p, w, stays_at p a g f (has_hit ws) refl))
 
-  pub settles : (t : Talk) (p : Place) → is_open ev ≡ false → closed_after s ev ≡ false → SearchesAt s p → Agrees t m.engine p → Runs t (map engine_mark step.orders) Follows
+  pub settles : (t : JudgedTalk) (p : Place) → is_open ev ≡ false → closed_after s ev ≡ false → SearchesAt s p → Agrees t m.engine p → Runs t (map engine_mark step.orders) Follows
   settles t p n c f b = by_go (has_go ws) refl where
     by_go : (g : Bool) → has_go ws ≡ g → Runs t (map engine_mark step.orders) Follows
     by_go true g = begins t p (l.1.settled n c) g b

@@ -31,13 +31,13 @@ use Rattle.adapter_core.proofs.Shown.{shown_by, open_shows, shown as shown_in_ti
 use Rattle.adapter_core.proofs.Traces.{Lasts, lasts, gone_is}
 use Rattle.dialogue_laws.specs.Wire.{said_by}
 use Rattle.dialogue_laws.proofs.Heard as hearing
-use Rattle.session_judge.specs.declared.deed.Order.TheVariants as hears
+use Rattle.session_judge.specs.declared.deed.OrderKind.TheVariants as hears
 use Rattle.session_judge.specs.declared.deed.Deed.TheVariants as deeds
-use Rattle.session_judge.specs.declared.talk.Answer.{Answer}
-use Rattle.session_judge.specs.declared.engine.Engine.{Engine as Wire}
-use Rattle.session_judge.specs.declared.engine.Engine.TheVariants as wires
-use Rattle.session_judge.specs.declared.talk.Stage.TheVariants as stages
-use Rattle.session_judge.specs.declared.talk.Talk.{Talk}
+use Rattle.session_judge.specs.declared.talk.HeardAnswer.{HeardAnswer}
+use Rattle.session_judge.specs.declared.engine.EnginePhase.{EnginePhase as Wire}
+use Rattle.session_judge.specs.declared.engine.EnginePhase.TheVariants as wires
+use Rattle.session_judge.specs.declared.talk.OrderStage.TheVariants as stages
+use Rattle.session_judge.specs.declared.talk.JudgedTalk.{JudgedTalk}
 use Rattle.session_judge.specs.Deeds.{deed_of, answer_told}
 use Rattle.session_judge.specs.Engines.{heard_of}
 use Rattle.session_judge.specs.Talks.{after, answer_after}
@@ -50,10 +50,10 @@ use Rattle.lawful_talk.proofs.Hears.{event_runs, event_agrees, quiet_runs, still
 -- THE PARTS OF A STEP
 
 -- the event, then the replies, then the orders
-pub parts_run : (t : Talk) (step : Step) (A B P : Talk → Type 0)
+pub parts_run : (t : JudgedTalk) (step : Step) (A B P : JudgedTalk → Type 0)
     → Runs t (event_marks step.event) A
-    → ((u : Talk) → A u → Runs u (map iface_mark step.replies) B)
-    → ((u : Talk) → B u → Runs u (map engine_mark step.orders) P)
+    → ((u : JudgedTalk) → A u → Runs u (map iface_mark step.replies) B)
+    → ((u : JudgedTalk) → B u → Runs u (map engine_mark step.orders) P)
     → Runs t (step_marks step) P
 parts_run t step A B P e r o =
     let others = map iface_mark step.replies ++ map engine_mark step.orders in
@@ -122,11 +122,11 @@ module _ (o : Settings) (step : Step) (trace : List Step) (l : Lawful o (step �
   told_none c = ap moves_told l.1.replies ∙ no_moves (closed_after s ev) (is_move (owing s ev)) h d c
 
   -- what is known once the event was heard
-  record Heard (t u : Talk) (p : Place) : Type 0 where
+  record Heard (t u : JudgedTalk) (p : Place) : Type 0 where
     agrees : Agrees u m.engine p
     answer : u.answer ≡ answer_after t.engine t.placed t.answer (heard_of (deed_of (Happens ev)) t.gone)
 
-  event_known : (t : Talk) (p : Place) → is_open ev ≡ false → s.ends.closed ≡ false → Agrees t s.dialogue.engine p → Runs t (event_marks ev) (λ u. Heard t u p)
+  event_known : (t : JudgedTalk) (p : Place) → is_open ev ≡ false → s.ends.closed ≡ false → Agrees t s.dialogue.engine p → Runs t (event_marks ev) (λ u. Heard t u p)
   event_known t p n c a =
       event_runs t ev (λ u. Heard t u p) n (λ line. record {
         agrees = subst (λ (x : Engine). Agrees (after t line (deed_of (Happens ev))) x p) (heard_event c) (event_agrees t s.dialogue.engine p ev line a);
@@ -134,7 +134,7 @@ module _ (o : Settings) (step : Step) (trace : List Step) (l : Lawful o (step �
       })
 
   -- the answer that is heard before a move is shown
-  shown_answer : (t u : Talk) (p : Place) (best : Move) (hint : Option Move) → closed_after s ev ≡ false → d ≡ Shows best hint → Agrees t s.dialogue.engine p
+  shown_answer : (t u : JudgedTalk) (p : Place) (best : Move) (hint : Option Move) → closed_after s ev ≡ false → d ≡ Shows best hint → Agrees t s.dialogue.engine p
       → u.answer ≡ answer_after t.engine t.placed t.answer (heard_of (deed_of (Happens ev)) t.gone) → Answers s ev best → u.answer ≡ Some (answered best p)
   shown_answer t u p best hint c e a w x =
       let i : Is t (wires.Search kinds.Move x.stopped) = subst (Told t) x.current a.engine in
@@ -142,14 +142,14 @@ module _ (o : Settings) (step : Step) (trace : List Step) (l : Lawful o (step �
       ∙ ap (λ y. answer_after t.engine t.placed t.answer (heard_of (answer_told y) t.gone)) x.best
       ∙ ap (λ y. answer_after t.engine t.placed t.answer (heard_of (deeds.Answers (Some best)) y)) i.there
       ∙ ap (λ (y : Wire). answer_after y t.placed t.answer (deeds.Answers (Some best))) i.engine
-      ∙ ap (λ y. let z : Answer = record { kind = kinds.Move; best = Some best; at = y; told = false } in Some z) a.placed
+      ∙ ap (λ y. let z : HeardAnswer = record { kind = kinds.Move; best = Some best; at = y; told = false } in Some z) a.placed
 
   answers_in : (best : Move) (hint : Option Move) → closed_after s ev ≡ false → d ≡ Shows best hint → Answers s ev best
   answers_in best hint c e =
       let tells = subst (λ (x : Effect). Contains (replies_of (closed_after s ev) (is_move (owing s ev)) h x) (told.Move best)) (sym e) (tells_first (closed_after s ev) (is_move (owing s ev)) h best hint c) in
       (shown_in_time o step trace l best).0 (subst (λ (rs : List Reply). Contains rs (told.Move best)) (sym l.1.replies) tells)
 
-  by_shown : (t u : Talk) (p : Place) → IsShown d → closed_after s ev ≡ false → SearchesAt s p → Agrees t s.dialogue.engine p → Heard t u p → Runs u (map iface_mark step.replies) (λ v. Agrees v m.engine p)
+  by_shown : (t u : JudgedTalk) (p : Place) → IsShown d → closed_after s ev ≡ false → SearchesAt s p → Agrees t s.dialogue.engine p → Heard t u p → Runs u (map iface_mark step.replies) (λ v. Agrees v m.engine p)
   by_shown t u p (IsShown.It best hint e) c i a w =
       let x = answers_in best hint c e in
       move_runs step.replies u m.engine p best (told_moves c ∙ ap shown_by e) w.agrees (shown_answer t u p best hint c e a w.answer x)
@@ -157,30 +157,30 @@ module _ (o : Settings) (step : Step) (trace : List Step) (l : Lawful o (step �
   by_shown t u p (IsShown.Quiet n) c i a w = quiet_runs step.replies u (λ v. Agrees v m.engine p) (told_moves c ∙ n) (still_agrees m.engine p) w.agrees
 
   -- the event and the replies of a step after which the session is open
-  pub open_parts : (t : Talk) (p : Place) (P : Talk → Type 0) → is_open ev ≡ false → closed_after s ev ≡ false → SearchesAt s p → Agrees t s.dialogue.engine p
-      → ((u : Talk) → Agrees u m.engine p → Runs u (map engine_mark step.orders) P) → Runs t (step_marks step) P
+  pub open_parts : (t : JudgedTalk) (p : Place) (P : JudgedTalk → Type 0) → is_open ev ≡ false → closed_after s ev ≡ false → SearchesAt s p → Agrees t s.dialogue.engine p
+      → ((u : JudgedTalk) → Agrees u m.engine p → Runs u (map engine_mark step.orders) P) → Runs t (step_marks step) P
   open_parts t p P n c i a f =
       parts_run t step (λ u. Heard t u p) (λ v. Agrees v m.engine p) P (event_known t p n (open_before s.ends ev c) a) (λ u w. by_shown t u p (is_shown d) c i a w) f
 
   -- AT THE OPENING
 
-  abbrev Begins : Talk → Type 0
+  abbrev Begins : JudgedTalk → Type 0
   Begins u = Is u wires.Boot × (u.stage ≡ stages.Start)
 
-  begins_on : (u : Talk) (line : ℕ) → Begins u → Begins (after u line deeds.Nothing)
+  begins_on : (u : JudgedTalk) (line : ℕ) → Begins u → Begins (after u line deeds.Nothing)
   begins_on u line b = (record { engine = rw b.0.engine refl; there = b.0.there }, rw b.1 refl)
 
-  abbrev Opened : Talk → Type 0
+  abbrev Opened : JudgedTalk → Type 0
   Opened u = Is u wires.Boot × (u.stage ≡ stages.Open)
 
-  uci_runs : (u : Talk) → Begins u → Runs u (map engine_mark (orders.Uci ∷ [])) Opened
+  uci_runs : (u : JudgedTalk) → Begins u → Runs u (map engine_mark (orders.Uci ∷ [])) Opened
   uci_runs u b = first_runs u (engine_mark orders.Uci) [] Opened (deeds.Writes hears.Uci) (order_deed orders.Uci) (rw (b.1, b.0.engine, b.0.there) refl) (λ line. (record { engine = refl; there = b.0.there }, rw b.1 refl))
 
   no_event : (e : Event) → is_open e ≡ true → event_marks e ≡ []
   no_event events.Open x = refl
   no_event e x = cc
 
-  pub opening_parts : (t : Talk) → is_open ev ≡ true → Is t wires.Boot → t.stage ≡ stages.Start → Runs t (step_marks step) Opened
+  pub opening_parts : (t : JudgedTalk) → is_open ev ≡ true → Is t wires.Boot → t.stage ≡ stages.Start → Runs t (step_marks step) Opened
   opening_parts t n e g =
       parts_run t step Begins Begins Opened
       (subst (λ (ms : List Mark). Runs t ms Begins) (sym (no_event ev n)) (e, g))
@@ -193,7 +193,7 @@ module _ (o : Settings) (step : Step) (trace : List Step) (l : Lawful o (step �
 
   -- WHERE THE SESSION IS CLOSED
 
-  pub closing_parts : (t : Talk) (p : Place) → is_open ev ≡ false → s.ends.closed ≡ false → closed_after s ev ≡ true → Agrees t s.dialogue.engine p → Runs t (step_marks step) (λ u. Unit {0})
+  pub closing_parts : (t : JudgedTalk) (p : Place) → is_open ev ≡ false → s.ends.closed ≡ false → closed_after s ev ≡ true → Agrees t s.dialogue.engine p → Runs t (step_marks step) (λ u. Unit {0})
   closing_parts t p n c x a =
       parts_run t step (λ u. Agrees u m.engine p) (λ u. Agrees u m.engine p) (λ u. Unit {0})
       (more_runs t (event_marks ev) (λ u. Heard t u p) (λ u. Agrees u m.engine p) (event_known t p n c a) (λ u w. w.agrees))
@@ -208,11 +208,11 @@ module _ (o : Settings) (step : Step) (trace : List Step) (l : Lawful o (step �
           let same = gone_is s step last l.1 in
           cc
 
-      by_gone : (u : Talk) → Agrees u m.engine p → (g : Bool) → gone_after s ev ≡ g → Runs u (map engine_mark (last_orders (gone_after s ev))) (λ v. Unit {0})
+      by_gone : (u : JudgedTalk) → Agrees u m.engine p → (g : Bool) → gone_after s ev ≡ g → Runs u (map engine_mark (last_orders (gone_after s ev))) (λ v. Unit {0})
       by_gone u b true g = subst (λ (y : Bool). Runs u (map engine_mark (last_orders y)) (λ v. Unit {0})) (sym g) tt
       by_gone u b false g = subst (λ (y : Bool). Runs u (map engine_mark (last_orders y)) (λ v. Unit {0})) (sym g) (quit_runs m.engine u p (λ v. Unit {0}) b (alive g) (λ v. tt))
 
-  pub closed_parts : (t : Talk) → is_open ev ≡ false → s.ends.closed ≡ true → Runs t (step_marks step) (λ u. Unit {0})
+  pub closed_parts : (t : JudgedTalk) → is_open ev ≡ false → s.ends.closed ≡ true → Runs t (step_marks step) (λ u. Unit {0})
   closed_parts t n c =
       parts_run t step (λ u. Unit {0}) (λ u. Unit {0}) (λ u. Unit {0})
       (event_runs t ev (λ u. Unit {0}) n (λ line. tt))

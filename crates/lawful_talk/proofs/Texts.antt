@@ -23,11 +23,11 @@ use Rattle.uci_lines.proofs.Counts.{same_text}
 use Rattle.uci_talk.specs.Kinds.{has_word, kind_asked}
 use Rattle.uci_talk.specs.Lines.{line_of}
 use Rattle.desk_rules.specs.Orders.{kind_named}
-use Rattle.session_judge.specs.declared.deed.Order.{Order as Heard}
-use Rattle.session_judge.specs.declared.deed.Order.TheVariants as hears
+use Rattle.session_judge.specs.declared.deed.OrderKind.{OrderKind as Heard}
+use Rattle.session_judge.specs.declared.deed.OrderKind.TheVariants as hears
 use Rattle.session_judge.specs.declared.deed.Deed.TheVariants as deeds
 use Rattle.session_judge.specs.Deeds.{deed_of, end_of, shown_by, told_move}
-use Rattle.dialogue_laws.proofs.Numerals.{AreDigits, numeral}
+use Rattle.line_laws.proofs.Numerals.{AreDigits, numeral}
 use Rattle.lawful_talk.specs.Logs.{iface_mark, engine_mark}
 
 -- ORDERS

@@ -8,13 +8,13 @@ use Rattle.uci_lines.specs.Orders as orders
 use Rattle.search_epochs.specs.Tickets as talks
 use Rattle.search_epochs.specs.Tickets.{Engine, Word, MaySend, MaySendAll, Paired, sent, sent_all, has_go, has_quit}
 use Rattle.desk_rules.specs.Orders.{word_of}
-use Rattle.session_judge.specs.declared.deed.Order.{Order as Heard}
-use Rattle.session_judge.specs.declared.deed.Order.TheVariants as hears
+use Rattle.session_judge.specs.declared.deed.OrderKind.{OrderKind as Heard}
+use Rattle.session_judge.specs.declared.deed.OrderKind.TheVariants as hears
 use Rattle.session_judge.specs.declared.deed.Deed.TheVariants as deeds
-use Rattle.session_judge.specs.declared.engine.Engine.{Engine as Wire}
-use Rattle.session_judge.specs.declared.engine.Engine.TheVariants as wires
-use Rattle.session_judge.specs.declared.talk.Stage.TheVariants as stages
-use Rattle.session_judge.specs.declared.talk.Talk.{Talk}
+use Rattle.session_judge.specs.declared.engine.EnginePhase.{EnginePhase as Wire}
+use Rattle.session_judge.specs.declared.engine.EnginePhase.TheVariants as wires
+use Rattle.session_judge.specs.declared.talk.OrderStage.TheVariants as stages
+use Rattle.session_judge.specs.declared.talk.JudgedTalk.{JudgedTalk}
 use Rattle.session_judge.specs.Rules.{broken}
 use Rattle.session_judge.specs.Talks.{after}
 use Rattle.lawful_talk.specs.Logs.{engine_mark}
@@ -22,12 +22,12 @@ use Rattle.lawful_talk.proofs.Runs.{Runs, first_runs}
 use Rattle.lawful_talk.proofs.Texts.{as_order, order_deed}
 
 -- the engine of a talk is there, and so
-pub record Is (t : Talk) (w : Wire) : Type 0 where
+pub record Is (t : JudgedTalk) (w : Wire) : Type 0 where
   pub engine : t.engine ≡ w
   pub there : t.gone ≡ false
 
 -- it is this engine without its ticket, or is gone as this one
-abbrev pub Shows : Talk → Engine → Type 0
+abbrev pub Shows : JudgedTalk → Engine → Type 0
 Shows t talks.Boot = Is t wires.Boot
 Shows t talks.Getting = Is t wires.Getting
 Shows t talks.Idle = Is t wires.Idle
@@ -35,42 +35,42 @@ Shows t (talks.Search k ticket s) = Is t (wires.Search k s)
 Shows t talks.Gone = t.gone ≡ true
 
 -- what holds of a talk between the steps of an open session
-pub record Agrees (t : Talk) (e : Engine) (p : Place) : Type 0 where
+pub record Agrees (t : JudgedTalk) (e : Engine) (p : Place) : Type 0 where
   pub engine : Shows t e
   pub stage : t.stage ≡ stages.Open
   pub placed : t.placed ≡ p
 
 -- an order breaks no rule, and leads to this engine
-record Takes (t : Talk) (e : Engine) (o : Heard) : Type 0 where
+record Takes (t : JudgedTalk) (e : Engine) (o : Heard) : Type 0 where
   passes : broken t (deeds.Writes o) ≡ None
   leads : (line : ℕ) → Agrees (after t line (deeds.Writes o)) e t.placed
 
-setup_takes : (t : Talk) → Is t wires.Idle → t.stage ≡ stages.Open → Takes t talks.Idle hears.Setup
+setup_takes : (t : JudgedTalk) → Is t wires.Idle → t.stage ≡ stages.Open → Takes t talks.Idle hears.Setup
 setup_takes t i s = record {
   passes = rw (s, i.engine, i.there) refl;
   leads = λ line. record { engine = record { engine = rw i.engine refl; there = i.there }; stage = rw s refl; placed = refl };
 }
 
-ready_takes : (t : Talk) → Is t wires.Idle → t.stage ≡ stages.Open → Takes t talks.Getting hears.IsReady
+ready_takes : (t : JudgedTalk) → Is t wires.Idle → t.stage ≡ stages.Open → Takes t talks.Getting hears.IsReady
 ready_takes t i s = record {
   passes = rw (s, i.engine, i.there) refl;
   leads = λ line. record { engine = record { engine = refl; there = i.there }; stage = rw s refl; placed = refl };
 }
 
-stop_takes : (t : Talk) (k : GoKind) (ticket : ℕ) → Is t (wires.Search k false) → t.stage ≡ stages.Open → Takes t (talks.Search k ticket true) hears.Stop
+stop_takes : (t : JudgedTalk) (k : GoKind) (ticket : ℕ) → Is t (wires.Search k false) → t.stage ≡ stages.Open → Takes t (talks.Search k ticket true) hears.Stop
 stop_takes t k ticket i s = record {
   passes = rw (s, i.engine, i.there) refl;
   leads = λ line. record { engine = record { engine = rw i.engine refl; there = i.there }; stage = rw s refl; placed = refl };
 }
 
-hit_takes : (t : Talk) (ticket : ℕ) → Is t (wires.Search kinds.Ponder false) → t.stage ≡ stages.Open → Takes t (talks.Search kinds.Move ticket false) hears.PonderHit
+hit_takes : (t : JudgedTalk) (ticket : ℕ) → Is t (wires.Search kinds.Ponder false) → t.stage ≡ stages.Open → Takes t (talks.Search kinds.Move ticket false) hears.PonderHit
 hit_takes t ticket i s = record {
   passes = rw (s, i.engine, i.there) refl;
   leads = λ line. record { engine = record { engine = rw i.engine refl; there = i.there }; stage = rw s refl; placed = refl };
 }
 
 -- of a search that is stopped or not
-search_so : (t : Talk) (k : GoKind) (a b : Bool) → a ≡ b → Is t (wires.Search k a) → Is t (wires.Search k b)
+search_so : (t : JudgedTalk) (k : GoKind) (a b : Bool) → a ≡ b → Is t (wires.Search k a) → Is t (wires.Search k b)
 search_so t k a b e i = subst (λ (x : Bool). Is t (wires.Search k x)) e i
 
 -- an order that is neither `uci`, `position`, `go` nor `quit`
@@ -81,10 +81,10 @@ is_plain (orders.Go ponder control depth) = false
 is_plain orders.Quit = false
 is_plain o = true
 
-by_idle : (n : ℕ) (e : Engine) (w : Word) (t : Talk) (o : Heard) → e ≡ talks.Idle → Takes t (sent n talks.Idle w) o → Takes t (sent n e w) o
+by_idle : (n : ℕ) (e : Engine) (w : Word) (t : JudgedTalk) (o : Heard) → e ≡ talks.Idle → Takes t (sent n talks.Idle w) o → Takes t (sent n e w) o
 by_idle n e w t o i k = subst (λ (x : Engine). Takes t (sent n x w) o) (sym i) k
 
-stops_at : (n : ℕ) (e : Engine) (t : Talk) → Shows t e → t.stage ≡ stages.Open → MaySend e talks.Stop → Takes t (sent n e talks.Stop) hears.Stop
+stops_at : (n : ℕ) (e : Engine) (t : JudgedTalk) → Shows t e → t.stage ≡ stages.Open → MaySend e talks.Stop → Takes t (sent n e talks.Stop) hears.Stop
 stops_at n talks.Boot t e s m = absurd m
 stops_at n talks.Getting t e s m = absurd m
 stops_at n talks.Idle t e s m = absurd m
@@ -93,7 +93,7 @@ stops_at n (talks.Search kinds.Move ticket x) t e s m = stop_takes t kinds.Move 
 stops_at n (talks.Search kinds.Ponder ticket x) t e s m = stop_takes t kinds.Ponder ticket (search_so t kinds.Ponder x false m e) s
 stops_at n (talks.Search kinds.Analyse ticket x) t e s m = stop_takes t kinds.Analyse ticket (search_so t kinds.Analyse x false m e) s
 
-hits_at : (n : ℕ) (e : Engine) (t : Talk) → Shows t e → t.stage ≡ stages.Open → MaySend e talks.PonderHit → Takes t (sent n e talks.PonderHit) hears.PonderHit
+hits_at : (n : ℕ) (e : Engine) (t : JudgedTalk) → Shows t e → t.stage ≡ stages.Open → MaySend e talks.PonderHit → Takes t (sent n e talks.PonderHit) hears.PonderHit
 hits_at n talks.Boot t e s m = absurd m
 hits_at n talks.Getting t e s m = absurd m
 hits_at n talks.Idle t e s m = absurd m
@@ -102,7 +102,7 @@ hits_at n (talks.Search kinds.Move ticket x) t e s m = absurd (let a = m.0 in cc
 hits_at n (talks.Search kinds.Analyse ticket x) t e s m = absurd (let a = m.0 in cc)
 hits_at n (talks.Search kinds.Ponder ticket x) t e s m = hit_takes t n (search_so t kinds.Ponder x false m.1 e) s
 
-takes : (n : ℕ) (e : Engine) (o : Order) (t : Talk) → is_plain o ≡ true → Shows t e → t.stage ≡ stages.Open → MaySend e (word_of o) → Takes t (sent n e (word_of o)) (as_order o)
+takes : (n : ℕ) (e : Engine) (o : Order) (t : JudgedTalk) → is_plain o ≡ true → Shows t e → t.stage ≡ stages.Open → MaySend e (word_of o) → Takes t (sent n e (word_of o)) (as_order o)
 takes n e orders.IsReady t p a s m = by_idle n e talks.IsReady t hears.IsReady m (ready_takes t (subst (Shows t) m a) s)
 takes n e orders.NewGame t p a s m = by_idle n e talks.Setup t hears.Setup m (setup_takes t (subst (Shows t) m a) s)
 takes n e (orders.SetOption name value) t p a s m = by_idle n e talks.Setup t hears.Setup m (setup_takes t (subst (Shows t) m a) s)
@@ -130,7 +130,7 @@ plain_first e (orders.Go ponder control depth) os m p g q = absurd (cc)
 plain_first e o os m p g q = record { plain = refl; paired = p; no_go = g; no_quit = q }
 
 -- orders without a search
-pub plain_runs : (n : ℕ) (e : Engine) (os : List Order) (t : Talk) (p : Place) → Agrees t e p → MaySendAll n e (map word_of os) → Paired (map word_of os) → has_go (map word_of os) ≡ false
+pub plain_runs : (n : ℕ) (e : Engine) (os : List Order) (t : JudgedTalk) (p : Place) → Agrees t e p → MaySendAll n e (map word_of os) → Paired (map word_of os) → has_go (map word_of os) ≡ false
     → has_quit (map word_of os) ≡ false → Runs t (map engine_mark os) (λ u. Agrees u (sent_all n e (map word_of os)) p)
 plain_runs n e [] t p a m r g q = a
 plain_runs n e (o ∷ os) t p a m r g q =
@@ -143,20 +143,20 @@ plain_runs n e (o ∷ os) t p a m r g q =
 
 -- THE ORDERS FOR A SEARCH
 
-pub search_runs : (n : ℕ) (fen : Option (List ℕ)) (moves : List ℕ) (go : Order) (k : GoKind) (t : Talk) (p q : Place) → Agrees t talks.Idle p
+pub search_runs : (n : ℕ) (fen : Option (List ℕ)) (moves : List ℕ) (go : Order) (k : GoKind) (t : JudgedTalk) (p q : Place) → Agrees t talks.Idle p
     → as_order (orders.Position fen moves) ≡ hears.Position (Some q) → as_order go ≡ hears.Go k
     → Runs t (map engine_mark (orders.Position fen moves ∷ go ∷ [])) (λ u. Agrees u (talks.Search k n false) q)
 search_runs n fen moves go k t p q a x y =
     let first = deeds.Writes (hears.Position (Some q)) in
     let second = deeds.Writes (hears.Go k) in
-    let P : Talk → Type 0 = λ u. Agrees u (talks.Search k n false) q in
+    let P : JudgedTalk → Type 0 = λ u. Agrees u (talks.Search k n false) q in
     first_runs t (engine_mark (orders.Position fen moves)) (engine_mark go ∷ []) P first (order_deed (orders.Position fen moves) ∙ ap deeds.Writes x) (rw (a.stage, a.engine.engine, a.engine.there) refl) (λ line.
     first_runs (after t line first) (engine_mark go) [] P second (order_deed go ∙ ap deeds.Writes y) (rw (a.stage, a.engine.engine, a.engine.there) refl)
     (λ line'. record { engine = record { engine = refl; there = a.engine.there }; stage = rw a.stage refl; placed = refl })
     )
 
 -- `quit`
-pub quit_runs : (e : Engine) (t : Talk) (p : Place) (P : Talk → Type 0) → Agrees t e p → (e ≡ talks.Gone → ⊥) → ((u : Talk) → P u) → Runs t (map engine_mark (orders.Quit ∷ [])) P
+pub quit_runs : (e : Engine) (t : JudgedTalk) (p : Place) (P : JudgedTalk → Type 0) → Agrees t e p → (e ≡ talks.Gone → ⊥) → ((u : JudgedTalk) → P u) → Runs t (map engine_mark (orders.Quit ∷ [])) P
 quit_runs talks.Boot t p P a n f = first_runs t (engine_mark orders.Quit) [] P (deeds.Writes hears.Quit) (order_deed orders.Quit) (rw (a.stage, a.engine.engine, a.engine.there) refl) (λ line. f _)
 quit_runs talks.Getting t p P a n f = first_runs t (engine_mark orders.Quit) [] P (deeds.Writes hears.Quit) (order_deed orders.Quit) (rw (a.stage, a.engine.engine, a.engine.there) refl) (λ line. f _)
 quit_runs talks.Idle t p P a n f = first_runs t (engine_mark orders.Quit) [] P (deeds.Writes hears.Quit) (order_deed orders.Quit) (rw (a.stage, a.engine.engine, a.engine.there) refl) (λ line. f _)

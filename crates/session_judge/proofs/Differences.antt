@@ -2,17 +2,17 @@
 use Rattle.std.proofs.Common.{◌≡◌, ℕ, ◌+◌, suc, List, [], ◌∷◌, Bool, true, false, cond, ◌&&◌, ◌||◌, Option, Some, None, refl, sym, ap, subst, ◌∙◌, arith}
 use Rattle.std.specs.Prelude.{◌↔◌, nat_lt}
 use Rattle.std.proofs.lemmas.Bool.{both_ways}
-use Rattle.session_judge.specs.declared.deed.Order.{Order}
-use Rattle.session_judge.specs.declared.deed.Order.TheVariants as orders
+use Rattle.session_judge.specs.declared.deed.OrderKind.{OrderKind}
+use Rattle.session_judge.specs.declared.deed.OrderKind.TheVariants as orders
 use Rattle.session_judge.specs.declared.deed.Deed.{Deed}
 use Rattle.session_judge.specs.declared.deed.Deed.TheVariants as deeds
-use Rattle.session_judge.specs.declared.engine.Engine.{Engine}
-use Rattle.session_judge.specs.declared.engine.Engine.TheVariants as engines
+use Rattle.session_judge.specs.declared.engine.EnginePhase.{EnginePhase}
+use Rattle.session_judge.specs.declared.engine.EnginePhase.TheVariants as engines
 use Rattle.session_judge.specs.declared.listener.Listener.{Listener}
 use Rattle.session_judge.specs.declared.listener.Listener.TheVariants as listeners
 use Rattle.session_judge.specs.declared.rule.Rule.{Rule}
 use Rattle.session_judge.specs.declared.rule.Rule.TheVariants as rules
-use Rattle.session_judge.specs.declared.talk.Talk.{Talk}
+use Rattle.session_judge.specs.declared.talk.JudgedTalk.{JudgedTalk}
 use Rattle.session_judge.specs.Clean.{Entry, IsClean, CrossingsAreTheDifference, broken_rule, crossings, talk}
 use Rattle.session_judge.specs.Crossings.{crossings_after, is_crossing, is_to_search, next, taken, taken_as}
 use Rattle.session_judge.specs.Deeds.{deed_of}
@@ -23,12 +23,12 @@ use Rattle.session_judge.specs.Talks.{after, opening}
 -- THE SAME TALK
 
 -- as another heard it
-abbrev pub heard_by : Listener → Talk → Talk
+abbrev pub heard_by : Listener → JudgedTalk → JudgedTalk
 heard_by listener t = record t { listener = listener }
 
 same_talk : (listener : Listener) (log : List Entry) → talk listener log ≡ heard_by listener (talk listeners.Bridge log)
 same_talk listener [] = refl
-same_talk listener (entry ∷ log) = ap (λ (t : Talk). after t entry.line (deed_of entry.mark)) (same_talk listener log)
+same_talk listener (entry ∷ log) = ap (λ (t : JudgedTalk). after t entry.line (deed_of entry.mark)) (same_talk listener log)
 
 -- THE RULES
 
@@ -45,45 +45,45 @@ none_of : (a b c d e f g h : Bool) → first_of a b c d e f g h ≡ None → Non
 none_of false false false false false false false h n = record { gone = refl; stop = refl; hit = refl }
 none_of a b c d e f g h n = absurd (cc)
 
-obeys : (t : Talk) (o : Order) → broken_by t o ≡ None → NoneOf (breaks_gone t.gone t.listener) (breaks_stop (taken t) o) (breaks_hit (taken t) o)
+obeys : (t : JudgedTalk) (o : OrderKind) → broken_by t o ≡ None → NoneOf (breaks_gone t.gone t.listener) (breaks_stop (taken t) o) (breaks_hit (taken t) o)
 obeys t o n = none_of (breaks_first t.stage o) (breaks_gone t.gone t.listener) (breaks_quit t.stage) (breaks_order t.stage o) (breaks_busy t.engine o) (breaks_stop (taken t) o) (breaks_hit (taken t) o) (breaks_position o) n
 
 -- as the bridge's own an order that crosses breaks a rule
-idle_crosses : (e : Engine) (o : Order) → breaks_stop e o ≡ false → breaks_hit e o ≡ false → (is_idle e && is_to_search o) ≡ false
+idle_crosses : (e : EnginePhase) (o : OrderKind) → breaks_stop e o ≡ false → breaks_hit e o ≡ false → (is_idle e && is_to_search o) ≡ false
 idle_crosses engines.Idle orders.Stop s h = cc
 idle_crosses engines.Idle orders.PonderHit s h = cc
 idle_crosses engines.Idle o s h = refl
 idle_crosses e o s h = refl
 
-never_crosses : (gone : Bool) (e : Engine) (o : Order) → breaks_gone gone listeners.Bridge ≡ false → breaks_stop e o ≡ false → breaks_hit e o ≡ false → is_crossing gone e o ≡ false
+never_crosses : (gone : Bool) (e : EnginePhase) (o : OrderKind) → breaks_gone gone listeners.Bridge ≡ false → breaks_stop e o ≡ false → breaks_hit e o ≡ false → is_crossing gone e o ≡ false
 never_crosses true e o n s h = cc
 never_crosses false e o n s h = idle_crosses e o s h
 
-taken_so : (e u : Engine) → taken_as e listeners.Bridge u ≡ e
+taken_so : (e u : EnginePhase) → taken_as e listeners.Bridge u ≡ e
 taken_so engines.Idle u = refl
 taken_so e u = refl
 
-own_never_crosses : (t : Talk) (o : Order) → broken_by (heard_by listeners.Bridge t) o ≡ None → is_crossing t.gone t.engine o ≡ false
+own_never_crosses : (t : JudgedTalk) (o : OrderKind) → broken_by (heard_by listeners.Bridge t) o ≡ None → is_crossing t.gone t.engine o ≡ false
 own_never_crosses t o n =
     let w = obeys (heard_by listeners.Bridge t) o n in
     let own = taken_so t.engine t.unanswered in
-    never_crosses t.gone t.engine o w.gone (ap (λ (e : Engine). breaks_stop e o) (sym own) ∙ w.stop) (ap (λ (e : Engine). breaks_hit e o) (sym own) ∙ w.hit)
+    never_crosses t.gone t.engine o w.gone (ap (λ (e : EnginePhase). breaks_stop e o) (sym own) ∙ w.stop) (ap (λ (e : EnginePhase). breaks_hit e o) (sym own) ∙ w.hit)
 
 -- an order that does not cross is judged alike
-record Apart (gone : Bool) (e : Engine) (o : Order) : Type 0 where
+record Apart (gone : Bool) (e : EnginePhase) (o : OrderKind) : Type 0 where
   there : gone ≡ false
   apart : (is_idle e && is_to_search o) ≡ false
 
-is_apart : (gone : Bool) (e : Engine) (o : Order) → is_crossing gone e o ≡ false → Apart gone e o
+is_apart : (gone : Bool) (e : EnginePhase) (o : OrderKind) → is_crossing gone e o ≡ false → Apart gone e o
 is_apart true e o n = absurd (cc)
 is_apart false e o n = record { there = refl; apart = n }
 
-alike_stop : (e u : Engine) (o : Order) → (is_idle e && is_to_search o) ≡ false → breaks_stop (taken_as e listeners.Bridge u) o ≡ breaks_stop (taken_as e listeners.Tap u) o
+alike_stop : (e u : EnginePhase) (o : OrderKind) → (is_idle e && is_to_search o) ≡ false → breaks_stop (taken_as e listeners.Bridge u) o ≡ breaks_stop (taken_as e listeners.Tap u) o
 alike_stop engines.Idle u orders.Stop n = cc
 alike_stop engines.Idle u o n = refl
 alike_stop e u o n = refl
 
-alike_hit : (e u : Engine) (o : Order) → (is_idle e && is_to_search o) ≡ false → breaks_hit (taken_as e listeners.Bridge u) o ≡ breaks_hit (taken_as e listeners.Tap u) o
+alike_hit : (e u : EnginePhase) (o : OrderKind) → (is_idle e && is_to_search o) ≡ false → breaks_hit (taken_as e listeners.Bridge u) o ≡ breaks_hit (taken_as e listeners.Tap u) o
 alike_hit engines.Idle u orders.PonderHit n = cc
 alike_hit engines.Idle u o n = refl
 alike_hit e u o n = refl
@@ -96,7 +96,7 @@ first_same : (a b c d e f g h b' f' g' : Bool) → b ≡ b' → f ≡ f' → g �
 first_same a b c d e f g h b' f' g' x y z =
     ap (λ i. first_of a i c d e f g h) x ∙ ap (λ i. first_of a b' c d e i g h) y ∙ ap (λ i. first_of a b' c d e f' i h) z
 
-alike : (t : Talk) (o : Order) → is_crossing t.gone t.engine o ≡ false → broken_by (heard_by listeners.Bridge t) o ≡ broken_by (heard_by listeners.Tap t) o
+alike : (t : JudgedTalk) (o : OrderKind) → is_crossing t.gone t.engine o ≡ false → broken_by (heard_by listeners.Bridge t) o ≡ broken_by (heard_by listeners.Tap t) o
 alike t o n =
     let w = is_apart t.gone t.engine o n in
     first_same (breaks_first t.stage o) _ (breaks_quit t.stage) (breaks_order t.stage o) (breaks_busy t.engine o) _ _ (breaks_position o) _ _ _
@@ -108,7 +108,7 @@ abbrev is_written : Deed → Bool
 is_written (deeds.Writes o) = true
 is_written d = false
 
-not_counted : (n : ℕ) (gone : Bool) (e : Engine) (d : Deed) (g : Bool) → is_written d ≡ false → crossings_after n gone e (heard_of d g) ≡ n
+not_counted : (n : ℕ) (gone : Bool) (e : EnginePhase) (d : Deed) (g : Bool) → is_written d ≡ false → crossings_after n gone e (heard_of d g) ≡ n
 not_counted n gone e (deeds.Writes o) g w = cc
 not_counted n gone e d true w = refl
 not_counted n gone e d false w = refl
@@ -122,20 +122,20 @@ some n e = by (nat_lt n 18446744073709551615) e where
 -- ONE MARK
 
 -- what is lawful as the bridge's own is lawful as another's
-passes_so : (listener : Listener) (t : Talk) (o : Order) → is_crossing t.gone t.engine o ≡ false → broken_by (heard_by listeners.Bridge t) o ≡ None → broken_by (heard_by listener t) o ≡ None
+passes_so : (listener : Listener) (t : JudgedTalk) (o : OrderKind) → is_crossing t.gone t.engine o ≡ false → broken_by (heard_by listeners.Bridge t) o ≡ None → broken_by (heard_by listener t) o ≡ None
 passes_so listeners.Bridge t o c n = n
 passes_so listeners.Tap t o c n = sym (alike t o c) ∙ n
 
-pub own_passes : (listener : Listener) (t : Talk) (d : Deed) → broken (heard_by listeners.Bridge t) d ≡ None → broken (heard_by listener t) d ≡ None
+pub own_passes : (listener : Listener) (t : JudgedTalk) (d : Deed) → broken (heard_by listeners.Bridge t) d ≡ None → broken (heard_by listener t) d ≡ None
 own_passes listener t (deeds.Writes o) n = passes_so listener t o (own_never_crosses t o n) n
 own_passes listener t d n = n
 
 -- and does not cross
-pub own_apart : (t : Talk) (line : ℕ) (d : Deed) → broken (heard_by listeners.Bridge t) d ≡ None → (after t line d).crossings ≡ t.crossings
+pub own_apart : (t : JudgedTalk) (line : ℕ) (d : Deed) → broken (heard_by listeners.Bridge t) d ≡ None → (after t line d).crossings ≡ t.crossings
 own_apart t line (deeds.Writes o) n = ap (λ b. cond b (next t.crossings) t.crossings) (own_never_crosses t o n)
 own_apart t line d n = not_counted t.crossings t.gone t.engine d t.gone refl
 
-tap_deed : (t : Talk) (line : ℕ) (d : Deed) → broken (heard_by listeners.Tap t) d ≡ None → (after t line d).crossings ≡ 0 → (broken (heard_by listeners.Bridge t) d ≡ None) × (t.crossings ≡ 0)
+tap_deed : (t : JudgedTalk) (line : ℕ) (d : Deed) → broken (heard_by listeners.Tap t) d ≡ None → (after t line d).crossings ≡ 0 → (broken (heard_by listeners.Bridge t) d ≡ None) × (t.crossings ≡ 0)
 tap_deed t line (deeds.Writes o) n z = by (is_crossing t.gone t.engine o) refl where
   by : (b : Bool) → is_crossing t.gone t.engine o ≡ b → (broken_by (heard_by listeners.Bridge t) o ≡ None) × (t.crossings ≡ 0)
   by true c = absurd (some t.crossings (sym (ap (λ b. cond b (next t.crossings) t.crossings) c) ∙ z))
@@ -144,7 +144,7 @@ tap_deed t line d n z = (n, sym (not_counted t.crossings t.gone t.engine d t.gon
 
 -- WHOLE LOGS
 
-abbrev own : List Entry → Talk
+abbrev own : List Entry → JudgedTalk
 own log = talk listeners.Bridge log
 
 forth : (log : List Entry) → IsClean listeners.Bridge log → IsClean listeners.Tap log × (crossings log ≡ 0)
@@ -152,19 +152,19 @@ forth [] c = (tt, refl)
 forth (entry ∷ log) c =
     let d = deed_of entry.mark in
     let before = forth log c.0 in
-    let n = ap (λ (t : Talk). broken t d) (sym (same_talk listeners.Bridge log)) ∙ c.1 in (
-      (before.0, ap (λ (t : Talk). broken t d) (same_talk listeners.Tap log) ∙ own_passes listeners.Tap (own log) d n),
-      ap (λ (t : Talk). (after t entry.line d).crossings) (same_talk listeners.Tap log) ∙ own_apart (own log) entry.line d n ∙ ap (λ (t : Talk). t.crossings) (sym (same_talk listeners.Tap log)) ∙ before.1,
+    let n = ap (λ (t : JudgedTalk). broken t d) (sym (same_talk listeners.Bridge log)) ∙ c.1 in (
+      (before.0, ap (λ (t : JudgedTalk). broken t d) (same_talk listeners.Tap log) ∙ own_passes listeners.Tap (own log) d n),
+      ap (λ (t : JudgedTalk). (after t entry.line d).crossings) (same_talk listeners.Tap log) ∙ own_apart (own log) entry.line d n ∙ ap (λ (t : JudgedTalk). t.crossings) (sym (same_talk listeners.Tap log)) ∙ before.1,
     )
 
 back : (log : List Entry) → IsClean listeners.Tap log → crossings log ≡ 0 → IsClean listeners.Bridge log
 back [] c z = tt
 back (entry ∷ log) c z =
     let d = deed_of entry.mark in
-    let w = tap_deed (own log) entry.line d (ap (λ (t : Talk). broken t d) (sym (same_talk listeners.Tap log)) ∙ c.1)
-    (ap (λ (t : Talk). (after t entry.line d).crossings) (sym (same_talk listeners.Tap log)) ∙ z) in (
-      back log c.0 (ap (λ (t : Talk). t.crossings) (same_talk listeners.Tap log) ∙ w.1),
-      ap (λ (t : Talk). broken t d) (same_talk listeners.Bridge log) ∙ w.0,
+    let w = tap_deed (own log) entry.line d (ap (λ (t : JudgedTalk). broken t d) (sym (same_talk listeners.Tap log)) ∙ c.1)
+    (ap (λ (t : JudgedTalk). (after t entry.line d).crossings) (sym (same_talk listeners.Tap log)) ∙ z) in (
+      back log c.0 (ap (λ (t : JudgedTalk). t.crossings) (same_talk listeners.Tap log) ∙ w.1),
+      ap (λ (t : JudgedTalk). broken t d) (same_talk listeners.Bridge log) ∙ w.0,
     )
 
 pub differences : CrossingsAreTheDifference

@@ -1,1 +1,4 @@
 pub mod Differences
+mod Lines
+mod Thinking
+mod Quiet

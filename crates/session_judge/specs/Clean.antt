@@ -4,7 +4,7 @@ use Rattle.script_lines.specs.Marks.{Mark}
 use Rattle.session_judge.specs.declared.listener.Listener.{Listener}
 use Rattle.session_judge.specs.declared.listener.Listener.TheVariants as listeners
 use Rattle.session_judge.specs.declared.rule.Rule.{Rule}
-use Rattle.session_judge.specs.declared.talk.Talk.{Talk}
+use Rattle.session_judge.specs.declared.talk.JudgedTalk.{JudgedTalk}
 use Rattle.session_judge.specs.Deeds.{deed_of}
 use Rattle.session_judge.specs.Rules.{broken}
 use Rattle.session_judge.specs.Talks.{opening, after}
@@ -15,7 +15,7 @@ pub record Entry : Type 0 where
   pub mark : Mark
 
 -- what the marks of a log show, if this one wrote it
-abbrev pub talk : Listener → List Entry → Talk
+abbrev pub talk : Listener → List Entry → JudgedTalk
 talk listener [] = opening listener
 talk listener (entry ∷ log) = after (talk listener log) entry.line (deed_of entry.mark)
 

@@ -1,42 +1,42 @@
 -- Crossings. A tap logs a line of the engine before the bridge has read it. So an order that the bridge wrote before it read
 -- the line can stand behind it.
 use Rattle.std.specs.Prelude.{Bool, true, false, ℕ, ◌+◌, ◌&&◌, ◌||◌, nat_lt, if◌then◌else◌}
-use Rattle.session_judge.specs.declared.deed.Order.{Order}
-use Rattle.session_judge.specs.declared.deed.Order.TheVariants as orders
+use Rattle.session_judge.specs.declared.deed.OrderKind.{OrderKind}
+use Rattle.session_judge.specs.declared.deed.OrderKind.TheVariants as orders
 use Rattle.session_judge.specs.declared.deed.Deed.{Deed}
 use Rattle.session_judge.specs.declared.deed.Deed.TheVariants as deeds
-use Rattle.session_judge.specs.declared.engine.Engine.{Engine}
-use Rattle.session_judge.specs.declared.engine.Engine.TheVariants as engines
+use Rattle.session_judge.specs.declared.engine.EnginePhase.{EnginePhase}
+use Rattle.session_judge.specs.declared.engine.EnginePhase.TheVariants as engines
 use Rattle.session_judge.specs.declared.listener.Listener.{Listener}
 use Rattle.session_judge.specs.declared.listener.Listener.TheVariants as listeners
-use Rattle.session_judge.specs.declared.talk.Talk.{Talk}
+use Rattle.session_judge.specs.declared.talk.JudgedTalk.{JudgedTalk}
 use Rattle.session_judge.specs.Engines.{engine_after, is_idle}
 use Rattle.session_judge.specs.declared.talk.TheConstants.{LAST_NUMBER}
 
 -- `stop` or `ponderhit`
-abbrev pub is_to_search : Order → Bool
+abbrev pub is_to_search : OrderKind → Bool
 is_to_search orders.Stop = true
 is_to_search orders.PonderHit = true
 is_to_search order = false
 
 -- A crossing: an order to an engine that is gone, or `stop` or `ponderhit` to one that has answered.
-abbrev pub is_crossing : Bool → Engine → Order → Bool
+abbrev pub is_crossing : Bool → EnginePhase → OrderKind → Bool
 is_crossing gone engine order = gone || (is_idle engine && is_to_search order)
 
 -- The engine as it would be if its last `bestmove` had not come: in the search that this ended, until an order other than
 -- `stop` and `ponderhit` is written.
-abbrev pub unanswered_after : Engine → Engine → Deed → Engine
+abbrev pub unanswered_after : EnginePhase → EnginePhase → Deed → EnginePhase
 unanswered_after engine unanswered (deeds.Writes order) =
     if is_to_search order then engine_after unanswered (deeds.Writes order) else engines.Idle
 unanswered_after (engines.Search kind stopped) unanswered (deeds.Answers best) = engines.Search kind stopped
 unanswered_after engine unanswered deed = unanswered
 
 -- The engine as the bridge may take it to be: it may not know yet of a `bestmove` that a tap has logged.
-abbrev pub taken_as : Engine → Listener → Engine → Engine
+abbrev pub taken_as : EnginePhase → Listener → EnginePhase → EnginePhase
 taken_as engines.Idle listeners.Tap unanswered = unanswered
 taken_as engine listener unanswered = engine
 
-abbrev pub taken : Talk → Engine
+abbrev pub taken : JudgedTalk → EnginePhase
 taken t = taken_as t.engine t.listener t.unanswered
 
 -- the next number, which stays at the last
@@ -44,6 +44,6 @@ abbrev pub next : ℕ → ℕ
 next n = if nat_lt n LAST_NUMBER then n + 1 else LAST_NUMBER
 
 -- how many orders crossed
-abbrev pub crossings_after : ℕ → Bool → Engine → Deed → ℕ
+abbrev pub crossings_after : ℕ → Bool → EnginePhase → Deed → ℕ
 crossings_after n gone engine (deeds.Writes order) = if is_crossing gone engine order then next n else n
 crossings_after n gone engine deed = n

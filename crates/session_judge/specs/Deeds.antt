@@ -14,8 +14,8 @@ use Rattle.uci_lines.specs.Messages as says
 use Rattle.uci_lines.specs.Written.{is_written_move}
 use Rattle.uci_talk.specs.Kinds.{kind_asked}
 use Rattle.uci_talk.specs.Lines.{Line, line_of}
-use Rattle.session_judge.specs.declared.deed.Order.{Order}
-use Rattle.session_judge.specs.declared.deed.Order.TheVariants as orders
+use Rattle.session_judge.specs.declared.deed.OrderKind.{OrderKind}
+use Rattle.session_judge.specs.declared.deed.OrderKind.TheVariants as orders
 use Rattle.session_judge.specs.declared.deed.Deed.{Deed}
 use Rattle.session_judge.specs.declared.deed.Deed.TheVariants as deeds
 
@@ -25,7 +25,7 @@ end_of None = None
 end_of (Some said) = Some said.end
 
 -- the order that a word begins
-abbrev pub order_named : List ℕ → List ℕ → Option Order
+abbrev pub order_named : List ℕ → List ℕ → Option OrderKind
 order_named word line =
     if is_word (codes "uci") word then Some orders.Uci
     else (if is_word (codes "isready") word then Some orders.IsReady
@@ -36,7 +36,7 @@ order_named word line =
     else (if is_word (codes "ponderhit") word then Some orders.PonderHit
     else (if is_word (codes "quit") word then Some orders.Quit else None)))))))
 
-abbrev pub writes : Option Order → Deed
+abbrev pub writes : Option OrderKind → Deed
 writes None = deeds.Nothing
 writes (Some order) = deeds.Writes order
 

@@ -1,14 +1,14 @@
 -- The engine, as the marks of a log show it.
 use Rattle.std.specs.Prelude.{Bool, true, false, not}
 use Rattle.peer_words.specs.declared.kinds.GoKind.TheVariants as kinds
-use Rattle.session_judge.specs.declared.deed.Order.TheVariants as orders
+use Rattle.session_judge.specs.declared.deed.OrderKind.TheVariants as orders
 use Rattle.session_judge.specs.declared.deed.Deed.{Deed}
 use Rattle.session_judge.specs.declared.deed.Deed.TheVariants as deeds
-use Rattle.session_judge.specs.declared.engine.Engine.{Engine}
-use Rattle.session_judge.specs.declared.engine.Engine.TheVariants as engines
+use Rattle.session_judge.specs.declared.engine.EnginePhase.{EnginePhase}
+use Rattle.session_judge.specs.declared.engine.EnginePhase.TheVariants as engines
 
 -- by its lines and the orders to it alone
-abbrev pub engine_after : Engine → Deed → Engine
+abbrev pub engine_after : EnginePhase → Deed → EnginePhase
 engine_after engine (deeds.Writes orders.Uci) = engines.Boot
 engine_after engine (deeds.Writes orders.IsReady) = engines.Getting
 engine_after engine (deeds.Writes (orders.Go kind)) = engines.Search kind false
@@ -30,21 +30,21 @@ abbrev pub gone_after : Bool → Deed → Bool
 gone_after gone deeds.Ends = true
 gone_after gone deed = gone
 
-abbrev pub is_idle : Engine → Bool
+abbrev pub is_idle : EnginePhase → Bool
 is_idle engines.Idle = true
 is_idle engine = false
 
 -- an open search
-abbrev pub is_searching : Engine → Bool
+abbrev pub is_searching : EnginePhase → Bool
 is_searching (engines.Search kind stopped) = true
 is_searching engine = false
 
 -- one that is not stopped
-abbrev pub is_running : Engine → Bool
+abbrev pub is_running : EnginePhase → Bool
 is_running (engines.Search kind stopped) = not stopped
 is_running engine = false
 
 -- an open Ponder search that is not stopped
-abbrev pub is_pondering : Engine → Bool
+abbrev pub is_pondering : EnginePhase → Bool
 is_pondering (engines.Search kinds.Ponder stopped) = not stopped
 is_pondering engine = false

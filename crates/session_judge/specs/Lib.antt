@@ -1,4 +1,5 @@
 pub mod Deeds
+pub mod Played
 pub mod Engines
 pub mod Crossings
 pub mod Talks

@@ -5,24 +5,24 @@ use Rattle.chess_board.specs.Place.{legal}
 use Rattle.peer_words.specs.declared.kinds.GoKind.{GoKind}
 use Rattle.peer_words.specs.declared.kinds.GoKind.TheVariants as kinds
 use Rattle.search_epochs.specs.Tickets.{same_move}
-use Rattle.session_judge.specs.declared.deed.Order.{Order}
-use Rattle.session_judge.specs.declared.deed.Order.TheVariants as orders
+use Rattle.session_judge.specs.declared.deed.OrderKind.{OrderKind}
+use Rattle.session_judge.specs.declared.deed.OrderKind.TheVariants as orders
 use Rattle.session_judge.specs.declared.deed.Deed.{Deed}
 use Rattle.session_judge.specs.declared.deed.Deed.TheVariants as deeds
-use Rattle.session_judge.specs.declared.engine.Engine.{Engine}
+use Rattle.session_judge.specs.declared.engine.EnginePhase.{EnginePhase}
 use Rattle.session_judge.specs.declared.listener.Listener.{Listener}
 use Rattle.session_judge.specs.declared.listener.Listener.TheVariants as listeners
 use Rattle.session_judge.specs.declared.rule.Rule.{Rule}
 use Rattle.session_judge.specs.declared.rule.Rule.TheVariants as rules
-use Rattle.session_judge.specs.declared.talk.Answer.{Answer}
-use Rattle.session_judge.specs.declared.talk.Stage.{Stage}
-use Rattle.session_judge.specs.declared.talk.Stage.TheVariants as stages
-use Rattle.session_judge.specs.declared.talk.Talk.{Talk}
+use Rattle.session_judge.specs.declared.talk.HeardAnswer.{HeardAnswer}
+use Rattle.session_judge.specs.declared.talk.OrderStage.{OrderStage}
+use Rattle.session_judge.specs.declared.talk.OrderStage.TheVariants as stages
+use Rattle.session_judge.specs.declared.talk.JudgedTalk.{JudgedTalk}
 use Rattle.session_judge.specs.Engines.{is_idle, is_pondering, is_running}
 use Rattle.session_judge.specs.Crossings.{taken}
 
 -- First: the first order is not `uci`, or a later one is.
-abbrev pub breaks_first : Stage → Order → Bool
+abbrev pub breaks_first : OrderStage → OrderKind → Bool
 breaks_first stages.Start orders.Uci = false
 breaks_first stages.Start order = true
 breaks_first stage orders.Uci = true
@@ -34,18 +34,18 @@ breaks_gone true listeners.Bridge = true
 breaks_gone gone listener = false
 
 -- Quit: an order stands behind `quit`.
-abbrev pub breaks_quit : Stage → Bool
+abbrev pub breaks_quit : OrderStage → Bool
 breaks_quit stages.Over = true
 breaks_quit stage = false
 
 -- Order: a `go` stands not directly behind a `position`, or another order directly behind one.
-abbrev pub breaks_order : Stage → Order → Bool
+abbrev pub breaks_order : OrderStage → OrderKind → Bool
 breaks_order stages.Placed (orders.Go kind) = false
 breaks_order stages.Placed order = true
 breaks_order stage (orders.Go kind) = true
 breaks_order stage order = false
 
-abbrev pub needs_idle : Order → Bool
+abbrev pub needs_idle : OrderKind → Bool
 needs_idle orders.Setup = true
 needs_idle orders.IsReady = true
 needs_idle (orders.Position p) = true
@@ -53,32 +53,32 @@ needs_idle (orders.Go kind) = true
 needs_idle order = false
 
 -- Busy: settings, `isready`, `position` or `go` for an engine that is not idle.
-abbrev pub breaks_busy : Engine → Order → Bool
+abbrev pub breaks_busy : EnginePhase → OrderKind → Bool
 breaks_busy engine order = not (is_idle engine) && needs_idle order
 
-abbrev pub is_stop : Order → Bool
+abbrev pub is_stop : OrderKind → Bool
 is_stop orders.Stop = true
 is_stop order = false
 
 -- Stop: `stop` outside a search that is not stopped.
-abbrev pub breaks_stop : Engine → Order → Bool
+abbrev pub breaks_stop : EnginePhase → OrderKind → Bool
 breaks_stop engine order = is_stop order && not (is_running engine)
 
-abbrev pub is_hit : Order → Bool
+abbrev pub is_hit : OrderKind → Bool
 is_hit orders.PonderHit = true
 is_hit order = false
 
 -- Hit: `ponderhit` outside a Ponder search that is not stopped.
-abbrev pub breaks_hit : Engine → Order → Bool
+abbrev pub breaks_hit : EnginePhase → OrderKind → Bool
 breaks_hit engine order = is_hit order && not (is_pondering engine)
 
 -- Position: a `position` line that cannot be read.
-abbrev pub breaks_position : Order → Bool
+abbrev pub breaks_position : OrderKind → Bool
 breaks_position (orders.Position None) = true
 breaks_position order = false
 
 -- the first rule that an order breaks
-abbrev pub broken_by : Talk → Order → Option Rule
+abbrev pub broken_by : JudgedTalk → OrderKind → Option Rule
 broken_by t order =
     if breaks_first t.stage order then Some rules.First
     else (if breaks_gone t.gone t.listener then Some rules.Gone
@@ -98,15 +98,15 @@ is_for_move kinds.Move = true
 is_for_move kind = false
 
 -- the move is the answer of a search for a move, was not shown since, and is legal in its position
-abbrev pub is_shown_by : Answer → Move → Bool
+abbrev pub is_shown_by : HeardAnswer → Move → Bool
 is_shown_by a m = (is_for_move a.kind && not a.told) && (is_best a.best m && legal a.at m)
 
-abbrev pub is_answer : Option Answer → Move → Bool
+abbrev pub is_answer : Option HeardAnswer → Move → Bool
 is_answer None m = false
 is_answer (Some a) m = is_shown_by a m
 
 -- The first rule that a mark breaks. Move: a move is shown that is not the last answer, in its time.
-abbrev pub broken : Talk → Deed → Option Rule
+abbrev pub broken : JudgedTalk → Deed → Option Rule
 broken t (deeds.Writes order) = broken_by t order
 broken t (deeds.Shows m) = if is_answer t.answer m then None else Some rules.Move
 broken t deed = None

@@ -5,22 +5,22 @@ use Rattle.chess_board.specs.Position.{Position}
 use Rattle.chess_board.specs.Play.{start_position}
 use Rattle.peer_words.specs.declared.kinds.GoKind.{GoKind}
 use Rattle.peer_words.specs.declared.kinds.GoKind.TheVariants as kinds
-use Rattle.session_judge.specs.declared.deed.Order.{Order}
-use Rattle.session_judge.specs.declared.deed.Order.TheVariants as orders
+use Rattle.session_judge.specs.declared.deed.OrderKind.{OrderKind}
+use Rattle.session_judge.specs.declared.deed.OrderKind.TheVariants as orders
 use Rattle.session_judge.specs.declared.deed.Deed.{Deed}
 use Rattle.session_judge.specs.declared.deed.Deed.TheVariants as deeds
-use Rattle.session_judge.specs.declared.engine.Engine.{Engine}
-use Rattle.session_judge.specs.declared.engine.Engine.TheVariants as engines
+use Rattle.session_judge.specs.declared.engine.EnginePhase.{EnginePhase}
+use Rattle.session_judge.specs.declared.engine.EnginePhase.TheVariants as engines
 use Rattle.session_judge.specs.declared.listener.Listener.{Listener}
 use Rattle.session_judge.specs.declared.search.Search.{Search}
-use Rattle.session_judge.specs.declared.talk.Answer.{Answer}
-use Rattle.session_judge.specs.declared.talk.Stage.{Stage}
-use Rattle.session_judge.specs.declared.talk.Stage.TheVariants as stages
-use Rattle.session_judge.specs.declared.talk.Talk.{Talk}
+use Rattle.session_judge.specs.declared.talk.HeardAnswer.{HeardAnswer}
+use Rattle.session_judge.specs.declared.talk.OrderStage.{OrderStage}
+use Rattle.session_judge.specs.declared.talk.OrderStage.TheVariants as stages
+use Rattle.session_judge.specs.declared.talk.JudgedTalk.{JudgedTalk}
 use Rattle.session_judge.specs.Engines.{engine_after, gone_after, heard_of, is_searching}
 use Rattle.session_judge.specs.Crossings.{crossings_after, next, unanswered_after}
 
-abbrev pub opening : Listener → Talk
+abbrev pub opening : Listener → JudgedTalk
 opening listener = record {
   listener = listener;
   engine = engines.Boot;
@@ -34,7 +34,7 @@ opening listener = record {
 }
 
 -- which orders came
-abbrev pub stage_after : Stage → Deed → Stage
+abbrev pub stage_after : OrderStage → Deed → OrderStage
 stage_after stages.Over deed = stages.Over
 stage_after stage (deeds.Writes orders.Quit) = stages.Over
 stage_after stage (deeds.Writes (orders.Position p)) = stages.Placed
@@ -48,15 +48,15 @@ placed_after p deed = p
 
 -- the answer that was heard last in a search
 
-abbrev pub answer_in : Engine → Position → Option Move → Option Answer → Option Answer
+abbrev pub answer_in : EnginePhase → Position → Option Move → Option HeardAnswer → Option HeardAnswer
 answer_in (engines.Search kind stopped) p best last = Some (record { kind = kind; best = best; at = p; told = false })
 answer_in engine p best last = last
 
-abbrev pub told : Option Answer → Option Answer
+abbrev pub told : Option HeardAnswer → Option HeardAnswer
 told None = None
 told (Some a) = Some (record a { told = true })
 
-abbrev pub answer_after : Engine → Position → Option Answer → Deed → Option Answer
+abbrev pub answer_after : EnginePhase → Position → Option HeardAnswer → Deed → Option HeardAnswer
 answer_after engine p last (deeds.Answers best) = answer_in engine p best last
 answer_after engine p last (deeds.Shows m) = told last
 answer_after engine p last deed = last
@@ -92,13 +92,13 @@ shown_by (Some line) m s = record s { shown = Some m }
 abbrev pub shown_in : Move → Search → Search
 shown_in m s = shown_by s.ended m s
 
-abbrev pub search_after : Engine → ℕ → Option Search → Deed → Option Search
+abbrev pub search_after : EnginePhase → ℕ → Option Search → Deed → Option Search
 search_after engine line search (deeds.Writes (orders.Go kind)) = Some (begun (number_after search) kind line)
 search_after engine line (Some s) (deeds.Shows m) = Some (shown_in m s)
 search_after engine line (Some s) deed = Some (if is_searching engine then search_told line s deed else s)
 search_after engine line None deed = None
 
-abbrev pub after_heard : Talk → ℕ → Deed → Talk
+abbrev pub after_heard : JudgedTalk → ℕ → Deed → JudgedTalk
 after_heard t line deed = record {
   listener = t.listener;
   engine = engine_after t.engine deed;
@@ -112,5 +112,5 @@ after_heard t line deed = record {
 }
 
 -- after a mark in the line with this number
-abbrev pub after : Talk → ℕ → Deed → Talk
+abbrev pub after : JudgedTalk → ℕ → Deed → JudgedTalk
 after t line deed = after_heard t line (heard_of deed t.gone)

@@ -3,19 +3,19 @@ ghost use Rattle.std.specs.Prelude.{◌≡◌};
 ghost use Rattle.script_lines.specs.Marks.{plain};
 ghost use Rattle.uci_lines.specs.Behind.{after};
 ghost use Rattle.uci_lines.specs.Orders.{optional_now};
-ghost use Rattle.uci_talk.specs.Lines.{line_of};
-ghost use Rattle.session_judge.specs.Deeds.{deed_of, end_of, order_in, order_named, said_deed, told_move};
+ghost use Rattle.session_judge.specs.Deeds.{deed_of, order_in, order_named, said_deed, told_move};
 
+use crate::played::PlayedLine;
 use chess_board::{Move, Position, read_move, write_move};
 use line_io::Event;
 use peer_words::{GoKind, split_token};
 use script_lines::Mark;
 use uci_lines::{EngineMsg, read_engine};
-use uci_talk::{go_kind, spoken};
+use uci_talk::go_kind;
 
 /// What an order is by its first token (UCI, April 2006, "GUI to engine").
 #[derive(Clone, Copy)]
-pub enum Order {
+pub enum OrderKind {
     Uci,
     /// `setoption` or `ucinewgame`.
     Setup,
@@ -32,7 +32,7 @@ pub enum Order {
 #[derive(Clone, Copy)]
 pub enum Deed {
     /// An order was written to the engine.
-    Writes(Order),
+    Writes(OrderKind),
     /// `uciok` came.
     Boots,
     /// `readyok` came.
@@ -47,44 +47,34 @@ pub enum Deed {
     Nothing,
 }
 
-/// The position to which a `position` line leads.
-fn end_of(line: &[u8]) -> Option<Position>
-    ensures { result ≡ end_of (line_of line.now) }
-{
-    match spoken(line) {
-        Some(said) => Some(said.end),
-        None => None,
-    }
-}
-
-fn order_named(word: &[u8], line: &[u8]) -> Option<Order>
+fn order_named(word: &[u8], line: &[u8], played: &mut PlayedLine) -> Option<OrderKind>
     ensures { result ≡ order_named word.now line.now }
 {
     if word == b"uci".as_slice() {
-        Some(Order::Uci)
+        Some(OrderKind::Uci)
     } else if word == b"isready".as_slice() {
-        Some(Order::IsReady)
+        Some(OrderKind::IsReady)
     } else if word == b"setoption".as_slice() || word == b"ucinewgame".as_slice() {
-        Some(Order::Setup)
+        Some(OrderKind::Setup)
     } else if word == b"position".as_slice() {
-        Some(Order::Position(end_of(line)))
+        Some(OrderKind::Position(played.end_of(line)))
     } else if word == b"go".as_slice() {
-        Some(Order::Go(go_kind(line)))
+        Some(OrderKind::Go(go_kind(line)))
     } else if word == b"stop".as_slice() {
-        Some(Order::Stop)
+        Some(OrderKind::Stop)
     } else if word == b"ponderhit".as_slice() {
-        Some(Order::PonderHit)
+        Some(OrderKind::PonderHit)
     } else if word == b"quit".as_slice() {
-        Some(Order::Quit)
+        Some(OrderKind::Quit)
     } else {
         None
     }
 }
 
-fn order_in(line: &[u8]) -> Deed
+fn order_in(line: &[u8], played: &mut PlayedLine) -> Deed
     ensures { result ≡ order_in line.now }
 {
-    match order_named(split_token(line).0, line) {
+    match order_named(split_token(line).0, line, played) {
         Some(order) => Deed::Writes(order),
         None => Deed::Nothing,
     }
@@ -110,9 +100,13 @@ fn told_move(line: &[u8]) -> Deed
     }
 }
 
+// Of a thinking line no more than its word is read.
 fn said_in(line: &[u8]) -> Deed
     ensures { result ≡ said_deed line.now }
 {
+    if split_token(line).0 == b"info".as_slice() {
+        return Deed::Nothing;
+    }
     match read_engine(line) {
         EngineMsg::UciOk => Deed::Boots,
         EngineMsg::ReadyOk => Deed::GetsReady,
@@ -122,11 +116,11 @@ fn said_in(line: &[u8]) -> Deed
 }
 
 /// What a mark is to the judge.
-pub fn deed_of(mark: &Mark) -> Deed
+pub(crate) fn deed_of(mark: &Mark, played: &mut PlayedLine) -> Deed
     ensures { result ≡ deed_of (plain mark.now) }
 {
     match mark {
-        Mark::ToEngine(line) => order_in(line),
+        Mark::ToEngine(line) => order_in(line, played),
         Mark::ToIface(line) => told_move(line),
         Mark::Event(Event::Engine(line)) => said_in(line),
         Mark::Event(Event::EngineEnd) | Mark::Event(Event::EngineLost) => Deed::Ends,

@@ -2,12 +2,12 @@
 ghost use Rattle.std.specs.Prelude.{◌≡◌};
 ghost use Rattle.session_judge.specs.Engines.{engine_after, is_idle, is_pondering, is_running, is_searching};
 
-use crate::deed::{Deed, Order};
+use crate::deed::{Deed, OrderKind};
 use peer_words::GoKind;
 
 /// The state of the engine, as it is while the engine lives.
 #[derive(Clone, Copy)]
-pub enum Engine {
+pub enum EnginePhase {
     /// From `uci` to `uciok`.
     Boot,
     /// From `isready` to `readyok`.
@@ -18,11 +18,11 @@ pub enum Engine {
     Search { kind: GoKind, stopped: bool },
 }
 
-impl Engine {
+impl EnginePhase {
     pub(crate) fn is_idle(self) -> bool
         ensures { result ≡ is_idle self }
     {
-        matches!(self, Engine::Idle)
+        matches!(self, EnginePhase::Idle)
     }
 
     pub(crate) fn is_searching(self) -> bool
@@ -30,7 +30,7 @@ impl Engine {
     {
         matches!(
             self,
-            Engine::Search {
+            EnginePhase::Search {
                 kind: _,
                 stopped: _
             }
@@ -42,7 +42,7 @@ impl Engine {
     {
         matches!(
             self,
-            Engine::Search {
+            EnginePhase::Search {
                 kind: _,
                 stopped: false
             }
@@ -54,46 +54,47 @@ impl Engine {
     {
         matches!(
             self,
-            Engine::Search {
+            EnginePhase::Search {
                 kind: GoKind::Ponder,
                 stopped: false
             }
         )
     }
 
-    pub(crate) fn after(self, deed: &Deed) -> Engine
+    pub(crate) fn after(self, deed: &Deed) -> EnginePhase
         ensures { result ≡ engine_after self deed.now }
     {
         match (self, deed) {
-            (_, Deed::Writes(Order::Uci)) => Engine::Boot,
-            (_, Deed::Writes(Order::IsReady)) => Engine::Getting,
-            (_, Deed::Writes(Order::Go(kind))) => Engine::Search {
+            (_, Deed::Writes(OrderKind::Uci)) => EnginePhase::Boot,
+            (_, Deed::Writes(OrderKind::IsReady)) => EnginePhase::Getting,
+            (_, Deed::Writes(OrderKind::Go(kind))) => EnginePhase::Search {
                 kind: *kind,
                 stopped: false,
             },
-            (Engine::Search { kind, stopped: _ }, Deed::Writes(Order::Stop)) => Engine::Search {
-                kind,
-                stopped: true,
-            },
+            (EnginePhase::Search { kind, stopped: _ }, Deed::Writes(OrderKind::Stop)) =>
+                EnginePhase::Search {
+                    kind,
+                    stopped: true,
+                },
             (
-                Engine::Search {
+                EnginePhase::Search {
                     kind: GoKind::Ponder,
                     stopped: _,
                 },
-                Deed::Writes(Order::PonderHit),
-            ) => Engine::Search {
+                Deed::Writes(OrderKind::PonderHit),
+            ) => EnginePhase::Search {
                 kind: GoKind::Move,
                 stopped: false,
             },
-            (Engine::Boot, Deed::Boots) => Engine::Idle,
-            (Engine::Getting, Deed::GetsReady) => Engine::Idle,
+            (EnginePhase::Boot, Deed::Boots) => EnginePhase::Idle,
+            (EnginePhase::Getting, Deed::GetsReady) => EnginePhase::Idle,
             (
-                Engine::Search {
+                EnginePhase::Search {
                     kind: _,
                     stopped: _,
                 },
                 Deed::Answers(_),
-            ) => Engine::Idle,
+            ) => EnginePhase::Idle,
             _ => self,
         }
     }

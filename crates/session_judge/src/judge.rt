@@ -9,34 +9,46 @@ ghost use Rattle.session_judge.specs.declared.listener.Listener.{Listener as Any
 
 use crate::deed::{Deed, deed_of};
 use crate::listener::Listener;
+use crate::played::PlayedLine;
 use crate::rule::Rule;
 use crate::search::Search;
-use crate::talk::Talk;
+use crate::talk::JudgedTalk;
 use script_lines::Mark;
+use std::alloc::Global;
 use std::marker::Model;
 
 /// Hears the marks of a log in their order, up to the first that breaks a rule.
 #[derive(Drop)]
 pub struct Judge {
-    talk: Talk,
+    talk: JudgedTalk,
+    played: PlayedLine,
 }
 
 impl Model for Judge {
-    ghost use Rattle.session_judge.specs.declared.talk.Talk.{Talk};
+    ghost use Rattle.session_judge.specs.declared.talk.JudgedTalk.{JudgedTalk};
 
-    ghost Value = { Talk };
+    ghost Value = { JudgedTalk };
 
     ghost view = { λ j. j.talk };
 }
 
 impl Judge {
     /// A judge of the log that this one wrote. Nothing was heard yet.
-    pub fn new(listener: Listener) -> Judge
+    pub fn new(alloc: Global, listener: Listener) -> Judge
         ensures { result ≡ talk listener [] }
     {
         Judge {
-            talk: Talk::new(listener),
+            talk: JudgedTalk::new(listener),
+            played: PlayedLine::new(alloc),
         }
+    }
+
+    /// What a mark is to the judge.
+    pub fn deed_of(&mut self, mark: &Mark) -> Deed
+        ensures deed { result ≡ deed_of (plain mark.now) }
+        ensures same { self.new ≡ self.old }
+    {
+        deed_of(mark, &mut self.played)
     }
 
     /// Hears a mark, in the line with this number.
@@ -53,7 +65,8 @@ impl Judge {
         ensures goes_on { (listener : AnyListener) (log : List Entry) → self.old ≡ talk listener log
             → OnOk result (self.new ≡ talk listener (record { line = line; mark = plain mark.now } ∷ log)) }
     {
-        self.hear_deed(line, &deed_of(mark))
+        let deed = self.deed_of(mark);
+        self.hear_deed(line, &deed)
     }
 
     /// The same of what a mark is.
@@ -65,6 +78,9 @@ impl Judge {
         ensures after { OnOk result (self.new ≡ after self.old line deed.now) }
         ensures err { OnErr result (self.new ≡ self.old) }
     {
+        if matches!(deed, Deed::Nothing) {
+            return Ok(());
+        }
         match self.talk.broken(deed) {
             Some(rule) => Err(rule),
             None => {

@@ -1,6 +1,5 @@
 // The dialogue with the engine, as a log shows it.
 ghost use Rattle.std.specs.Prelude.{◌≡◌, ◌&&◌, ◌||◌, not};
-ghost use Rattle.chess_board.specs.Place.{legal};
 ghost use Rattle.search_epochs.specs.Tickets.{same_move};
 ghost use Rattle.session_judge.specs.Rules.{broken, broken_by, is_answer, is_best, needs_idle, breaks_first, breaks_gone, breaks_order, breaks_busy, breaks_stop, breaks_hit};
 ghost use Rattle.session_judge.specs.Engines.{heard_of, gone_after, is_idle};
@@ -8,8 +7,8 @@ ghost use Rattle.session_judge.specs.Crossings.{crossings_after, is_crossing, is
 ghost use Rattle.session_judge.specs.Talks.{after, after_heard, answer_after, answer_in, number_after, opening, placed_after, search_after, search_told, shown_in, stage_after};
 ghost use Rattle.session_judge.specs.declared.talk.TheConstants.{LAST_NUMBER};
 
-use crate::deed::{Deed, Order};
-use crate::engine::Engine;
+use crate::deed::{Deed, OrderKind};
+use crate::engine::EnginePhase;
 use crate::listener::Listener;
 use crate::rule::Rule;
 use crate::search::Search;
@@ -21,7 +20,7 @@ const LAST_NUMBER: u64 = u64::MAX;
 
 /// Which orders came so far.
 #[derive(Clone, Copy)]
-pub enum Stage {
+pub enum OrderStage {
     /// None.
     Start,
     /// The last one is `position`.
@@ -34,7 +33,7 @@ pub enum Stage {
 
 /// A `bestmove` that was heard in a search: what was searched, where, and whether its move was shown since.
 #[derive(Clone, Copy)]
-pub struct Answer {
+pub struct HeardAnswer {
     pub kind: GoKind,
     pub best: Option<Move>,
     pub at: Position,
@@ -46,22 +45,16 @@ pub struct Answer {
 /// `unanswered` is the engine as it would be if its last `bestmove` had not come; `crossings` counts the orders that crossed
 /// a line of the engine.
 #[derive(Clone, Copy)]
-pub struct Talk {
+pub struct JudgedTalk {
     pub listener: Listener,
-    pub engine: Engine,
+    pub engine: EnginePhase,
     pub gone: bool,
-    pub unanswered: Engine,
+    pub unanswered: EnginePhase,
     pub crossings: u64,
-    pub stage: Stage,
+    pub stage: OrderStage,
     pub placed: Position,
-    pub answer: Option<Answer>,
+    pub answer: Option<HeardAnswer>,
     pub search: Option<Search>,
-}
-
-fn is_legal(at: &Position, m: Move) -> bool
-    ensures { result ≡ legal at.now m }
-{
-    at.legal(m)
 }
 
 #[tactic(auto, using(search_epochs::proofs::Moves::promotions_compared))]
@@ -71,27 +64,27 @@ fn is_same(a: Move, b: Move) -> bool
     a == b
 }
 
-impl Stage {
-    fn after(self, deed: &Deed) -> Stage
+impl OrderStage {
+    fn after(self, deed: &Deed) -> OrderStage
         ensures { result ≡ stage_after self deed.now }
     {
         match (self, deed) {
-            (Stage::Over, _) => Stage::Over,
-            (_, Deed::Writes(Order::Quit)) => Stage::Over,
-            (_, Deed::Writes(Order::Position(_))) => Stage::Placed,
-            (_, Deed::Writes(_)) => Stage::Open,
+            (OrderStage::Over, _) => OrderStage::Over,
+            (_, Deed::Writes(OrderKind::Quit)) => OrderStage::Over,
+            (_, Deed::Writes(OrderKind::Position(_))) => OrderStage::Placed,
+            (_, Deed::Writes(_)) => OrderStage::Open,
             _ => self,
         }
     }
 }
 
-impl Answer {
+impl HeardAnswer {
     /// Whether a move that is shown is this answer, in its time.
     fn is_shown_by(&self, m: Move) -> bool
         ensures { result ≡ is_shown_by self.now m }
     {
         match (self.kind, self.best, self.told) {
-            (GoKind::Move, Some(best), false) => is_same(best, m) && is_legal(&self.at, m),
+            (GoKind::Move, Some(best), false) => is_same(best, m) && self.at.legal(m),
             _ => false,
         }
     }
@@ -105,11 +98,11 @@ impl Search {
         ensures { result ≡ search_told line self deed.now }
     {
         match deed {
-            Deed::Writes(Order::Stop) => Search {
+            Deed::Writes(OrderKind::Stop) => Search {
                 stopped: true,
                 ..self
             },
-            Deed::Writes(Order::PonderHit) => Search {
+            Deed::Writes(OrderKind::PonderHit) => Search {
                 kind: GoKind::Move,
                 ..self
             },
@@ -152,17 +145,17 @@ fn number_after(search: Option<Search>) -> u64
     }
 }
 
-impl Talk {
-    pub(crate) fn new(listener: Listener) -> Talk
+impl JudgedTalk {
+    pub(crate) fn new(listener: Listener) -> JudgedTalk
         ensures { result ≡ opening listener }
     {
-        Talk {
+        JudgedTalk {
             listener,
-            engine: Engine::Boot,
+            engine: EnginePhase::Boot,
             gone: false,
-            unanswered: Engine::Idle,
+            unanswered: EnginePhase::Idle,
             crossings: 0,
-            stage: Stage::Start,
+            stage: OrderStage::Start,
             placed: Position::start(),
             answer: None,
             search: None,
@@ -170,34 +163,34 @@ impl Talk {
     }
 
     // The engine as the bridge may take it to be.
-    fn taken(&self) -> Engine
+    fn taken(&self) -> EnginePhase
         ensures { result ≡ taken self.now }
     {
         match (self.listener, self.engine) {
-            (Listener::Tap, Engine::Idle) => self.unanswered,
+            (Listener::Tap, EnginePhase::Idle) => self.unanswered,
             _ => self.engine,
         }
     }
 
     // The rule that an order breaks first.
-    fn broken_by(&self, order: &Order) -> Option<Rule>
+    fn broken_by(&self, order: &OrderKind) -> Option<Rule>
         ensures { result ≡ broken_by self.now order.now }
     {
         if breaks_first(self.stage, order) {
             Some(Rule::First)
         } else if self.gone && matches!(self.listener, Listener::Bridge) {
             Some(Rule::Gone)
-        } else if matches!(self.stage, Stage::Over) {
+        } else if matches!(self.stage, OrderStage::Over) {
             Some(Rule::Quit)
         } else if breaks_order(self.stage, order) {
             Some(Rule::Order)
         } else if breaks_busy(self.engine, order) {
             Some(Rule::Busy)
-        } else if matches!(order, Order::Stop) && !self.taken().is_running() {
+        } else if matches!(order, OrderKind::Stop) && !self.taken().is_running() {
             Some(Rule::Stop)
-        } else if matches!(order, Order::PonderHit) && !self.taken().is_pondering() {
+        } else if matches!(order, OrderKind::PonderHit) && !self.taken().is_pondering() {
             Some(Rule::Hit)
-        } else if matches!(order, Order::Position(None)) {
+        } else if matches!(order, OrderKind::Position(None)) {
             Some(Rule::Position)
         } else {
             None
@@ -228,23 +221,23 @@ impl Talk {
         ensures { result ≡ placed_after self.now.placed deed.now }
     {
         match deed {
-            Deed::Writes(Order::Position(Some(position))) => *position,
+            Deed::Writes(OrderKind::Position(Some(position))) => *position,
             _ => self.placed,
         }
     }
 
-    fn answer_after(&self, deed: &Deed) -> Option<Answer>
+    fn answer_after(&self, deed: &Deed) -> Option<HeardAnswer>
         ensures { result ≡ answer_after self.now.engine self.now.placed self.now.answer deed.now }
     {
         match (deed, self.engine) {
-            (Deed::Answers(best), Engine::Search { kind, stopped: _ }) => Some(Answer {
+            (Deed::Answers(best), EnginePhase::Search { kind, stopped: _ }) => Some(HeardAnswer {
                 kind,
                 best: *best,
                 at: self.placed,
                 told: false,
             }),
             (Deed::Shows(_), _) => match self.answer {
-                Some(answer) => Some(Answer {
+                Some(answer) => Some(HeardAnswer {
                     told: true,
                     ..answer
                 }),
@@ -258,7 +251,7 @@ impl Talk {
         ensures { result ≡ search_after self.now.engine line self.now.search deed.now }
     {
         match (deed, self.search) {
-            (Deed::Writes(Order::Go(kind)), search) => Some(Search {
+            (Deed::Writes(OrderKind::Go(kind)), search) => Some(Search {
                 number: number_after(search),
                 kind: *kind,
                 begun: line,
@@ -272,15 +265,15 @@ impl Talk {
         }
     }
 
-    fn unanswered_after(&self, deed: &Deed) -> Engine
+    fn unanswered_after(&self, deed: &Deed) -> EnginePhase
         ensures { result ≡ unanswered_after self.now.engine self.now.unanswered deed.now }
     {
         match (deed, self.engine) {
             (Deed::Writes(order), _) if is_to_search(order) => self.unanswered.after(deed),
-            (Deed::Writes(_), _) => Engine::Idle,
+            (Deed::Writes(_), _) => EnginePhase::Idle,
             (
                 Deed::Answers(_),
-                Engine::Search {
+                EnginePhase::Search {
                     kind: _,
                     stopped: _,
                 },
@@ -289,7 +282,7 @@ impl Talk {
         }
     }
 
-    fn is_crossing(&self, order: &Order) -> bool
+    fn is_crossing(&self, order: &OrderKind) -> bool
         ensures { result ≡ is_crossing self.now.gone self.now.engine order.now }
     {
         self.gone || (self.engine.is_idle() && is_to_search(order))
@@ -310,10 +303,10 @@ impl Talk {
         self.gone || matches!(deed, Deed::Ends)
     }
 
-    fn after_heard(&self, line: u64, deed: &Deed) -> Talk
+    fn after_heard(&self, line: u64, deed: &Deed) -> JudgedTalk
         ensures { result ≡ after_heard self.now line deed.now }
     {
-        Talk {
+        JudgedTalk {
             listener: self.listener,
             engine: self.engine.after(deed),
             gone: self.gone_after(deed),
@@ -327,7 +320,7 @@ impl Talk {
     }
 
     /// What was written and heard after this deed, in the line with this number.
-    pub(crate) fn after(&self, line: u64, deed: &Deed) -> Talk
+    pub(crate) fn after(&self, line: u64, deed: &Deed) -> JudgedTalk
         ensures { result ≡ after self.now line deed.now }
     {
         match deed {
@@ -341,42 +334,44 @@ impl Talk {
 }
 
 // `stop` and `ponderhit` speak to a search.
-fn is_to_search(order: &Order) -> bool
+fn is_to_search(order: &OrderKind) -> bool
     ensures { result ≡ is_to_search order.now }
 {
-    matches!(order, Order::Stop | Order::PonderHit)
+    matches!(order, OrderKind::Stop | OrderKind::PonderHit)
 }
 
 // The first order is `uci`, and no later one is.
-fn breaks_first(stage: Stage, order: &Order) -> bool
+fn breaks_first(stage: OrderStage, order: &OrderKind) -> bool
     ensures { result ≡ breaks_first stage order.now }
 {
     match (stage, order) {
-        (Stage::Start, Order::Uci) => false,
-        (Stage::Start, _) | (_, Order::Uci) => true,
+        (OrderStage::Start, OrderKind::Uci) => false,
+        (OrderStage::Start, _) | (_, OrderKind::Uci) => true,
         _ => false,
     }
 }
 
 // Directly behind a `position` stands `go`, and it stands nowhere else.
-fn breaks_order(stage: Stage, order: &Order) -> bool
+fn breaks_order(stage: OrderStage, order: &OrderKind) -> bool
     ensures { result ≡ breaks_order stage order.now }
 {
     match (stage, order) {
-        (Stage::Placed, Order::Go(_)) => false,
-        (Stage::Placed, _) | (_, Order::Go(_)) => true,
+        (OrderStage::Placed, OrderKind::Go(_)) => false,
+        (OrderStage::Placed, _) | (_, OrderKind::Go(_)) => true,
         _ => false,
     }
 }
 
 // These orders are for an idle engine.
-fn breaks_busy(engine: Engine, order: &Order) -> bool
+fn breaks_busy(engine: EnginePhase, order: &OrderKind) -> bool
     ensures { result ≡ breaks_busy engine order.now }
 {
     match (order, engine) {
-        (_, Engine::Idle) => false,
-        (Order::Setup, _) | (Order::IsReady, _) | (Order::Position(_), _) | (Order::Go(_), _) =>
-            true,
+        (_, EnginePhase::Idle) => false,
+        (OrderKind::Setup, _)
+        | (OrderKind::IsReady, _)
+        | (OrderKind::Position(_), _)
+        | (OrderKind::Go(_), _) => true,
         _ => false,
     }
 }
