@@ -1,9 +1,10 @@
 -- What a host in memory keeps.
-use Rattle.std.specs.Prelude.{ℕ, List, Bool, true, Some, map}
+use Rattle.std.specs.Prelude.{ℕ, List, Bool, true, Some, map, string_bytes, Vec, vec_items}
 use Rattle.line_io.specs.Memory.{supply_of, store_of}
 use Rattle.line_io.specs.Source.{Supplied, Received}
 use Rattle.line_io.specs.declared.memory.MemSource.{MemSource}
 use Rattle.line_io.specs.declared.memory.MemSink.{MemSink}
+use Rattle.child_engine.specs.Asked.{Asked}
 use Rattle.child_engine.specs.Hosts.{Books, told_by}
 use Rattle.child_engine.specs.declared.memory.MemHost.{MemHost}
 
@@ -23,6 +24,14 @@ books_of h =
       logs_out = h.logs_out;
       runs = map (λ run. told_by (shown_by_source run.src) (shown_by_sink run.snk)) h.runs.items;
       logs = map (λ log. (shown_by_sink log).taken) h.closed_logs.items;
+    }
+
+-- what it was asked for
+abbrev pub asked_of : MemHost → Asked
+asked_of h =
+    record {
+      engines = Some (map (λ words. map string_bytes (vec_items words)) h.engines.items);
+      logs = Some (map string_bytes h.log_names.items);
     }
 
 -- What a host is made with: what each engine says and how much of it a read gives, the room of each sink and log, and the

@@ -1,8 +1,10 @@
 -- What the host of real programs keeps: it reports nothing of what its parts gave and took.
 use Rattle.std.specs.Prelude.{ℕ, zero, suc, false, List, [], ◌∷◌, ◌++◌, None}
+use Rattle.std.specs.Process.{command_program, command_args}
 use Rattle.line_io.specs.Source.{Supplied, Received}
 use Rattle.child_engine.specs.Hosts.{Told, Books, told_by}
 use Rattle.child_engine.specs.Steady.{untold_logs}
+use Rattle.child_engine.specs.declared.process.EngineProcess.{EngineProcess}
 use Rattle.child_engine.specs.declared.real.RealHost.{RealHost}
 
 -- a source and a sink that report nothing, and failed so often
@@ -30,3 +32,7 @@ books_of h =
       runs = untold_runs h.runs_closed;
       logs = untold_logs h.logs_closed;
     }
+
+-- the words of the command that a process was spawned from: its program, and then its arguments
+abbrev pub spawned_words : EngineProcess → List (List ℕ)
+spawned_words process = command_program process.command ∷ command_args process.command

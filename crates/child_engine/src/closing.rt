@@ -2,7 +2,7 @@
 ghost use Rattle.std.specs.Prelude.{◌≡◌, ◌<◌, ◌≤◌, ⊤, length, None, IfOk, IsErr, true, false};
 ghost use Rattle.std.specs.Io.KnownBytes.{WriteAppends};
 ghost use Rattle.line_io.specs.Causes.{HasCause};
-ghost use Rattle.child_engine.specs.Closing.{shown_by, is_open};
+ghost use Rattle.child_engine.specs.Closing.{HandsOn, shown_by, is_open};
 
 use line_io::{Failed, MemSink, NullSink, Sink};
 use std::io::Write;
@@ -49,6 +49,17 @@ impl<W> Closing<W> {
         }
     }
 
+    /// Over no writer: it is let go already, and each write fails.
+    pub fn shut() -> Closing<W>
+        ensures shown { shown_by result ≡ record { taken = None; faults = 0 } }
+        ensures shut { is_open result ≡ false }
+    {
+        Closing {
+            writer: None,
+            faults: 0,
+        }
+    }
+
     /// How many writes failed, took nothing, or came when the writer was gone. The count stays at the
     /// last value of its type.
     pub fn faults(&self) -> u64
@@ -70,6 +81,7 @@ impl<W: Write + Drop> Closing<W> {
     fn hand_over(&mut self, piece: &[u8]) -> Result<usize, Failed>
         requires { 0 < length piece.now }
         ensures bound { IfOk result (λ n. (0 < n) × (n ≤ length piece.now)) }
+        ensures handed { HandsOn W.contents self.old.writer self.new.writer result piece.now }
         ensures faults { self.new.faults ≡ self.old.faults }
         ensures open { is_open self.new ≡ is_open self.old }
         ensures shut { is_open self.old ≡ false → IsErr result }
@@ -91,6 +103,7 @@ impl<W: Write + Drop> Sink for Closing<W> {
         requires { 0 < length piece.now }
         ensures bound { IfOk result (λ n. (0 < n) × (n ≤ length piece.now)) }
         ensures takes { WriteAppends None None result piece.now }
+        ensures handed { HandsOn W.contents self.old.writer self.new.writer result piece.now }
         ensures cause { HasCause (shown_by self.old).faults (shown_by self.new).faults result }
         ensures open { is_open self.new ≡ is_open self.old }
         ensures shut { is_open self.old ≡ false → IsErr result }

@@ -1,5 +1,6 @@
 // Where engines and logs come from.
-ghost use Rattle.std.specs.Prelude.{◌≡◌, ◌<◌, ◌≤◌, length, IfOk, OnOk, OnErr};
+ghost use Rattle.std.specs.Prelude.{◌≡◌, ◌<◌, ◌≤◌, length, map, string_bytes, IfOk, OnOk, OnErr};
+ghost use Rattle.child_engine.specs.Asked.{Asked, Asks, not_kept, and_engines, and_logs};
 ghost use Rattle.child_engine.specs.Hosts.{Books, with_run, with_log, with_closed_run, with_closed_log, fresh_source, fresh_sink, StartsBy, OpensBy, ClosesBy, ClosesLogBy, RisesBy};
 
 use line_io::{Failed, NoMemory, Sink, Source};
@@ -56,13 +57,13 @@ pub struct Started<S, K, P> {
 pub trait Host {
     ghost use Rattle.child_engine.specs.declared.host.Faults.{Faults};
 
-    type Src: Source + Send;
+    type EngineSource: Source + Send;
 
-    type Snk: Sink + Send;
+    type EngineSink: Sink + Send;
 
     type Log: Sink + Send + Drop;
 
-    type Kid;
+    type ChildProcess;
 
     /// How often each kind of call failed.
     ghost faults: { Self → Faults };
@@ -70,20 +71,27 @@ pub trait Host {
     /// What the parts tell, what was handed out, and what was shown by that which was closed.
     ghost books: { Self → Books };
 
+    /// The words of each engine that was to be started and the name of each log that was to be
+    /// opened, whether that succeeded or failed, if the host keeps them.
+    ghost asked: { Self → Asked } = { λ _. not_kept };
+
     /// Starts the engine that the words name, the first being its program.
     fn start(
         &mut self,
         alloc: Global,
         words: &[String],
-    ) -> Result<Started<Self::Src, Self::Snk, Self::Kid>, HostFault>
+    ) -> Result<Started<Self::EngineSource, Self::EngineSink, Self::ChildProcess>, HostFault>
         requires words { 0 < length words.now }
         requires few { (books self.old).runs_out < 10 }
         ensures out { OnOk result (books self.new ≡ with_run (books self.old)) }
         ensures source { IfOk result (λ run.
-            Self.Src.state run.src ≡ fresh_source (books self.old).says) }
+            Self.EngineSource.state run.src ≡ fresh_source (books self.old).says) }
         ensures sink { IfOk result (λ run.
-            Self.Snk.state run.snk ≡ fresh_sink (books self.old).tells) }
+            Self.EngineSink.state run.snk ≡ fresh_sink (books self.old).tells) }
         ensures err { OnErr result (books self.new ≡ books self.old) }
+        ensures asked { Asks (asked self.old)
+            (and_engines 1 (map string_bytes words.now) (asked self.old)) (asked self.new)
+            result }
         ensures cause { StartsBy (faults self.old) (faults self.new) result };
 
     /// Makes the log of this name anew.
@@ -93,20 +101,29 @@ pub trait Host {
         ensures log { IfOk result (λ log.
             Self.Log.state log ≡ fresh_sink (books self.old).tells) }
         ensures err { OnErr result (books self.new ≡ books self.old) }
+        ensures asked { Asks (asked self.old)
+            (and_logs 1 name.now (asked self.old)) (asked self.new) result }
         ensures cause { OpensBy (faults self.old) (faults self.new) result };
 
     /// Lets go of the engine's pipes, and waits for the engine's end.
-    fn close(&mut self, run: Started<Self::Src, Self::Snk, Self::Kid>) -> Result<(), Failed>
+    fn close(
+        &mut self,
+        run: Started<Self::EngineSource, Self::EngineSink, Self::ChildProcess>,
+    ) -> Result<(), Failed>
         requires { length (books self.old).runs < (books self.old).runs_out }
         ensures books { books self.new
-            ≡ with_closed_run (books self.old) (Self.Src.state run.src) (Self.Snk.state run.snk) }
+            ≡ with_closed_run (books self.old) (Self.EngineSource.state run.src)
+            (Self.EngineSink.state run.snk) }
+        ensures asked { asked self.new ≡ asked self.old }
         ensures cause { ClosesBy (faults self.old) (faults self.new)
-            (Self.Src.state run.src).faults (Self.Snk.state run.snk).faults result };
+            (Self.EngineSource.state run.src).faults
+            (Self.EngineSink.state run.snk).faults result };
 
     /// Takes a log back.
     fn close_log(&mut self, log: Self::Log)
         requires { length (books self.old).logs < (books self.old).logs_out }
         ensures books { books self.new ≡ with_closed_log (books self.old) (Self.Log.state log) }
+        ensures asked { asked self.new ≡ asked self.old }
         ensures cause { ClosesLogBy (faults self.old) (faults self.new)
             (Self.Log.state log).faults };
 }

@@ -6,6 +6,7 @@ mod host;
 mod input;
 mod memory;
 mod pipe_sink;
+mod process;
 mod real;
 mod steady;
 
@@ -14,5 +15,6 @@ pub use host::{Faults, Host, HostFault, Started};
 pub use input::EngineInput;
 pub use memory::{Fails, MemHost};
 pub use pipe_sink::PipeSink;
+pub use process::EngineProcess;
 pub use real::RealHost;
 pub use steady::SteadyHost;

@@ -1,5 +1,5 @@
 // A host in memory.
-ghost use Rattle.std.specs.Prelude.{◌≡◌, ◌<◌, ◌≤◌, Some, [], slice_get, length, vec_len, vec_capacity, IfOk, IfSome};
+ghost use Rattle.std.specs.Prelude.{◌≡◌, ◌<◌, ◌≤◌, Some, [], slice_get, length, map, string_bytes, vec_items, vec_len, vec_capacity, IfOk, IfSome};
 
 use crate::host::raised;
 use crate::{Faults, Host, HostFault, Started};
@@ -25,6 +25,27 @@ struct ClosedRun {
     snk: MemSink,
 }
 
+// A copy of a text.
+fn copy_of(alloc: Global, text: &str) -> Result<String, NoMemory>
+    ensures { IfOk result (λ s. string_bytes s ≡ text.now) }
+{
+    Ok(String::from_str(alloc, text)?)
+}
+
+// Copies of words.
+fn copies_of(alloc: Global, words: &[String]) -> Result<Vec<String>, NoMemory>
+    ensures { IfOk result (λ v. map string_bytes v.items ≡ map string_bytes words.now) }
+{
+    let mut copies: Vec<String> = Vec::new(alloc);
+    for word in words {
+        let copy = copy_of(alloc, word.as_str())?;
+        if copies.push(copy).is_err() {
+            return Err(NoMemory);
+        }
+    }
+    Ok(copies)
+}
+
 /// A host whose engine says the same bytes in each run.
 #[derive(Drop)]
 pub struct MemHost {
@@ -42,6 +63,9 @@ pub struct MemHost {
     logs_out: u8,
     runs: Vec<ClosedRun>,
     closed_logs: Vec<MemSink>,
+    // what it was asked for, whether that failed or not
+    engines: Vec<Vec<String>>,
+    log_names: Vec<String>,
     ghost some_piece: { 0 < piece },
     ghost few_runs: { (vec_len runs ≤ runs_out) × (runs_out ≤ 10) × (10 ≤ vec_capacity runs) },
     ghost few_logs: { (vec_len closed_logs ≤ logs_out) × (logs_out ≤ 10)
@@ -51,7 +75,8 @@ pub struct MemHost {
 impl MemHost {
     ghost use Rattle.std.specs.Prelude.{true};
     ghost use Rattle.child_engine.specs.Hosts.{unused};
-    ghost use Rattle.child_engine.specs.Memory.{books_of, means_of};
+    ghost use Rattle.child_engine.specs.Asked.{none_asked};
+    ghost use Rattle.child_engine.specs.Memory.{asked_of, books_of, means_of};
     ghost use Rattle.child_engine.specs.Steady.{no_faults};
 
     /// A host that has handed out nothing. Each engine says these bytes, as many at a read as the
@@ -66,6 +91,7 @@ impl MemHost {
         requires { 0 < piece }
         ensures books { IfOk result (λ h. books_of h
             ≡ unused (Some engine.now) true) }
+        ensures asked { IfOk result (λ h. asked_of h ≡ none_asked) }
         ensures faults { IfOk result (λ h. h.faults ≡ no_faults) }
         ensures means { IfOk result (λ h. means_of h ≡ record {
           engine = engine.now;
@@ -94,6 +120,8 @@ impl MemHost {
             logs_out: 0,
             runs: Vec::with_capacity(alloc, 10)?,
             closed_logs: Vec::with_capacity(alloc, 10)?,
+            engines: Vec::new(alloc),
+            log_names: Vec::new(alloc),
         })
     }
 
@@ -112,25 +140,43 @@ impl MemHost {
     {
         self.closed_logs[k].taken()
     }
+
+    /// The words of each engine that was to be started, in their order.
+    pub fn engines(&self) -> &[Vec<String>]
+        ensures { (asked_of self.now).engines
+            ≡ Some (map (λ words. map string_bytes (vec_items words)) result.now) }
+    {
+        self.engines.as_slice()
+    }
+
+    /// The name of each log that was to be opened, in their order.
+    pub fn log_names(&self) -> &[String]
+        ensures { (asked_of self.now).logs ≡ Some (map string_bytes result.now) }
+    {
+        self.log_names.as_slice()
+    }
 }
 
 impl Host for MemHost {
-    ghost use Rattle.std.specs.Prelude.{◌≡◌, ◌<◌, length, true, IfOk, OnOk, OnErr, IsErr};
+    ghost use Rattle.std.specs.Prelude.{◌≡◌, ◌<◌, length, map, string_bytes, true, IfOk, OnOk, OnErr, IsErr};
     ghost use Rattle.line_io.specs.Memory.{supply_of, store_of, unread_supply, unwritten_store};
     ghost use Rattle.child_engine.specs.Hosts.{ClosesBy, OpensBy, StartsBy, with_closed_run, with_log, with_run};
-    ghost use Rattle.child_engine.specs.Memory.{books_of, means_of, shown_by_source, shown_by_sink};
+    ghost use Rattle.child_engine.specs.Asked.{Asks, and_engines, and_logs};
+    ghost use Rattle.child_engine.specs.Memory.{asked_of, books_of, means_of, shown_by_source, shown_by_sink};
 
-    type Src = MemSource;
+    type EngineSource = MemSource;
 
-    type Snk = MemSink;
+    type EngineSink = MemSink;
 
     type Log = MemSink;
 
-    type Kid = ();
+    type ChildProcess = ();
 
     ghost faults = { λ h. h.faults };
 
     ghost books = { λ h. books_of h };
+
+    ghost asked = { λ h. asked_of h };
 
     fn start(
         &mut self,
@@ -145,15 +191,13 @@ impl Host for MemHost {
         ensures sink { IfOk result (λ run. store_of run.snk
             ≡ unwritten_store (means_of self.old).room (means_of self.old).writes) }
         ensures err { OnErr result (books_of self.new ≡ books_of self.old) }
+        ensures asked { Asks (asked_of self.old)
+            (and_engines 1 (map string_bytes words.now) (asked_of self.old)) (asked_of self.new)
+            result }
         ensures cause { StartsBy self.old.faults self.new.faults result }
         ensures fails { (means_of self.old).fails_start ≡ true → IsErr result }
         ensures means { means_of self.new ≡ means_of self.old }
     {
-        let _ = words;
-        if self.fails_start {
-            self.faults.starts = self.faults.starts.saturating_add(1);
-            return Err(HostFault::Failed);
-        }
         let src = MemSource::make(
             alloc,
             self.engine.as_slice(),
@@ -161,25 +205,39 @@ impl Host for MemHost {
             self.failing_reads.as_slice(),
         )?;
         let snk = MemSink::make(alloc, self.room, self.failing_writes.as_slice())?;
+        let words = copies_of(alloc, words)?;
+        if self.engines.push(words).is_err() {
+            return Err(HostFault::NoMemory);
+        }
+        if self.fails_start {
+            self.faults.starts = self.faults.starts.saturating_add(1);
+            return Err(HostFault::Failed);
+        }
         self.runs_out += 1;
         Ok(Started { src, snk, kid: () })
     }
 
-    fn open_log(&mut self, alloc: Global, _name: &str) -> Result<MemSink, HostFault>
+    fn open_log(&mut self, alloc: Global, name: &str) -> Result<MemSink, HostFault>
         requires few { (books_of self.old).logs_out < 10 }
         ensures out { OnOk result (books_of self.new ≡ with_log (books_of self.old)) }
         ensures log { IfOk result (λ log. store_of log
             ≡ unwritten_store (means_of self.old).room (means_of self.old).logs) }
         ensures err { OnErr result (books_of self.new ≡ books_of self.old) }
+        ensures asked { Asks (asked_of self.old)
+            (and_logs 1 name.now (asked_of self.old)) (asked_of self.new) result }
         ensures cause { OpensBy self.old.faults self.new.faults result }
         ensures fails { (means_of self.old).fails_log ≡ true → IsErr result }
         ensures means { means_of self.new ≡ means_of self.old }
     {
+        let log = MemSink::make(alloc, self.room, self.failing_logs.as_slice())?;
+        let name = copy_of(alloc, name)?;
+        if self.log_names.push(name).is_err() {
+            return Err(HostFault::NoMemory);
+        }
         if self.fails_log {
             self.faults.logs = self.faults.logs.saturating_add(1);
             return Err(HostFault::Failed);
         }
-        let log = MemSink::make(alloc, self.room, self.failing_logs.as_slice())?;
         self.logs_out += 1;
         Ok(log)
     }
@@ -189,6 +247,7 @@ impl Host for MemHost {
         ensures books { books_of self.new
             ≡ with_closed_run (books_of self.old)
             (shown_by_source run.src) (shown_by_sink run.snk) }
+        ensures asked { asked_of self.new ≡ asked_of self.old }
         ensures cause { ClosesBy self.old.faults self.new.faults
             (shown_by_source run.src).faults (shown_by_sink run.snk).faults result }
         ensures fails { (means_of self.old).fails_wait ≡ true → IsErr result }

@@ -1,16 +1,17 @@
 // The edge to the world: programs and files.
-ghost use Rattle.std.specs.Prelude.{◌≡◌, ◌<◌, [], length};
+ghost use Rattle.std.specs.Prelude.{◌≡◌, ◌<◌, [], ◌∷◌, ◌++◌, length, map, string_bytes, IfOk, OnOk};
+ghost use Rattle.std.specs.Process.{command_program, command_args};
 ghost use Rattle.child_engine.specs.Hosts.{RisesBy};
 ghost use Rattle.child_engine.specs.declared.host.HostFault.TheVariants as faults;
 
 use crate::host::raised;
-use crate::{Faults, Host, HostFault, PipeSink, Started};
+use crate::{EngineProcess, Faults, Host, HostFault, PipeSink, Started};
 use line_io::{Failed, NoMemory, ReadAdapter, WriteAdapter};
 use std::alloc::Global;
 use std::fs::{File, Files};
 use std::io::ErrorKind;
 use std::marker::PhantomData;
-use std::process::{Child, ChildStdin, ChildStdout, Command, Processes, Stdio, SystemProcess};
+use std::process::{ChildStdin, ChildStdout, Command, Processes, Stdio, SystemProcess};
 use std::{fs, io};
 
 /// A host of real programs and files, over the handle `R` by which it starts and opens them. The
@@ -48,26 +49,50 @@ fn counted(count: u64, fault: HostFault) -> u64
     }
 }
 
-// The command of these words, with pipes for its input and its output, and with the standard error
-// of this process or the null device. An engine without one would write into the file that it opens
-// first.
-fn command_of(alloc: Global, words: &[String], shares_diag: bool) -> Result<Command, NoMemory>
+// Hands the command one argument more.
+fn put_argument(word: &str, command: &mut Command) -> Result<(), NoMemory>
+    ensures program { OnOk result (command_program command.new ≡ command_program command.old) }
+    ensures arguments { OnOk result (command_args command.new
+        ≡ command_args command.old ++ word.now ∷ []) }
+{
+    match command.arg(word) {
+        Ok(_) => Ok(()),
+        Err(_) => Err(NoMemory),
+    }
+}
+
+// Hands the command its arguments.
+fn put_arguments(words: &[String], command: &mut Command) -> Result<(), NoMemory>
+    ensures program { OnOk result (command_program command.new ≡ command_program command.old) }
+    ensures arguments { OnOk result (command_args command.new
+        ≡ command_args command.old ++ map string_bytes words.now) }
+{
+    for word in words {
+        put_argument(word.as_str(), command)?;
+    }
+    Ok(())
+}
+
+// The command that these words name, the first being its program and the others its arguments.
+fn command_of(alloc: Global, words: &[String]) -> Result<Command, NoMemory>
     requires { 0 < length words.now }
+    ensures { IfOk result (λ c. command_program c ∷ command_args c ≡ map string_bytes words.now) }
 {
     let Ok(mut command) = Command::new(alloc, words[0].as_str()) else {
         return Err(NoMemory);
     };
-    for word in words[1..].iter() {
-        if command.arg(word.as_str()).is_err() {
-            return Err(NoMemory);
-        }
-    }
-    command.stdin(Stdio::piped());
-    command.stdout(Stdio::piped());
-    if !shares_diag {
-        command.stderr(Stdio::null());
-    }
+    put_arguments(&words[1..], &mut command)?;
     Ok(command)
+}
+
+// The standard error of an engine: that of this process or the null device. An engine without one
+// would write into the file that it opens first.
+fn diag_of(is_shared: bool) -> Stdio {
+    if is_shared {
+        Stdio::inherit()
+    } else {
+        Stdio::null()
+    }
 }
 
 impl<R, S> RealHost<R, S> {
@@ -97,32 +122,41 @@ impl<R, S> RealHost<R, S> {
     }
 }
 
-type Engine<S> = Started<ReadAdapter<ChildStdout>, S, Child<SystemProcess>>;
+type StartedEngine<S> = Started<ReadAdapter<ChildStdout>, S, EngineProcess>;
 
 impl<
     R: Processes<Started = SystemProcess> + Files<File = File>,
     S: PipeSink<ChildStdin> + Send + Drop,
 > Host for RealHost<R, S> {
-    ghost use Rattle.std.specs.Prelude.{◌≡◌, ◌<◌, length};
+    ghost use Rattle.std.specs.Prelude.{◌≡◌, ◌<◌, length, map, string_bytes, IfOk, OnOk, OnErr};
     ghost use Rattle.line_io.specs.Adapters.{read_faults};
-    ghost use Rattle.child_engine.specs.Hosts.{ClosesBy, with_closed_run};
-    ghost use Rattle.child_engine.specs.Real.{books_of, untold_source};
+    ghost use Rattle.child_engine.specs.Hosts.{ClosesBy, StartsBy, with_closed_run, with_run};
+    ghost use Rattle.child_engine.specs.Real.{books_of, spawned_words, untold_sink, untold_source};
 
-    type Src = ReadAdapter<ChildStdout>;
+    type EngineSource = ReadAdapter<ChildStdout>;
 
-    type Snk = S;
+    type EngineSink = S;
 
     type Log = WriteAdapter<File>;
 
-    type Kid = Child<SystemProcess>;
+    type ChildProcess = EngineProcess;
 
     ghost faults = { λ h. h.faults };
 
     ghost books = { λ h. books_of h };
 
-    fn start(&mut self, alloc: Global, words: &[String]) -> Result<Engine<S>, HostFault> {
-        let mut command = command_of(alloc, words, self.shares_diag)?;
-        let mut kid = match command.spawn(&self.rt) {
+    fn start(&mut self, alloc: Global, words: &[String]) -> Result<StartedEngine<S>, HostFault>
+        requires words { 0 < length words.now }
+        requires few { (books_of self.old).runs_out < 10 }
+        ensures out { OnOk result (books_of self.new ≡ with_run (books_of self.old)) }
+        ensures source { IfOk result (λ run. read_faults run.src ≡ 0) }
+        ensures sink { IfOk result (λ run. S.state run.snk ≡ untold_sink 0) }
+        ensures command { IfOk result (λ run. spawned_words run.kid ≡ map string_bytes words.now) }
+        ensures err { OnErr result (books_of self.new ≡ books_of self.old) }
+        ensures cause { StartsBy self.old.faults self.new.faults result }
+    {
+        let command = command_of(alloc, words)?;
+        let mut kid = match EngineProcess::spawn(&self.rt, command, &diag_of(self.shares_diag)) {
             Ok(kid) => kid,
             Err(error) => {
                 let fault = fault_of(error);
@@ -130,7 +164,7 @@ impl<
                 return Err(fault);
             }
         };
-        let (Some(input), Some(output)) = (kid.stdin.take(), kid.stdout.take()) else {
+        let Some((input, output)) = kid.take_pipes() else {
             self.faults.starts = self.faults.starts.saturating_add(1);
             return Err(HostFault::Failed);
         };
@@ -156,14 +190,14 @@ impl<
     }
 
     #[tactic(auto, using(crate::proofs::Untold::runs_count))]
-    fn close(&mut self, run: Engine<S>) -> Result<(), Failed>
+    fn close(&mut self, run: StartedEngine<S>) -> Result<(), Failed>
         requires { length (books_of self.old).runs < (books_of self.old).runs_out }
         ensures books { books_of self.new
             ≡ with_closed_run (books_of self.old) (untold_source 0) (S.state run.snk) }
         ensures cause { ClosesBy self.old.faults self.new.faults
             (read_faults run.src) (S.state run.snk).faults result }
     {
-        let Started { src, snk, mut kid } = run;
+        let Started { src, snk, kid } = run;
         self.faults.reads = raised(self.faults.reads, src.faults());
         self.faults.writes = raised(self.faults.writes, snk.faults());
         self.runs_closed += 1;

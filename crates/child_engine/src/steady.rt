@@ -46,18 +46,18 @@ impl SteadyHost {
 }
 
 impl Host for SteadyHost {
-    ghost use Rattle.std.specs.Prelude.{◌≡◌, ◌<◌, [], length, IfOk, OnOk, OnErr};
+    ghost use Rattle.std.specs.Prelude.{◌≡◌, ◌<◌, [], length, map, string_bytes, IfOk, OnOk, OnErr};
     ghost use Rattle.line_io.specs.Memory.{steady_of, unread_supply};
     ghost use Rattle.child_engine.specs.Hosts.{ClosesBy, StartsBy, with_closed_run, with_run};
     ghost use Rattle.child_engine.specs.Steady.{no_faults, books_of, says_of, shown_by_source, untold_sink};
 
-    type Src = SteadySource;
+    type EngineSource = SteadySource;
 
-    type Snk = NullSink;
+    type EngineSink = NullSink;
 
     type Log = NullSink;
 
-    type Kid = ();
+    type ChildProcess = ();
 
     ghost faults = { λ h. no_faults };
 

@@ -8,12 +8,12 @@ use lib.ListN.{get_elem?}
 use Rattle.atomic_table.proofs.Lists.{at_set}
 use Rattle.crossbeam_channel.specs.Fifo.{Pushes, Pops, Forks, Merges, Learns}
 use Rattle.line_io.specs.Event.{Event}
-use Rattle.event_pipe.specs.declared.pipe.Known.{Known}
+use Rattle.event_pipe.specs.declared.pipe.KnownOfPass.{KnownOfPass}
 use Rattle.event_pipe.specs.declared.pipe.TheConstants.{CHANNEL_ROOM}
 use Rattle.event_pipe.specs.declared.message.Peer.{Peer}
 use Rattle.event_pipe.specs.declared.message.Peer.TheVariants as peers
-use Rattle.event_pipe.specs.declared.message.What.{What}
-use Rattle.event_pipe.specs.declared.message.What.TheVariants as says
+use Rattle.event_pipe.specs.declared.message.MessageBody.{MessageBody}
+use Rattle.event_pipe.specs.declared.message.MessageBody.TheVariants as says
 use Rattle.event_pipe.specs.Message.{role_of, sent_event, role_of_event, is_end, is_good}
 use Rattle.event_pipe.specs.Rule.{is_of, of, ended, Orderly, idle, sender, Adds, Gets, Fits, Delivers, AllGood, Total, joined_first, joined_second}
 use Rattle.event_pipe.specs.Ends.{Came}
@@ -76,7 +76,7 @@ all_at : (xs ys : List Event) (x : Event) → AllGood (xs ++ x ∷ ys) → (is_g
 all_at [] ys x a = a.0
 all_at (z ∷ zs) ys x a = all_at zs ys x a.1
 
-at_end : (l : List Known) (a b : Known) (j : ℕ) → get_elem? (l ++ a ∷ []) j ≡ some b → (get_elem? l j ≡ some b) ⊎ ((a ≡ b) × (j ≡ length l))
+at_end : (l : List KnownOfPass) (a b : KnownOfPass) (j : ℕ) → get_elem? (l ++ a ∷ []) j ≡ some b → (get_elem? l j ≡ some b) ⊎ ((a ≡ b) × (j ≡ length l))
 at_end [] a b zero e = inr (some-injective a b e, refl)
 at_end [] a b (suc j) e = absurd (some-ne-none b (sym e))
 at_end (x ∷ xs) a b zero e = inl e
@@ -101,7 +101,7 @@ begins = record {
   good = tt;
   fits = λ k u at. elim (at_end [] idle u k at) [
     | inl h ↦ absurd (some-ne-none u (sym h))
-    | inr h ↦ subst (λ (v : Known). Fits (first_seat) (λ _. []) [] k v) h.0
+    | inr h ↦ subst (λ (v : KnownOfPass). Fits (first_seat) (λ _. []) [] k v) h.0
         (record {
           seated = λ _. ap some (sym h.1);
           sends = λ a b. refl;
@@ -114,14 +114,14 @@ begins = record {
 }
 
 -- one pass for a role
-one_seat : (seat : ℕ → Option ℕ) (pass k : ℕ) (v u : Known) → v.role ≢ 3 → u.role ≡ v.role → (v.role ≢ 3 → seat v.role ≡ some pass) → (u.role ≢ 3 → seat u.role ≡ some k) → k ≡ pass
+one_seat : (seat : ℕ → Option ℕ) (pass k : ℕ) (v u : KnownOfPass) → v.role ≢ 3 → u.role ≡ v.role → (v.role ≢ 3 → seat v.role ≡ some pass) → (u.role ≢ 3 → seat u.role ≡ some k) → k ≡ pass
 one_seat seat pass k v u n same f g =
     let p = f n in
     let q = g (λ e. n (sym same ∙ e)) in
     let r : seat u.role ≡ seat v.role = ap seat same in
     cc
 
-own_fits : (seat : ℕ → Option ℕ) (sent : ℕ → List Event) (taken : List Event) (pass : ℕ) (v : Known) (x : Event) → v.role ≡ role_of_event x → v.role ≢ 3 → v.role ≢ 0
+own_fits : (seat : ℕ → Option ℕ) (sent : ℕ → List Event) (taken : List Event) (pass : ℕ) (v : KnownOfPass) (x : Event) → v.role ≡ role_of_event x → v.role ≢ 3 → v.role ≢ 0
     → Fits seat sent taken pass v → Fits seat (more sent x) taken pass (record v { sent = v.sent ++ x ∷ [] })
 own_fits seat sent taken pass v x role n3 n0 f = record {
   seated = f.seated;
@@ -138,7 +138,7 @@ own_fits seat sent taken pass v x role n3 n0 f = record {
 kept_sent : (sent : ℕ → List Event) (x : Event) (role : ℕ) → role_of_event x ≢ role → more sent x role ≡ sent role
 kept_sent sent x role n = ap (λ b. cond b (sent role ++ x ∷ []) (sent role)) (other x role n)
 
-other_fits : (seat : ℕ → Option ℕ) (sent : ℕ → List Event) (taken : List Event) (pass k : ℕ) (v u : Known) (x : Event) → v.role ≡ role_of_event x → v.role ≢ 3 → k ≢ pass
+other_fits : (seat : ℕ → Option ℕ) (sent : ℕ → List Event) (taken : List Event) (pass k : ℕ) (v u : KnownOfPass) (x : Event) → v.role ≡ role_of_event x → v.role ≢ 3 → k ≢ pass
     → Fits seat sent taken pass v → Fits seat sent taken k u → Fits seat (more sent x) taken k u
 other_fits seat sent taken pass k v u x role n3 apart f g =
     let seated = f.seated n3 in
@@ -161,9 +161,9 @@ orderly_more false xs x o e = o
 one_more : (items : List Event) (x : Event) (cap : ℕ) → cap ≡ CHANNEL_ROOM → length items < cap → length (items ++ x ∷ []) ≤ CHANNEL_ROOM
 one_more items x cap e short = let l = length-append items (x ∷ []) in omega arith
 
-pub puts : (cap pass : ℕ) (v : Known) (x : Event) → cap ≡ CHANNEL_ROOM → v.role ≡ role_of_event x → v.role ≢ 3 → v.role ≢ 0 → ended v.sent ≡ false → is_good x ≡ true → Pushes Delivers cap pass v x (Adds v x)
+pub puts : (cap pass : ℕ) (v : KnownOfPass) (x : Event) → cap ≡ CHANNEL_ROOM → v.role ≡ role_of_event x → v.role ≢ 3 → v.role ≢ 0 → ended v.sent ≡ false → is_good x ≡ true → Pushes Delivers cap pass v x (Adds v x)
 puts cap pass v x full role n3 n0 on good items views short d at =
-    let w : Known = record v { sent = v.sent ++ x ∷ [] } in
+    let w : KnownOfPass = record v { sent = v.sent ++ x ∷ [] } in
     let mine = d.fits pass v at in (
       w,
       record {
@@ -175,7 +175,7 @@ puts cap pass v x full role n3 n0 on good items views short d at =
         orderly = λ r. orderly_more (is_of r x) (d.sent r) x (d.orderly r) (λ is. ap ended (ap d.sent (sym (is_own x r is) ∙ sym role) ∙ sym (mine.sends n3 n0)) ∙ on);
         good = subst AllGood (append_assoc d.taken items (x ∷ [])) (all_snoc (d.taken ++ items) x d.good (good, λ e. n3 (role ∙ e)));
         fits = λ k u there. elim (at_set views pass k w u there) [
-          | inl same ↦ subst (λ (h : Known). Fits d.seat (more d.sent x) d.taken k h) same.1
+          | inl same ↦ subst (λ (h : KnownOfPass). Fits d.seat (more d.sent x) d.taken k h) same.1
               (subst (λ (i : ℕ). Fits d.seat (more d.sent x) d.taken i w) (sym same.0) (own_fits d.seat d.sent d.taken pass v x role n3 n0 mine))
           | inr else ↦ other_fits d.seat d.sent d.taken pass k v u x role n3 else.0 mine (d.fits k u else.1)
         ];
@@ -189,12 +189,12 @@ next_of taken items x =
     of-append (role_of_event x) taken (x ∷ items)
     ∙ ap (λ b. of (role_of_event x) taken ++ cond b (x ∷ of (role_of_event x) items) (of (role_of_event x) items)) (own x)
 
-taker_apart : (v : Known) → v.role ≡ 0 → v.role ≢ 3
+taker_apart : (v : KnownOfPass) → v.role ≡ 0 → v.role ≢ 3
 taker_apart v z e = omega arith
 
-pub takes : (pass : ℕ) (v : Known) → v.role ≡ 0 → Pops Delivers pass v (Gets v)
+pub takes : (pass : ℕ) (v : KnownOfPass) → v.role ≡ 0 → Pops Delivers pass v (Gets v)
 takes pass v zero' x items views d at =
-    let w : Known = record v { taken = v.taken ++ x ∷ [] } in
+    let w : KnownOfPass = record v { taken = v.taken ++ x ∷ [] } in
     let mine = d.fits pass v at in
     let r = role_of_event x in
     let order : Orderly (of r d.taken ++ x ∷ of r items) = subst Orderly (sym (d.each r) ∙ next_of d.taken items x) (d.orderly r) in
@@ -209,7 +209,7 @@ takes pass v zero' x items views d at =
         orderly = d.orderly;
         good = subst AllGood (sym (append_assoc d.taken (x ∷ []) items)) d.good;
         fits = λ k u there. elim (at_set views pass k w u there) [
-          | inl same ↦ subst (λ (h : Known). Fits d.seat d.sent (d.taken ++ x ∷ []) k h) same.1
+          | inl same ↦ subst (λ (h : KnownOfPass). Fits d.seat d.sent (d.taken ++ x ∷ []) k h) same.1
               (record {
                 seated = λ n. mine.seated n ∙ ap some (sym same.0);
                 sends = λ a b. absurd (b zero');
@@ -242,9 +242,9 @@ seat_here seat r o k e = let h : (k == r) ≡ true = grind (arith, nat_tests) in
 seat_else : (seat : ℕ → Option ℕ) (r : ℕ) (o : Option ℕ) (k : ℕ) → k ≢ r → seat_at seat r o k ≡ seat k
 seat_else seat r o k n = let h : (k == r) ≡ false = grind (arith, nat_tests) in ap (λ b. cond b o (seat k)) h
 
-pub forks : (role pass : ℕ) (v : Known) → v.role ≡ 0 → v.made + 1 ≡ role → role < 3 → v.joined ≡ 0 → Forks Delivers pass v (record v { made = role }) (sender role)
+pub forks : (role pass : ℕ) (v : KnownOfPass) → v.role ≡ 0 → v.made + 1 ≡ role → role < 3 → v.joined ≡ 0 → Forks Delivers pass v (record v { made = role }) (sender role)
 forks role pass v zero' made low joined items views d at =
-    let left : Known = record v { made = role } in
+    let left : KnownOfPass = record v { made = role } in
     let vs = slice_set views pass left in
     let mine = d.fits pass v at in
     let free = mine.spare zero' role (omega arith) (λ e. omega arith) in
@@ -260,7 +260,7 @@ forks role pass v zero' made low joined items views d at =
       good = d.good;
       fits = λ k u there. elim (at_end vs (sender role) u k there) [
         | inl old ↦ elim (at_set views pass k left u old) [
-          | inl same ↦ subst (λ (h : Known). Fits seat d.sent d.taken k h) same.1
+          | inl same ↦ subst (λ (h : KnownOfPass). Fits seat d.sent d.taken k h) same.1
               (record {
                 seated = λ n. seat_else d.seat role (some (length vs)) v.role (not_role v.role pass (mine.seated n)) ∙ mine.seated n ∙ ap some (sym same.0);
                 sends = λ a b. absurd (b zero');
@@ -281,7 +281,7 @@ forks role pass v zero' made low joined items views d at =
                 second = λ z. absurd (no_taker z);
               }
         ]
-        | inr new ↦ subst (λ (h : Known). Fits seat d.sent d.taken k h) new.0
+        | inr new ↦ subst (λ (h : KnownOfPass). Fits seat d.sent d.taken k h) new.0
             (record {
               seated = λ n. seat_here d.seat role (some (length vs)) role refl ∙ ap some (sym new.1);
               sends = λ a b. sym free.1;
@@ -294,7 +294,7 @@ forks role pass v zero' made low joined items views d at =
     }
 
 -- how the taker's view changes when a sender is taken in
-module _ (role pass : ℕ) (v : Known) (from : ℕ) (w both : Known) (zero' : v.role ≡ 0) (made : v.made ≡ 2) (mine_role : w.role ≡ role) (low : role < 3) (some' : 0 < role)
+module _ (role pass : ℕ) (v : KnownOfPass) (from : ℕ) (w both : KnownOfPass) (zero' : v.role ≡ 0) (made : v.made ≡ 2) (mine_role : w.role ≡ role) (low : role < 3) (some' : 0 < role)
     (same_role : both.role ≡ v.role) (same_made : both.made ≡ v.made) (same_taken : both.taken ≡ v.taken) where
   pub merges : ((seat : ℕ → Option ℕ) (sent : ℕ → List Event) → (0 < v.joined → (seat 1 ≡ none) × (v.first ≡ sent 1)) → (1 < v.joined → (seat 2 ≡ none) × (v.second ≡ sent 2)) → w.sent ≡ sent role
       → (0 < both.joined → (seat_at seat role none 1 ≡ none) × (both.first ≡ sent 1)) × (1 < both.joined → (seat_at seat role none 2 ≡ none) × (both.second ≡ sent 2)))
@@ -317,7 +317,7 @@ module _ (role pass : ℕ) (v : Known) (from : ℕ) (w both : Known) (zero' : v.
         orderly = d.orderly;
         good = d.good;
         fits = λ k u there. elim (at_set vs from k (sender 3) u there) [
-          | inl same ↦ subst (λ (h : Known). Fits seat d.sent d.taken k h) same.1
+          | inl same ↦ subst (λ (h : KnownOfPass). Fits seat d.sent d.taken k h) same.1
               (record {
                 seated = λ n. absurd (n refl);
                 sends = λ n. absurd (n refl);
@@ -327,7 +327,7 @@ module _ (role pass : ℕ) (v : Known) (from : ℕ) (w both : Known) (zero' : v.
                 second = λ z. absurd (omega arith);
               })
           | inr else ↦ elim (at_set views pass k both u else.1) [
-            | inl same ↦ subst (λ (h : Known). Fits seat d.sent d.taken k h) same.1
+            | inl same ↦ subst (λ (h : KnownOfPass). Fits seat d.sent d.taken k h) same.1
                 (record {
                   seated = λ n. seat_else d.seat role none both.role (λ e. omega arith) ∙ ap d.seat same_role ∙ mine.seated (taker_apart v zero') ∙ ap some (sym same.0);
                   sends = λ a b. absurd (b (same_role ∙ zero'));
@@ -352,17 +352,17 @@ module _ (role pass : ℕ) (v : Known) (from : ℕ) (w both : Known) (zero' : v.
         ];
       }
 
-pub merges_first : (pass : ℕ) (v : Known) (from : ℕ) (w : Known) → v.role ≡ 0 → v.made ≡ 2 → v.joined ≡ 0 → w.role ≡ 1 → Merges Delivers pass v from w (joined_first v w) (sender 3)
+pub merges_first : (pass : ℕ) (v : KnownOfPass) (from : ℕ) (w : KnownOfPass) → v.role ≡ 0 → v.made ≡ 2 → v.joined ≡ 0 → w.role ≡ 1 → Merges Delivers pass v from w (joined_first v w) (sender 3)
 merges_first pass v from w zero' made joined role =
     merges 1 pass v from w (joined_first v w) zero' made role (omega arith) (omega arith) refl refl refl
     (λ seat sent f s e. ((λ _. (refl, e)), λ j. absurd (omega arith)))
 
-pub merges_second : (pass : ℕ) (v : Known) (from : ℕ) (w : Known) → v.role ≡ 0 → v.made ≡ 2 → v.joined ≡ 1 → w.role ≡ 2 → Merges Delivers pass v from w (joined_second v w) (sender 3)
+pub merges_second : (pass : ℕ) (v : KnownOfPass) (from : ℕ) (w : KnownOfPass) → v.role ≡ 0 → v.made ≡ 2 → v.joined ≡ 1 → w.role ≡ 2 → Merges Delivers pass v from w (joined_second v w) (sender 3)
 merges_second pass v from w zero' made joined role =
     merges 2 pass v from w (joined_second v w) zero' made role (omega arith) (omega arith) refl refl refl
     (λ seat sent f s e. ((λ _. f (omega arith)), λ j. (refl, e)))
 
-pub totals : (pass : ℕ) (v : Known) → v.role ≡ 0 → v.joined ≡ 2 → Learns Delivers pass v (Total v)
+pub totals : (pass : ℕ) (v : KnownOfPass) → v.role ≡ 0 → v.joined ≡ 2 → Learns Delivers pass v (Total v)
 totals pass v zero' joined items views d at =
     let mine = d.fits pass v at in
     let one = mine.first zero' (omega arith) in
@@ -380,16 +380,16 @@ came p taken items sent e o =
     let front = sym e ∙ of-append (role_of p) taken items in
     record { left = of (role_of p) items; front = front; whole = orderly_after (of (role_of p) taken) (of (role_of p) items) (subst Orderly front o) }
 
-pub came_first : (v a b x y : Known) → a ≡ joined_first v x → b ≡ joined_second a y → (items : List Event) → Total b items → Came peers.Iface v.taken x.sent
+pub came_first : (v a b x y : KnownOfPass) → a ≡ joined_first v x → b ≡ joined_second a y → (items : List Event) → Total b items → Came peers.Iface v.taken x.sent
 came_first v a b x y e f items t =
-    let taken : b.taken ≡ v.taken = ap (λ (h : Known). h.taken) f ∙ ap (λ (h : Known). h.taken) e in
-    let first : b.first ≡ x.sent = ap (λ (h : Known). h.first) f ∙ ap (λ (h : Known). h.first) e in
+    let taken : b.taken ≡ v.taken = ap (λ (h : KnownOfPass). h.taken) f ∙ ap (λ (h : KnownOfPass). h.taken) e in
+    let first : b.first ≡ x.sent = ap (λ (h : KnownOfPass). h.first) f ∙ ap (λ (h : KnownOfPass). h.first) e in
     came peers.Iface v.taken items x.sent (ap (λ l. of 1 (l ++ items)) (sym taken) ∙ t.first ∙ first) (subst Orderly first t.first_orderly)
 
-pub came_second : (v a b x y : Known) → a ≡ joined_first v x → b ≡ joined_second a y → (items : List Event) → Total b items → Came peers.Engine v.taken y.sent
+pub came_second : (v a b x y : KnownOfPass) → a ≡ joined_first v x → b ≡ joined_second a y → (items : List Event) → Total b items → Came peers.Engine v.taken y.sent
 came_second v a b x y e f items t =
-    let taken : b.taken ≡ v.taken = ap (λ (h : Known). h.taken) f ∙ ap (λ (h : Known). h.taken) e in
-    let second : b.second ≡ y.sent = ap (λ (h : Known). h.second) f in
+    let taken : b.taken ≡ v.taken = ap (λ (h : KnownOfPass). h.taken) f ∙ ap (λ (h : KnownOfPass). h.taken) e in
+    let second : b.second ≡ y.sent = ap (λ (h : KnownOfPass). h.second) f in
     came peers.Engine v.taken items y.sent (ap (λ l. of 2 (l ++ items)) (sym taken) ∙ t.second ∙ second) (subst Orderly second t.second_orderly)
 
 -- an event counts for one role at most
@@ -415,15 +415,15 @@ within taken items first second e f room =
     let two = ap length f in
     omega arith
 
-pub came_within : (v a b x y : Known) → a ≡ joined_first v x → b ≡ joined_second a y → (items : List Event) → Total b items
+pub came_within : (v a b x y : KnownOfPass) → a ≡ joined_first v x → b ≡ joined_second a y → (items : List Event) → Total b items
     → length x.sent + length y.sent ≤ length v.taken + CHANNEL_ROOM
 came_within v a b x y e f items t =
-    let taken : b.taken ≡ v.taken = ap (λ (h : Known). h.taken) f ∙ ap (λ (h : Known). h.taken) e in
-    let first : b.first ≡ x.sent = ap (λ (h : Known). h.first) f ∙ ap (λ (h : Known). h.first) e in
-    let second : b.second ≡ y.sent = ap (λ (h : Known). h.second) f in
+    let taken : b.taken ≡ v.taken = ap (λ (h : KnownOfPass). h.taken) f ∙ ap (λ (h : KnownOfPass). h.taken) e in
+    let first : b.first ≡ x.sent = ap (λ (h : KnownOfPass). h.first) f ∙ ap (λ (h : KnownOfPass). h.first) e in
+    let second : b.second ≡ y.sent = ap (λ (h : KnownOfPass). h.second) f in
     within v.taken items x.sent y.sent (ap (λ l. of 1 (l ++ items)) (sym taken) ∙ t.first ∙ first) (ap (λ l. of 2 (l ++ items)) (sym taken) ∙ t.second ∙ second) t.room
 
-pub sent_role : (p : Peer) (w : What) → role_of_event (sent_event p w) ≡ role_of p
+pub sent_role : (p : Peer) (w : MessageBody) → role_of_event (sent_event p w) ≡ role_of p
 sent_role peers.Iface (says.Line line) = refl
 sent_role peers.Iface says.Long = refl
 sent_role peers.Iface says.End = refl

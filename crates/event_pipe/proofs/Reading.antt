@@ -19,9 +19,9 @@ use Rattle.line_io.specs.declared.faults.ReadFault.{ReadFault}
 use Rattle.line_io.proofs.Calls.{over_now}
 use Rattle.event_pipe.specs.declared.message.Peer.{Peer}
 use Rattle.event_pipe.specs.declared.message.Peer.TheVariants as peers
-use Rattle.event_pipe.specs.declared.message.What.TheVariants as says
-use Rattle.event_pipe.specs.declared.reader.Turn.{Turn}
-use Rattle.event_pipe.specs.declared.reader.Turn.TheVariants as turns
+use Rattle.event_pipe.specs.declared.message.MessageBody.TheVariants as says
+use Rattle.event_pipe.specs.declared.reader.ReaderTurn.{ReaderTurn}
+use Rattle.event_pipe.specs.declared.reader.ReaderTurn.TheVariants as turns
 use Rattle.event_pipe.specs.declared.reader.ReadEnd.TheVariants as read_ends
 use Rattle.event_pipe.specs.Counts.{Tells}
 use Rattle.event_pipe.specs.Message.{sent_event, is_end, is_good}
@@ -130,10 +130,10 @@ told_ok a b (Ok v) w e h = record { later = h.later; rose = λ x. cc; same = λ 
 told_ok a b (Err x) w e h = cc
 
 module _ (p : Peer) (old new : Held) (s0 so sn : Supplied) (before now : List Event) (h : Heard p old s0 so before) where
-  all_got : (t : Turn) (g : Goes p old new so sn before now t) → Reads s0 sn (h.got ++ g.got)
+  all_got : (t : ReaderTurn) (g : Goes p old new so sn before now t) → Reads s0 sn (h.got ++ g.got)
   all_got t g = record { given = Appends-trans s0.given so.given sn.given _ _ h.reads.given g.reads.given; left = Consumes-trans s0.left so.left sn.left _ _ h.reads.left g.reads.left }
 
-  end_after : (t : Turn) (g : Goes p old new so sn before now t) → new.ended ≡ true → IfSome s0.left (λ _. IsAtEnd sn.left)
+  end_after : (t : ReaderTurn) (g : Goes p old new so sn before now t) → new.ended ≡ true → IfSome s0.left (λ _. IsAtEnd sn.left)
   end_after t g e = at_end_after old.ended old new s0.left so.left sn.left h.got g.got refl h.reads.left g.reads.left h.at_end (λ o. g.call.advances.idle (inr o)) g.ends_at e
 
   -- its side has ended where its last event is an end
@@ -247,9 +247,9 @@ arrived_none p s now e = record {
   count = record { later = omega arith; rose = λ x. cc; same = λ _. refl };
 }
 
-pub goes_as : (p p' : Peer) (old new : Held) (so sn : Supplied) (before now : List Event) (t t' : Turn) → p ≡ p' → t ≡ t' → Goes p old new so sn before now t → Goes p' old new so sn before now t'
+pub goes_as : (p p' : Peer) (old new : Held) (so sn : Supplied) (before now : List Event) (t t' : ReaderTurn) → p ≡ p' → t ≡ t' → Goes p old new so sn before now t → Goes p' old new so sn before now t'
 goes_as p p' old new so sn before now t t' e f g =
-    subst (λ (x : Turn). Goes p' old new so sn before now x) f (subst (λ (x : Peer). Goes x old new so sn before now t) e g)
+    subst (λ (x : ReaderTurn). Goes p' old new so sn before now x) f (subst (λ (x : Peer). Goes x old new so sn before now t) e g)
 
 -- a line that was read
 module _ (p : Peer) (old new : Held) (so sn : Supplied) (before now : List Event) (r : Result Item ReadFault) (item : Item) (line : List ℕ) (is : r ≡ Ok item) (gave : outcome (Ok item) ≡ Gave (Whole line)) (on : IsTrue (goes_on (Ok item)))

@@ -10,9 +10,9 @@ use Rattle.line_io.specs.Runs.{Runs, Call, goes_on, pieces_of, whole}
 use Rattle.line_io.specs.declared.lines.Item.{Item}
 use Rattle.line_io.specs.declared.faults.ReadFault.{ReadFault}
 use Rattle.event_pipe.specs.declared.message.Peer.{Peer}
-use Rattle.event_pipe.specs.declared.message.What.TheVariants as says
-use Rattle.event_pipe.specs.declared.reader.Turn.{Turn}
-use Rattle.event_pipe.specs.declared.reader.Turn.TheVariants as turns
+use Rattle.event_pipe.specs.declared.message.MessageBody.TheVariants as says
+use Rattle.event_pipe.specs.declared.reader.ReaderTurn.{ReaderTurn}
+use Rattle.event_pipe.specs.declared.reader.ReaderTurn.TheVariants as turns
 use Rattle.event_pipe.specs.declared.reader.ReadEnd.{ReadEnd}
 use Rattle.event_pipe.specs.declared.reader.ReadEnd.TheVariants as read_ends
 use Rattle.event_pipe.specs.Counts.{Tells}
@@ -78,19 +78,19 @@ pub record Arrived (p : Peer) (before after : Supplied) (sent : List Event) (r :
   pub count : Tells before.faults after.faults (failed r)
 
 -- what a turn has sent, if the call of the reader of lines answered this
-abbrev pub Sends : Peer → Result Item ReadFault → List Event → List Event → Turn → Type 0
+abbrev pub Sends : Peer → Result Item ReadFault → List Event → List Event → ReaderTurn → Type 0
 Sends p r before now turns.More = IsTrue (goes_on r) × (now ≡ before ++ piece_events p (pieces_of (outcome r))) × (ended (piece_events p (pieces_of (outcome r))) ≡ false)
 Sends p r before now turns.Done = IsTrue (is_end_answer r) × (now ≡ before ++ last_event p ∷ [])
 Sends p r before now turns.Quit = (piece : Piece) × (outcome r ≡ Gave piece) × (is_end (piece_event p piece) ≡ true) × IsTrue (goes_on r) × (now ≡ before ++ piece_event p piece ∷ [])
 Sends p r before now turns.Fault = IsErr r × (now ≡ before ++ last_event p ∷ [])
 Sends p r before now turns.NoMemory = IsTrue (goes_on r) × (now ≡ before ++ last_event p ∷ [])
 
-abbrev pub is_fault : Turn → Bool
+abbrev pub is_fault : ReaderTurn → Bool
 is_fault turns.Fault = true
 is_fault t = false
 
 -- what one turn of a reader did
-pub record Goes (p : Peer) (old new : Held) (before after : Supplied) (sent now : List Event) (turn : Turn) : Type 0 where
+pub record Goes (p : Peer) (old new : Held) (before after : Supplied) (sent now : List Event) (turn : ReaderTurn) : Type 0 where
   pub got : List ℕ
   pub reads : Reads before after got
   pub result : Result Item ReadFault

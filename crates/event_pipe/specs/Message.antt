@@ -4,10 +4,10 @@ use Rattle.line_io.specs.Event.{Event, Iface, IfaceLong, IfaceEnd, Engine, Engin
 use Rattle.cecp_lines.specs.Quit.{is_quit}
 use Rattle.event_pipe.specs.declared.message.Peer.{Peer}
 use Rattle.event_pipe.specs.declared.message.Peer.TheVariants as peers
-use Rattle.event_pipe.specs.declared.message.What.{What}
-use Rattle.event_pipe.specs.declared.message.What.TheVariants as says
+use Rattle.event_pipe.specs.declared.message.MessageBody.{MessageBody}
+use Rattle.event_pipe.specs.declared.message.MessageBody.TheVariants as says
 
-abbrev pub sent_event : Peer → What → Event
+abbrev pub sent_event : Peer → MessageBody → Event
 sent_event peers.Iface (says.Line line) = Iface line
 sent_event peers.Iface says.Long = IfaceLong
 sent_event peers.Iface says.End = IfaceEnd

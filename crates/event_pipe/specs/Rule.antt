@@ -4,7 +4,7 @@ use Rattle.std.specs.List.{list_any}
 use mathlib.Core.Option.{Option, some, none}
 use lib.ListN.{get_elem?}
 use Rattle.line_io.specs.Event.{Event}
-use Rattle.event_pipe.specs.declared.pipe.Known.{Known}
+use Rattle.event_pipe.specs.declared.pipe.KnownOfPass.{KnownOfPass}
 use Rattle.event_pipe.specs.declared.pipe.TheConstants.{CHANNEL_ROOM}
 use Rattle.event_pipe.specs.declared.message.Peer.{Peer}
 use Rattle.event_pipe.specs.Message.{role_of, role_of_event, is_end, is_good}
@@ -34,15 +34,15 @@ abbrev pub AllGood : List Event → Type 0
 AllGood [] = Unit {0}
 AllGood (e ∷ es) = ((is_good e ≡ true) × (role_of_event e ≢ 3)) × AllGood es
 
-abbrev pub known : ℕ → ℕ → ℕ → List Event → List Event → List Event → List Event → Known
+abbrev pub known : ℕ → ℕ → ℕ → List Event → List Event → List Event → List Event → KnownOfPass
 known role made joined sent taken first second = record { role = role; made = made; joined = joined; sent = sent; taken = taken; first = first; second = second }
 
 -- a pass that knows nothing yet, of the taker
-abbrev pub idle : Known
+abbrev pub idle : KnownOfPass
 idle = known 0 0 0 [] [] [] []
 
 -- a send adds the event to what its sender has sent, and changes nothing else
-abbrev pub Adds : Known → Event → Known → Type 0
+abbrev pub Adds : KnownOfPass → Event → KnownOfPass → Type 0
 Adds v x w = w ≡ record v { sent = v.sent ++ x ∷ [] }
 
 -- after what was taken it may come: its side has not ended, and its line is within the limit
@@ -50,11 +50,11 @@ abbrev pub Follows : List Event → Event → Type 0
 Follows taken x = (ended (of (role_of_event x) taken) ≡ false) × (is_good x ≡ true) × (role_of_event x ≢ 3)
 
 -- a receive adds the event to what was taken, and changes nothing else
-abbrev pub Gets : Known → Event → Known → Type 0
+abbrev pub Gets : KnownOfPass → Event → KnownOfPass → Type 0
 Gets v x w = (w ≡ record v { taken = v.taken ++ x ∷ [] }) × Follows v.taken x
 
 -- each role has one pass, which knows what was sent, or taken
-pub record Fits (seat : ℕ → Option ℕ) (sent : ℕ → List Event) (taken : List Event) (pass : ℕ) (v : Known) : Type 0 where
+pub record Fits (seat : ℕ → Option ℕ) (sent : ℕ → List Event) (taken : List Event) (pass : ℕ) (v : KnownOfPass) : Type 0 where
   pub seated : v.role ≢ 3 → seat v.role ≡ some pass
   pub sends : v.role ≢ 3 → v.role ≢ 0 → v.sent ≡ sent v.role
   pub takes : v.role ≡ 0 → v.taken ≡ taken
@@ -65,7 +65,7 @@ pub record Fits (seat : ℕ → Option ℕ) (sent : ℕ → List Event) (taken :
   pub second : v.role ≡ 0 → 1 < v.joined → (seat 2 ≡ none) × (v.second ≡ sent 2)
 
 -- The rule, if the channel holds these events and the passes know this.
-pub record Delivers (items : List Event) (views : List Known) : Type 0 where
+pub record Delivers (items : List Event) (views : List KnownOfPass) : Type 0 where
   pub seat : ℕ → Option ℕ
   pub sent : ℕ → List Event
   pub taken : List Event
@@ -77,27 +77,27 @@ pub record Delivers (items : List Event) (views : List Known) : Type 0 where
   pub orderly : (role : ℕ) → Orderly (sent role)
   -- each line is within the limit, and has no line feed
   pub good : AllGood (taken ++ items)
-  pub fits : (pass : ℕ) (v : Known) → get_elem? views pass ≡ some v → Fits seat sent taken pass v
+  pub fits : (pass : ℕ) (v : KnownOfPass) → get_elem? views pass ≡ some v → Fits seat sent taken pass v
 
 -- what the taker learns when both senders were taken in
-pub record Total (v : Known) (items : List Event) : Type 0 where
+pub record Total (v : KnownOfPass) (items : List Event) : Type 0 where
   pub first : of 1 (v.taken ++ items) ≡ v.first
   pub second : of 2 (v.taken ++ items) ≡ v.second
   pub room : length items ≤ CHANNEL_ROOM
   pub first_orderly : Orderly v.first
   pub second_orderly : Orderly v.second
 
-abbrev pub made_first : Known → Known
+abbrev pub made_first : KnownOfPass → KnownOfPass
 made_first v = record v { made = 1 }
 
-abbrev pub made_second : Known → Known
+abbrev pub made_second : KnownOfPass → KnownOfPass
 made_second v = record v { made = 2 }
 
-abbrev pub sender : ℕ → Known
+abbrev pub sender : ℕ → KnownOfPass
 sender role = known role 0 0 [] [] [] []
 
-abbrev pub joined_first : Known → Known → Known
+abbrev pub joined_first : KnownOfPass → KnownOfPass → KnownOfPass
 joined_first v w = record v { joined = 1; first = w.sent }
 
-abbrev pub joined_second : Known → Known → Known
+abbrev pub joined_second : KnownOfPass → KnownOfPass → KnownOfPass
 joined_second v w = record v { joined = 2; second = w.sent }

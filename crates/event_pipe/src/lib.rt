@@ -8,9 +8,9 @@ mod pipe;
 mod reader;
 
 pub use beside::join_three;
-pub use message::{Bytes, Peer, Sent, What};
+pub use message::{Bytes, MessageBody, Peer, Sent};
 pub use pipe::{
-    AllSent, CHANNEL_ROOM, InOrder, JoinEngine, JoinIface, Known, Pipe, PipeSend, PipeTake,
+    AllSent, CHANNEL_ROOM, InOrder, JoinEngine, JoinIface, KnownOfPass, Pipe, PipeSend, PipeTake,
     Sending, SplitEngine, SplitIface, Taking,
 };
 pub use reader::{ReadEnd, read_pipe};

@@ -7,7 +7,7 @@ ghost use Rattle.event_pipe.specs.Rule.{Adds, Gets, ended, Follows};
 ghost use Rattle.event_pipe.specs.Ends.{IsSender, IsTaker, IsFreshSender, IsFreshTaker, KeepsSender, KeepsTaker, AreOne, AreWithinRoom, Came, sent, taken};
 ghost use Rattle.event_pipe.specs.declared.message.Peer.TheVariants as peers;
 
-use crate::{Peer, Sent, What};
+use crate::{MessageBody, Peer, Sent};
 use crossbeam_channel::protocol::{Join, Lesson, Outcome, Protocol, Split};
 use crossbeam_channel::{Pass, RuledReceiver, RuledSender, bounded_with};
 use line_io::NoMemory;
@@ -20,7 +20,7 @@ use std::thread;
 pub const CHANNEL_ROOM: usize = 64;
 
 /// What a pass knows. Contracts speak of it; no value of it is made.
-pub struct Known {
+pub struct KnownOfPass {
     /// 0 of the taker, 1 of the interface's sender, 2 of the engine's, 3 of a pass that was joined.
     pub role: u8,
     /// Of the taker: how many senders it made.
@@ -40,7 +40,7 @@ pub struct Known {
 /// The rule of the channel: what each sender has sent comes in order, whole.
 pub struct InOrder;
 
-impl Protocol<Sent, Known> for InOrder {
+impl Protocol<Sent, KnownOfPass> for InOrder {
     ghost use Rattle.event_pipe.specs.Rule.{Delivers, idle};
 
     ghost holds = { Delivers };
@@ -51,13 +51,13 @@ impl Protocol<Sent, Known> for InOrder {
 /// A send, at the back.
 pub struct Sending;
 
-impl Outcome<Sent, Known> for Sending {
+impl Outcome<Sent, KnownOfPass> for Sending {
     ghost use Rattle.event_pipe.specs.Rule.{Adds};
 
     ghost then = { Adds };
 }
 
-impl Lesson<Sent, Known> for Sending {
+impl Lesson<Sent, KnownOfPass> for Sending {
     ghost use Rattle.std.specs.Prelude.{⊤};
 
     ghost fact = { λ v items. ⊤ };
@@ -66,13 +66,13 @@ impl Lesson<Sent, Known> for Sending {
 /// A receive, at the front.
 pub struct Taking;
 
-impl Outcome<Sent, Known> for Taking {
+impl Outcome<Sent, KnownOfPass> for Taking {
     ghost use Rattle.event_pipe.specs.Rule.{Gets};
 
     ghost then = { Gets };
 }
 
-impl Lesson<Sent, Known> for Taking {
+impl Lesson<Sent, KnownOfPass> for Taking {
     ghost use Rattle.std.specs.Prelude.{⊤};
 
     ghost fact = { λ v items. ⊤ };
@@ -81,7 +81,7 @@ impl Lesson<Sent, Known> for Taking {
 /// What the taker learns once both senders were taken in.
 pub struct AllSent;
 
-impl Lesson<Sent, Known> for AllSent {
+impl Lesson<Sent, KnownOfPass> for AllSent {
     ghost use Rattle.event_pipe.specs.Rule.{Total};
 
     ghost fact = { Total };
@@ -90,7 +90,7 @@ impl Lesson<Sent, Known> for AllSent {
 /// The interface's pass is made of the taker's.
 pub struct SplitIface;
 
-impl Split<Known> for SplitIface {
+impl Split<KnownOfPass> for SplitIface {
     ghost use Rattle.event_pipe.specs.Rule.{made_first, sender};
 
     ghost left = { made_first };
@@ -101,7 +101,7 @@ impl Split<Known> for SplitIface {
 /// The engine's pass is made of the taker's.
 pub struct SplitEngine;
 
-impl Split<Known> for SplitEngine {
+impl Split<KnownOfPass> for SplitEngine {
     ghost use Rattle.event_pipe.specs.Rule.{made_second, sender};
 
     ghost left = { made_second };
@@ -112,7 +112,7 @@ impl Split<Known> for SplitEngine {
 /// The interface's pass is joined to the taker's.
 pub struct JoinIface;
 
-impl Join<Known> for JoinIface {
+impl Join<KnownOfPass> for JoinIface {
     ghost use Rattle.event_pipe.specs.Rule.{joined_first, sender};
 
     ghost both = { joined_first };
@@ -123,7 +123,7 @@ impl Join<Known> for JoinIface {
 /// The engine's pass is joined to the taker's.
 pub struct JoinEngine;
 
-impl Join<Known> for JoinEngine {
+impl Join<KnownOfPass> for JoinEngine {
     ghost use Rattle.event_pipe.specs.Rule.{joined_second, sender};
 
     ghost both = { joined_second };
@@ -134,21 +134,21 @@ impl Join<Known> for JoinEngine {
 /// One peer's end of the channel: it sends that peer's lines.
 #[derive(Drop)]
 pub struct PipeSend {
-    sender: RuledSender<Sent, Known, InOrder>,
-    pass: Pass<Sent, Known>,
+    sender: RuledSender<Sent, KnownOfPass, InOrder>,
+    pass: Pass<Sent, KnownOfPass>,
     pub(crate) peer: Peer,
 }
 
 /// The end that takes what both peers' ends send.
 #[derive(Drop)]
 pub struct PipeTake {
-    receiver: RuledReceiver<Sent, Known, InOrder>,
-    pass: Pass<Sent, Known>,
+    receiver: RuledReceiver<Sent, KnownOfPass, InOrder>,
+    pass: Pass<Sent, KnownOfPass>,
 }
 
 impl PipeSend {
     /// Sending it at the back, under the sender's peer.
-    pub fn send<R: Wait>(&mut self, rt: &R, what: What)
+    pub fn send<R: Wait>(&mut self, rt: &R, what: MessageBody)
         requires sender { IsSender self.old }
         requires ended { ended (sent self.old) ≡ false }
         requires good { is_good (sent_event self.old.peer what) ≡ true }

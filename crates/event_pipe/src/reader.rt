@@ -5,9 +5,9 @@ ghost use Rattle.event_pipe.specs.Message.{sent_event, is_end};
 ghost use Rattle.event_pipe.specs.Rule.{ended};
 ghost use Rattle.event_pipe.specs.Ends.{IsSender, KeepsSender, sent};
 ghost use Rattle.event_pipe.specs.Arrivals.{line_limit, Goes, Arrived};
-ghost use Rattle.event_pipe.specs.declared.message.What.TheVariants as says;
+ghost use Rattle.event_pipe.specs.declared.message.MessageBody.TheVariants as says;
 
-use crate::{Bytes, Peer, PipeSend, What};
+use crate::{Bytes, MessageBody, Peer, PipeSend};
 use cecp_lines::is_quit;
 use line_io::{Item, Lines, PEER_LINE, ReadFault, Source, lines_of_all_calls};
 use std::alloc::Global;
@@ -26,7 +26,7 @@ pub enum ReadEnd {
 
 // What one turn came to.
 #[derive(Clone, Copy)]
-pub enum Turn {
+pub enum ReaderTurn {
     More,
     Done,
     Quit,
@@ -51,7 +51,7 @@ fn read_turn<S: Source, R: Wait>(
     lines: &mut Lines,
     source: &mut S,
     to: &mut PipeSend,
-) -> Turn
+) -> ReaderTurn
     requires sender { IsSender to.old }
     requires going { ended (sent to.old) ≡ false }
     requires limit { lines.old.limit ≡ line_limit }
@@ -61,29 +61,29 @@ fn read_turn<S: Source, R: Wait>(
 {
     match lines.next(source) {
         Err(_) => {
-            to.send(rt, What::End);
-            Turn::Fault
+            to.send(rt, MessageBody::End);
+            ReaderTurn::Fault
         }
-        Ok(Item::More) => Turn::More,
+        Ok(Item::More) => ReaderTurn::More,
         Ok(Item::End) => {
-            to.send(rt, What::End);
-            Turn::Done
+            to.send(rt, MessageBody::End);
+            ReaderTurn::Done
         }
         Ok(Item::Long) => {
-            to.send(rt, What::Long);
-            Turn::More
+            to.send(rt, MessageBody::Long);
+            ReaderTurn::More
         }
         Ok(Item::Line(line)) => {
             let Ok(bytes) = Bytes::make(alloc, line) else {
-                to.send(rt, What::End);
-                return Turn::NoMemory;
+                to.send(rt, MessageBody::End);
+                return ReaderTurn::NoMemory;
             };
             let last = is_last(to.peer, line);
-            to.send(rt, What::Line(bytes));
+            to.send(rt, MessageBody::Line(bytes));
             if last {
-                return Turn::Quit;
+                return ReaderTurn::Quit;
             }
-            Turn::More
+            ReaderTurn::More
         }
     }
 }
@@ -104,16 +104,16 @@ pub fn read_pipe<S: Source, R: Wait>(
 {
     lines_of_all_calls();
     let Ok(mut lines) = Lines::make(alloc, PEER_LINE) else {
-        to.send(rt, What::End);
+        to.send(rt, MessageBody::End);
         return ReadEnd::NoMemory;
     };
     for _ in rt.forever() {
         match read_turn(rt, alloc, &mut lines, source, to) {
-            Turn::More => {}
-            Turn::Done => return ReadEnd::Done,
-            Turn::Quit => return ReadEnd::Done,
-            Turn::Fault => return ReadEnd::Fault(ReadFault),
-            Turn::NoMemory => return ReadEnd::NoMemory,
+            ReaderTurn::More => {}
+            ReaderTurn::Done => return ReadEnd::Done,
+            ReaderTurn::Quit => return ReadEnd::Done,
+            ReaderTurn::Fault => return ReadEnd::Fault(ReadFault),
+            ReaderTurn::NoMemory => return ReadEnd::NoMemory,
         }
     }
     unreachable!()

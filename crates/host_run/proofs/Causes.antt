@@ -1,21 +1,21 @@
 -- What each status says.
 use Rattle.std.proofs.Common.{◌≡◌, ◌∙◌, ◌⊎◌, ℕ, Bool, true, false, if◌then◌else◌, nat_eq, refl, sym, ap, subst, inl, inr, Result, Err}
 use Rattle.host_run.specs.declared.failures.Failures.{Failures}
-use Rattle.host_run.specs.declared.ending.Ending.{Ending}
-use Rattle.host_run.specs.declared.ending.Ending.TheVariants as endings
+use Rattle.host_run.specs.declared.ending.ProgramEnding.{ProgramEnding}
+use Rattle.host_run.specs.declared.ending.ProgramEnding.TheVariants as endings
 use Rattle.host_run.specs.Early.{no_failure}
 use Rattle.host_run.specs.Endings.{ending_of, ending_for, code_of}
 use Rattle.host_run.specs.Outside.{Outside, AreTold, HaveNotRisen, AreAsBefore}
 use Rattle.host_run.specs.Program.{DoesNothing, RunEnds, Ends, StatusSays}
-use Rattle.program_words.specs.declared.refusal.Refusal.{Refusal}
-use Rattle.program_words.specs.declared.refusal.Refusal.TheVariants as refusals
+use Rattle.program_words.specs.declared.refusal.WordsRefusal.{WordsRefusal}
+use Rattle.program_words.specs.declared.refusal.WordsRefusal.TheVariants as refusals
 
 abbrev failures : Bool → Bool → Bool → Bool → Bool → Bool → Bool → Bool → Failures
 failures a b c d e f g h =
     record { memory = a; iface_read = b; iface_write = c; engine_read = d; engine_write = e; engine_start = f; log = g; engine_wait = h }
 
 -- the ending of a status
-abbrev ending_with : ℕ → Ending
+abbrev ending_with : ℕ → ProgramEnding
 ending_with n =
     (if nat_eq n 0 then endings.Done
     else (if nat_eq n 2 then endings.Usage
@@ -28,7 +28,7 @@ ending_with n =
     else (if nat_eq n 9 then endings.LogFailed
     else endings.EngineWaitFailed)))))))))
 
-with_code : (e : Ending) → ending_with (code_of e) ≡ e
+with_code : (e : ProgramEnding) → ending_with (code_of e) ≡ e
 with_code endings.Done = refl
 with_code endings.Usage = refl
 with_code endings.NoMemory = refl
@@ -40,11 +40,11 @@ with_code endings.EngineStartFailed = refl
 with_code endings.LogFailed = refl
 with_code endings.EngineWaitFailed = refl
 
-coded : (e : Ending) (n : ℕ) → code_of e ≡ n → e ≡ ending_with n
+coded : (e : ProgramEnding) (n : ℕ) → code_of e ≡ n → e ≡ ending_with n
 coded e n z = sym (with_code e) ∙ ap ending_with z
 
 -- whether the failure that an ending names is there
-abbrev is_there : Ending → Failures → Bool
+abbrev is_there : ProgramEnding → Failures → Bool
 is_there endings.Done f = true
 is_there endings.Usage f = false
 is_there endings.NoMemory f = f.memory
@@ -67,7 +67,7 @@ first_is_there false false false false false false true h = refl
 first_is_there false false false false false false false true = refl
 first_is_there false false false false false false false false = refl
 
-flag : (f : Failures) (e x : Ending) → e ≡ ending_of f → e ≡ x → is_there x f ≡ true
+flag : (f : Failures) (e x : ProgramEnding) → e ≡ ending_of f → e ≡ x → is_there x f ≡ true
 flag f e x first z =
     subst (λ y. is_there y f ≡ true) (sym first ∙ z) (first_is_there f.memory f.iface_read f.iface_write f.engine_read f.engine_write f.engine_start f.log f.engine_wait)
 
@@ -128,14 +128,14 @@ never_usage false false false false false false false true z = cc
 never_usage false false false false false false false false z = cc
 
 -- the words were refused, and nothing was done
-pub refused : {T : Type 0} (Taken : Type 0) (Left : Failures → Type 0) (before : Outside) (r : Refusal) (ending : Ending) → ending ≡ ending_for r
-    → (◌≡◌ {A = Result T Refusal} (Err r) (Err refusals.Usage) → Taken → ⊥) → Ends Taken Left before before ending
+pub refused : {T : Type 0} (Taken : Type 0) (Left : Failures → Type 0) (before : Outside) (r : WordsRefusal) (ending : ProgramEnding) → ending ≡ ending_for r
+    → (◌≡◌ {A = Result T WordsRefusal} (Err r) (Err refusals.Usage) → Taken → ⊥) → Ends Taken Left before before ending
 refused Taken Left before refusals.Usage ending e not =
     record { usage = λ u t. not refl t; refused = λ n. inl e; did = inl (record { same = refl; why = inl e }) }
 refused Taken Left before refusals.NoMemory ending e not =
     record { usage = λ u t. let z : endings.NoMemory ≡ endings.Usage = sym e ∙ u in cc; refused = λ n. inr e; did = inl (record { same = refl; why = inr e }) }
 
-module _ (Taken : Type 0) (Left : Failures → Type 0) (before after : Outside) (ending : Ending) where
+module _ (Taken : Type 0) (Left : Failures → Type 0) (before after : Outside) (ending : ProgramEnding) where
   -- a run was made, of words that were taken
   pub ran : Taken → RunEnds Left before after ending → Ends Taken Left before after ending
   ran taken run =
@@ -157,11 +157,11 @@ module _ (Taken : Type 0) (Left : Failures → Type 0) (before after : Outside) 
   either (inr run) u m r = r run
 
   -- an ending that is a failure, and no refusal
-  failed : {P : Type 0} (x : Ending) → ((endings.Usage ≡ x) → ⊥) → ((endings.NoMemory ≡ x) → ⊥) → Ends Taken Left before after ending → ending ≡ x
+  failed : {P : Type 0} (x : ProgramEnding) → ((endings.Usage ≡ x) → ⊥) → ((endings.NoMemory ≡ x) → ⊥) → Ends Taken Left before after ending → ending ≡ x
       → (RunEnds Left before after ending → P) → P
   failed x nu nm ends e r = either ends.did (λ u. absurd (nu (sym u ∙ e))) (λ m. absurd (nm (sym m ∙ e))) r
 
-  there : (x : Ending) (run : RunEnds Left before after ending) → ending ≡ x → is_there x run.failures ≡ true
+  there : (x : ProgramEnding) (run : RunEnds Left before after ending) → ending ≡ x → is_there x run.failures ≡ true
   there x run e = flag run.failures ending x run.first e
 
   coded_as : ((ending ≡ endings.Usage) ⊎ (ending ≡ endings.NoMemory)) → (code_of ending ≡ 2) ⊎ (code_of ending ≡ 3)
@@ -192,7 +192,7 @@ module _ (Taken : Type 0) (Left : Failures → Type 0) (before after : Outside) 
   complete ends t n =
       either ends.did (λ u. absurd (ends.usage u t)) (λ m. inr (ap code_of m))
       (λ r. let f = r.failures in
-      subst (λ (x : Ending). (code_of x ≡ 0) ⊎ (code_of x ≡ 3)) (sym r.first)
+      subst (λ (x : ProgramEnding). (code_of x ≡ 0) ⊎ (code_of x ≡ 3)) (sym r.first)
       (quiet before after f.memory f.iface_read f.iface_write f.engine_read f.engine_write f.engine_start f.log f.engine_wait r.told n))
 
   said : Ends Taken Left before after ending → StatusSays Taken before after (code_of ending)

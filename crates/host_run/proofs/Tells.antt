@@ -8,8 +8,8 @@ use Rattle.std.specs.Io.KnownBytes.{Appends}
 use Rattle.std.proofs.KnownBytes.{Appends-trans}
 use Rattle.line_io.specs.Causes.{HasCause, Rose}
 use Rattle.line_io.specs.Source.{Received, TakesPrefix}
-use Rattle.host_run.specs.declared.ending.Ending.{Ending}
-use Rattle.host_run.specs.declared.ending.Ending.TheVariants as endings
+use Rattle.host_run.specs.declared.ending.ProgramEnding.{ProgramEnding}
+use Rattle.host_run.specs.declared.ending.ProgramEnding.TheVariants as endings
 use Rattle.host_run.specs.Endings.{diagnostic, words_of}
 use Rattle.host_run.specs.Program.{IsToldTo}
 
@@ -43,7 +43,7 @@ told_both a b c xs ys (Ok x) s fine ok cause ok' err' cause' = behind a b c xs y
 told_both a b c xs ys (Err x) s fine ok cause ok' err' cause' = cc
 
 -- an ending that is a failure
-pub failing : (program : List ℕ) (e : Ending) → (e ≡ endings.Done → ⊥) → diagnostic program e ≡ program ++ words_of e
+pub failing : (program : List ℕ) (e : ProgramEnding) → (e ≡ endings.Done → ⊥) → diagnostic program e ≡ program ++ words_of e
 failing program endings.Done other = absurd (other refl)
 failing program endings.Usage other = refl
 failing program endings.NoMemory other = refl

@@ -1,14 +1,14 @@
 -- How a program ends, and how it reports so.
 use Rattle.std.specs.Prelude.{ℕ, List, [], ◌∷◌, ◌++◌, codes, if◌then◌else◌}
 use Rattle.host_run.specs.declared.failures.Failures.{Failures}
-use Rattle.host_run.specs.declared.ending.Ending.{Ending}
-use Rattle.host_run.specs.declared.ending.Ending.TheVariants as endings
+use Rattle.host_run.specs.declared.ending.ProgramEnding.{ProgramEnding}
+use Rattle.host_run.specs.declared.ending.ProgramEnding.TheVariants as endings
 use Rattle.line_io.specs.Lines.{line_feed}
-use Rattle.program_words.specs.declared.refusal.Refusal.{Refusal}
-use Rattle.program_words.specs.declared.refusal.Refusal.TheVariants as refusals
+use Rattle.program_words.specs.declared.refusal.WordsRefusal.{WordsRefusal}
+use Rattle.program_words.specs.declared.refusal.WordsRefusal.TheVariants as refusals
 
 -- the first of the failures
-abbrev pub ending_of : Failures → Ending
+abbrev pub ending_of : Failures → ProgramEnding
 ending_of f =
     if f.memory then endings.NoMemory
     else (if f.iface_read then endings.ReadingFailed
@@ -20,11 +20,11 @@ ending_of f =
     else (if f.engine_wait then endings.EngineWaitFailed else endings.Done)))))))
 
 -- the ending of words that are refused
-abbrev pub ending_for : Refusal → Ending
+abbrev pub ending_for : WordsRefusal → ProgramEnding
 ending_for refusals.Usage = endings.Usage
 ending_for refusals.NoMemory = endings.NoMemory
 
-abbrev pub code_of : Ending → ℕ
+abbrev pub code_of : ProgramEnding → ℕ
 code_of endings.Done = 0
 code_of endings.Usage = 2
 code_of endings.NoMemory = 3
@@ -40,7 +40,7 @@ code_of endings.EngineWaitFailed = 10
 abbrev pub behind_name : List ℕ → List ℕ
 behind_name text = codes ": " ++ text ++ line_feed ∷ []
 
-abbrev pub words_of : Ending → List ℕ
+abbrev pub words_of : ProgramEnding → List ℕ
 words_of endings.Done = []
 words_of endings.Usage = behind_name (codes "usage")
 words_of endings.NoMemory = behind_name (codes "no memory")
@@ -53,6 +53,6 @@ words_of endings.LogFailed = behind_name (codes "log failed")
 words_of endings.EngineWaitFailed = behind_name (codes "engine wait failed")
 
 -- one line that begins with the program's name, or nothing
-abbrev pub diagnostic : List ℕ → Ending → List ℕ
+abbrev pub diagnostic : List ℕ → ProgramEnding → List ℕ
 diagnostic program endings.Done = []
 diagnostic program ending = program ++ words_of ending

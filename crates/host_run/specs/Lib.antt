@@ -1,3 +1,4 @@
+pub mod Asked
 pub mod Early
 pub mod Endings
 pub mod Logs

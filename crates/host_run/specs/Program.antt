@@ -4,18 +4,18 @@ use Rattle.std.specs.Io.KnownBytes.{Appends}
 use Rattle.line_io.specs.Causes.{Rose}
 use Rattle.line_io.specs.Source.{Received, TakesPrefix}
 use Rattle.host_run.specs.declared.failures.Failures.{Failures}
-use Rattle.host_run.specs.declared.ending.Ending.{Ending}
-use Rattle.host_run.specs.declared.ending.Ending.TheVariants as endings
+use Rattle.host_run.specs.declared.ending.ProgramEnding.{ProgramEnding}
+use Rattle.host_run.specs.declared.ending.ProgramEnding.TheVariants as endings
 use Rattle.host_run.specs.Endings.{ending_of, code_of, diagnostic}
 use Rattle.host_run.specs.Outside.{Outside, AreTold, HaveNotRisen, AreAsBefore}
 
 -- Nothing was done: the words fit no command, or there was no memory for them.
-pub record DoesNothing (before after : Outside) (ending : Ending) : Type 0 where
+pub record DoesNothing (before after : Outside) (ending : ProgramEnding) : Type 0 where
   pub same : after ≡ before
   pub why : (ending ≡ endings.Usage) ⊎ (ending ≡ endings.NoMemory)
 
 -- A run was made that left this, whatever its failures; each failure is counted, and the first one is the ending.
-pub record RunEnds (Left : Failures → Type 0) (before after : Outside) (ending : Ending) : Type 0 where
+pub record RunEnds (Left : Failures → Type 0) (before after : Outside) (ending : ProgramEnding) : Type 0 where
   pub failures : Failures
   pub first : ending ≡ ending_of failures
   pub told : AreTold before after failures
@@ -23,7 +23,7 @@ pub record RunEnds (Left : Failures → Type 0) (before after : Outside) (ending
 
 -- How a program ends, of whose words it is said whether they are taken: it is `Usage` only if they are not, then nothing
 -- is done, and else a run is made that leaves what the words ask for.
-pub record Ends (Taken : Type 0) (Left : Failures → Type 0) (before after : Outside) (ending : Ending) : Type 0 where
+pub record Ends (Taken : Type 0) (Left : Failures → Type 0) (before after : Outside) (ending : ProgramEnding) : Type 0 where
   pub usage : ending ≡ endings.Usage → Taken → ⊥
   pub refused : (Taken → ⊥) → (ending ≡ endings.Usage) ⊎ (ending ≡ endings.NoMemory)
   pub did : DoesNothing before after ending ⊎ RunEnds Left before after ending
@@ -36,7 +36,7 @@ IsToldTo before after text =
 
 -- the program's status is that of how it ended, and the diagnostic reports it
 pub record Answers (program : List ℕ) (Taken : Type 0) (Left : Failures → Type 0) (before after : Outside) (diag diag' : Received) (code : ℕ) : Type 0 where
-  pub ending : Ending
+  pub ending : ProgramEnding
   pub ends : Ends Taken Left before after ending
   pub code_is : code ≡ code_of ending
   pub diagnosed : IsToldTo diag diag' (diagnostic program ending)

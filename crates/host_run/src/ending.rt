@@ -5,11 +5,11 @@ ghost use Rattle.host_run.specs.Program.{IsToldTo};
 
 use crate::Failures;
 use line_io::{Sink, write_all};
-use program_words::Refusal;
+use program_words::WordsRefusal;
 
 /// How a program ends. If several failures came, the one that stands first here is reported.
 #[derive(Clone, Copy)]
-pub enum Ending {
+pub enum ProgramEnding {
     Done,
     Usage,
     NoMemory,
@@ -22,29 +22,29 @@ pub enum Ending {
     EngineWaitFailed,
 }
 
-impl Ending {
+impl ProgramEnding {
     /// The first of the failures.
-    pub fn of(failures: Failures) -> Ending
+    pub fn of(failures: Failures) -> ProgramEnding
         ensures { result ≡ ending_of failures }
     {
         if failures.memory {
-            Ending::NoMemory
+            ProgramEnding::NoMemory
         } else if failures.iface_read {
-            Ending::ReadingFailed
+            ProgramEnding::ReadingFailed
         } else if failures.iface_write {
-            Ending::WritingFailed
+            ProgramEnding::WritingFailed
         } else if failures.engine_read {
-            Ending::EngineReadingFailed
+            ProgramEnding::EngineReadingFailed
         } else if failures.engine_write {
-            Ending::EngineWritingFailed
+            ProgramEnding::EngineWritingFailed
         } else if failures.engine_start {
-            Ending::EngineStartFailed
+            ProgramEnding::EngineStartFailed
         } else if failures.log {
-            Ending::LogFailed
+            ProgramEnding::LogFailed
         } else if failures.engine_wait {
-            Ending::EngineWaitFailed
+            ProgramEnding::EngineWaitFailed
         } else {
-            Ending::Done
+            ProgramEnding::Done
         }
     }
 
@@ -53,16 +53,16 @@ impl Ending {
         ensures { result ≡ code_of self }
     {
         match self {
-            Ending::Done => 0,
-            Ending::Usage => 2,
-            Ending::NoMemory => 3,
-            Ending::ReadingFailed => 4,
-            Ending::WritingFailed => 5,
-            Ending::EngineReadingFailed => 6,
-            Ending::EngineWritingFailed => 7,
-            Ending::EngineStartFailed => 8,
-            Ending::LogFailed => 9,
-            Ending::EngineWaitFailed => 10,
+            ProgramEnding::Done => 0,
+            ProgramEnding::Usage => 2,
+            ProgramEnding::NoMemory => 3,
+            ProgramEnding::ReadingFailed => 4,
+            ProgramEnding::WritingFailed => 5,
+            ProgramEnding::EngineReadingFailed => 6,
+            ProgramEnding::EngineWritingFailed => 7,
+            ProgramEnding::EngineStartFailed => 8,
+            ProgramEnding::LogFailed => 9,
+            ProgramEnding::EngineWaitFailed => 10,
         }
     }
 
@@ -71,41 +71,41 @@ impl Ending {
         ensures { result.now ≡ words_of self }
     {
         match self {
-            Ending::Done => b"",
-            Ending::Usage => b": usage\n",
-            Ending::NoMemory => b": no memory\n",
-            Ending::ReadingFailed => b": reading failed\n",
-            Ending::WritingFailed => b": writing failed\n",
-            Ending::EngineReadingFailed => b": engine reading failed\n",
-            Ending::EngineWritingFailed => b": engine writing failed\n",
-            Ending::EngineStartFailed => b": engine start failed\n",
-            Ending::LogFailed => b": log failed\n",
-            Ending::EngineWaitFailed => b": engine wait failed\n",
+            ProgramEnding::Done => b"",
+            ProgramEnding::Usage => b": usage\n",
+            ProgramEnding::NoMemory => b": no memory\n",
+            ProgramEnding::ReadingFailed => b": reading failed\n",
+            ProgramEnding::WritingFailed => b": writing failed\n",
+            ProgramEnding::EngineReadingFailed => b": engine reading failed\n",
+            ProgramEnding::EngineWritingFailed => b": engine writing failed\n",
+            ProgramEnding::EngineStartFailed => b": engine start failed\n",
+            ProgramEnding::LogFailed => b": log failed\n",
+            ProgramEnding::EngineWaitFailed => b": engine wait failed\n",
         }
     }
 }
 
 // How a program ends whose words are refused.
-impl From<Refusal> for Ending {
+impl From<WordsRefusal> for ProgramEnding {
     ghost use Rattle.std.specs.Prelude.{◌≡◌};
     ghost use Rattle.host_run.specs.Endings.{ending_for};
 
     ghost from_gives = { λ refusal ending. ending ≡ ending_for refusal };
 
-    fn from(refusal: Refusal) -> Self {
+    fn from(refusal: WordsRefusal) -> Self {
         match refusal {
-            Refusal::Usage => Ending::Usage,
-            Refusal::NoMemory => Ending::NoMemory,
+            WordsRefusal::Usage => ProgramEnding::Usage,
+            WordsRefusal::NoMemory => ProgramEnding::NoMemory,
         }
     }
 }
 
 /// Writes the diagnostic of an ending, one line that begins with the program's name. An ending without a failure
 /// has none. A diagnostic that cannot be written changes no status.
-pub fn tell<D: Sink>(program: &[u8], ending: Ending, diag: &mut D)
+pub fn tell<D: Sink>(program: &[u8], ending: ProgramEnding, diag: &mut D)
     ensures { IsToldTo (D.state diag.old) (D.state diag.new) (diagnostic program.now ending) }
 {
-    if let Ending::Done = ending {
+    if let ProgramEnding::Done = ending {
         return;
     }
     if write_all(diag, program).is_ok() {

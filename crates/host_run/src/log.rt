@@ -1,8 +1,10 @@
 // A log that may be missing.
 ghost use Rattle.std.specs.Prelude.{◌≡◌, ◌+◌, ◌++◌, length, true, None};
 ghost use Rattle.event_pipe.specs.Counts.{Tells};
+ghost use Rattle.child_engine.specs.Asked.{and_logs};
 ghost use Rattle.child_engine.specs.Hosts.{RisesBy};
 ghost use Rattle.sink_offers.specs.Streams.{log_state};
+ghost use Rattle.host_run.specs.Asked.{logs_asked_by};
 ghost use Rattle.host_run.specs.Logs.{log_count, fresh_log, logs_told, is_failed, is_no_memory};
 
 use child_engine::{Host, HostFault};
@@ -19,6 +21,8 @@ pub fn open_log<H: Host>(host: &mut H, alloc: Global, name: &str) -> Opened<H::L
     requires { (H.books host.old).logs_out ≡ 0 }
     ensures books { H.books host.new
         ≡ record (H.books host.old) { logs_out = log_count result.log } }
+    ensures asked { H.asked host.new
+        ≡ and_logs (logs_asked_by result.fault) name.now (H.asked host.old) }
     ensures fresh { log_state H.Log.state result.log
         ≡ fresh_log (H.books host.old).tells (log_count result.log) }
     ensures cause { Tells (H.faults host.old).logs (H.faults host.new).logs
@@ -45,6 +49,7 @@ pub fn close_log<H: Host>(host: &mut H, log: Option<H::Log>)
     requires { length (H.books host.old).logs + log_count log ≡ (H.books host.old).logs_out }
     ensures books { H.books host.new ≡ record (H.books host.old)
         { logs = (H.books host.old).logs ++ logs_told H.Log.state log } }
+    ensures asked { H.asked host.new ≡ H.asked host.old }
     ensures cause { RisesBy (log_state H.Log.state log).faults
         (H.faults host.old).logs (H.faults host.new).logs }
     ensures others { H.faults host.new

@@ -1,6 +1,8 @@
 // The start of an engine.
-ghost use Rattle.std.specs.Prelude.{◌≡◌, ◌<◌, length, IfOk, IfErr, OnOk, OnErr};
+ghost use Rattle.std.specs.Prelude.{◌≡◌, ◌<◌, length, map, string_bytes, IfOk, IfErr, OnOk, OnErr};
+ghost use Rattle.child_engine.specs.Asked.{and_engines};
 ghost use Rattle.child_engine.specs.Hosts.{IsUnused, fresh_source, fresh_sink, with_run};
+ghost use Rattle.host_run.specs.Asked.{engines_asked_by};
 ghost use Rattle.host_run.specs.Early.{AreEarly};
 
 use crate::{Failures, TriedThreads, only_memory, only_start};
@@ -14,16 +16,18 @@ pub fn start_engine<H: Host, R: Threads>(
     alloc: Global,
     words: &[String],
     host: &mut H,
-) -> Result<Started<H::Src, H::Snk, H::Kid>, Failures>
+) -> Result<Started<H::EngineSource, H::EngineSink, H::ChildProcess>, Failures>
     requires words { 0 < length words.now }
     requires unused { IsUnused (H.books host.old) }
     ensures source { IfOk result (λ run.
-        H.Src.state run.src ≡ fresh_source (H.books host.old).says) }
+        H.EngineSource.state run.src ≡ fresh_source (H.books host.old).says) }
     ensures sink { IfOk result (λ run.
-        H.Snk.state run.snk ≡ fresh_sink (H.books host.old).tells) }
+        H.EngineSink.state run.snk ≡ fresh_sink (H.books host.old).tells) }
     ensures books { OnOk result (H.books host.new ≡ with_run (H.books host.old)) }
     ensures faults { OnOk result (H.faults host.new ≡ H.faults host.old) }
     ensures unstarted { OnErr result (H.books host.new ≡ H.books host.old) }
+    ensures asked { H.asked host.new
+        ≡ and_engines (engines_asked_by result) (map string_bytes words.now) (H.asked host.old) }
     ensures early { IfErr result (AreEarly (H.faults host.old) (H.faults host.new)) }
 {
     let threads = TriedThreads::ask(rt);

@@ -7,6 +7,19 @@ use line_io::{Failed, MemSink};
 use std::alloc::Global;
 use std::sync::atomic::AtomicU64;
 
+// Whether the words are these texts.
+fn are_texts(words: &[String], texts: &[&str]) -> bool {
+    if words.len() != texts.len() {
+        return false;
+    }
+    for (word, text) in words.iter().zip(texts) {
+        if word.as_str() != *text {
+            return false;
+        }
+    }
+    true
+}
+
 /// A host in memory, whose engines' reads wait for the log, and what the logs took that were closed.
 #[derive(Drop)]
 pub struct PacedHost<'a> {
@@ -38,24 +51,36 @@ impl<'a> PacedHost<'a> {
     pub fn logged(&self) -> &[u8] {
         self.logged.as_slice()
     }
+
+    /// Whether it was asked for so many engines, each with these words, and for one log of this name.
+    pub fn was_asked_for(&self, engines: usize, words: &[&str], log_name: &str) -> bool {
+        for asked in self.host.engines() {
+            if !are_texts(asked.as_slice(), words) {
+                return false;
+            }
+        }
+        self.host.engines().len() == engines && are_texts(self.host.log_names(), &[log_name])
+    }
 }
 
 impl<'a> Host for PacedHost<'a> {
     ghost use Rattle.std.specs.Prelude.{◌≡◌, ◌<◌, length};
     ghost use Rattle.child_engine.specs.Hosts.{ClosesBy, with_closed_run};
-    ghost use Rattle.child_engine.specs.Memory.{books_of, shown_by_source, shown_by_sink};
+    ghost use Rattle.child_engine.specs.Memory.{asked_of, books_of, shown_by_source, shown_by_sink};
 
-    type Src = PacedSource<'a>;
+    type EngineSource = PacedSource<'a>;
 
-    type Snk = MemSink;
+    type EngineSink = MemSink;
 
     type Log = PacedLog<'a>;
 
-    type Kid = ();
+    type ChildProcess = ();
 
     ghost faults = { λ h. h.host.faults };
 
     ghost books = { λ h. books_of h.host };
+
+    ghost asked = { λ h. asked_of h.host };
 
     fn start(
         &mut self,
@@ -76,6 +101,7 @@ impl<'a> Host for PacedHost<'a> {
         requires { length (books_of self.old.host).runs < (books_of self.old.host).runs_out }
         ensures books { books_of self.new.host ≡ with_closed_run (books_of self.old.host)
             (shown_by_source run.entry.src.source) (shown_by_sink run.entry.snk) }
+        ensures asked { asked_of self.new.host ≡ asked_of self.old.host }
         ensures cause { ClosesBy self.old.host.faults self.new.host.faults
             (shown_by_source run.entry.src.source).faults (shown_by_sink run.entry.snk).faults result }
     {

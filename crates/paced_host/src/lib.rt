@@ -8,4 +8,4 @@ mod source;
 
 pub use host::PacedHost;
 pub use log::PacedLog;
-pub use source::{Due, PacedSource, PacedTexts};
+pub use source::{DueText, PacedSource, PacedTexts};

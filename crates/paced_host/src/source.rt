@@ -52,7 +52,7 @@ impl<'a> Source for PacedSource<'a> {
 
 /// A text that is given once the log took so many lines.
 #[derive(Clone, Copy)]
-pub struct Due {
+pub struct DueText {
     pub lines: u64,
     pub text: &'static [u8],
 }
@@ -61,12 +61,12 @@ pub struct Due {
 #[derive(Drop)]
 pub struct PacedTexts<'a> {
     lines: &'a AtomicU64,
-    texts: &'static [Due],
+    texts: &'static [DueText],
     at: usize,
 }
 
 impl<'a> PacedTexts<'a> {
-    pub fn new(lines: &'a AtomicU64, texts: &'static [Due]) -> PacedTexts<'a> {
+    pub fn new(lines: &'a AtomicU64, texts: &'static [DueText]) -> PacedTexts<'a> {
         PacedTexts {
             lines,
             texts,

@@ -1,17 +1,23 @@
 // Standard streams that may be closed when the program starts.
-use std::fs::{File, Files, OpenOptions};
-use std::io::{ErrorKind, Read, Write};
-use std::os::fd::AsRawFd;
+ghost use Rattle.std.specs.Prelude.{◌≡◌};
+ghost use Rattle.program_edges.specs.Streams.{has_input, has_output, has_diag, is_open};
+
+use crate::IfOpen;
+use std::fs::{File, Files};
+use std::os::fd::{AsRawFd, OwnedFd};
 use std::os::unix::fs::{FileTypeExt, MetadataExt};
 use std::{fs, io};
 
-/// Which standard streams were closed when the program started. The null device takes their
-/// places for as long as this value is kept, so that no file or pipe that is opened later does.
+/// The status of a program that was given no memory, no thread or no descriptor to begin with.
+pub const NO_MEMORY: u8 = 3;
+
+/// Which standard streams were closed when the program started. Ends of pipes take their places
+/// for as long as this value is kept, so that no file or pipe that is opened later does.
 #[derive(Drop)]
 pub struct ClosedStreams {
-    input: Option<File>,
-    output: Option<File>,
-    diag: Option<File>,
+    input: Option<OwnedFd>,
+    output: Option<OwnedFd>,
+    diag: Option<OwnedFd>,
 }
 
 // Whether standard error is the pipe or the socket that standard output is, or the system does not
@@ -29,50 +35,57 @@ fn is_diag_output<R: Files<File = File>>(rt: &R) -> bool {
 }
 
 impl ClosedStreams {
-    /// Fills the places of the closed streams. It comes before anything else is opened.
-    pub fn fill<R: Files<File = File>>(rt: &R) -> ClosedStreams {
+    // Keeps what has the place of a standard stream, and reports whether it has one.
+    fn keep(&mut self, end: OwnedFd) -> bool {
+        match end.as_raw_fd() {
+            0 => self.input = Some(end),
+            1 => self.output = Some(end),
+            2 => self.diag = Some(end),
+            _ => return false,
+        }
+        true
+    }
+
+    /// Fills the places of the closed streams. It comes before anything else is opened. There is no
+    /// answer if the system gives no descriptors, so that which streams are closed is not known.
+    pub fn fill<R: Files<File = File>>(rt: &R) -> Option<ClosedStreams> {
         let mut closed = ClosedStreams {
             input: None,
             output: None,
             diag: None,
         };
-        for _ in 0..3 {
-            let Ok(null) = OpenOptions::new()
-                .read(true)
-                .write(true)
-                .open(rt, "/dev/null")
-            else {
+        for _ in 0..2 {
+            let (reader, writer) = io::pipe(rt).ok()?;
+            // the system gives the lowest numbers that are free
+            let first = closed.keep(OwnedFd::from(reader));
+            let second = closed.keep(OwnedFd::from(writer));
+            if !(first && second) {
                 break;
-            };
-            // the system gives the lowest number that is free
-            match null.as_raw_fd() {
-                0 => closed.input = Some(null),
-                1 => closed.output = Some(null),
-                2 => closed.diag = Some(null),
-                _ => break,
             }
         }
-        closed
+        Some(closed)
     }
 
     /// Standard input.
-    pub fn input<T>(&self, stream: T) -> IfOpen<T> {
-        IfOpen {
-            stream,
-            is_open: self.input.is_none(),
-        }
+    pub fn input<S>(&self, stream: S) -> IfOpen<S>
+        ensures stream { result.stream ≡ stream }
+        ensures open { is_open result ≡ has_input self.now }
+    {
+        IfOpen::over(stream, self.input.is_none())
     }
 
     /// Standard output.
-    pub fn output<T>(&self, stream: T) -> IfOpen<T> {
-        IfOpen {
-            stream,
-            is_open: self.output.is_none(),
-        }
+    pub fn output<S>(&self, stream: S) -> IfOpen<S>
+        ensures stream { result.stream ≡ stream }
+        ensures open { is_open result ≡ has_output self.now }
+    {
+        IfOpen::over(stream, self.output.is_none())
     }
 
     /// Whether standard error was open.
-    pub fn has_diag(&self) -> bool {
+    pub fn has_diag(&self) -> bool
+        ensures { result ≡ has_diag self.now }
+    {
         self.diag.is_none()
     }
 
@@ -83,56 +96,18 @@ impl ClosedStreams {
         self.has_diag() && !is_diag_output(rt)
     }
 
-    /// The null device in the place of standard output, if that was closed. Whoever takes it owns that
-    /// place.
-    pub fn take_output(&mut self) -> Option<File> {
-        self.output.take()
+    /// Whether standard output was open.
+    pub fn has_output(&self) -> bool
+        ensures { result ≡ has_output self.now }
+    {
+        self.output.is_none()
     }
 
     /// Standard error.
-    pub fn diag<T>(&self, stream: T) -> IfOpen<T> {
-        IfOpen {
-            stream,
-            is_open: self.diag.is_none(),
-        }
-    }
-}
-
-/// A stream each of whose calls fails if it was closed when the program started.
-#[derive(Drop)]
-pub struct IfOpen<T> {
-    stream: T,
-    is_open: bool,
-}
-
-impl<T> IfOpen<T> {
-    /// A stream that was closed when the program started.
-    pub fn closed(stream: T) -> IfOpen<T> {
-        IfOpen {
-            stream,
-            is_open: false,
-        }
-    }
-}
-
-impl<T: Read> Read for IfOpen<T> {
-    fn read(&mut self, buf: &mut [u8]) -> io::Result<usize> {
-        if !self.is_open {
-            return Err(io::Error::from(ErrorKind::NotConnected));
-        }
-        self.stream.read(buf)
-    }
-}
-
-impl<T: Write> Write for IfOpen<T> {
-    fn write(&mut self, buf: &[u8]) -> io::Result<usize> {
-        if !self.is_open {
-            return Err(io::Error::from(ErrorKind::NotConnected));
-        }
-        self.stream.write(buf)
-    }
-
-    fn flush(&mut self) -> io::Result<()> {
-        self.stream.flush()
+    pub fn diag<S>(&self, stream: S) -> IfOpen<S>
+        ensures stream { result.stream ≡ stream }
+        ensures open { is_open result ≡ has_diag self.now }
+    {
+        IfOpen::over(stream, self.diag.is_none())
     }
 }

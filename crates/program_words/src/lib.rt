@@ -4,5 +4,5 @@
 mod refusal;
 mod request;
 
-pub use refusal::Refusal;
+pub use refusal::WordsRefusal;
 pub use request::{EngineRequest, read_words};

@@ -3,18 +3,18 @@ use std::alloc::AllocError;
 
 /// Why the words of a program ask for nothing.
 #[derive(Clone, Copy, Debug, PartialEq, Eq)]
-pub enum Refusal {
+pub enum WordsRefusal {
     Usage,
     NoMemory,
 }
 
-impl From<AllocError> for Refusal {
+impl From<AllocError> for WordsRefusal {
     ghost use Rattle.std.specs.Prelude.{◌≡◌};
-    ghost use Rattle.program_words.specs.declared.refusal.Refusal.TheVariants as refusals;
+    ghost use Rattle.program_words.specs.declared.refusal.WordsRefusal.TheVariants as refusals;
 
     ghost from_gives = { λ e r. r ≡ refusals.NoMemory };
 
     fn from(_: AllocError) -> Self {
-        Refusal::NoMemory
+        WordsRefusal::NoMemory
     }
 }

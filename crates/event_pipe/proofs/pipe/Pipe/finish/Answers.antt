@@ -1,6 +1,6 @@
 use Rattle.std.proofs.Common.{◌∙◌, ap}
 use Rattle.crossbeam_channel.specs.Claims.{view}
-use Rattle.event_pipe.specs.declared.pipe.Known.{Known}
+use Rattle.event_pipe.specs.declared.pipe.KnownOfPass.{KnownOfPass}
 use Rattle.event_pipe.specs.Message.{role_of}
 use Rattle.event_pipe.proofs.Keeps.{merges_first, merges_second, totals, came_first, came_second, came_within}
 use Rattle.event_pipe.proofs.pipe.Pipe.finish.Goals as goal
@@ -11,13 +11,13 @@ absorb-requires-clause-rule c = merges_first _ _ _ _ c.requires.taker.role c.req
 pub absorb-requires-2-clause-rule : goal.absorb-requires-2-clause-rule
 absorb-requires-2-clause-rule c =
     let e = c.absorb.ensures.rule in
-    merges_second _ _ _ _ (ap (λ (h : Known). h.role) e ∙ c.requires.taker.role) (ap (λ (h : Known). h.made) e ∙ c.requires.taker.made) (ap (λ (h : Known). h.joined) e) (c.requires.engine.0.role ∙ ap role_of c.requires.engine.1)
+    merges_second _ _ _ _ (ap (λ (h : KnownOfPass). h.role) e ∙ c.requires.taker.role) (ap (λ (h : KnownOfPass). h.made) e ∙ c.requires.taker.made) (ap (λ (h : KnownOfPass). h.joined) e) (c.requires.engine.0.role ∙ ap role_of c.requires.engine.1)
 
 pub learn_as-requires-clause-rule : goal.learn_as-requires-clause-rule
 learn_as-requires-clause-rule c =
     let e = c.absorb.ensures.rule in
     let f = c.absorb-2.ensures.rule in
-    totals _ _ (ap (λ (h : Known). h.role) f ∙ ap (λ (h : Known). h.role) e ∙ c.requires.taker.role) (ap (λ (h : Known). h.joined) f)
+    totals _ _ (ap (λ (h : KnownOfPass). h.role) f ∙ ap (λ (h : KnownOfPass). h.role) e ∙ c.requires.taker.role) (ap (λ (h : KnownOfPass). h.joined) f)
 
 pub returns-clause-iface : goal.returns-clause-iface
 returns-clause-iface c = came_first (view c.args.taker.pass) (view c.absorb.new.pass) (view c.absorb-2.new.pass) (view c.args.iface.pass) (view c.args.engine.pass) c.absorb.ensures.rule c.absorb-2.ensures.rule _ c.learn_as.ensures.rule.1

@@ -1,5 +1,5 @@
 use Rattle.std.proofs.Common.{◌+◌, ◌∙◌, ap, arith}
-use Rattle.event_pipe.specs.declared.pipe.Known.{Known}
+use Rattle.event_pipe.specs.declared.pipe.KnownOfPass.{KnownOfPass}
 use Rattle.event_pipe.proofs.Keeps.{begins, forks}
 use Rattle.event_pipe.proofs.pipe.Pipe.make.Goals as goal
 
@@ -9,10 +9,10 @@ bounded_with-requires-clause-rule c = begins
 pub another-iface-requires-clause-rule : goal.another-iface-requires-clause-rule
 another-iface-requires-clause-rule c =
     let e = c.in_ok-sender.ensures.3 in
-    forks 1 _ _ (ap (λ (h : Known). h.role) e) (ap (λ (h : Known). h.made + 1) e) (omega arith) (ap (λ (h : Known). h.joined) e)
+    forks 1 _ _ (ap (λ (h : KnownOfPass). h.role) e) (ap (λ (h : KnownOfPass). h.made + 1) e) (omega arith) (ap (λ (h : KnownOfPass). h.joined) e)
 
 pub another-engine-requires-clause-rule : goal.another-engine-requires-clause-rule
 another-engine-requires-clause-rule c =
     let e = c.in_ok-sender.ensures.3 in
     let f = c.another-iface.ensures.rule.0 in
-    forks 2 _ _ (ap (λ (h : Known). h.role) f ∙ ap (λ (h : Known). h.role) e) (ap (λ (h : Known). h.made + 1) f) (omega arith) (ap (λ (h : Known). h.joined) f ∙ ap (λ (h : Known). h.joined) e)
+    forks 2 _ _ (ap (λ (h : KnownOfPass). h.role) f ∙ ap (λ (h : KnownOfPass). h.role) e) (ap (λ (h : KnownOfPass). h.made + 1) f) (omega arith) (ap (λ (h : KnownOfPass). h.joined) f ∙ ap (λ (h : KnownOfPass). h.joined) e)
