@@ -10,4 +10,4 @@ mod run;
 pub use laws::first_lines_join;
 pub use looping::mediate;
 pub use mediator::{Mediator, TURN_ROOM};
-pub use run::{Channel, Handed, RunEnd, run_pipes};
+pub use run::{Channel, HandedStreams, RunEnd, run_pipes};

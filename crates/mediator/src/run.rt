@@ -27,7 +27,7 @@ pub struct Channel {
 
 /// What a host handed out for a run: the engine's output and input, and a log that may be missing.
 #[derive(Drop)]
-pub struct Handed<S, E, L> {
+pub struct HandedStreams<S, E, L> {
     pub source: S,
     pub engine: E,
     pub log: Option<L>,
@@ -58,7 +58,7 @@ fn run_beside<
     channel: &mut Channel,
     input: &mut I,
     output: &mut O,
-    handed: &mut Handed<S, E, L>,
+    handed: &mut HandedStreams<S, E, L>,
     text: &mut Out,
 ) -> RunEnd
     requires mediator { M.means.fresh mediator.old }
@@ -82,7 +82,7 @@ fn run_beside<
         engine: child,
         taker,
     } = channel;
-    let Handed {
+    let HandedStreams {
         source,
         engine,
         log,
@@ -125,7 +125,7 @@ pub fn run_pipes<
     channel: Channel,
     input: &mut I,
     output: &mut O,
-    handed: &mut Handed<S, E, L>,
+    handed: &mut HandedStreams<S, E, L>,
     text: &mut Out,
 ) -> RunEnd
     requires mediator { M.means.fresh mediator.old }

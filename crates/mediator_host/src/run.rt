@@ -1,27 +1,29 @@
 // One run of a mediator over a host.
-ghost use Rattle.std.specs.Prelude.{◌≡◌, ◌<◌, length, IfOk, IfErr, OnOk, OnErr};
+ghost use Rattle.std.specs.Prelude.{◌≡◌, ◌<◌, length, map, string_bytes, IfOk, IfErr, OnOk, OnErr};
+ghost use Rattle.child_engine.specs.Asked.{and_engines};
 ghost use Rattle.child_engine.specs.Hosts.{IsUnused, IsStarted, fresh_source, fresh_sink, with_run};
+ghost use Rattle.host_run.specs.Asked.{AsksFor, OpensLogs, engines_asked_by};
 ghost use Rattle.host_run.specs.Early.{AreEarly};
 ghost use Rattle.host_run.specs.Outside.{outside};
 ghost use Rattle.mediator.specs.First.{AreOpening};
 ghost use Rattle.mediator_host.specs.Mediated.{Leaves};
 ghost use Rattle.mediator_host.specs.Parts.{AreReady};
 
-use crate::parts::{Parts, make_parts};
+use crate::parts::{MediatorParts, make_parts};
 use child_engine::{Host, Started};
 use host_run::{
     Failures, Opened, close_log, either, has_failed, has_lacked_memory, is_open_failure,
     is_open_memory, only_memory, open_log, start_engine,
 };
 use line_io::{Sink, Source};
-use mediator::{Handed, Mediator, run_pipes};
+use mediator::{HandedStreams, Mediator, run_pipes};
 use std::alloc::Global;
 use std::sync::Wait;
 use std::thread::Threads;
 
 // What a run needs, and the engine that was started.
-struct Ready<M, S, K, P> {
-    parts: Parts<M>,
+struct ReadyMediator<M, S, K, P> {
+    parts: MediatorParts<M>,
     run: Started<S, K, P>,
 }
 
@@ -35,7 +37,7 @@ fn run_started<
 >(
     rt: &R,
     alloc: Global,
-    ready: Ready<M, H::Src, H::Snk, H::Kid>,
+    ready: ReadyMediator<M, H::EngineSource, H::EngineSink, H::ChildProcess>,
     first: &[u8],
     log_name: &str,
     input: &mut I,
@@ -44,23 +46,25 @@ fn run_started<
 ) -> Failures
     requires parts { AreReady M.means ready.parts }
     requires first { AreOpening first.now }
-    requires source { H.Src.state ready.run.src ≡ fresh_source (H.books host.old).says }
-    requires sink { H.Snk.state ready.run.snk ≡ fresh_sink (H.books host.old).tells }
+    requires source { H.EngineSource.state ready.run.src ≡ fresh_source (H.books host.old).says }
+    requires sink { H.EngineSink.state ready.run.snk ≡ fresh_sink (H.books host.old).tells }
     requires books { IsStarted (H.books host.old) }
-    ensures { Leaves M.means ready.parts.mediator first.now
+    ensures leaves { Leaves M.means ready.parts.mediator first.now
         (outside (I.state input.old) (O.state output.old) (H.faults host.old) (H.books host.old))
         (outside (I.state input.new) (O.state output.new) (H.faults host.new) (H.books host.new))
         result }
+    ensures asked { OpensLogs log_name.now (H.asked host.old) (H.asked host.new)
+        (H.books host.old) (H.books host.new) result }
 {
-    let Ready { parts, run } = ready;
-    let Parts {
+    let ReadyMediator { parts, run } = ready;
+    let MediatorParts {
         mut mediator,
         mut text,
         channel,
     } = parts;
     let Started { src, snk, kid } = run;
     let Opened { log, fault } = open_log(host, alloc, log_name);
-    let mut handed = Handed {
+    let mut handed = HandedStreams {
         source: src,
         engine: snk,
         log,
@@ -76,7 +80,7 @@ fn run_started<
         &mut handed,
         &mut text,
     );
-    let Handed {
+    let HandedStreams {
         source: src,
         engine: snk,
         log,
@@ -105,26 +109,28 @@ fn start<M: Mediator + Drop, H: Host, R: Threads>(
     mediator: M,
     words: &[String],
     host: &mut H,
-) -> Result<Ready<M, H::Src, H::Snk, H::Kid>, Failures>
+) -> Result<ReadyMediator<M, H::EngineSource, H::EngineSink, H::ChildProcess>, Failures>
     requires fresh { M.means.fresh mediator }
     requires words { 0 < length words.now }
     requires unused { IsUnused (H.books host.old) }
     ensures parts { IfOk result (λ ready. AreReady M.means ready.parts) }
     ensures same { IfOk result (λ ready. ready.parts.mediator ≡ mediator) }
     ensures source { IfOk result (λ ready.
-        H.Src.state ready.run.src ≡ fresh_source (H.books host.old).says) }
+        H.EngineSource.state ready.run.src ≡ fresh_source (H.books host.old).says) }
     ensures sink { IfOk result (λ ready.
-        H.Snk.state ready.run.snk ≡ fresh_sink (H.books host.old).tells) }
+        H.EngineSink.state ready.run.snk ≡ fresh_sink (H.books host.old).tells) }
     ensures books { OnOk result (H.books host.new ≡ with_run (H.books host.old)) }
     ensures faults { OnOk result (H.faults host.new ≡ H.faults host.old) }
     ensures unstarted { OnErr result (H.books host.new ≡ H.books host.old) }
+    ensures asked { H.asked host.new
+        ≡ and_engines (engines_asked_by result) (map string_bytes words.now) (H.asked host.old) }
     ensures early { IfErr result (AreEarly (H.faults host.old) (H.faults host.new)) }
 {
     let Ok(parts) = make_parts(alloc, mediator) else {
         return Err(only_memory());
     };
     match start_engine(rt, alloc, words, host) {
-        Ok(run) => Ok(Ready { parts, run }),
+        Ok(run) => Ok(ReadyMediator { parts, run }),
         Err(failures) => Err(failures),
     }
 }
@@ -153,10 +159,12 @@ pub fn run_mediator<
     requires first { AreOpening first.now }
     requires words { 0 < length words.now }
     requires unused { IsUnused (H.books host.old) }
-    ensures { Leaves M.means mediator first.now
+    ensures leaves { Leaves M.means mediator first.now
         (outside (I.state input.old) (O.state output.old) (H.faults host.old) (H.books host.old))
         (outside (I.state input.new) (O.state output.new) (H.faults host.new) (H.books host.new))
         result }
+    ensures asked { AsksFor (map string_bytes words.now) log_name.now
+        (H.asked host.old) (H.asked host.new) (H.books host.new) result }
 {
     match start(rt, alloc, mediator, words, host) {
         Ok(ready) => run_started(rt, alloc, ready, first, log_name, input, output, host),
