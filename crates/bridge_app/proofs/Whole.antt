@@ -15,4 +15,4 @@ pub whole_by : (Asked : Settings → Type 0) (first : List ℕ) (before after : 
     → f ≡ no_failure → before.books.tells ≡ true → IfSome before.books.says (λ bytes. RunsWhole Asked first bytes before after)
 whole_by Asked first before after f run e tells =
     if_some (λ bytes. IsWhole run.settings first bytes before after) (λ bytes. RunsWhole Asked first bytes before after) before.books.says
-    (λ bytes w. record { settings = run.settings; asked = run.asked; whole = w }) (run.runs.leaves.whole e tells)
+    (λ bytes w. record { settings = run.settings; asked = run.asked; proper = run.proper; whole = w }) (run.runs.leaves.whole e tells)

@@ -1,7 +1,8 @@
 -- What the program does, and what its status says.
 use Rattle.std.specs.Prelude.{ℕ, List, codes}
 use Rattle.policy_rules.specs.declared.settings.Settings.{Settings}
-use Rattle.adapter_core.specs.Shown.{MovesAreShownInTime, MovesAreShownOnce}
+use Rattle.policy_rules.specs.Policy.{IsProper}
+use Rattle.dialogue_laws.specs.Laws.{HasLaws}
 use Rattle.session_script.specs.OneWay.{HasOneSession}
 use Rattle.bridge_runner.specs.Bridged.{Leaves}
 use Rattle.bridge_runner.specs.Recorded.{IsWhole}
@@ -16,8 +17,7 @@ program = codes "bridge"
 pub record Runs (settings : Settings) (first : List ℕ) (before after : Outside) (failures : Failures) : Type 0 where
   pub leaves : Leaves settings first before after failures
   -- of each lawful trace, so of the one that the bridge made
-  pub shown : MovesAreShownInTime settings
-  pub shown_once : MovesAreShownOnce settings
+  pub laws : HasLaws settings
   -- the script that the log took has this one trace, and states the settings
   pub one_session : HasOneSession settings
 
@@ -26,6 +26,7 @@ pub record Runs (settings : Settings) (first : List ℕ) (before after : Outside
 pub record RunsWhole (Asked : Settings → Type 0) (first bytes : List ℕ) (before after : Outside) : Type 0 where
   pub settings : Settings
   pub asked : Asked settings
+  pub proper : IsProper settings
   -- the log's bytes are the script of the one trace, whose events are those of both sides' bytes
   pub whole : IsWhole settings first bytes before after
 
@@ -33,4 +34,5 @@ pub record RunsWhole (Asked : Settings → Type 0) (first bytes : List ℕ) (bef
 pub record RunsAsAsked (Asked : Settings → Type 0) (first : List ℕ) (before after : Outside) (failures : Failures) : Type 0 where
   pub settings : Settings
   pub asked : Asked settings
+  pub proper : IsProper settings
   pub runs : Runs settings first before after failures

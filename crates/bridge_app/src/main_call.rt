@@ -1,18 +1,19 @@
 // The program over any host.
 ghost use Rattle.std.specs.Prelude.{◌≡◌, [], true, IfSome};
 ghost use Rattle.program_words.specs.Words.{bytes_of};
-ghost use Rattle.bridge_words.specs.Words.{AreAsked, AreTaken, values_found};
+ghost use Rattle.bridge_words.specs.Words.{AreAsked, AreTaken, engine_words, log_named, values_found};
 ghost use Rattle.host_run.specs.Endings.{code_of, diagnostic};
 ghost use Rattle.child_engine.specs.Hosts.{IsUnused};
+ghost use Rattle.host_run.specs.Asked.{AsksAsTold};
 ghost use Rattle.host_run.specs.Outside.{outside};
 ghost use Rattle.host_run.specs.Program.{Answers, Ends, IsToldTo, StatusSays};
-ghost use Rattle.host_run.specs.declared.ending.Ending.TheVariants as endings;
+ghost use Rattle.host_run.specs.declared.ending.ProgramEnding.TheVariants as endings;
 ghost use Rattle.bridge_app.specs.Program.{RunsAsAsked, RunsWhole, program};
 
 use crate::running::run_bridge;
 use bridge_words::read_words;
 use child_engine::Host;
-use host_run::{Ending, tell};
+use host_run::{ProgramEnding, tell};
 use line_io::{Sink, Source, Status};
 use std::alloc::Global;
 use std::sync::Wait;
@@ -26,18 +27,22 @@ fn end_of<I: Source + Send, O: Sink + Send, H: Host, R: Threads + Wait + Sync>(
     input: &mut I,
     output: &mut O,
     host: &mut H,
-) -> Ending
+) -> ProgramEnding
     requires { IsUnused (H.books host.old) }
-    ensures { Ends (AreTaken (bytes_of words.now)) (RunsAsAsked
+    ensures ends { Ends (AreTaken (bytes_of words.now)) (RunsAsAsked
         (AreAsked (values_found (bytes_of words.now))) []
         (outside (I.state input.old) (O.state output.old) (H.faults host.old) (H.books host.old))
         (outside (I.state input.new) (O.state output.new) (H.faults host.new) (H.books host.new)))
         (outside (I.state input.old) (O.state output.old) (H.faults host.old) (H.books host.old))
         (outside (I.state input.new) (O.state output.new) (H.faults host.new) (H.books host.new))
         result }
+    ensures asked { AsksAsTold (engine_words (values_found (bytes_of words.now)))
+        (log_named (values_found (bytes_of words.now)))
+        (H.asked host.old) (H.asked host.new)
+        (H.faults host.old) (H.faults host.new) (H.books host.new) }
 {
     match read_words(alloc, words) {
-        Ok(request) => Ending::of(run_bridge(
+        Ok(request) => ProgramEnding::of(run_bridge(
             rt,
             alloc,
             &request.settings,
@@ -48,7 +53,7 @@ fn end_of<I: Source + Send, O: Sink + Send, H: Host, R: Threads + Wait + Sync>(
             output,
             host,
         )),
-        Err(refusal) => Ending::from(refusal),
+        Err(refusal) => ProgramEnding::from(refusal),
     }
 }
 
@@ -58,9 +63,9 @@ pub fn refuse_for_memory<D: Sink>(diag: &mut D) -> Status
     ensures told { IsToldTo (D.state diag.old) (D.state diag.new)
         (diagnostic program endings.NoMemory) }
 {
-    tell(b"bridge", Ending::NoMemory, diag);
+    tell(b"bridge", ProgramEnding::NoMemory, diag);
     Status {
-        code: Ending::NoMemory.code(),
+        code: ProgramEnding::NoMemory.code(),
     }
 }
 
@@ -93,6 +98,10 @@ pub fn bridge_main<I: Source + Send, O: Sink + Send, H: Host, D: Sink, R: Thread
         (AreAsked (values_found (bytes_of words.now))) [] bytes
         (outside (I.state input.old) (O.state output.old) (H.faults host.old) (H.books host.old))
         (outside (I.state input.new) (O.state output.new) (H.faults host.new) (H.books host.new))) }
+    ensures asked { AsksAsTold (engine_words (values_found (bytes_of words.now)))
+        (log_named (values_found (bytes_of words.now)))
+        (H.asked host.old) (H.asked host.new)
+        (H.faults host.old) (H.faults host.new) (H.books host.new) }
     ensures unstarted { result.code ≡ 8
         → (I.state input.new ≡ I.state input.old) × (O.state output.new ≡ O.state output.old) }
 {

@@ -10,7 +10,7 @@ use Rattle.session_script.specs.Script.{numbered_text, script2}
 use Rattle.adapter_core.specs.declared.ends.Ends.{Ends}
 use Rattle.adapter_core.specs.Ends.{ends_after, may}
 use Rattle.adapter_core.specs.Trace.{Step, Lawful, state, iface_text, engine_text}
-use Rattle.adapter_core.specs.Parts.{Parts}
+use Rattle.adapter_core.specs.Parts.{CoreParts}
 use Rattle.adapter_core.specs.Stands.{Stands}
 use Rattle.event_pipe.specs.declared.message.Peer.{Peer}
 use Rattle.event_pipe.specs.declared.message.Peer.TheVariants as peers
@@ -114,7 +114,7 @@ module _ (s0 : Session) (turns : List Turn) (s : Session) (d : Played s0 turns s
   o = s0.core.settings
 
   ends_are : s.core.ends ≡ (state o d.trace).ends
-  ends_are = ap (λ (v : Parts). v.ends) d.stands.0
+  ends_are = ap (λ (v : CoreParts). v.ends) d.stands.0
 
   has_are : (p : Peer) → has_loss p turns ≡ lost_flag p (state o d.trace).ends
   has_are p = ap (λ (ts : List Turn). has_loss p ts) d.turns_are ∙ has_is p o d.trace

@@ -1,7 +1,8 @@
 // One run of the bridge.
-ghost use Rattle.std.specs.Prelude.{◌<◌, length};
+ghost use Rattle.std.specs.Prelude.{◌<◌, length, map, string_bytes};
 ghost use Rattle.policy_rules.specs.Policy.{IsProper};
 ghost use Rattle.child_engine.specs.Hosts.{IsUnused};
+ghost use Rattle.host_run.specs.Asked.{AsksFor};
 ghost use Rattle.host_run.specs.Outside.{outside};
 ghost use Rattle.mediator.specs.First.{AreOpening};
 ghost use Rattle.bridge_runner.specs.Bridged.{Leaves};
@@ -33,10 +34,12 @@ pub fn bridge_run<I: Source + Send, O: Sink + Send, H: Host, R: Threads + Wait +
     requires first { AreOpening first.now }
     requires words { 0 < length words.now }
     requires unused { IsUnused (H.books host.old) }
-    ensures { Leaves settings.now first.now
+    ensures leaves { Leaves settings.now first.now
         (outside (I.state input.old) (O.state output.old) (H.faults host.old) (H.books host.old))
         (outside (I.state input.new) (O.state output.new) (H.faults host.new) (H.books host.new))
         result }
+    ensures asked { AsksFor (map string_bytes words.now) log_name.now
+        (H.asked host.old) (H.asked host.new) (H.books host.new) result }
 {
     match Session::make(alloc, settings) {
         Ok(session) => run_mediator(

@@ -3,14 +3,14 @@
 ghost use Rattle.bridge_sessions.specs.Ready.{IsReady};
 
 use crate::expected::expect_bytes;
-use crate::program::{Told, words_of};
-use crate::ready::{Ready, make_ready};
+use crate::program::{RunResult, words_of};
+use crate::ready::{ReadySession, make_ready};
 use crate::talk::{ENGINE, IFACE, QUIT, Telling, Waiting};
 use crate::waiting_host::WaitingHost;
 use bridge_app::bridge_main;
 use event_pipe::{Pipe, ReadEnd};
 use line_io::{MemSink, NoMemory, NullSink};
-use mediator::{Channel, Handed, RunEnd, run_pipes};
+use mediator::{Channel, HandedStreams, RunEnd, run_pipes};
 use std::alloc::Global;
 use std::process::Abort;
 use std::sync::Wait;
@@ -21,7 +21,7 @@ use std::thread::Threads;
 fn run_talk<R: Threads + Wait + Sync>(
     rt: &R,
     alloc: Global,
-    ready: &mut Ready,
+    ready: &mut ReadySession,
     took: &AtomicU64,
 ) -> Result<RunEnd, NoMemory>
     requires { IsReady ready.old.session ready.old.text }
@@ -33,7 +33,7 @@ fn run_talk<R: Threads + Wait + Sync>(
         taker,
     };
     let log: Option<NullSink> = None;
-    let mut handed = Handed {
+    let mut handed = HandedStreams {
         source: Waiting::new(took, ENGINE.as_slice()),
         engine: Telling::new(took),
         log,
@@ -62,7 +62,11 @@ fn readers_run_beside(rt: HostRuntime) {
 }
 
 // Runs the program for an interface and over an engine that wait for one another.
-fn run_program<R: Threads + Wait + Sync + Abort>(rt: &R, alloc: Global, took: &AtomicU64) -> Told {
+fn run_program<R: Threads + Wait + Sync + Abort>(
+    rt: &R,
+    alloc: Global,
+    took: &AtomicU64,
+) -> RunResult {
     let words = words_of(alloc, &["toy"]).expect(rt, "memory for the words");
     let mut output = MemSink::make(alloc, 1_000, &[]).expect(rt, "memory for the output");
     let mut diag = MemSink::make(alloc, 1_000, &[]).expect(rt, "memory for the diagnostic");
@@ -75,7 +79,7 @@ fn run_program<R: Threads + Wait + Sync + Abort>(rt: &R, alloc: Global, took: &A
         &mut WaitingHost::new(took),
         &mut diag,
     );
-    Told {
+    RunResult {
         code: status.code,
         output,
         diag,

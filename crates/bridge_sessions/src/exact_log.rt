@@ -5,7 +5,7 @@ use bridge_app::bridge_main;
 use bridge_runner::logs_are_whole;
 use child_engine::{Fails, MemHost};
 use line_io::{MemSink, NoMemory};
-use paced_host::{Due, PacedHost, PacedTexts};
+use paced_host::{DueText, PacedHost, PacedTexts};
 use std::alloc::Global;
 use std::process::Abort;
 use std::sync::Wait;
@@ -15,8 +15,8 @@ use std::thread::Threads;
 /// What an interface and an engine say, once the log took so many lines, and which writes to the
 /// engine fail.
 #[derive(Clone, Copy)]
-struct Session {
-    iface: &'static [Due],
+struct ExactSession {
+    iface: &'static [DueText],
     engine: &'static [u8],
     // The engine's bytes come in one piece, and then its end.
     engine_ends: &'static [u64],
@@ -27,10 +27,10 @@ struct Session {
 fn status_with<R: Threads + Wait + Sync + Abort>(
     rt: &R,
     alloc: Global,
-    session: Session,
+    session: ExactSession,
     log: &[u8],
 ) -> Result<u8, NoMemory> {
-    let words = words_of(alloc, &["toy"])?;
+    let words = words_of(alloc, &["--LogFile", "b.log", "toy", "-x y"])?;
     let lines = AtomicU64::new(0);
     let fails = Fails {
         writes: session.failing_writes,
@@ -51,6 +51,7 @@ fn status_with<R: Threads + Wait + Sync + Abort>(
         &mut diag,
     );
     expect_bytes(rt, host.logged(), log);
+    assert!(rt; host.was_asked_for(1, &["toy", "-x y"], "b.log"));
     Ok(status.code)
 }
 
@@ -58,8 +59,8 @@ fn expect_code(rt: &impl Abort, found: u8, wanted: u8) {
     assert_eq!(rt; found, wanted);
 }
 
-const WHOLE: Session = Session {
-    iface: &[Due {
+const WHOLE: ExactSession = ExactSession {
+    iface: &[DueText {
         lines: 8,
         text: b"ping 3\nquit\n",
     }],
@@ -94,8 +95,8 @@ fn a_whole_session_has_one_log(rt: HostRuntime) {
 }
 
 // The second write to the engine fails, and the interface quits once the log has the engine's end.
-const REFUSED: Session = Session {
-    iface: &[Due {
+const REFUSED: ExactSession = ExactSession {
+    iface: &[DueText {
         lines: 11,
         text: b"quit\n",
     }],

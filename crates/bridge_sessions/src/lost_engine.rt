@@ -4,7 +4,7 @@ ghost use Rattle.event_pipe.specs.Ends.{IsSender, IsFreshTaker, sent};
 ghost use Rattle.bridge_sessions.specs.Ready.{IsReady};
 
 use crate::expected::{expect_bytes, expect_log};
-use crate::ready::{Ready, make_ready};
+use crate::ready::{ReadySession, make_ready};
 use event_pipe::{Pipe, PipeSend, PipeTake, read_pipe};
 use line_io::{MemSink, MemSource, NoMemory};
 use mediator::mediate;
@@ -55,7 +55,12 @@ fn read_lines<R: Wait + Abort>(rt: &R, alloc: Global, lines: &[u8], to: &mut Pip
 }
 
 // Steps the session by what is in the channel.
-fn step_all<R: Wait>(rt: &R, ready: &mut Ready, taker: PipeTake, sinks: &mut Sinks) -> LoopEnd
+fn step_all<R: Wait>(
+    rt: &R,
+    ready: &mut ReadySession,
+    taker: PipeTake,
+    sinks: &mut Sinks,
+) -> LoopEnd
     requires ready { IsReady ready.old.session ready.old.text }
     requires taker { IsFreshTaker taker }
 {

@@ -22,13 +22,13 @@ const END_AND_PONG: &[u8] = b"tellusererror Engine ended\npong 3\n";
 
 /// What a run answered and wrote.
 #[derive(Drop)]
-pub struct Told {
+pub struct RunResult {
     pub code: u8,
     pub output: MemSink,
     pub diag: MemSink,
 }
 
-impl Told {
+impl RunResult {
     /// Whether the ping was answered. The end of the engine is reported if it came before `quit`.
     pub fn is_of_a_ping(&self) -> bool {
         let output = self.output.taken();
@@ -58,7 +58,7 @@ pub fn run_over<H: Host, R: Threads + Wait + Sync + Abort>(
     words: &[&str],
     host: &mut H,
     failing: &[u64],
-) -> Told
+) -> RunResult
     requires { IsUnused (H.books host.old) }
 {
     let words = words_of(alloc, words).expect(rt, "memory for the words");
@@ -74,7 +74,7 @@ pub fn run_over<H: Host, R: Threads + Wait + Sync + Abort>(
         host,
         &mut diag,
     );
-    Told {
+    RunResult {
         code: status.code,
         output,
         diag,
@@ -82,7 +82,11 @@ pub fn run_over<H: Host, R: Threads + Wait + Sync + Abort>(
 }
 
 /// The same over a host that never fails.
-pub fn run_steady<R: Threads + Wait + Sync + Abort>(rt: &R, alloc: Global, words: &[&str]) -> Told {
+pub fn run_steady<R: Threads + Wait + Sync + Abort>(
+    rt: &R,
+    alloc: Global,
+    words: &[&str],
+) -> RunResult {
     let mut host = SteadyHost::make(alloc, ENGINE, 5).expect(rt, "memory for the host");
     run_over(rt, alloc, words, &mut host, &[])
 }

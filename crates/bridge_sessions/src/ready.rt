@@ -11,23 +11,23 @@ use std::alloc::Global;
 
 /// The session, and the room for what is put into the log for a turn.
 #[derive(Drop)]
-pub struct Ready {
+pub struct ReadySession {
     pub session: Session,
     pub text: Out,
 }
 
 // Takes the memory of a run with these settings.
-fn ready_with(alloc: Global, settings: &Settings) -> Result<Ready, NoMemory>
+fn ready_with(alloc: Global, settings: &Settings) -> Result<ReadySession, NoMemory>
     requires { IsProper settings.now }
     ensures { IfOk result (λ ready. IsReady ready.session ready.text) }
 {
     let text = Out::make(alloc, TURN_ROOM)?;
     let session = Session::make(alloc, settings)?;
-    Ok(Ready { session, text })
+    Ok(ReadySession { session, text })
 }
 
 /// Takes the memory of a run with the usual settings.
-pub fn make_ready(alloc: Global) -> Result<Ready, NoMemory>
+pub fn make_ready(alloc: Global) -> Result<ReadySession, NoMemory>
     ensures { IfOk result (λ ready. IsReady ready.session ready.text) }
 {
     let settings = Settings::usual();

@@ -31,19 +31,21 @@ impl Recorder {
 impl Host for Recorder {
     ghost use Rattle.std.specs.Prelude.{◌≡◌, ◌<◌, length};
     ghost use Rattle.child_engine.specs.Hosts.{ClosesBy, with_closed_run};
-    ghost use Rattle.child_engine.specs.Memory.{books_of, shown_by_source, shown_by_sink};
+    ghost use Rattle.child_engine.specs.Memory.{asked_of, books_of, shown_by_source, shown_by_sink};
 
-    type Src = MemSource;
+    type EngineSource = MemSource;
 
-    type Snk = MemSink;
+    type EngineSink = MemSink;
 
     type Log = MemSink;
 
-    type Kid = ();
+    type ChildProcess = ();
 
     ghost faults = { λ h. h.host.faults };
 
     ghost books = { λ h. books_of h.host };
+
+    ghost asked = { λ h. asked_of h.host };
 
     fn start(
         &mut self,
@@ -61,6 +63,7 @@ impl Host for Recorder {
         requires { length (books_of self.old.host).runs < (books_of self.old.host).runs_out }
         ensures books { books_of self.new.host ≡ with_closed_run (books_of self.old.host)
             (shown_by_source run.src) (shown_by_sink run.snk) }
+        ensures asked { asked_of self.new.host ≡ asked_of self.old.host }
         ensures cause { ClosesBy self.old.host.faults self.new.host.faults
             (shown_by_source run.src).faults (shown_by_sink run.snk).faults result }
     {

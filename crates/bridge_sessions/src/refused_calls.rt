@@ -1,5 +1,5 @@
 // Each call to the outside refused in turn.
-use crate::program::{ENGINE, Told, run_over};
+use crate::program::{ENGINE, RunResult, run_over};
 use crate::recorder::Recorder;
 use child_engine::Fails;
 use std::alloc::Global;
@@ -15,8 +15,8 @@ const FIRST_STEP: &[u8] = b"\
 
 /// What a run answered and wrote, and what its engine and its log took.
 #[derive(Drop)]
-struct Kept {
-    told: Told,
+struct KeptRun {
+    told: RunResult,
     host: Recorder,
 }
 
@@ -47,17 +47,17 @@ fn failing<'a>(call: &str, numbers: &'a [u64]) -> Fails<'a> {
 }
 
 // The diagnostic fails too, and changes no status.
-fn run_failing<R: Threads + Wait + Sync + Abort>(rt: &R, alloc: Global, fails: &Fails) -> Kept {
+fn run_failing<R: Threads + Wait + Sync + Abort>(rt: &R, alloc: Global, fails: &Fails) -> KeptRun {
     let mut host = Recorder::make(alloc, ENGINE, fails).expect(rt, "memory for the host");
     let told = run_over(rt, alloc, &["toy"], &mut host, &[1]);
-    Kept { told, host }
+    KeptRun { told, host }
 }
 
 /// A call that fails, and the status of the run.
 const ONCE: [(&str, u8); 3] = [("start", 8), ("log", 9), ("wait", 10)];
 
 // If the engine is not started, nothing is written. Otherwise the ping is answered.
-fn writes_as_after(told: &Told, call: &str) -> bool {
+fn writes_as_after(told: &RunResult, call: &str) -> bool {
     if call == "start" {
         told.output.taken().is_empty()
     } else {
@@ -97,14 +97,14 @@ fn marks_in(log: &[u8]) -> u64 {
 }
 
 // The engine's 14 bytes and its end are four reads.
-fn fits_failing_read(kept: &Kept, number: u64) -> bool {
+fn fits_failing_read(kept: &KeptRun, number: u64) -> bool {
     let code = if number <= 4 { 6 } else { 0 };
     kept.told.code == code && begins_a_session(kept.host.wrote.as_slice())
 }
 
 // The engine gets `uci`, then `isready` or `quit`, and `quit` behind `isready` if it comes
 // before the engine's end.
-fn fits_failing_write(kept: &Kept, number: u64) -> bool {
+fn fits_failing_write(kept: &KeptRun, number: u64) -> bool {
     let code = kept.told.code;
     (code == 7 || code == 0 && number > 2)
         && (code == 0 || number < 4)
@@ -112,7 +112,7 @@ fn fits_failing_write(kept: &Kept, number: u64) -> bool {
 }
 
 // The start, two lines of each side and the engine's end are six steps, behind the first line.
-fn fits_failing_log_write(kept: &Kept, number: u64) -> bool {
+fn fits_failing_log_write(kept: &KeptRun, number: u64) -> bool {
     let code = if number <= 6 { 9 } else { 0 };
     let marks = if number == 1 { 0 } else { number.min(7) };
     let log = kept.host.logged.as_slice();
@@ -121,7 +121,7 @@ fn fits_failing_log_write(kept: &Kept, number: u64) -> bool {
         && (log.starts_with(FIRST_STEP) || FIRST_STEP.starts_with(log))
 }
 
-fn fits(kept: &Kept, call: &str, number: u64) -> bool {
+fn fits(kept: &KeptRun, call: &str, number: u64) -> bool {
     match call {
         "read" => fits_failing_read(kept, number),
         "write" => fits_failing_write(kept, number),

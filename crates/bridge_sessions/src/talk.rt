@@ -13,29 +13,29 @@ pub const QUIT: u64 = 3;
 
 /// A text that is given only once the engine's sink took this much.
 #[derive(Clone, Copy)]
-pub struct Due {
+pub struct DueText {
     took: u64,
     text: &'static [u8],
 }
 
 /// The engine, which ends after `quit`.
-pub const ENGINE: [Due; 3] = [
-    Due {
+pub const ENGINE: [DueText; 3] = [
+    DueText {
         took: UCI,
         text: b"uciok\n",
     },
-    Due {
+    DueText {
         took: ISREADY,
         text: b"readyok\n",
     },
-    Due {
+    DueText {
         took: QUIT,
         text: b"",
     },
 ];
 
 /// The interface.
-pub const IFACE: [Due; 1] = [Due {
+pub const IFACE: [DueText; 1] = [DueText {
     took: ISREADY,
     text: b"quit\n",
 }];
@@ -44,13 +44,13 @@ pub const IFACE: [Due; 1] = [Due {
 #[derive(Drop)]
 pub struct Waiting<'a> {
     took: &'a AtomicU64,
-    texts: &'static [Due],
+    texts: &'static [DueText],
     at: usize,
     faults: u64,
 }
 
 impl<'a> Waiting<'a> {
-    pub fn new(took: &'a AtomicU64, texts: &'static [Due]) -> Waiting<'a>
+    pub fn new(took: &'a AtomicU64, texts: &'static [DueText]) -> Waiting<'a>
         ensures { result.faults ≡ 0 }
     {
         Waiting {

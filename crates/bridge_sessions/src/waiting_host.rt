@@ -54,13 +54,13 @@ impl<'a> Host for WaitingHost<'a> {
     ghost use Rattle.child_engine.specs.Real.{untold_runs, untold_source, untold_sink};
     ghost use Rattle.bridge_sessions.specs.Waiting.{books_with};
 
-    type Src = Waiting<'a>;
+    type EngineSource = Waiting<'a>;
 
-    type Snk = Telling<'a>;
+    type EngineSink = Telling<'a>;
 
     type Log = NullSink;
 
-    type Kid = ();
+    type ChildProcess = ();
 
     ghost faults = { λ h. h.faults };
 

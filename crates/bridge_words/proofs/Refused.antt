@@ -7,8 +7,8 @@ use Rattle.clap.specs.declared.error.kind.ErrorKind.TheVariants as kinds
 use Rattle.clap.proofs.OnLiterals.{clap_on_literals}
 use Rattle.bridge_words.specs.Command.{bridge}
 use Rattle.bridge_words.specs.Words.{faults_found}
-use Rattle.program_words.specs.declared.refusal.Refusal.{Refusal}
-use Rattle.program_words.specs.declared.refusal.Refusal.TheVariants as refusals
+use Rattle.program_words.specs.declared.refusal.WordsRefusal.{WordsRefusal}
+use Rattle.program_words.specs.declared.refusal.WordsRefusal.TheVariants as refusals
 
 pub is_free : is_simple_and_free bridge ≡ true
 unfolding clap_on_literals
@@ -23,9 +23,9 @@ pub faults_are : (words : List Text) → faults_found words ≡ fault_of bridge 
 unfolding faults_found
 faults_are words = refl
 
-refusal : {T : Type 0} (r r' : Refusal) → ◌≡◌ {A = Result T Refusal} (Err r) (Err r') → r ≡ r'
+refusal : {T : Type 0} (r r' : WordsRefusal) → ◌≡◌ {A = Result T WordsRefusal} (Err r) (Err r') → r ≡ r'
 refusal r r' e = cc
 
-pub not_refused : {T : Type 0} (r : Refusal) (e : Error) (k : ErrorKind) (ks : Kinds) → (r ≡ refusals.Usage → k ≡ kinds.OutOfMemory → ⊥)
-    → k ≡ kind_of e → HasKind ks e → ◌≡◌ {A = Result T Refusal} (Err r) (Err refusals.Usage) → ks ≡ [] → ⊥
+pub not_refused : {T : Type 0} (r : WordsRefusal) (e : Error) (k : ErrorKind) (ks : Kinds) → (r ≡ refusals.Usage → k ≡ kinds.OutOfMemory → ⊥)
+    → k ≡ kind_of e → HasKind ks e → ◌≡◌ {A = Result T WordsRefusal} (Err r) (Err refusals.Usage) → ks ≡ [] → ⊥
 not_refused {T} r e k ks not same h u z = not (refusal {T = T} r refusals.Usage u) (same ∙ only_memory ks e h z)

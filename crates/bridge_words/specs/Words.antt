@@ -4,7 +4,7 @@ use Rattle.clap.specs.Words.{Kinds, Row, Text, fault_of, matches_of, first_of, a
 use Rattle.policy_rules.specs.declared.settings.Settings.{Settings}
 use Rattle.setting_words.specs.Values.{AsksPolicy, HasUsualOthers, all_values, text_or_empty}
 use Rattle.bridge_words.specs.Command.{bridge}
-use Rattle.bridge_words.specs.declared.request.Request.{Request}
+use Rattle.bridge_words.specs.declared.request.BridgeRequest.{BridgeRequest}
 use Rattle.program_words.specs.Words.{AreUtf8}
 
 -- the faults that the command finds in the words, and the values that it finds for its arguments
@@ -24,12 +24,16 @@ abbrev pub engine_words : List Row → List Text
 engine_words rows =
     text_or_empty (first_of (codes "ENGINE") rows) ∷ all_values (all_of (codes "ARG") rows)
 
+-- the name of the log
+abbrev pub log_named : List Row → Text
+log_named rows = text_or_empty (first_of (codes "LogFile") rows)
+
 -- Four settings have the values that were found, and the others are the usual ones.
 pub record AreAsked (rows : List Row) (s : Settings) : Type 0 where
   pub policy : AsksPolicy rows s
   pub others : HasUsualOthers s
 
-pub record IsAsked (rows : List Row) (request : Request) : Type 0 where
+pub record IsAsked (rows : List Row) (request : BridgeRequest) : Type 0 where
   pub settings : AreAsked rows request.settings
-  pub log : string_bytes request.log_name ≡ text_or_empty (first_of (codes "LogFile") rows)
+  pub log : string_bytes request.log_name ≡ log_named rows
   pub engine : map string_bytes request.engine.items ≡ engine_words rows

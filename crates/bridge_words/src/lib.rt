@@ -4,4 +4,4 @@
 mod command;
 mod request;
 
-pub use request::{Request, read_words};
+pub use request::{BridgeRequest, read_words};

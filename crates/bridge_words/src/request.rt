@@ -4,38 +4,38 @@ ghost use Rattle.clap.specs.Words.{rows_of, found_of};
 ghost use Rattle.clap.specs.declared.error.kind.ErrorKind.TheVariants as kinds;
 ghost use Rattle.policy_rules.specs.Policy.{IsProper};
 ghost use Rattle.program_words.specs.Words.{bytes_of};
-ghost use Rattle.program_words.specs.declared.refusal.Refusal.TheVariants as refusals;
+ghost use Rattle.program_words.specs.declared.refusal.WordsRefusal.TheVariants as refusals;
 ghost use Rattle.bridge_words.specs.Words.{faults_found, values_found, AreTaken, IsAsked, engine_words};
 
 use crate::command::bridge_command;
 use clap::ArgMatches;
 use clap::error::ErrorKind;
 use policy_rules::Settings;
-use program_words::Refusal;
+use program_words::WordsRefusal;
 use setting_words::{copied_value, policy_of, put_values, texts};
 use std::alloc::{AllocError, Global};
 
 /// What the words ask for.
 #[derive(Drop)]
-pub struct Request {
+pub struct BridgeRequest {
     pub settings: Settings,
     pub log_name: String,
     /// The engine's program and its arguments.
     pub engine: Vec<String>,
 }
 
-fn refusal_of(kind: ErrorKind) -> Refusal
+fn refusal_of(kind: ErrorKind) -> WordsRefusal
     ensures { result ≡ refusals.Usage → ¬ (kind ≡ kinds.OutOfMemory) }
 {
     match kind {
-        ErrorKind::OutOfMemory => Refusal::NoMemory,
-        _ => Refusal::Usage,
+        ErrorKind::OutOfMemory => WordsRefusal::NoMemory,
+        _ => WordsRefusal::Usage,
     }
 }
 
 // What the command finds in the words.
 #[tactic(auto, unfolding(crate::specs::Words::faults_found, crate::specs::Words::values_found))]
-fn find_in<'a>(alloc: Global, texts: &'a [&'a str]) -> Result<ArgMatches<'a>, Refusal>
+fn find_in<'a>(alloc: Global, texts: &'a [&'a str]) -> Result<ArgMatches<'a>, WordsRefusal>
     ensures found { IfOk result (λ m. rows_of (found_of m)
         ≡ values_found (map (λ s. s.now) texts.now)) }
     ensures taken { OnOk result (faults_found (map (λ s. s.now) texts.now) ≡ []) }
@@ -61,12 +61,12 @@ fn engine_of(alloc: Global, found: &ArgMatches) -> Result<Vec<String>, AllocErro
     Ok(engine)
 }
 
-fn request_of(alloc: Global, found: &ArgMatches) -> Result<Request, AllocError>
+fn request_of(alloc: Global, found: &ArgMatches) -> Result<BridgeRequest, AllocError>
     ensures asked { IfOk result (IsAsked (rows_of (found_of found.now))) }
     ensures proper { IfOk result (λ r. IsProper r.settings) }
     ensures some { IfOk result (λ r. 0 < length r.engine.items) }
 {
-    Ok(Request {
+    Ok(BridgeRequest {
         settings: policy_of(found),
         log_name: copied_value(alloc, found, "LogFile")?,
         engine: engine_of(alloc, found)?,
@@ -74,7 +74,7 @@ fn request_of(alloc: Global, found: &ArgMatches) -> Result<Request, AllocError>
 }
 
 /// Reads the words behind the program's name.
-pub fn read_words(alloc: Global, words: &[Vec<u8>]) -> Result<Request, Refusal>
+pub fn read_words(alloc: Global, words: &[Vec<u8>]) -> Result<BridgeRequest, WordsRefusal>
     ensures taken { OnOk result (AreTaken (bytes_of words.now)) }
     ensures usage { result ≡ Err refusals.Usage → ¬ (AreTaken (bytes_of words.now)) }
     ensures asked { IfOk result (IsAsked (values_found (bytes_of words.now))) }

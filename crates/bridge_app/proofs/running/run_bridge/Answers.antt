@@ -1,10 +1,9 @@
 use Rattle.bridge_app.proofs.running.run_bridge.Goals as goal
 
-pub returns : goal.returns
-returns g c =
+pub returns-clause-runs : goal.returns-clause-runs
+returns-clause-runs g c =
     record {
-      leaves = c.bridge_run.ensures;
-      shown = c.moves_are_shown_in_time.ensures.shown;
-      shown_once = c.moves_are_shown_in_time.ensures.once;
+      leaves = c.bridge_run.ensures.leaves;
+      laws = c.laws_hold.ensures;
       one_session = c.scripts_have_one_trace.ensures.version_2;
     }
