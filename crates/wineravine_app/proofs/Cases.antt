@@ -7,7 +7,7 @@ use Rattle.line_io.specs.Causes.{Rose}
 use Rattle.line_io.specs.Source.{Received}
 use Rattle.host_run.specs.Outside.{Outside, HaveNotRisen, AreAsBefore}
 use Rattle.host_run.specs.Program.{Answers, StatusSays, IsToldTo}
-use Rattle.host_run.specs.declared.ending.Ending.TheVariants as endings
+use Rattle.host_run.specs.declared.ending.ProgramEnding.TheVariants as endings
 use Rattle.host_run.proofs.Causes as causes
 use Rattle.bridge_app.specs.Program.{RunsAsAsked, RunsWhole}
 use Rattle.bridge_app.proofs.Whole.{whole_by}

@@ -8,7 +8,7 @@ use Rattle.line_io.specs.Source.{Received, TakesPrefix}
 use Rattle.host_run.specs.Endings.{diagnostic}
 use Rattle.host_run.specs.Outside.{Outside}
 use Rattle.host_run.specs.Program.{Answers, IsToldTo}
-use Rattle.host_run.specs.declared.ending.Ending.TheVariants as endings
+use Rattle.host_run.specs.declared.ending.ProgramEnding.TheVariants as endings
 use Rattle.bridge_app.specs.Program.{RunsAsAsked}
 use Rattle.peer_words.specs.Bytes.{carriage_return}
 use Rattle.program_texts.specs.About.{version_line}

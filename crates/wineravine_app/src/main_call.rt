@@ -3,23 +3,24 @@ ghost use Rattle.std.specs.Prelude.{◌≡◌, ◌≢◌, true, IfSome};
 ghost use Rattle.child_engine.specs.Hosts.{IsUnused};
 ghost use Rattle.program_words.specs.Words.{bytes_of};
 ghost use Rattle.host_run.specs.Endings.{code_of, diagnostic};
+ghost use Rattle.host_run.specs.Asked.{AsksAsTold};
 ghost use Rattle.host_run.specs.Outside.{outside};
 ghost use Rattle.host_run.specs.Program.{IsToldTo, StatusSays};
-ghost use Rattle.host_run.specs.declared.ending.Ending.TheVariants as endings;
+ghost use Rattle.host_run.specs.declared.ending.ProgramEnding.TheVariants as endings;
 ghost use Rattle.bridge_app.specs.Program.{RunsWhole};
-ghost use Rattle.wineravine_words.specs.Words.{AreAsked, AreTaken, IsRunnable, first_lines, values_found};
+ghost use Rattle.wineravine_words.specs.Words.{AreAsked, AreTaken, IsRunnable, engine_words, first_lines, log_named, values_found};
 ghost use Rattle.wineravine_app.specs.Program.{Did, Does, Fit, engine_named, not_started, program};
 
 use crate::telling::{not_started_line, refuse, show, write_once};
 use bridge_app::run_bridge;
 use child_engine::Host;
-use host_run::{Ending, tell};
+use host_run::{ProgramEnding, tell};
 use line_io::{Sink, Source, Status};
 use program_texts::version_line;
 use std::alloc::Global;
 use std::sync::Wait;
 use std::thread::Threads;
-use wineravine_words::{Asked, HELP, Request, Wrong, read_words};
+use wineravine_words::{AskedProgram, HELP, WineravineRequest, WrongWords, read_words};
 
 /// How a program ends that has no memory for its words.
 pub fn refuse_for_memory<D: Sink>(diag: &mut D) -> Status
@@ -27,14 +28,19 @@ pub fn refuse_for_memory<D: Sink>(diag: &mut D) -> Status
     ensures told { IsToldTo (D.state diag.old) (D.state diag.new)
         (diagnostic program endings.NoMemory) }
 {
-    tell(b"wineravine", Ending::NoMemory, diag);
+    tell(b"wineravine", ProgramEnding::NoMemory, diag);
     Status {
-        code: Ending::NoMemory.code(),
+        code: ProgramEnding::NoMemory.code(),
     }
 }
 
 // Reports how a run ended. If its engine was not started, the interface shows that to its user.
-fn report<O: Sink, D: Sink>(ending: Ending, line: &[u8], output: &mut O, diag: &mut D) -> Status
+fn report<O: Sink, D: Sink>(
+    ending: ProgramEnding,
+    line: &[u8],
+    output: &mut O,
+    diag: &mut D,
+) -> Status
     ensures code { result.code ≡ code_of ending }
     ensures told { IsToldTo (D.state diag.old) (D.state diag.new) (diagnostic program ending) }
     ensures unstarted { result.code ≡ 8
@@ -50,11 +56,12 @@ fn report<O: Sink, D: Sink>(ending: Ending, line: &[u8], output: &mut O, diag: &
 }
 
 // Makes the run that the words ask for, and reports it.
+#[tactic(auto, using(host_run::proofs::Asked::asks_refused))]
 fn run_asked<I: Source + Send, O: Sink + Send, H: Host, D: Sink, R: Threads + Wait + Sync>(
     rt: &R,
     alloc: Global,
     words: &[Vec<u8>],
-    request: &Request,
+    request: &WineravineRequest,
     input: &mut I,
     output: &mut O,
     host: &mut H,
@@ -62,10 +69,14 @@ fn run_asked<I: Source + Send, O: Sink + Send, H: Host, D: Sink, R: Threads + Wa
 ) -> Status
     requires runnable { IsRunnable (bytes_of words.now) request.now }
     requires unused { IsUnused (H.books host.old) }
-    ensures { Did (bytes_of words.now)
+    ensures did { Did (bytes_of words.now)
         (outside (I.state input.old) (O.state output.old) (H.faults host.old) (H.books host.old))
         (outside (I.state input.new) (O.state output.new) (H.faults host.new) (H.books host.new))
         (D.state diag.old) (D.state diag.new) result.code }
+    ensures asked { AsksAsTold (engine_words (values_found (bytes_of words.now)))
+        (log_named (values_found (bytes_of words.now)))
+        (H.asked host.old) (H.asked host.new)
+        (H.faults host.old) (H.faults host.new) (H.books host.new) }
 {
     let Ok(line) = not_started_line(alloc, request.engine[0].as_str()) else {
         return refuse_for_memory(diag);
@@ -81,10 +92,11 @@ fn run_asked<I: Source + Send, O: Sink + Send, H: Host, D: Sink, R: Threads + Wa
         output,
         host,
     );
-    report(Ending::of(failures), line.as_slice(), output, diag)
+    report(ProgramEnding::of(failures), line.as_slice(), output, diag)
 }
 
 // Does what the words ask for.
+#[tactic(auto, using(host_run::proofs::Asked::asks_refused))]
 fn answer<I: Source + Send, O: Sink + Send, H: Host, D: Sink, R: Threads + Wait + Sync>(
     rt: &R,
     alloc: Global,
@@ -95,22 +107,26 @@ fn answer<I: Source + Send, O: Sink + Send, H: Host, D: Sink, R: Threads + Wait 
     diag: &mut D,
 ) -> Status
     requires unused { IsUnused (H.books host.old) }
-    ensures { Did (bytes_of words.now)
+    ensures did { Did (bytes_of words.now)
         (outside (I.state input.old) (O.state output.old) (H.faults host.old) (H.books host.old))
         (outside (I.state input.new) (O.state output.new) (H.faults host.new) (H.books host.new))
         (D.state diag.old) (D.state diag.new) result.code }
+    ensures asked { AsksAsTold (engine_words (values_found (bytes_of words.now)))
+        (log_named (values_found (bytes_of words.now)))
+        (H.asked host.old) (H.asked host.new)
+        (H.faults host.old) (H.faults host.new) (H.books host.new) }
 {
     match read_words(alloc, words) {
-        Ok(Asked::Run(request)) => {
+        Ok(AskedProgram::Run(request)) => {
             run_asked(rt, alloc, words, &request, input, output, host, diag)
         }
-        Ok(Asked::Help) => show(HELP.as_bytes(), output, diag),
-        Ok(Asked::Version) => match version_line(alloc, "wineravine") {
+        Ok(AskedProgram::Help) => show(HELP.as_bytes(), output, diag),
+        Ok(AskedProgram::Version) => match version_line(alloc, "wineravine") {
             Ok(line) => show(line.as_slice(), output, diag),
             Err(_) => refuse_for_memory(diag),
         },
-        Err(Wrong::Words(reason)) => refuse(reason.as_str(), output, diag),
-        Err(Wrong::NoMemory) => refuse_for_memory(diag),
+        Err(WrongWords::Words(reason)) => refuse(reason.as_str(), output, diag),
+        Err(WrongWords::NoMemory) => refuse_for_memory(diag),
     }
 }
 
@@ -150,6 +166,10 @@ pub fn wineravine_main<
         (AreAsked (values_found (bytes_of words.now))) (first_lines (values_found (bytes_of words.now))) bytes
         (outside (I.state input.old) (O.state output.old) (H.faults host.old) (H.books host.old))
         (outside (I.state input.new) (O.state output.new) (H.faults host.new) (H.books host.new))) }
+    ensures asked { AsksAsTold (engine_words (values_found (bytes_of words.now)))
+        (log_named (values_found (bytes_of words.now)))
+        (H.asked host.old) (H.asked host.new)
+        (H.faults host.old) (H.faults host.new) (H.books host.new) }
 {
     answer(rt, alloc, words, input, output, host, diag)
 }

@@ -3,7 +3,7 @@ ghost use Rattle.std.specs.Prelude.{◌≡◌, ◌⊎◌, filter, IfOk};
 ghost use Rattle.host_run.specs.Program.{IsToldTo};
 ghost use Rattle.wineravine_app.specs.Program.{IsCut, IsShown, is_shown, not_started, shown_name, wrong_arguments};
 
-use host_run::{Ending, tell};
+use host_run::{ProgramEnding, tell};
 use line_io::{Sink, Status, write_all};
 use std::alloc::{AllocError, Global};
 
@@ -20,7 +20,7 @@ pub(crate) fn show<O: Sink, D: Sink>(text: &[u8], output: &mut O, diag: &mut D) 
     match write_all(output, text) {
         Ok(()) => Status { code: 0 },
         Err(_) => {
-            tell(b"wineravine", Ending::WritingFailed, diag);
+            tell(b"wineravine", ProgramEnding::WritingFailed, diag);
             Status { code: 5 }
         }
     }

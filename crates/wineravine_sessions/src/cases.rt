@@ -17,7 +17,7 @@ const INPUT: &[u8] = b"ping 3\nquit\n";
 
 /// What a run answered and wrote.
 #[derive(Drop)]
-struct Told {
+struct RunResult {
     code: u8,
     output: MemSink,
     diag: MemSink,
@@ -31,7 +31,7 @@ fn run_over<H: Host, R: Threads + Wait + Sync + Abort>(
     words: &[&str],
     host: &mut H,
     failing: &[u64],
-) -> Told
+) -> RunResult
     requires { IsUnused (H.books host.old) }
 {
     let words = words_of(alloc, words).expect(rt, "memory for the words");
@@ -47,27 +47,35 @@ fn run_over<H: Host, R: Threads + Wait + Sync + Abort>(
         host,
         &mut diag,
     );
-    Told {
+    RunResult {
         code: status.code,
         output,
         diag,
     }
 }
 
-fn expect_told(rt: &impl Abort, told: &Told, code: u8, output: &[u8], diag: &[u8]) {
+fn expect_told(rt: &impl Abort, told: &RunResult, code: u8, output: &[u8], diag: &[u8]) {
     assert_eq!(rt; told.code, code);
     expect_bytes(rt, told.output.taken(), output);
     expect_bytes(rt, told.diag.taken(), diag);
 }
 
 // The same over a host that never fails.
-fn run_steady<R: Threads + Wait + Sync + Abort>(rt: &R, alloc: Global, words: &[&str]) -> Told {
+fn run_steady<R: Threads + Wait + Sync + Abort>(
+    rt: &R,
+    alloc: Global,
+    words: &[&str],
+) -> RunResult {
     let mut host = SteadyHost::make(alloc, ENGINE, 5).expect(rt, "memory for the host");
     run_over(rt, alloc, words, &mut host, &[])
 }
 
 // The same over a host that starts no engine.
-fn run_unstarted<R: Threads + Wait + Sync + Abort>(rt: &R, alloc: Global, words: &[&str]) -> Told {
+fn run_unstarted<R: Threads + Wait + Sync + Abort>(
+    rt: &R,
+    alloc: Global,
+    words: &[&str],
+) -> RunResult {
     let fails = Fails {
         start: true,
         ..Fails::default()

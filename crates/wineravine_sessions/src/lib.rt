@@ -4,6 +4,8 @@
 #[cfg(test)]
 mod cases;
 #[cfg(test)]
+mod exact_log;
+#[cfg(test)]
 mod expected;
 #[cfg(test)]
 mod texts;

@@ -3,16 +3,16 @@ use crate::expected::{expect_bytes, expect_texts, words_of};
 use policy_rules::Settings;
 use std::alloc::Global;
 use std::process::Abort;
-use wineravine_words::{Asked, Request, Wrong, read_words};
+use wineravine_words::{AskedProgram, WineravineRequest, WrongWords, read_words};
 
-fn asked_by<R: Abort>(rt: &R, alloc: Global, words: &[&str]) -> Result<Asked, Wrong> {
+fn asked_by<R: Abort>(rt: &R, alloc: Global, words: &[&str]) -> Result<AskedProgram, WrongWords> {
     let words = words_of(alloc, words).expect(rt, "memory for the words");
     read_words(alloc, words.as_slice())
 }
 
-fn request_of<R: Abort>(rt: &R, alloc: Global, words: &[&str]) -> Request {
+fn request_of<R: Abort>(rt: &R, alloc: Global, words: &[&str]) -> WineravineRequest {
     match asked_by(rt, alloc, words) {
-        Ok(Asked::Run(request)) => request,
+        Ok(AskedProgram::Run(request)) => request,
         _ => panic!(rt; "no run is asked for"),
     }
 }
@@ -130,7 +130,7 @@ const WRONG: [(&[&str], &str); 10] = [
 fn a_reason_names_the_wrong_word(rt: HostRuntime) {
     for (words, named) in WRONG {
         match asked_by(&rt, rt.alloc(), words) {
-            Err(Wrong::Words(reason)) => {
+            Err(WrongWords::Words(reason)) => {
                 assert!(rt; reason.as_str().contains(named), "{reason}");
             }
             _ => panic!(rt; "the words are not wrong"),
@@ -144,13 +144,18 @@ const FOR_HELP: [&[&str]; 3] = [&["--help"], &["-h"], &["--Resign", "true", "-h"
 #[test]
 fn help_and_the_version_are_asked_for(rt: HostRuntime) {
     for words in FOR_HELP {
-        assert!(rt; matches!(asked_by(&rt, rt.alloc(), words), Ok(Asked::Help)));
+        assert!(rt; matches!(asked_by(&rt, rt.alloc(), words), Ok(AskedProgram::Help)));
     }
     assert!(rt;
         matches!(
             asked_by(&rt, rt.alloc(), &["--version"]),
-            Ok(Asked::Version)
+            Ok(AskedProgram::Version)
         )
     );
-    assert!(rt; matches!(asked_by(&rt, rt.alloc(), &["-V"]), Ok(Asked::Version)));
+    assert!(rt;
+        matches!(
+            asked_by(&rt, rt.alloc(), &["-V"]),
+            Ok(AskedProgram::Version)
+        )
+    );
 }

@@ -10,10 +10,10 @@ use Rattle.clap.proofs.OnLiterals.{clap_on_literals}
 use Rattle.program_words.specs.Words.{AreUtf8}
 use Rattle.wineravine_words.specs.Command.{wineravine}
 use Rattle.wineravine_words.specs.Words.{faults_found, values_found, has_feed_within, AreTaken, AskFor, AreWrong, Ask, Fail, Shows, Blames, BlamesFeed}
-use Rattle.wineravine_words.specs.declared.request.Asked.{Asked}
-use Rattle.wineravine_words.specs.declared.request.Asked.TheVariants as asked
-use Rattle.wineravine_words.specs.declared.request.Wrong.{Wrong}
-use Rattle.wineravine_words.specs.declared.request.Wrong.TheVariants as wrong
+use Rattle.wineravine_words.specs.declared.request.AskedProgram.{AskedProgram}
+use Rattle.wineravine_words.specs.declared.request.AskedProgram.TheVariants as asked
+use Rattle.wineravine_words.specs.declared.request.WrongWords.{WrongWords}
+use Rattle.wineravine_words.specs.declared.request.WrongWords.TheVariants as wrong
 use Rattle.wineravine_words.proofs.OneFault.{AreFew, of_built, only_one}
 
 pub is_free : is_simple_and_free wineravine ≡ true
@@ -50,7 +50,7 @@ module _ (words : List Text) (utf8 : AreUtf8 words) (e : Error) (fails : HasKind
     request = subst (λ (x : ErrorKind). faults_found words ≡ x ∷ []) same (only_fault (λ m. other (sym same ∙ m)));
   }
 
-  pub asked_by : (a : Asked) → Shows (kind_of e) a → Ask words a
+  pub asked_by : (a : AskedProgram) → Shows (kind_of e) a → Ask words a
   asked_by (asked.Run request) shows = absurd shows
   asked_by asked.Help shows = asks_for kinds.DisplayHelp shows (λ z. let bad : kinds.DisplayHelp ≡ kinds.OutOfMemory = z in cc)
   asked_by asked.Version shows = asks_for kinds.DisplayVersion shows (λ z. let bad : kinds.DisplayVersion ≡ kinds.OutOfMemory = z in cc)
@@ -58,7 +58,7 @@ module _ (words : List Text) (utf8 : AreUtf8 words) (e : Error) (fails : HasKind
   head : (k l : ErrorKind) → k ∷ [] ≡ l ∷ [] → k ≡ l
   head k l z = cc
 
-  pub blamed_by : (w : Wrong) → Blames (kind_of e) w → Fail words w
+  pub blamed_by : (w : WrongWords) → Blames (kind_of e) w → Fail words w
   blamed_by wrong.NoMemory blames = tt
   blamed_by (wrong.Words text) blames =
       let only = only_fault blames.1.1 in
@@ -69,7 +69,7 @@ module _ (words : List Text) (utf8 : AreUtf8 words) (e : Error) (fails : HasKind
       }
 
 -- words that are not UTF-8
-pub not_utf8 : (words : List Text) (w : Wrong) → (AreUtf8 words → ⊥) → Fail words w
+pub not_utf8 : (words : List Text) (w : WrongWords) → (AreUtf8 words → ⊥) → Fail words w
 not_utf8 words wrong.NoMemory bad = tt
 not_utf8 words (wrong.Words text) bad = record {
   no_run = λ taken. bad taken.utf8;
@@ -78,7 +78,7 @@ not_utf8 words (wrong.Words text) bad = record {
 }
 
 -- a value has a line feed
-pub fed_by : (words : List Text) (w : Wrong) → faults_found words ≡ [] → BlamesFeed (values_found words) w → Fail words w
+pub fed_by : (words : List Text) (w : WrongWords) → faults_found words ≡ [] → BlamesFeed (values_found words) w → Fail words w
 fed_by words wrong.NoMemory fine blames = tt
 fed_by words (wrong.Words text) fine blames = record {
   no_run = λ taken. let z : false ≡ true = sym taken.no_feed ∙ blames in cc;

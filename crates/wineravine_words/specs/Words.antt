@@ -11,11 +11,11 @@ use Rattle.policy_rules.specs.declared.settings.Settings.{Settings}
 use Rattle.program_words.specs.Words.{AreUtf8}
 use Rattle.setting_words.specs.Values.{AsksPolicy, all_values, is_true, text_or_empty}
 use Rattle.wineravine_words.specs.Command.{wineravine}
-use Rattle.wineravine_words.specs.declared.request.Asked.{Asked}
-use Rattle.wineravine_words.specs.declared.request.Asked.TheVariants as asked
-use Rattle.wineravine_words.specs.declared.request.Request.{Request}
-use Rattle.wineravine_words.specs.declared.request.Wrong.{Wrong}
-use Rattle.wineravine_words.specs.declared.request.Wrong.TheVariants as wrong
+use Rattle.wineravine_words.specs.declared.request.AskedProgram.{AskedProgram}
+use Rattle.wineravine_words.specs.declared.request.AskedProgram.TheVariants as asked
+use Rattle.wineravine_words.specs.declared.request.WineravineRequest.{WineravineRequest}
+use Rattle.wineravine_words.specs.declared.request.WrongWords.{WrongWords}
+use Rattle.wineravine_words.specs.declared.request.WrongWords.TheVariants as wrong
 
 -- the faults that the command finds in the words, and the values that it finds for its arguments
 unfoldable pub faults_found : List Text → Kinds
@@ -82,43 +82,43 @@ abbrev pub engine_words : List Row → List Text
 engine_words rows =
     text_or_empty (first_of (codes "ENGINE") rows) ∷ drop 1 (all_values (all_of (codes "ENGINE") rows))
 
-pub record IsAsked (rows : List Row) (request : Request) : Type 0 where
+pub record IsAsked (rows : List Row) (request : WineravineRequest) : Type 0 where
   pub settings : AreAsked rows request.settings
   pub log : string_bytes request.log_name ≡ log_named rows
   pub first : request.first.items ≡ first_lines rows
   pub engine : map string_bytes request.engine.items ≡ engine_words rows
 
 -- a run that can be made
-pub record IsRunnable (words : List Text) (request : Request) : Type 0 where
+pub record IsRunnable (words : List Text) (request : WineravineRequest) : Type 0 where
   pub taken : AreTaken words
   pub asked : IsAsked (values_found words) request
   pub proper : IsProper request.settings
   pub engine : 0 < length request.engine.items
 
 -- what the words ask for
-abbrev pub Ask : List Text → Asked → Type 0
+abbrev pub Ask : List Text → AskedProgram → Type 0
 Ask words (asked.Run request) = IsRunnable words request
 Ask words asked.Help = AskForHelp words
 Ask words asked.Version = AskForVersion words
 
 -- why they ask for nothing
-abbrev pub Fail : List Text → Wrong → Type 0
+abbrev pub Fail : List Text → WrongWords → Type 0
 Fail words (wrong.Words text) = AreWrong words
 Fail words wrong.NoMemory = ⊤
 
 -- what an error of this kind asks for
-abbrev pub Shows : ErrorKind → Asked → Type 0
+abbrev pub Shows : ErrorKind → AskedProgram → Type 0
 Shows kind (asked.Run request) = ⊥
 Shows kind asked.Help = kind ≡ kinds.DisplayHelp
 Shows kind asked.Version = kind ≡ kinds.DisplayVersion
 
 -- an error of this kind is a mistake
-abbrev pub Blames : ErrorKind → Wrong → Type 0
+abbrev pub Blames : ErrorKind → WrongWords → Type 0
 Blames kind (wrong.Words text) =
     (kind ≢ kinds.DisplayHelp) × ((kind ≢ kinds.DisplayVersion) × (kind ≢ kinds.OutOfMemory))
 Blames kind wrong.NoMemory = ⊤
 
 -- the words are wrong only if a value has a line feed
-abbrev pub BlamesFeed : List Row → Wrong → Type 0
+abbrev pub BlamesFeed : List Row → WrongWords → Type 0
 BlamesFeed rows (wrong.Words text) = has_feed_within rows ≡ true
 BlamesFeed rows wrong.NoMemory = ⊤

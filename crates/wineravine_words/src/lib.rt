@@ -8,4 +8,4 @@ mod request;
 
 pub use command::wineravine_command;
 pub use help::HELP;
-pub use request::{Asked, Request, Wrong, read_words};
+pub use request::{AskedProgram, WineravineRequest, WrongWords, read_words};

@@ -12,13 +12,13 @@ use crate::lines::{any_with_feed, has_feed, lines_setting};
 use clap::error::ErrorKind;
 use clap::{ArgMatches, Error};
 use policy_rules::Settings;
-use program_words::Refusal;
+use program_words::WordsRefusal;
 use setting_words::{copied_value, first_value, flag, policy_of, put_copies, texts, values};
 use std::alloc::{AllocError, Global};
 
 /// A run, as words ask for it.
 #[derive(Drop)]
-pub struct Request {
+pub struct WineravineRequest {
     pub settings: Settings,
     pub log_name: String,
     /// The interface's lines that come before all others.
@@ -29,8 +29,8 @@ pub struct Request {
 
 /// What the words ask for.
 #[derive(Drop)]
-pub enum Asked {
-    Run(Request),
+pub enum AskedProgram {
+    Run(WineravineRequest),
     /// The text of help.
     Help,
     /// The name and the version.
@@ -39,20 +39,20 @@ pub enum Asked {
 
 /// Why the words ask for nothing.
 #[derive(Drop)]
-pub enum Wrong {
+pub enum WrongWords {
     /// They fit nothing, for the reason that this text gives: it names the word that is wrong.
     Words(String),
     NoMemory,
 }
 
-impl From<AllocError> for Wrong {
+impl From<AllocError> for WrongWords {
     ghost use Rattle.std.specs.Prelude.{◌≡◌};
-    ghost use Rattle.wineravine_words.specs.declared.request.Wrong.TheVariants as wrong;
+    ghost use Rattle.wineravine_words.specs.declared.request.WrongWords.TheVariants as wrong;
 
     ghost from_gives = { λ e r. r ≡ wrong.NoMemory };
 
     fn from(_: AllocError) -> Self {
-        Wrong::NoMemory
+        WrongWords::NoMemory
     }
 }
 
@@ -77,29 +77,29 @@ fn text_of(alloc: Global, error: &Error) -> Result<String, AllocError> {
 }
 
 // Words that are wrong for a reason that the command does not know.
-fn wrong_by(alloc: Global, reason: &str) -> Wrong {
+fn wrong_by(alloc: Global, reason: &str) -> WrongWords {
     let Ok(mut command) = wineravine_command(alloc) else {
-        return Wrong::NoMemory;
+        return WrongWords::NoMemory;
     };
     let Ok(error) = command.error(ErrorKind::InvalidValue, reason) else {
-        return Wrong::NoMemory;
+        return WrongWords::NoMemory;
     };
     match text_of(alloc, &error) {
-        Ok(text) => Wrong::Words(text),
-        Err(_) => Wrong::NoMemory,
+        Ok(text) => WrongWords::Words(text),
+        Err(_) => WrongWords::NoMemory,
     }
 }
 
 // What an error of the command asks for.
-fn asked_by(alloc: Global, error: &Error) -> Result<Asked, Wrong>
+fn asked_by(alloc: Global, error: &Error) -> Result<AskedProgram, WrongWords>
     ensures shown { IfOk result (Shows (kind_of error.now)) }
     ensures blamed { IfErr result (Blames (kind_of error.now)) }
 {
     match error.kind() {
-        ErrorKind::DisplayHelp => Ok(Asked::Help),
-        ErrorKind::DisplayVersion => Ok(Asked::Version),
-        ErrorKind::OutOfMemory => Err(Wrong::NoMemory),
-        _ => Err(Wrong::Words(text_of(alloc, error)?)),
+        ErrorKind::DisplayHelp => Ok(AskedProgram::Help),
+        ErrorKind::DisplayVersion => Ok(AskedProgram::Version),
+        ErrorKind::OutOfMemory => Err(WrongWords::NoMemory),
+        _ => Err(WrongWords::Words(text_of(alloc, error)?)),
     }
 }
 
@@ -150,11 +150,11 @@ fn value_with_feed<'a>(found: &ArgMatches<'a>) -> Option<BadValue<'a>>
 }
 
 // Words that are wrong for a value with a line feed.
-fn wrong_value(alloc: Global, bad: &BadValue) -> Wrong {
+fn wrong_value(alloc: Global, bad: &BadValue) -> WrongWords {
     let BadValue { option, value } = *bad;
     match format!(in alloc; "invalid value {value:?} for '--{option}': it has a line feed") {
         Ok(reason) => wrong_by(alloc, reason.as_str()),
-        Err(_) => Wrong::NoMemory,
+        Err(_) => WrongWords::NoMemory,
     }
 }
 
@@ -184,12 +184,12 @@ fn engine_of(alloc: Global, found: &ArgMatches) -> Result<Vec<String>, AllocErro
     Ok(engine)
 }
 
-fn request_of(alloc: Global, found: &ArgMatches) -> Result<Request, AllocError>
+fn request_of(alloc: Global, found: &ArgMatches) -> Result<WineravineRequest, AllocError>
     ensures asked { IfOk result (IsAsked (rows_of (found_of found.now))) }
     ensures proper { IfOk result (λ r. IsProper r.settings) }
     ensures some { IfOk result (λ r. 0 < length r.engine.items) }
 {
-    Ok(Request {
+    Ok(WineravineRequest {
         settings: settings_of(found),
         log_name: copied_value(alloc, found, "LogFile")?,
         first: lines_setting(alloc, values(found, "Option"))?,
@@ -198,7 +198,7 @@ fn request_of(alloc: Global, found: &ArgMatches) -> Result<Request, AllocError>
 }
 
 // The run that the values ask for.
-fn run_of(alloc: Global, found: &ArgMatches) -> Result<Request, Wrong>
+fn run_of(alloc: Global, found: &ArgMatches) -> Result<WineravineRequest, WrongWords>
     ensures no_feed { OnOk result (has_feed_within (rows_of (found_of found.now)) ≡ false) }
     ensures asked { IfOk result (IsAsked (rows_of (found_of found.now))) }
     ensures proper { IfOk result (λ r. IsProper r.settings) }
@@ -212,20 +212,20 @@ fn run_of(alloc: Global, found: &ArgMatches) -> Result<Request, Wrong>
 }
 
 /// Reads the words behind the program's name.
-pub fn read_words(alloc: Global, words: &[Vec<u8>]) -> Result<Asked, Wrong>
+pub fn read_words(alloc: Global, words: &[Vec<u8>]) -> Result<AskedProgram, WrongWords>
     ensures asked { IfOk result (Ask (bytes_of words.now)) }
     ensures wrong { IfErr result (Fail (bytes_of words.now)) }
 {
     let texts = match texts(alloc, words) {
         Ok(texts) => texts,
-        Err(Refusal::NoMemory) => return Err(Wrong::NoMemory),
-        Err(Refusal::Usage) => {
+        Err(WordsRefusal::NoMemory) => return Err(WrongWords::NoMemory),
+        Err(WordsRefusal::Usage) => {
             let reason = "invalid UTF-8 was detected in one or more arguments";
             return Err(wrong_by(alloc, reason));
         }
     };
     match find_in(alloc, texts.as_slice()) {
-        Ok(found) => Ok(Asked::Run(run_of(alloc, &found)?)),
+        Ok(found) => Ok(AskedProgram::Run(run_of(alloc, &found)?)),
         Err(error) => asked_by(alloc, &error),
     }
 }
