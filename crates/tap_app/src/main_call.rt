@@ -2,16 +2,17 @@
 ghost use Rattle.std.specs.Prelude.{◌≡◌, true, IfSome};
 ghost use Rattle.child_engine.specs.Hosts.{IsUnused, WasLetGo};
 ghost use Rattle.host_run.specs.Endings.{code_of, diagnostic};
+ghost use Rattle.host_run.specs.Asked.{AsksByWords};
 ghost use Rattle.host_run.specs.Outside.{outside};
 ghost use Rattle.host_run.specs.Program.{Answers, Ends, IsToldTo, StatusSays};
-ghost use Rattle.host_run.specs.declared.ending.Ending.TheVariants as endings;
+ghost use Rattle.host_run.specs.declared.ending.ProgramEnding.TheVariants as endings;
 ghost use Rattle.program_words.specs.Words.{AreTaken, bytes_of};
 ghost use Rattle.tap_app.specs.Program.{program};
 ghost use Rattle.tap_runner.specs.Recorded.{IsWhole};
 ghost use Rattle.tap_runner.specs.Tapped.{Leaves};
 
 use child_engine::{Host, LetGo};
-use host_run::{Ending, tell};
+use host_run::{ProgramEnding, tell};
 use line_io::{Sink, Source, Status};
 use program_words::read_words;
 use std::alloc::Global;
@@ -27,20 +28,23 @@ fn end_of<I: Source + Send, O: LetGo + Send, H: Host, R: Threads + Wait + Sync>(
     input: &mut I,
     output: &mut O,
     host: &mut H,
-) -> Ending
+) -> ProgramEnding
 where
-    H::Snk: LetGo,
+    H::EngineSink: LetGo,
     requires { IsUnused (H.books host.old) }
-    ensures { Ends (AreTaken (bytes_of words.now))
-        (Leaves (O.is_let_go output.new) (WasLetGo H.Snk.state H.Snk.is_let_go)
+    ensures ends { Ends (AreTaken (bytes_of words.now))
+        (Leaves (O.is_let_go output.new) (WasLetGo H.EngineSink.state H.EngineSink.is_let_go)
         (outside (I.state input.old) (O.state output.old) (H.faults host.old) (H.books host.old))
         (outside (I.state input.new) (O.state output.new) (H.faults host.new) (H.books host.new)))
         (outside (I.state input.old) (O.state output.old) (H.faults host.old) (H.books host.old))
         (outside (I.state input.new) (O.state output.new) (H.faults host.new) (H.books host.new))
         result }
+    ensures asked { AsksByWords (bytes_of words.now)
+        (H.asked host.old) (H.asked host.new)
+        (H.faults host.old) (H.faults host.new) (H.books host.new) }
 {
     match read_words(alloc, words) {
-        Ok(request) => Ending::of(tap_run(
+        Ok(request) => ProgramEnding::of(tap_run(
             rt,
             alloc,
             request.log_name.as_str(),
@@ -49,7 +53,7 @@ where
             output,
             host,
         )),
-        Err(refusal) => Ending::from(refusal),
+        Err(refusal) => ProgramEnding::from(refusal),
     }
 }
 
@@ -59,9 +63,9 @@ pub fn refuse_for_memory<D: Sink>(diag: &mut D) -> Status
     ensures told { IsToldTo (D.state diag.old) (D.state diag.new)
         (diagnostic program endings.NoMemory) }
 {
-    tell(b"tap", Ending::NoMemory, diag);
+    tell(b"tap", ProgramEnding::NoMemory, diag);
     Status {
-        code: Ending::NoMemory.code(),
+        code: ProgramEnding::NoMemory.code(),
     }
 }
 
@@ -79,10 +83,10 @@ pub fn tap_main<I: Source + Send, O: LetGo + Send, H: Host, D: Sink, R: Threads 
     diag: &mut D,
 ) -> Status
 where
-    H::Snk: LetGo,
+    H::EngineSink: LetGo,
     requires { IsUnused (H.books host.old) }
     ensures answers { Answers program (AreTaken (bytes_of words.now))
-        (Leaves (O.is_let_go output.new) (WasLetGo H.Snk.state H.Snk.is_let_go)
+        (Leaves (O.is_let_go output.new) (WasLetGo H.EngineSink.state H.EngineSink.is_let_go)
         (outside (I.state input.old) (O.state output.old) (H.faults host.old) (H.books host.old))
         (outside (I.state input.new) (O.state output.new) (H.faults host.new) (H.books host.new)))
         (outside (I.state input.old) (O.state output.old) (H.faults host.old) (H.books host.old))
@@ -96,6 +100,9 @@ where
         → IfSome (H.books host.old).says (λ bytes. IsWhole bytes
         (outside (I.state input.old) (O.state output.old) (H.faults host.old) (H.books host.old))
         (outside (I.state input.new) (O.state output.new) (H.faults host.new) (H.books host.new))) }
+    ensures asked { AsksByWords (bytes_of words.now)
+        (H.asked host.old) (H.asked host.new)
+        (H.faults host.old) (H.faults host.new) (H.books host.new) }
     ensures unstarted { result.code ≡ 8
         → (I.state input.new ≡ I.state input.old) × (O.state output.new ≡ O.state output.old) }
 {

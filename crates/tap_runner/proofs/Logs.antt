@@ -11,7 +11,7 @@ use Rattle.event_pipe.specs.Rule.{of, ended}
 use Rattle.event_pipe.proofs.Roles.{more_ended}
 use Rattle.sink_offers.specs.Streams.{Offered}
 use Rattle.sink_offers.specs.Took.{LogTook}
-use Rattle.tap_runner.specs.declared.logging.Ends.{Ends}
+use Rattle.tap_runner.specs.declared.logging.EndedSides.{EndedSides}
 use Rattle.tap_runner.specs.Marks.{logged, log_text}
 use Rattle.tap_runner.specs.Logging.{mark_length, ends_after, Logged, Logging}
 use Rattle.sink_offers.proofs.Took.{took_nothing, took_next}
@@ -37,7 +37,7 @@ still role r x h = more_ended role r (x ∷ []) ∙ or_left (ended (of role r)) 
 now : (role : ℕ) (r : List Event) (x : Event) → ended (of role (x ∷ [])) ≡ true → ended (of role (r ++ x ∷ [])) ≡ true
 now role r x h = more_ended role r (x ∷ []) ∙ or_right (ended (of role r)) (ended (of role (x ∷ []))) h
 
-bridge_next : (ends : Ends) (r : List Event) (x : Event) → (ends.bridge ≡ true → ended (of 1 r) ≡ true) → (ends_after ends x).bridge ≡ true → ended (of 1 (r ++ x ∷ [])) ≡ true
+bridge_next : (ends : EndedSides) (r : List Event) (x : Event) → (ends.bridge ≡ true → ended (of 1 r) ≡ true) → (ends_after ends x).bridge ≡ true → ended (of 1 (r ++ x ∷ [])) ≡ true
 bridge_next ends r Open h b = still 1 r Open (h b)
 bridge_next ends r (Iface line) h b = still 1 r (Iface line) (h b)
 bridge_next ends r IfaceLong h b = still 1 r IfaceLong (h b)
@@ -48,7 +48,7 @@ bridge_next ends r EngineLong h b = still 1 r EngineLong (h b)
 bridge_next ends r EngineEnd h b = still 1 r EngineEnd (h b)
 bridge_next ends r EngineLost h b = still 1 r EngineLost (h b)
 
-engine_next : (ends : Ends) (r : List Event) (x : Event) → (ends.engine ≡ true → ended (of 2 r) ≡ true) → (ends_after ends x).engine ≡ true → ended (of 2 (r ++ x ∷ [])) ≡ true
+engine_next : (ends : EndedSides) (r : List Event) (x : Event) → (ends.engine ≡ true → ended (of 2 r) ≡ true) → (ends_after ends x).engine ≡ true → ended (of 2 (r ++ x ∷ [])) ≡ true
 engine_next ends r Open h b = still 2 r Open (h b)
 engine_next ends r (Iface line) h b = still 2 r (Iface line) (h b)
 engine_next ends r IfaceLong h b = still 2 r IfaceLong (h b)
@@ -59,7 +59,7 @@ engine_next ends r EngineLong h b = still 2 r EngineLong (h b)
 engine_next ends r EngineEnd h b = now 2 r EngineEnd refl
 engine_next ends r EngineLost h b = still 2 r EngineLost (h b)
 
-abbrev none_ended : Ends
+abbrev none_ended : EndedSides
 none_ended = record { bridge = false; engine = false }
 
 pub logging_first : (received : List Event) (log : Received) → received ≡ [] → Logging received log log false none_ended
@@ -69,17 +69,17 @@ logging_first received log e =
 text_more : (received : List Event) (x : Event) → log_text (received ++ x ∷ []) ≡ log_text received ++ logged x
 text_more received x = flat_map-append logged received (x ∷ []) ∙ ap (λ l. log_text received ++ l) (append-nil (logged x))
 
-pub logging_next : (received received' : List Event) (x y : Event) (l0 l l' : Received) (failed failed' : Bool) (ends ends' : Ends)
+pub logging_next : (received received' : List Event) (x y : Event) (l0 l l' : Received) (failed failed' : Bool) (ends ends' : EndedSides)
     → Logging received l0 l failed ends → received' ≡ received ++ x ∷ [] → y ≡ x → ends' ≡ ends_after ends y → Offered failed failed' l l' (logged y) → Logging received' l0 l' failed' ends'
 logging_next received received' x y l0 l l' failed failed' ends ends' h got same e offered =
     subst (λ (es : List Event). Logging es l0 l' failed' ends') (sym got)
-    (subst (λ (k : Ends). Logging (received ++ x ∷ []) l0 l' failed' k) (sym (e ∙ ap (ends_after ends) same))
+    (subst (λ (k : EndedSides). Logging (received ++ x ∷ []) l0 l' failed' k) (sym (e ∙ ap (ends_after ends) same))
     (record {
       text = subst (λ t. LogTook t failed' l0 l') (sym (text_more received x)) (took_next failed failed' (log_text received) (logged x) l0 l l' h.text (subst (λ (z : Event). Offered failed failed' l l' (logged z)) same offered));
       bridge = bridge_next ends received x h.bridge;
       engine = engine_next ends received x h.engine;
     }))
 
-pub logged_all : (received : List Event) (l0 l : Received) (failed : Bool) (ends : Ends) → Logging received l0 l failed ends → (ends.bridge && ends.engine) ≡ true → Logged received l0 l failed
+pub logged_all : (received : List Event) (l0 l : Received) (failed : Bool) (ends : EndedSides) → Logging received l0 l failed ends → (ends.bridge && ends.engine) ≡ true → Logged received l0 l failed
 logged_all received l0 l failed ends h both =
     record { text = h.text; bridge_ended = h.bridge (and_parts ends.bridge ends.engine both).0; engine_ended = h.engine (and_parts ends.bridge ends.engine both).1 }

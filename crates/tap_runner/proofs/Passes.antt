@@ -10,8 +10,8 @@ use Rattle.event_pipe.specs.declared.message.Peer.{Peer}
 use Rattle.event_pipe.specs.Counts.{Tells}
 use Rattle.event_pipe.specs.Rule.{ended}
 use Rattle.sink_offers.specs.Took.{LogTook}
-use Rattle.tap_runner.specs.declared.passing.Turn.{Turn}
-use Rattle.tap_runner.specs.declared.passing.Turn.TheVariants as turns
+use Rattle.tap_runner.specs.declared.passing.PassingTurn.{PassingTurn}
+use Rattle.tap_runner.specs.declared.passing.PassingTurn.TheVariants as turns
 use Rattle.tap_runner.specs.declared.passing.PassEnd.{PassEnd}
 use Rattle.tap_runner.specs.Lines.{pieces_of, line_after, last_pieces}
 use Rattle.tap_runner.specs.Marks.{piece_event, piece_events, end_event}
@@ -40,20 +40,20 @@ at_end_from : (left : Option (List ℕ)) (now : Option (List ℕ)) → IsAtEnd n
 at_end_from None now h = tt
 at_end_from (Some x) now h = h
 
-more_by : (x : Turn) → is_last x ≡ false → x ≡ turns.More
+more_by : (x : PassingTurn) → is_last x ≡ false → x ≡ turns.More
 more_by turns.More l = refl
 more_by turns.Ended l = cc
 more_by turns.ReadFailed l = cc
 more_by turns.WriteFailed l = cc
 
 -- a last turn that failed in nothing saw the end
-only_ended : (x : Turn) → is_last x ≡ true → (has_failed_to_read x ≡ false) → (has_failed_to_write x ≡ false) → x ≡ turns.Ended
+only_ended : (x : PassingTurn) → is_last x ≡ true → (has_failed_to_read x ≡ false) → (has_failed_to_write x ≡ false) → x ≡ turns.Ended
 only_ended turns.More n r w = cc
 only_ended turns.Ended n r w = refl
 only_ended turns.ReadFailed n r w = cc
 only_ended turns.WriteFailed n r w = cc
 
-module _ (peer : Peer) (old new : Open) (s0 s s' : Supplied) (k0 k k' : Received) (before now : List Event) (turn : Turn) (h : Passing peer old s0 s k0 k before) (t : Turned old new s s' k k' before now turn) where
+module _ (peer : Peer) (old new : Open) (s0 s s' : Supplied) (k0 k k' : Received) (before now : List Event) (turn : PassingTurn) (h : Passing peer old s0 s k0 k before) (t : Turned old new s s' k k' before now turn) where
   all_read : Reads s0 s' (h.got ++ t.got)
   all_read = record {
     given = Appends-trans s0.given s.given s'.given h.got t.got h.reads.given t.reads.given;

@@ -5,7 +5,7 @@ use Rattle.line_io.specs.Source.{Received}
 use Rattle.event_pipe.specs.declared.message.Peer.TheVariants as peers
 use Rattle.event_pipe.specs.Rule.{sent_by, ended}
 use Rattle.sink_offers.specs.Took.{LogTook}
-use Rattle.tap_runner.specs.declared.logging.Ends.{Ends}
+use Rattle.tap_runner.specs.declared.logging.EndedSides.{EndedSides}
 use Rattle.tap_runner.specs.Marks.{log_text}
 
 abbrev pub mark_length : Event → ℕ
@@ -14,7 +14,7 @@ mark_length (Engine mark) = length mark
 mark_length event = 0
 
 -- which sides have ended, after this event
-abbrev pub ends_after : Ends → Event → Ends
+abbrev pub ends_after : EndedSides → Event → EndedSides
 ends_after ends IfaceEnd = record { bridge = true; engine = ends.engine }
 ends_after ends EngineEnd = record { bridge = ends.bridge; engine = true }
 ends_after ends event = ends
@@ -26,7 +26,7 @@ pub record Logged (received : List Event) (log log' : Received) (failed : Bool) 
   pub engine_ended : ended (sent_by peers.Engine received) ≡ true
 
 -- so far
-pub record Logging (received : List Event) (log log' : Received) (failed : Bool) (ends : Ends) : Type 0 where
+pub record Logging (received : List Event) (log log' : Received) (failed : Bool) (ends : EndedSides) : Type 0 where
   pub text : LogTook (log_text received) failed log log'
   pub bridge : ends.bridge ≡ true → ended (sent_by peers.Iface received) ≡ true
   pub engine : ends.engine ≡ true → ended (sent_by peers.Engine received) ≡ true

@@ -5,7 +5,7 @@ use Rattle.line_io.specs.Event.{Event, Iface, IfaceLong, IfaceEnd, Engine, Engin
 use Rattle.line_io.specs.Lines.{Piece, Whole, TooLong, items, line_feed}
 use Rattle.event_pipe.specs.declared.message.Peer.{Peer}
 use Rattle.event_pipe.specs.declared.message.Peer.TheVariants as peers
-use Rattle.event_pipe.specs.declared.message.What.TheVariants as says
+use Rattle.event_pipe.specs.declared.message.MessageBody.TheVariants as says
 use Rattle.event_pipe.specs.Message.{sent_event}
 use Rattle.tap_runner.specs.Lines.{line_limit}
 use Rattle.peer_words.specs.Bytes.{blank}

@@ -2,12 +2,12 @@
 use Rattle.std.specs.Prelude.{◌≤◌}
 use Rattle.event_pipe.specs.declared.message.Peer.TheVariants as peers
 use Rattle.event_pipe.specs.Ends.{IsFreshTaker, AreOne}
-use Rattle.tap_runner.specs.declared.parts.Parts.{Parts}
+use Rattle.tap_runner.specs.declared.parts.TapParts.{TapParts}
 use Rattle.tap_runner.specs.Ran.{IsReadyWay}
 use Rattle.tap_runner.specs.declared.logging.TheConstants.{LOG_ROOM}
 
 -- nothing was heard, sent or taken yet
-pub record AreReady (parts : Parts) : Type 0 where
+pub record AreReady (parts : TapParts) : Type 0 where
   pub room : LOG_ROOM ≤ parts.text.room
   pub down : IsReadyWay parts.down peers.Iface
   pub up : IsReadyWay parts.up peers.Engine

@@ -8,8 +8,8 @@ use Rattle.event_pipe.specs.declared.message.Peer.{Peer}
 use Rattle.event_pipe.specs.Counts.{Tells}
 use Rattle.event_pipe.specs.Rule.{ended}
 use Rattle.sink_offers.specs.Took.{LogTook}
-use Rattle.tap_runner.specs.declared.passing.Turn.{Turn}
-use Rattle.tap_runner.specs.declared.passing.Turn.TheVariants as turns
+use Rattle.tap_runner.specs.declared.passing.PassingTurn.{PassingTurn}
+use Rattle.tap_runner.specs.declared.passing.PassingTurn.TheVariants as turns
 use Rattle.tap_runner.specs.declared.passing.PassEnd.{PassEnd}
 use Rattle.tap_runner.specs.Lines.{pieces_of, line_after}
 use Rattle.tap_runner.specs.Marks.{piece_events, marks_of}
@@ -29,20 +29,20 @@ pub record Passed (peer : Peer) (source source' : Supplied) (sink sink' : Receiv
   pub told : end.has_lacked_memory ≡ false → sent ≡ marks_of peer got
   pub over : ended sent ≡ true
 
-abbrev pub is_last : Turn → Bool
+abbrev pub is_last : PassingTurn → Bool
 is_last turns.More = false
 is_last turn = true
 
-abbrev pub has_failed_to_read : Turn → Bool
+abbrev pub has_failed_to_read : PassingTurn → Bool
 has_failed_to_read turns.ReadFailed = true
 has_failed_to_read turn = false
 
-abbrev pub has_failed_to_write : Turn → Bool
+abbrev pub has_failed_to_write : PassingTurn → Bool
 has_failed_to_write turns.WriteFailed = true
 has_failed_to_write turn = false
 
 -- what one turn did
-pub record Turned (old new : Open) (source source' : Supplied) (sink sink' : Received) (before now : List Event) (turn : Turn) : Type 0 where
+pub record Turned (old new : Open) (source source' : Supplied) (sink sink' : Received) (before now : List Event) (turn : PassingTurn) : Type 0 where
   pub got : List ℕ
   pub reads : Reads source source' got
   pub read_count : Tells source.faults source'.faults (has_failed_to_read turn)

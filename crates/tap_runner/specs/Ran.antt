@@ -8,7 +8,7 @@ use Rattle.event_pipe.specs.Ends.{IsFreshSender}
 use Rattle.event_pipe.specs.Rule.{sent_by}
 use Rattle.sink_offers.specs.Streams.{Streams}
 use Rattle.sink_offers.specs.Took.{LogTook}
-use Rattle.tap_runner.specs.declared.run.Way.{Way}
+use Rattle.tap_runner.specs.declared.run.Direction.{Direction}
 use Rattle.tap_runner.specs.declared.run.TapEnd.{TapEnd}
 use Rattle.tap_runner.specs.Hearing.{Open, fresh}
 use Rattle.tap_runner.specs.Marks.{log_text}
@@ -20,7 +20,7 @@ pub record IsReady (to : PipeSend) (part : Open) (room : ℕ) (peer : Peer) : Ty
   pub part_is : part ≡ fresh peer
   pub some : 0 < room
 
-abbrev pub IsReadyWay : Way → Peer → Type 0
+abbrev pub IsReadyWay : Direction → Peer → Type 0
 IsReadyWay way peer = IsReady way.to way.part (vec_len way.buf) peer
 
 -- What the bridge wrote was handed on to the engine, and what the engine wrote to the bridge. The log is the marks of

@@ -12,7 +12,7 @@ mod tap;
 
 pub use laws::logs_are_whole;
 pub use logging::{LOG_ROOM, keep_log};
-pub use part::Part;
+pub use part::OpenLine;
 pub use passing::{PassEnd, hand_on};
-pub use run::{TapEnd, Way, run_tap};
+pub use run::{Direction, TapEnd, run_tap};
 pub use tap::tap_run;

@@ -19,22 +19,22 @@ pub const LOG_ROOM: usize = PEER_LINE + 1;
 
 // Which sides have ended.
 #[derive(Clone, Copy)]
-pub struct Ends {
+pub struct EndedSides {
     pub bridge: bool,
     pub engine: bool,
 }
 
-impl Ends {
+impl EndedSides {
     // The same after an event.
-    fn after(self, event: &Event) -> Ends
+    fn after(self, event: &Event) -> EndedSides
         ensures { result ≡ ends_after self (event_of event.now) }
     {
         match event {
-            Event::IfaceEnd => Ends {
+            Event::IfaceEnd => EndedSides {
                 bridge: true,
                 engine: self.engine,
             },
-            Event::EngineEnd => Ends {
+            Event::EngineEnd => EndedSides {
                 bridge: self.bridge,
                 engine: true,
             },
@@ -108,7 +108,7 @@ pub fn keep_log<L: Sink, R: Wait>(
         (log_state L.state log.old) (log_state L.state log.new) result }
 {
     let mut failed = false;
-    let mut ends = Ends {
+    let mut ends = EndedSides {
         bridge: false,
         engine: false,
     };

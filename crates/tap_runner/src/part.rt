@@ -6,7 +6,7 @@ ghost use Rattle.tap_runner.specs.Lines.{with_byte, piece_in, last_pieces};
 ghost use Rattle.tap_runner.specs.Marks.{piece_event, piece_events};
 ghost use Rattle.tap_runner.specs.Hearing.{Open, fresh, Hears};
 
-use event_pipe::{Bytes, Peer, PipeSend, What};
+use event_pipe::{Bytes, MessageBody, Peer, PipeSend};
 use line_io::{NoMemory, Out, PEER_LINE};
 use std::alloc::Global;
 use std::marker::Model;
@@ -17,7 +17,7 @@ const MARK_ROOM: usize = PEER_LINE;
 
 /// The line of a peer that has not ended yet.
 #[derive(Drop)]
-pub struct Part {
+pub struct OpenLine {
     peer: Peer,
     // its mark, of which the end is missing if it is long
     mark: Out,
@@ -26,7 +26,7 @@ pub struct Part {
     has_lacked: bool,
 }
 
-impl Model for Part {
+impl Model for OpenLine {
     ghost use Rattle.tap_runner.specs.Hearing.{Open, open_of, IsMark};
 
     ghost Value = { Open };
@@ -48,14 +48,14 @@ fn letter(peer: Peer) -> u8
 
 ghost use Rattle.tap_runner.specs.Marks.{letter_of};
 
-impl Part {
+impl OpenLine {
     /// No byte was heard of this peer.
-    pub fn make(alloc: Global, peer: Peer) -> Result<Part, NoMemory>
+    pub fn make(alloc: Global, peer: Peer) -> Result<OpenLine, NoMemory>
         ensures { IfOk result (λ part. part ≡ fresh peer) }
     {
         let mut mark = Out::make(alloc, MARK_ROOM)?;
         mark.put(&[letter(peer), b' ']);
-        Ok(Part {
+        Ok(OpenLine {
             peer,
             mark,
             is_long: false,
@@ -101,13 +101,13 @@ impl Part {
             (piece_in self.old.line ∷ []) (Some []) }
     {
         if self.is_long {
-            to.send(rt, What::Long);
+            to.send(rt, MessageBody::Long);
         } else {
             match Bytes::make(alloc, self.mark.bytes()) {
-                Ok(mark) => to.send(rt, What::Line(mark)),
+                Ok(mark) => to.send(rt, MessageBody::Line(mark)),
                 Err(_) => {
                     self.has_lacked = true;
-                    to.send(rt, What::Long);
+                    to.send(rt, MessageBody::Long);
                 }
             }
         }
@@ -155,7 +155,7 @@ impl Part {
         if self.is_long || self.mark.bytes().len() > 2 {
             self.send(rt, alloc, to);
         }
-        to.send(rt, What::End);
+        to.send(rt, MessageBody::End);
     }
 }
 

@@ -5,7 +5,7 @@ ghost use Rattle.event_pipe.specs.Ends.{IsFreshSender};
 ghost use Rattle.tap_runner.specs.Ran.{IsReadyWay};
 ghost use Rattle.tap_runner.specs.Parts.{AreReady};
 
-use crate::{LOG_ROOM, Part, Way};
+use crate::{Direction, LOG_ROOM, OpenLine};
 use event_pipe::{Peer, Pipe, PipeSend, PipeTake};
 use line_io::{NoMemory, Out};
 use std::alloc::Global;
@@ -15,33 +15,33 @@ const READ_ROOM: usize = 65_536;
 
 /// Both directions, the end of the channel that the log takes from, and the room for a mark.
 #[derive(Drop)]
-pub(crate) struct Parts {
-    pub down: Way,
-    pub up: Way,
+pub(crate) struct TapParts {
+    pub down: Direction,
+    pub up: Direction,
     pub taker: PipeTake,
     pub text: Out,
 }
 
 // What a direction needs whose marks go here.
-fn make_way(alloc: Global, peer: Peer, to: PipeSend) -> Result<Way, NoMemory>
+fn make_way(alloc: Global, peer: Peer, to: PipeSend) -> Result<Direction, NoMemory>
     requires { IsFreshSender to peer }
     ensures way { IfOk result (λ way. IsReadyWay way peer) }
     ensures to { IfOk result (λ way. way.to ≡ to) }
 {
-    let part = Part::make(alloc, peer)?;
+    let part = OpenLine::make(alloc, peer)?;
     let buf = vec![in alloc; 0; READ_ROOM]?;
-    Ok(Way { to, part, buf })
+    Ok(Direction { to, part, buf })
 }
 
 /// Takes the memory of a run.
-pub(crate) fn make_parts(alloc: Global) -> Result<Parts, NoMemory>
+pub(crate) fn make_parts(alloc: Global) -> Result<TapParts, NoMemory>
     ensures { IfOk result AreReady }
 {
     let text = Out::make(alloc, LOG_ROOM)?;
     let (bridge, engine, taker) = Pipe::make(alloc)?;
     let down = make_way(alloc, Peer::Iface, bridge)?;
     let up = make_way(alloc, Peer::Engine, engine)?;
-    Ok(Parts {
+    Ok(TapParts {
         down,
         up,
         taker,

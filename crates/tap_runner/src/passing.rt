@@ -5,7 +5,7 @@ ghost use Rattle.event_pipe.specs.Rule.{ended};
 ghost use Rattle.tap_runner.specs.Hearing.{EndsHearing, fresh};
 ghost use Rattle.tap_runner.specs.Passing.{Turned, Passed, is_last, has_failed_to_read, has_failed_to_write};
 
-use crate::Part;
+use crate::OpenLine;
 use child_engine::LetGo;
 use event_pipe::PipeSend;
 use line_io::{Sink, Source};
@@ -24,30 +24,30 @@ pub struct PassEnd {
 
 // What a turn came to.
 #[derive(Clone, Copy)]
-pub enum Turn {
+pub enum PassingTurn {
     More,
     Ended,
     ReadFailed,
     WriteFailed,
 }
 
-impl Turn {
+impl PassingTurn {
     fn is_last(self) -> bool
         ensures { result ≡ is_last self }
     {
-        !matches!(self, Turn::More)
+        !matches!(self, PassingTurn::More)
     }
 
     fn has_failed_to_read(self) -> bool
         ensures { result ≡ has_failed_to_read self }
     {
-        matches!(self, Turn::ReadFailed)
+        matches!(self, PassingTurn::ReadFailed)
     }
 
     fn has_failed_to_write(self) -> bool
         ensures { result ≡ has_failed_to_write self }
     {
-        matches!(self, Turn::WriteFailed)
+        matches!(self, PassingTurn::WriteFailed)
     }
 }
 
@@ -58,9 +58,9 @@ fn pass_turn<S: Source, K: Sink, R: Wait>(
     source: &mut S,
     sink: &mut K,
     buf: &mut Vec<u8>,
-    part: &mut Part,
+    part: &mut OpenLine,
     to: &mut PipeSend,
-) -> Turn
+) -> PassingTurn
     requires room { 0 < vec_len buf.old }
     requires sender { IsSender to.old }
     requires peer { to.old.peer ≡ part.old.peer }
@@ -71,15 +71,15 @@ fn pass_turn<S: Source, K: Sink, R: Wait>(
         (K.state sink.old) (K.state sink.new) (sent to.old) (sent to.new) result }
 {
     match source.read(buf.as_mut_slice()) {
-        Err(_) => Turn::ReadFailed,
-        Ok(0) => Turn::Ended,
+        Err(_) => PassingTurn::ReadFailed,
+        Ok(0) => PassingTurn::Ended,
         Ok(count) => {
             let bytes = &buf[..count];
             part.hear(rt, alloc, bytes, to);
             if offer(sink, bytes, false) {
-                Turn::WriteFailed
+                PassingTurn::WriteFailed
             } else {
-                Turn::More
+                PassingTurn::More
             }
         }
     }
@@ -91,7 +91,7 @@ fn end_pass<K: LetGo, R: Wait>(
     rt: &R,
     alloc: Global,
     sink: &mut K,
-    part: &mut Part,
+    part: &mut OpenLine,
     to: &mut PipeSend,
 )
     requires sender { IsSender to.old }
@@ -114,7 +114,7 @@ pub fn hand_on<S: Source, K: LetGo, R: Wait>(
     source: &mut S,
     sink: &mut K,
     buf: &mut Vec<u8>,
-    part: &mut Part,
+    part: &mut OpenLine,
     to: &mut PipeSend,
 ) -> PassEnd
     requires room { 0 < vec_len buf.old }

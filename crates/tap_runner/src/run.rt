@@ -9,7 +9,7 @@ ghost use Rattle.tap_runner.specs.Passing.{Passed};
 ghost use Rattle.tap_runner.specs.Ran.{Ran, IsReadyWay};
 ghost use Rattle.tap_runner.specs.declared.logging.TheConstants.{LOG_ROOM};
 
-use crate::{Part, PassEnd, hand_on, keep_log};
+use crate::{OpenLine, PassEnd, hand_on, keep_log};
 use child_engine::LetGo;
 use event_pipe::{Pipe, PipeSend, PipeTake, join_three};
 use line_io::{Out, Sink, Source};
@@ -20,9 +20,9 @@ use std::thread::Threads;
 /// What one direction needs: where the marks of its lines go, its open line, and the room for what
 /// is read at a time.
 #[derive(Drop)]
-pub struct Way {
+pub struct Direction {
     pub to: PipeSend,
-    pub part: Part,
+    pub part: OpenLine,
     pub buf: Vec<u8>,
 }
 
@@ -40,7 +40,7 @@ fn hand_on_way<S: Source, K: LetGo, R: Wait>(
     alloc: Global,
     source: &mut S,
     sink: &mut K,
-    way: &mut Way,
+    way: &mut Direction,
 ) -> PassEnd
     requires room { 0 < vec_len way.old.buf }
     requires sender { IsSender way.old.to }
@@ -73,8 +73,8 @@ fn run_beside<
 >(
     rt: &R,
     alloc: Global,
-    down: &mut Way,
-    up: &mut Way,
+    down: &mut Direction,
+    up: &mut Direction,
     taker: &mut PipeTake,
     input: &mut I,
     source: &mut S,
@@ -126,8 +126,8 @@ pub fn run_tap<
 >(
     rt: &R,
     alloc: Global,
-    down: Way,
-    up: Way,
+    down: Direction,
+    up: Direction,
     taker: PipeTake,
     input: &mut I,
     source: &mut S,

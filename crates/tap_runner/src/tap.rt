@@ -1,12 +1,14 @@
 // One run of the tap over a host.
-ghost use Rattle.std.specs.Prelude.{◌≡◌, ◌<◌, length, IfOk, IfErr, OnOk, OnErr};
+ghost use Rattle.std.specs.Prelude.{◌≡◌, ◌<◌, length, map, string_bytes, IfOk, IfErr, OnOk, OnErr};
+ghost use Rattle.child_engine.specs.Asked.{and_engines};
 ghost use Rattle.child_engine.specs.Hosts.{IsUnused, IsStarted, fresh_source, fresh_sink, WasLetGo, with_run};
+ghost use Rattle.host_run.specs.Asked.{AsksFor, OpensLogs, engines_asked_by};
 ghost use Rattle.host_run.specs.Early.{AreEarly};
 ghost use Rattle.host_run.specs.Outside.{outside};
 ghost use Rattle.tap_runner.specs.Parts.{AreReady};
 ghost use Rattle.tap_runner.specs.Tapped.{Leaves};
 
-use crate::parts::{Parts, make_parts};
+use crate::parts::{TapParts, make_parts};
 use crate::run_tap;
 use child_engine::{Host, LetGo, Started};
 use host_run::{
@@ -19,8 +21,8 @@ use std::sync::Wait;
 use std::thread::Threads;
 
 // What a run needs, and the engine that was started.
-struct Ready<S, K, P> {
-    parts: Parts,
+struct ReadyTap<S, K, P> {
+    parts: TapParts,
     run: Started<S, K, P>,
 }
 
@@ -28,27 +30,30 @@ struct Ready<S, K, P> {
 fn run_started<I: Source + Send, O: LetGo + Send, H: Host, R: Threads + Wait + Sync>(
     rt: &R,
     alloc: Global,
-    ready: Ready<H::Src, H::Snk, H::Kid>,
+    ready: ReadyTap<H::EngineSource, H::EngineSink, H::ChildProcess>,
     log_name: &str,
     input: &mut I,
     output: &mut O,
     host: &mut H,
 ) -> Failures
 where
-    H::Snk: LetGo,
+    H::EngineSink: LetGo,
     requires parts { AreReady ready.parts }
-    requires source { H.Src.state ready.run.src ≡ fresh_source (H.books host.old).says }
-    requires sink { H.Snk.state ready.run.snk ≡ fresh_sink (H.books host.old).tells }
+    requires source { H.EngineSource.state ready.run.src ≡ fresh_source (H.books host.old).says }
+    requires sink { H.EngineSink.state ready.run.snk ≡ fresh_sink (H.books host.old).tells }
     requires books { IsStarted (H.books host.old) }
-    ensures { Leaves (O.is_let_go output.new) (WasLetGo H.Snk.state H.Snk.is_let_go)
+    ensures leaves { Leaves (O.is_let_go output.new)
+        (WasLetGo H.EngineSink.state H.EngineSink.is_let_go)
         (outside (I.state input.old) (O.state output.old) (H.faults host.old)
         (H.books host.old))
         (outside (I.state input.new) (O.state output.new) (H.faults host.new)
         (H.books host.new))
         result }
+    ensures asked { OpensLogs log_name.now (H.asked host.old) (H.asked host.new)
+        (H.books host.old) (H.books host.new) result }
 {
-    let Ready { parts, run } = ready;
-    let Parts {
+    let ReadyTap { parts, run } = ready;
+    let TapParts {
         down,
         up,
         taker,
@@ -86,24 +91,26 @@ fn start<H: Host, R: Threads>(
     alloc: Global,
     words: &[String],
     host: &mut H,
-) -> Result<Ready<H::Src, H::Snk, H::Kid>, Failures>
+) -> Result<ReadyTap<H::EngineSource, H::EngineSink, H::ChildProcess>, Failures>
     requires words { 0 < length words.now }
     requires unused { IsUnused (H.books host.old) }
     ensures parts { IfOk result (λ ready. AreReady ready.parts) }
     ensures source { IfOk result (λ ready.
-        H.Src.state ready.run.src ≡ fresh_source (H.books host.old).says) }
+        H.EngineSource.state ready.run.src ≡ fresh_source (H.books host.old).says) }
     ensures sink { IfOk result (λ ready.
-        H.Snk.state ready.run.snk ≡ fresh_sink (H.books host.old).tells) }
+        H.EngineSink.state ready.run.snk ≡ fresh_sink (H.books host.old).tells) }
     ensures books { OnOk result (H.books host.new ≡ with_run (H.books host.old)) }
     ensures faults { OnOk result (H.faults host.new ≡ H.faults host.old) }
     ensures unstarted { OnErr result (H.books host.new ≡ H.books host.old) }
+    ensures asked { H.asked host.new
+        ≡ and_engines (engines_asked_by result) (map string_bytes words.now) (H.asked host.old) }
     ensures early { IfErr result (AreEarly (H.faults host.old) (H.faults host.new)) }
 {
     let Ok(parts) = make_parts(alloc) else {
         return Err(only_memory());
     };
     match start_engine(rt, alloc, words, host) {
-        Ok(run) => Ok(Ready { parts, run }),
+        Ok(run) => Ok(ReadyTap { parts, run }),
         Err(failures) => Err(failures),
     }
 }
@@ -120,15 +127,18 @@ pub fn tap_run<I: Source + Send, O: LetGo + Send, H: Host, R: Threads + Wait + S
     host: &mut H,
 ) -> Failures
 where
-    H::Snk: LetGo,
+    H::EngineSink: LetGo,
     requires words { 0 < length words.now }
     requires unused { IsUnused (H.books host.old) }
-    ensures { Leaves (O.is_let_go output.new) (WasLetGo H.Snk.state H.Snk.is_let_go)
+    ensures leaves { Leaves (O.is_let_go output.new)
+        (WasLetGo H.EngineSink.state H.EngineSink.is_let_go)
         (outside (I.state input.old) (O.state output.old) (H.faults host.old)
         (H.books host.old))
         (outside (I.state input.new) (O.state output.new) (H.faults host.new)
         (H.books host.new))
         result }
+    ensures asked { AsksFor (map string_bytes words.now) log_name.now
+        (H.asked host.old) (H.asked host.new) (H.books host.new) result }
 {
     match start(rt, alloc, words, host) {
         Ok(ready) => run_started(rt, alloc, ready, log_name, input, output, host),

@@ -7,7 +7,7 @@ use line_io::{MemSink, MemSource, Out};
 use std::alloc::Global;
 use std::sync::Wait;
 use std::test::Fail;
-use tap_runner::{LOG_ROOM, Part, PassEnd, Way, hand_on, keep_log, run_tap};
+use tap_runner::{Direction, LOG_ROOM, OpenLine, PassEnd, hand_on, keep_log, run_tap};
 
 // Hands on these bytes in pieces of seven.
 fn pass<R: Wait>(
@@ -23,7 +23,7 @@ fn pass<R: Wait>(
     requires unsent { sent to.old ≡ [] }
 {
     let mut source = MemSource::make(alloc, bytes, 7, &[])?;
-    let mut part = Part::make(alloc, peer)?;
+    let mut part = OpenLine::make(alloc, peer)?;
     let mut buf = vec![in alloc; 0; 100]?;
     Ok(hand_on(rt, alloc, &mut source, sink, &mut buf, &mut part, to))
 }
@@ -105,12 +105,12 @@ fn a_long_line_is_handed_on(rt: HostRuntime) -> Result<(), Fail> {
 }
 
 // What a direction needs.
-fn make_way(alloc: Global, peer: Peer, to: PipeSend) -> Result<Way, Fail>
+fn make_way(alloc: Global, peer: Peer, to: PipeSend) -> Result<Direction, Fail>
     ensures { IfOk result (λ way. (way.to ≡ to) × (way.part ≡ fresh peer) × (0 < vec_len way.buf)) }
 {
-    Ok(Way {
+    Ok(Direction {
         to,
-        part: Part::make(alloc, peer)?,
+        part: OpenLine::make(alloc, peer)?,
         buf: vec![in alloc; 0; 100]?,
     })
 }

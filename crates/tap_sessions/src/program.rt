@@ -14,13 +14,13 @@ const INPUT: &[u8] = b"uci\nisready\nquit\n";
 
 /// What a run answered and wrote.
 #[derive(Drop)]
-struct Told {
+struct RunResult {
     code: u8,
     output: MemSink,
     diag: MemSink,
 }
 
-impl Told {
+impl RunResult {
     // Whether the run answered this and wrote these bytes and this diagnostic.
     fn is(&self, code: u8, output: &[u8], diag: &[u8]) -> bool {
         self.code == code && self.output.taken() == output && self.diag.taken() == diag
@@ -33,7 +33,7 @@ fn run<R: Threads + Wait + Sync>(
     alloc: Global,
     texts: &[&[u8]],
     fails: &Fails,
-) -> Result<Told, Fail> {
+) -> Result<RunResult, Fail> {
     let mut words: Vec<Vec<u8>> = Vec::new(alloc);
     for text in texts {
         words.push(Vec::from_slice(alloc, text)?)?;
@@ -51,7 +51,7 @@ fn run<R: Threads + Wait + Sync>(
         &mut host,
         &mut diag,
     );
-    Ok(Told {
+    Ok(RunResult {
         code: status.code,
         output,
         diag,

@@ -9,11 +9,23 @@ use Rattle.tap_runner.proofs.Records.{recorded_by, leaves_by}
 use Rattle.tap_runner.proofs.Starts.{ran_from}
 use Rattle.child_engine.specs.Hosts.{Books}
 use Rattle.host_run.proofs.Counts.{retold, told_by, log_told, reads_kept, writes_kept, waits_kept, starts_kept}
+use Rattle.host_run.proofs.Asked.{asked_logs, opens_logs}
 use Rattle.host_run.proofs.Closes.{all_closed, is_closed, few_logs, same_count, length_told, told_as, some_run, never, log_opened, left_of, right_of, lacked}
 use Rattle.tap_runner.proofs.tap.run_started.Goals as goal
 
-pub returns : goal.returns
-returns g c =
+pub returns-clause-asked : goal.returns-clause-asked
+returns-clause-asked g c =
+    let all = all_closed (g.H.Host.books c.args.host.now) (g.H.Host.books c.open_log-log.new.host) (g.H.Host.books c.close-waited.new.self) (g.H.Host.books c.close_log.new.host)
+    (g.H.EngineSource.Source.state c.run_tap-end.new.source) (g.H.EngineSink.Sink.state c.run_tap-end.new.engine) _ _ c.requires.books c.open_log-log.ensures.books c.close-waited.ensures.books c.close_log.ensures.books in
+    opens_logs _ _ _ _ _ _ _ _ _ c.requires.books c.open_log-log.ensures.asked c.close-waited.ensures.asked c.close_log.ensures.asked
+    (ap (λ (b : Books). b.runs_out) all)
+    (asked_logs g.H.Log.Sink.state c.open_log-log.result.log c.run_tap-end.new.log c.open_log-log.result.fault c.is_open_failure.result _ _ _
+    c.open_log-log.ensures.some c.open_log-log.ensures.none c.run_tap-end.ensures.kept c.run_tap-end.ensures.ran.to_log.count
+    c.is_open_failure.ensures c.either-3.ensures (ap (λ (b : Books). b.logs_out) all))
+    refl
+
+pub returns-clause-leaves : goal.returns-clause-leaves
+returns-clause-leaves g c =
     let h0 = g.H.Host.faults c.args.host.now in
     let h1 = g.H.Host.faults c.open_log-log.new.host in
     let h2 = g.H.Host.faults c.close-waited.new.self in
@@ -22,7 +34,7 @@ returns g c =
     let ran = c.run_tap-end.ensures.ran in
     let closed = c.close-waited.ensures.cause in
     let all = all_closed b0 (g.H.Host.books c.open_log-log.new.host) (g.H.Host.books c.close-waited.new.self) (g.H.Host.books c.close_log.new.host)
-    (g.H.Src.Source.state c.run_tap-end.new.source) (g.H.Snk.Sink.state c.run_tap-end.new.engine) _ _ c.requires.books c.open_log-log.ensures.books c.close-waited.ensures.books c.close_log.ensures.books in
+    (g.H.EngineSource.Source.state c.run_tap-end.new.source) (g.H.EngineSink.Sink.state c.run_tap-end.new.engine) _ _ c.requires.books c.open_log-log.ensures.books c.close-waited.ensures.books c.close_log.ensures.books in
     let runs = ap (λ (b : Books). b.runs) all in
     let logs_out = ap (λ (b : Books). b.logs_out) all in
     let same = same_count c.open_log-log.result.log c.run_tap-end.new.log c.run_tap-end.ensures.kept in

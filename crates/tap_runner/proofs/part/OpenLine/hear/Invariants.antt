@@ -4,7 +4,7 @@ use Rattle.event_pipe.specs.Ends.{KeepsSender, sent}
 use Rattle.event_pipe.specs.Rule.{ended}
 use Rattle.tap_runner.specs.Lines.{pieces_of, line_after}
 use Rattle.tap_runner.specs.Marks.{piece_events}
-use Rattle.tap_runner.proofs.part.Part.hear.Given as goal
+use Rattle.tap_runner.proofs.part.OpenLine.hear.Given as goal
 
 abbrev pub invariant-loop-byte : goal.invariant-loop-byte
 invariant-loop-byte g l = record {
