@@ -1,30 +1,30 @@
 -- What holds between the upper dialogue, the life and its wire.
-use Rattle.std.proofs.Common.{◌≡◌, ◌&&◌, ◌||◌, ℕ, List, [], ◌∷◌, ◌++◌, Bool, true, false, not, cond, Option, Some, None, refl, sym, ap, ◌∙◌, subst, true≢false, if◌then◌else◌, nat_lt}
+use Rattle.std.proofs.Common.{◌≡◌, ◌&&◌, ℕ, List, [], ◌∷◌, ◌++◌, Bool, true, false, not, Option, Some, None, refl, sym, ap, ◌∙◌, subst, true≢false, if◌then◌else◌, nat_lt}
 use Rattle.std.proofs.lemmas.Bool.{and_parts, not-true}
 use Rattle.peer_words.specs.declared.kinds.GoKind.{GoKind}
 use Rattle.peer_words.specs.declared.kinds.GoKind.TheVariants as kinds
 use Rattle.cecp_lines.specs.Quit.{is_quit}
-use Rattle.uci_lines.specs.Orders.{Order as AnyOrder}
-use Rattle.uci_lines.specs.Orders as orders
-use Rattle.uci_lines.specs.OrderReading.{order_in}
+use Rattle.engine_revival.specs.Orders.{RevivalOrder as AnyOrder}
+use Rattle.engine_revival.specs.Orders as orders
+use Rattle.engine_revival.specs.Asked.{asked}
 use Rattle.engine_revival.specs.declared.words.DialogueState.{DialogueState}
 use Rattle.engine_revival.specs.declared.words.DialogueState.TheVariants as upper
 use Rattle.engine_revival.specs.declared.words.LifeState.{LifeState}
 use Rattle.engine_revival.specs.declared.words.LifeState.TheVariants as life
-use Rattle.engine_revival.specs.declared.words.Said.{Said}
-use Rattle.engine_revival.specs.declared.words.Said.TheVariants as said
-use Rattle.engine_revival.specs.declared.words.Due.{Due}
-use Rattle.engine_revival.specs.declared.words.Due.TheVariants as due
-use Rattle.engine_revival.specs.declared.words.Answer.{Answer}
-use Rattle.engine_revival.specs.declared.words.Answer.TheVariants as answers
-use Rattle.engine_revival.specs.declared.state.State.{State}
-use Rattle.engine_revival.specs.Dialogue.{after_order, after_said, after_hit, after_stop, where_true, said_in, is_before, is_idle, is_placed, kind_of}
+use Rattle.engine_revival.specs.declared.words.LifeSaid.{LifeSaid}
+use Rattle.engine_revival.specs.declared.words.LifeSaid.TheVariants as said
+use Rattle.engine_revival.specs.declared.words.DueOrders.{DueOrders}
+use Rattle.engine_revival.specs.declared.words.DueOrders.TheVariants as due
+use Rattle.engine_revival.specs.declared.words.StandInAnswer.{StandInAnswer}
+use Rattle.engine_revival.specs.declared.words.StandInAnswer.TheVariants as answers
+use Rattle.engine_revival.specs.declared.state.RevivalState.{RevivalState}
+use Rattle.engine_revival.specs.Dialogue.{after_order, after_said, after_hit, after_stop, where_true, said_in, is_before, is_idle, is_placed}
 use Rattle.engine_revival.specs.Lists.{can_join, is_nil}
-use Rattle.engine_revival.specs.Steps.{opening, keeping, with_value, with_button, takes_at_once, after_at_once, is_served, life_after_said, due_to, due_orders, after_due, answer_to, after_answer, is_given, gives, accepting, accepted, reading, with_quit, ordering, accepted_at_once, read_at_once, quit_to, at_once, hearing, ending, may_begin, beginning, first_order, closing, due_of, answer_of, settled, settled_orders, is_ended}
+use Rattle.engine_revival.specs.Steps.{with_value, with_button, takes_at_once, after_at_once, life_after_said, due_to, due_orders, after_due, answer_to, after_answer, is_given, gives, accepting, accepted, reading, with_quit, accepted_at_once, read_at_once, quit_to, hearing, may_begin, first_order, due_of, answer_of, settled, settled_orders, is_ended}
 use Rattle.engine_revival.specs.Calls.{Call, Order, Heard, Ended, Begin, Over, may, turned, first_orders, orders_of, after}
-use Rattle.engine_revival.specs.Laws.{Wire, Open, Closed, Gone, Broken, written, all_written, open_or_broken, heard, met, wire_of, is_whole, state_of, MayCome, LivesAreInOrder, is_search, FitsUp, GivenFits, AnswersFit, IsAnswerIn, NoLifeIdles, is_idle_life, waits}
+use Rattle.engine_revival.specs.Laws.{Wire, Open, Closed, Gone, written, all_written, open_or_broken, heard, met, wire_of, is_whole, state_of, MayCome, LivesAreInOrder, is_search, FitsUp, GivenFits, AnswersFit, IsAnswerIn, NoLifeIdles, is_idle_life, waits}
 use Rattle.engine_revival.proofs.Rooms.{where_is, unquit}
-use Rattle.engine_revival.proofs.Wires.{telling, told, behind_setups, AreSetups, is_setup, with_setup, is_open, SearchIs, search_more, hit_open, stop_open, search_open, placed_open}
+use Rattle.engine_revival.proofs.Wires.{told, behind_setups, AreSetups, is_setup, with_setup, is_open, SearchIs, search_more, hit_open, stop_open, search_open, placed_open}
 
 -- what the life says of the upper state
 abbrev pub UpperIs : LifeState → DialogueState → Type 0
@@ -51,7 +51,7 @@ pub record Stands (l : LifeState) (q : Bool) (u : DialogueState) (w : Wire) : Ty
   pub upper_is : UpperIs l u
   pub wire_is : WireIs l q u w
 
-pub record Agrees (s : State) (w : Wire) : Type 0 where
+pub record Agrees (s : RevivalState) (w : Wire) : Type 0 where
   pub stands : Stands s.life s.quit s.upper w
   pub kept : AreSetups s.kept
   pub unsent : AreSetups s.unsent
@@ -65,10 +65,10 @@ whole l q u w h = ap is_whole h
 -- THE LIFE IS HEARD
 
 -- the upper state then
-abbrev upper_heard : Said → LifeState → DialogueState → Bool → DialogueState
+abbrev upper_heard : LifeSaid → LifeState → DialogueState → Bool → DialogueState
 upper_heard word l u got_all = if is_given word l u got_all then after_said u word else u
 
-fresh_heard : (word : Said) (q got_all : Bool) → Stands life.Fresh q (upper_heard word life.Fresh upper.Before got_all) (heard word (Open upper.Before))
+fresh_heard : (word : LifeSaid) (q got_all : Bool) → Stands life.Fresh q (upper_heard word life.Fresh upper.Before got_all) (heard word (Open upper.Before))
 fresh_heard said.Introduction q got_all = record { upper_is = refl; wire_is = refl }
 fresh_heard said.UciOk q got_all = record { upper_is = refl; wire_is = refl }
 fresh_heard said.ReadyOk q got_all = record { upper_is = refl; wire_is = refl }
@@ -76,18 +76,18 @@ fresh_heard said.Report q got_all = record { upper_is = refl; wire_is = refl }
 fresh_heard said.Best q got_all = record { upper_is = refl; wire_is = refl }
 fresh_heard said.Nothing q got_all = record { upper_is = refl; wire_is = refl }
 
-getting_heard : (word : Said) (got_all : Bool) (q : Bool) (w : Wire) → WireIs life.Getting q upper.Getting w → Stands (life_after_said life.Getting word) q (upper_heard word life.Getting upper.Getting got_all) (heard word w)
+getting_heard : (word : LifeSaid) (got_all : Bool) (q : Bool) (w : Wire) → WireIs life.Getting q upper.Getting w → Stands (life_after_said life.Getting word) q (upper_heard word life.Getting upper.Getting got_all) (heard word w)
 getting_heard said.ReadyOk got_all true w h = record { upper_is = tt; wire_is = ap (heard said.ReadyOk) h }
 getting_heard said.ReadyOk got_all false w h = record { upper_is = tt; wire_is = ap (heard said.ReadyOk) h }
 getting_heard word got_all true w h = record { upper_is = refl; wire_is = ap (heard word) h }
 getting_heard word got_all q w h = record { upper_is = refl; wire_is = ap (heard word) h }
 
-boot_heard : (word : Said) (q : Bool) (u up : DialogueState) (w : Wire) → WireIs life.Boot q u w → Stands (life_after_said life.Boot word) q up (heard word w)
+boot_heard : (word : LifeSaid) (q : Bool) (u up : DialogueState) (w : Wire) → WireIs life.Boot q u w → Stands (life_after_said life.Boot word) q up (heard word w)
 boot_heard said.Introduction true u up w h = record { upper_is = tt; wire_is = ap (heard said.Introduction) h }
 boot_heard word true u up w h = record { upper_is = tt; wire_is = ap (heard word) h }
 boot_heard word q u up w h = record { upper_is = tt; wire_is = ap (heard word) h }
 
-search_heard : (word : Said) (got_all : Bool) (q : Bool) (u : DialogueState) (w : Wire) → is_search u ≡ true → WireIs life.Search q u w → Stands (life_after_said life.Search word) q (upper_heard word life.Search u got_all) (heard word w)
+search_heard : (word : LifeSaid) (got_all : Bool) (q : Bool) (u : DialogueState) (w : Wire) → is_search u ≡ true → WireIs life.Search q u w → Stands (life_after_said life.Search word) q (upper_heard word life.Search u got_all) (heard word w)
 search_heard word got_all q upper.Before w e h = absurd (true≢false (sym e))
 search_heard word got_all q upper.Boot w e h = absurd (true≢false (sym e))
 search_heard word got_all q upper.Getting w e h = absurd (true≢false (sym e))
@@ -98,7 +98,7 @@ search_heard said.Best got_all false (upper.Search k b) w e h = record { upper_i
 search_heard word got_all true u w e h = record { upper_is = refl; wire_is = ap (heard word) h }
 search_heard word got_all q u w e h = record { upper_is = refl; wire_is = ap (heard word) h }
 
-heard_stands : (l : LifeState) (q : Bool) (u : DialogueState) (w : Wire) (word : Said) (got_all : Bool) → Stands l q u w → Stands (life_after_said l word) q (upper_heard word l u got_all) (heard word w)
+heard_stands : (l : LifeState) (q : Bool) (u : DialogueState) (w : Wire) (word : LifeSaid) (got_all : Bool) → Stands l q u w → Stands (life_after_said l word) q (upper_heard word l u got_all) (heard word w)
 heard_stands life.Fresh q u w word got_all h =
     subst (λ (x : DialogueState). Stands life.Fresh q (upper_heard word life.Fresh x got_all) (heard word w)) (sym h.upper_is)
     (subst (λ (x : Wire). Stands life.Fresh q (upper_heard word life.Fresh upper.Before got_all) (heard word x)) (sym h.wire_is) (fresh_heard word q got_all))
@@ -122,7 +122,7 @@ fresh_ordered : (c : AnyOrder) (up : DialogueState) → after_order c upper.Befo
 fresh_ordered orders.Uci up e = record { upper_is = tt; wire_is = refl }
 fresh_ordered c up e = absurd (cc)
 
-getting_takes_none : (c : AnyOrder) (up : DialogueState) → after_order c upper.Getting ≡ Some up → ⊥
+pub getting_takes_none : (c : AnyOrder) (up : DialogueState) → after_order c upper.Getting ≡ Some up → ⊥
 getting_takes_none orders.Uci up e = cc
 getting_takes_none c up e = cc
 
@@ -188,12 +188,12 @@ begin_stands (upper.Search k b) = record { upper_is = tt; wire_is = refl }
 
 -- WHAT FOLLOWS
 
-abbrev life_due : Due → LifeState → LifeState
+abbrev life_due : DueOrders → LifeState → LifeState
 life_due due.Nothing l = l
 life_due due.Settings l = life.Getting
 life_due due.Search l = life.Search
 
-abbrev upper_answered : Answer → DialogueState → DialogueState
+abbrev upper_answered : StandInAnswer → DialogueState → DialogueState
 upper_answered answers.Nothing u = u
 upper_answered a u = upper.Idle
 
@@ -217,24 +217,24 @@ settles life.Idle false u w unsent search h a s = idle_settles u w unsent search
 settles life.Over q u w unsent search h a s = record { upper_is = tt; wire_is = h.wire_is }
 settles l q u w unsent search h a s = record { upper_is = h.upper_is; wire_is = h.wire_is }
 
-answered_as : (a : Answer) (s : State) (w : Wire) → Stands s.life s.quit (upper_answered a s.upper) w → AreSetups s.kept → AreSetups s.unsent → SearchIs (upper_answered a s.upper) s.search → Agrees (after_answer a s) w
+answered_as : (a : StandInAnswer) (s : RevivalState) (w : Wire) → Stands s.life s.quit (upper_answered a s.upper) w → AreSetups s.kept → AreSetups s.unsent → SearchIs (upper_answered a s.upper) s.search → Agrees (after_answer a s) w
 answered_as answers.Nothing s w h k u e = record { stands = h; kept = k; unsent = u; search = e }
 answered_as answers.UciOk s w h k u e = record { stands = h; kept = k; unsent = u; search = e }
 answered_as answers.ReadyOk s w h k u e = record { stands = h; kept = k; unsent = u; search = e }
 answered_as answers.NoMove s w h k u e = record { stands = h; kept = k; unsent = u; search = e }
 
-answered_search : (a : Answer) (u : DialogueState) (search : List AnyOrder) → SearchIs u search → SearchIs (upper_answered a u) search
+answered_search : (a : StandInAnswer) (u : DialogueState) (search : List AnyOrder) → SearchIs u search → SearchIs (upper_answered a u) search
 answered_search answers.Nothing u search h = h
 answered_search answers.UciOk u search h = λ e. absurd (true≢false (sym e))
 answered_search answers.ReadyOk u search h = λ e. absurd (true≢false (sym e))
 answered_search answers.NoMove u search h = λ e. absurd (true≢false (sym e))
 
-due_as : (d : Due) (a : Answer) (s : State) (w : Wire) → Stands (life_due d s.life) s.quit (upper_answered a s.upper) w → AreSetups s.kept → AreSetups s.unsent → SearchIs (upper_answered a s.upper) s.search → Agrees (after_answer a (after_due d s)) w
+due_as : (d : DueOrders) (a : StandInAnswer) (s : RevivalState) (w : Wire) → Stands (life_due d s.life) s.quit (upper_answered a s.upper) w → AreSetups s.kept → AreSetups s.unsent → SearchIs (upper_answered a s.upper) s.search → Agrees (after_answer a (after_due d s)) w
 due_as due.Nothing a s w h k u e = answered_as a s w h k u e
 due_as due.Settings a s w h k u e = answered_as a (after_due due.Settings s) w h k tt e
 due_as due.Search a s w h k u e = answered_as a (after_due due.Search s) w h k tt e
 
-settled_agrees : (s : State) (w : Wire) → Agrees s w → Agrees (settled s) (all_written (settled_orders s) w)
+settled_agrees : (s : RevivalState) (w : Wire) → Agrees s w → Agrees (settled s) (all_written (settled_orders s) w)
 settled_agrees s w h =
     due_as (due_of s) (answer_of s) s (all_written (settled_orders s) w)
     (settles s.life s.quit s.upper w s.unsent s.search h.stands h.unsent h.search)
@@ -245,35 +245,35 @@ settled_agrees s w h =
 calm : (up next : DialogueState) (search : List AnyOrder) (w : Bool) → where_true w next ≡ Some up → is_open next ≡ false → SearchIs up search
 calm up next search w e n = λ o. absurd (true≢false (sym o ∙ ap is_open (sym (where_is w next up e).1) ∙ n))
 
-value_agrees : (w : Bool) (s : State) (c : AnyOrder) (up : DialogueState) (l : LifeState) (wire : Wire) → Stands l s.quit up wire → AreSetups s.kept → AreSetups s.unsent → SearchIs up s.search → is_setup c ≡ true → Agrees (record (with_value w s c) { upper = up; life = l }) wire
+value_agrees : (w : Bool) (s : RevivalState) (c : AnyOrder) (up : DialogueState) (l : LifeState) (wire : Wire) → Stands l s.quit up wire → AreSetups s.kept → AreSetups s.unsent → SearchIs up s.search → is_setup c ≡ true → Agrees (record (with_value w s c) { upper = up; life = l }) wire
 value_agrees true s c up l wire h k u e n = record { stands = h; kept = with_setup s.kept c k n; unsent = with_setup s.unsent c u n; search = e }
 value_agrees false s c up l wire h k u e n = record { stands = h; kept = k; unsent = u; search = e }
 
-button_agrees : (w : Bool) (s : State) (c : AnyOrder) (up : DialogueState) (l : LifeState) (wire : Wire) → Stands l s.quit up wire → AreSetups s.kept → AreSetups s.unsent → SearchIs up s.search → is_setup c ≡ true → Agrees (record (with_button w s c) { upper = up; life = l }) wire
+button_agrees : (w : Bool) (s : RevivalState) (c : AnyOrder) (up : DialogueState) (l : LifeState) (wire : Wire) → Stands l s.quit up wire → AreSetups s.kept → AreSetups s.unsent → SearchIs up s.search → is_setup c ≡ true → Agrees (record (with_button w s c) { upper = up; life = l }) wire
 button_agrees true s c up l wire h k u e n = record { stands = h; kept = k; unsent = with_setup s.unsent c u n; search = e }
 button_agrees false s c up l wire h k u e n = record { stands = h; kept = k; unsent = u; search = e }
 
-stands_then : (s : State) (c : AnyOrder) (up : DialogueState) (w : Wire) → s.quit ≡ false → after_order c s.upper ≡ Some up → Stands s.life s.quit s.upper w → Stands (after_at_once s.life c) s.quit up (all_written (as_it_comes s.life c) w)
+stands_then : (s : RevivalState) (c : AnyOrder) (up : DialogueState) (w : Wire) → s.quit ≡ false → after_order c s.upper ≡ Some up → Stands s.life s.quit s.upper w → Stands (after_at_once s.life c) s.quit up (all_written (as_it_comes s.life c) w)
 stands_then s c up w f e h =
     subst (λ (q : Bool). Stands (after_at_once s.life c) q up (all_written (as_it_comes s.life c) w)) (sym f)
     (ordered_stands s.life s.upper w c up e (subst (λ (q : Bool). Stands s.life q s.upper w) f h))
 
-accepting_agrees : (s : State) (c : AnyOrder) (up : DialogueState) (w : Wire) → s.quit ≡ false → after_order c s.upper ≡ Some up → Agrees s w → Agrees (accepting (Some up) s c) (all_written (as_it_comes s.life c) w)
+accepting_agrees : (s : RevivalState) (c : AnyOrder) (up : DialogueState) (w : Wire) → s.quit ≡ false → after_order c s.upper ≡ Some up → Agrees s w → Agrees (accepting (Some up) s c) (all_written (as_it_comes s.life c) w)
 accepting_agrees s orders.Uci up w f e h = record { stands = stands_then s orders.Uci up w f e h.stands; kept = h.kept; unsent = h.unsent; search = calm up upper.Boot s.search (is_before s.upper) e refl }
 accepting_agrees s orders.IsReady up w f e h = record { stands = stands_then s orders.IsReady up w f e h.stands; kept = h.kept; unsent = h.unsent; search = calm up upper.Getting s.search (is_idle s.upper) e refl }
 accepting_agrees s orders.NewGame up w f e h =
     record { stands = stands_then s orders.NewGame up w f e h.stands; kept = h.kept; unsent = with_setup s.unsent orders.NewGame h.unsent refl; search = calm up upper.Idle s.search (is_idle s.upper) e refl }
-accepting_agrees s (orders.SetOption n (Some v)) up w f e h =
-    let c = orders.SetOption n (Some v) in
+accepting_agrees s (orders.Value n v) up w f e h =
+    let c = orders.Value n v in
     value_agrees (can_join s.kept c && can_join s.unsent c) s c up (after_at_once s.life c) (all_written (as_it_comes s.life c) w) (stands_then s c up w f e h.stands) h.kept h.unsent (calm up upper.Idle s.search (is_idle s.upper) e refl) refl
-accepting_agrees s (orders.SetOption n None) up w f e h =
-    let c = orders.SetOption n None in
+accepting_agrees s (orders.Button n v) up w f e h =
+    let c = orders.Button n v in
     button_agrees (can_join s.unsent c) s c up (after_at_once s.life c) (all_written (as_it_comes s.life c) w) (stands_then s c up w f e h.stands) h.kept h.unsent (calm up upper.Idle s.search (is_idle s.upper) e refl) refl
-accepting_agrees s (orders.Position p m) up w f e h =
-    record { stands = stands_then s (orders.Position p m) up w f e h.stands; kept = h.kept; unsent = h.unsent; search = λ o. ap (λ (x : DialogueState). Some x) (where_is (is_idle s.upper) upper.Placed up e).1 }
-accepting_agrees s (orders.Go p t d) up w f e h =
-    let c = orders.Go p t d in
-    record { stands = stands_then s c up w f e h.stands; kept = h.kept; unsent = h.unsent; search = search_more s.upper up s.search c (placed_open s.upper (where_is (is_placed s.upper) (upper.Search (kind_of p t) false) up e).0) e h.search }
+accepting_agrees s (orders.Position p) up w f e h =
+    record { stands = stands_then s (orders.Position p) up w f e h.stands; kept = h.kept; unsent = h.unsent; search = λ o. ap (λ (x : DialogueState). Some x) (where_is (is_idle s.upper) upper.Placed up e).1 }
+accepting_agrees s (orders.Go k p) up w f e h =
+    let c = orders.Go k p in
+    record { stands = stands_then s c up w f e h.stands; kept = h.kept; unsent = h.unsent; search = search_more s.upper up s.search c (placed_open s.upper (where_is (is_placed s.upper) (upper.Search k false) up e).0) e h.search }
 accepting_agrees s orders.PonderHit up w f e h =
     record { stands = stands_then s orders.PonderHit up w f e h.stands; kept = h.kept; unsent = h.unsent; search = search_more s.upper up s.search orders.PonderHit (search_open s.upper (hit_open s.upper up e)) e h.search }
 accepting_agrees s orders.Stop up w f e h =
@@ -284,27 +284,27 @@ no_quit : (q : Bool) (o : Option DialogueState) (up : DialogueState) → (if q t
 no_quit true o up e = absurd (cc)
 no_quit false o up e = refl
 
-accepted_agrees : (s : State) (c : AnyOrder) (o : Option DialogueState) (w : Wire) → accepted s c ≡ o → Agrees s w → Agrees (accepting o s c) (all_written (accepted_at_once o s.life c) w)
+accepted_agrees : (s : RevivalState) (c : AnyOrder) (o : Option DialogueState) (w : Wire) → accepted s c ≡ o → Agrees s w → Agrees (accepting o s c) (all_written (accepted_at_once o s.life c) w)
 accepted_agrees s c None w e h = h
 accepted_agrees s c (Some up) w e h = accepting_agrees s c up w (no_quit s.quit (after_order c s.upper) up e) (unquit s.quit (after_order c s.upper) up e) h
 
-reading_agrees : (s : State) (o : Option AnyOrder) (w : Wire) → Agrees s w → Agrees (reading s o) (all_written (read_at_once s o) w)
+reading_agrees : (s : RevivalState) (o : Option AnyOrder) (w : Wire) → Agrees s w → Agrees (reading s o) (all_written (read_at_once s o) w)
 reading_agrees s None w h = h
 reading_agrees s (Some c) w h = accepted_agrees s c (accepted s c) w refl h
 
-ordering_agrees : (s : State) (line : List ℕ) (q : Bool) (w : Wire) → Agrees s w → Agrees (if q then with_quit s else reading s (order_in line)) (all_written (if q then quit_to s.quit s.life else read_at_once s (order_in line)) w)
+ordering_agrees : (s : RevivalState) (line : List ℕ) (q : Bool) (w : Wire) → Agrees s w → Agrees (if q then with_quit s else reading s (asked line)) (all_written (if q then quit_to s.quit s.life else read_at_once s (asked line)) w)
 ordering_agrees s line true w h = record { stands = quit_stands s.life s.quit s.upper w h.stands; kept = h.kept; unsent = h.unsent; search = h.search }
-ordering_agrees s line false w h = reading_agrees s (order_in line) w h
+ordering_agrees s line false w h = reading_agrees s (asked line) w h
 
 -- EACH CALL
 
-said_search : (b : Bool) (u : DialogueState) (word : Said) (search : List AnyOrder) → SearchIs u search → SearchIs (if b then after_said u word else u) search
+said_search : (b : Bool) (u : DialogueState) (word : LifeSaid) (search : List AnyOrder) → SearchIs u search → SearchIs (if b then after_said u word else u) search
 said_search true upper.Boot said.UciOk search h = λ e. absurd (true≢false (sym e))
 said_search true upper.Getting said.ReadyOk search h = λ e. absurd (true≢false (sym e))
 said_search true (upper.Search k b) said.Best search h = λ e. absurd (true≢false (sym e))
 said_search b u word search h = h
 
-hearing_agrees : (s : State) (word : Said) (w : Wire) → Agrees s w → Agrees (hearing s word) (heard word w)
+hearing_agrees : (s : RevivalState) (word : LifeSaid) (w : Wire) → Agrees s w → Agrees (hearing s word) (heard word w)
 hearing_agrees s word w h = record {
   stands = heard_stands s.life s.quit s.upper w word (is_nil s.unsent) h.stands;
   kept = h.kept;
@@ -312,10 +312,10 @@ hearing_agrees s word w h = record {
   search = said_search (gives s word) s.upper word s.search h.search;
 }
 
-begins_unquit : (s : State) → may_begin s ≡ true → s.quit ≡ false
+begins_unquit : (s : RevivalState) → may_begin s ≡ true → s.quit ≡ false
 begins_unquit s h = not-true s.quit (and_parts (nat_lt s.begun s.lives) (not s.quit) (and_parts (nat_lt s.begun s.lives && not s.quit) (not s.full) h).0).1
 
-pub turned_agrees : (s : State) (call : Call) (w : Wire) → may s call ≡ true → Agrees s w → Agrees (turned s call) (all_written (first_orders s call) (met call w))
+pub turned_agrees : (s : RevivalState) (call : Call) (w : Wire) → may s call ≡ true → Agrees s w → Agrees (turned s call) (all_written (first_orders s call) (met call w))
 turned_agrees s (Order line) w m h = ordering_agrees s line (is_quit line) w h
 turned_agrees s (Heard line) w m h = hearing_agrees s (said_in line) w h
 turned_agrees s Ended w m h = record { stands = record { upper_is = tt; wire_is = refl }; kept = h.kept; unsent = h.unsent; search = h.search }
@@ -331,7 +331,7 @@ written_behind : (a b : List AnyOrder) (w : Wire) → all_written (a ++ b) w ≡
 written_behind [] b w = refl
 written_behind (c ∷ cs) b w = written_behind cs b (written c w)
 
-call_agrees : (s : State) (call : Call) (w : Wire) → may s call ≡ true → Agrees s w → Agrees (after s call) (all_written (orders_of s call) (met call w))
+call_agrees : (s : RevivalState) (call : Call) (w : Wire) → may s call ≡ true → Agrees s w → Agrees (after s call) (all_written (orders_of s call) (met call w))
 call_agrees s call w m h =
     subst (λ (x : Wire). Agrees (after s call) x) (sym (written_behind (first_orders s call) (settled_orders (turned s call)) (met call w)))
     (settled_agrees (turned s call) (all_written (first_orders s call) (met call w)) (turned_agrees s call w m h))
@@ -347,7 +347,7 @@ in_order lives calls m =
     let s = state_of lives calls in
     whole s.life s.quit s.upper (wire_of lives calls) (agrees lives calls m).stands.wire_is
 
-given_fits : (word : Said) (l : LifeState) (u : DialogueState) (g : Bool) → UpperIs l u → is_given word l u g ≡ true → FitsUp word u
+given_fits : (word : LifeSaid) (l : LifeState) (u : DialogueState) (g : Bool) → UpperIs l u → is_given word l u g ≡ true → FitsUp word u
 given_fits said.Introduction l upper.Boot g h e = refl
 given_fits said.UciOk l upper.Boot g h e = refl
 given_fits said.ReadyOk life.Getting u g h e = h
@@ -360,7 +360,7 @@ given_is_waited_for lives calls line m e =
     let s = state_of lives calls in
     given_fits (said_in line) s.life s.upper (is_nil s.unsent) (agrees lives calls m).stands.upper_is e
 
-answer_fits : (s : State) (l : LifeState) (u : DialogueState) → s.life ≡ l → s.upper ≡ u → IsAnswerIn (answer_to l u) s
+answer_fits : (s : RevivalState) (l : LifeState) (u : DialogueState) → s.life ≡ l → s.upper ≡ u → IsAnswerIn (answer_to l u) s
 answer_fits s life.Over upper.Boot e f = (e, f)
 answer_fits s life.Over upper.Getting e f = (e, f)
 answer_fits s life.Over (upper.Search kinds.Move b) e f = (e, ap is_search f)
@@ -377,7 +377,7 @@ quiet life.Idle false (upper.Search k b) d e i = absurd (cc)
 quiet life.Idle q u d e i = refl
 quiet l q u d e i = absurd (true≢false (sym i))
 
-no_idle_by : (d : Due) (a : Answer) (t : State) → due_to t.life t.quit t.upper ≡ d → (after_answer a (after_due d t)).quit ≡ false → is_idle_life (after_answer a (after_due d t)).life ≡ true → waits (after_answer a (after_due d t)).upper ≡ false
+no_idle_by : (d : DueOrders) (a : StandInAnswer) (t : RevivalState) → due_to t.life t.quit t.upper ≡ d → (after_answer a (after_due d t)).quit ≡ false → is_idle_life (after_answer a (after_due d t)).life ≡ true → waits (after_answer a (after_due d t)).upper ≡ false
 no_idle_by d answers.UciOk t e q i = refl
 no_idle_by d answers.ReadyOk t e q i = refl
 no_idle_by d answers.NoMove t e q i = refl

@@ -1,8 +1,13 @@
+pub mod Asked
 pub mod Read
 pub mod Lines
 pub mod Rooms
 pub mod Marks
 pub mod Wires
 pub mod Agrees
+pub mod Sent
+pub mod Searches
 pub mod Values
+pub mod Presses
+pub mod Talks
 pub mod Scripts

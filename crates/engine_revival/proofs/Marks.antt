@@ -1,32 +1,33 @@
 -- How many marks there are for the lines of a call.
-use Rattle.std.proofs.Common.{◌≡◌, ◌&&◌, not, ℕ, ◌+◌, ◌*◌, ◌≤◌, ◌<◌, List, [], ◌∷◌, ◌++◌, Bool, true, false, cond, map, length, Option, Some, None, refl, sym, ap, ◌∙◌, subst, arith, length-append, append_assoc, if◌then◌else◌}
+use Rattle.std.proofs.Common.{◌≡◌, ◌&&◌, not, ℕ, ◌+◌, ◌*◌, ◌≤◌, ◌<◌, List, [], ◌∷◌, ◌++◌, Bool, true, false, cond, length, Option, Some, None, refl, sym, ap, ◌∙◌, arith, length-append, append_assoc, if◌then◌else◌}
 use Rattle.std.specs.List.{AllByRecursion, flat_map, onto_first, before_first, after_first}
 use Rattle.std.proofs.lemmas.List.Concat.{flat_map-append}
 use Rattle.std.proofs.lemmas.List.{length-map}
 use Rattle.line_io.specs.Event.{has_feed}
 use Rattle.line_io.specs.Lines.{is_feed, parts}
 use Rattle.script_lines.specs.Marks.{line_marked}
-use Rattle.script_lines.specs.StepText.{lines_marked, written_marks}
+use Rattle.script_lines.specs.StepText.{lines_marked}
 use Rattle.script_lines.proofs.Scripts.{parts_line}
 use Rattle.script_lines.proofs.Rooms.{lines_first}
 use Rattle.cecp_lines.specs.Quit.{is_quit}
-use Rattle.uci_lines.specs.Orders.{Order, order_text}
-use Rattle.uci_lines.specs.Orders as orders
-use Rattle.uci_lines.specs.OrderReading.{order_in}
-use Rattle.uci_lines.proofs.Spelling.{order_takes}
-use Rattle.engine_revival.specs.declared.order_list.Span.{Span}
+use Rattle.engine_revival.specs.Orders.{RevivalOrder, order_text}
+use Rattle.engine_revival.specs.Orders as orders
+use Rattle.peer_words.specs.Tokens.{trimmed}
+use Rattle.engine_revival.specs.Asked.{asked, order_in}
+use Rattle.engine_revival.proofs.Asked.{asked_text, trimmed_feedless}
+use Rattle.engine_revival.specs.declared.order_list.LineSpan.{LineSpan}
 use Rattle.engine_revival.specs.declared.order_list.TheConstants.{LIST_BYTES, LIST_ORDERS}
-use Rattle.engine_revival.specs.declared.state.State.{State}
+use Rattle.engine_revival.specs.declared.state.RevivalState.{RevivalState}
 use Rattle.engine_revival.specs.declared.state.TheConstants.{DUE_ORDERS, MOST_LINE, SEARCH_BYTES}
-use Rattle.engine_revival.specs.declared.revival.TheConstants.{UP_ROOM, CHILD_ROOM, MARKS_ROOM}
-use Rattle.engine_revival.specs.declared.words.Answer.{Answer}
-use Rattle.engine_revival.specs.declared.words.Answer.TheVariants as answers
+use Rattle.engine_revival.specs.declared.revival.TheConstants.{UP_ROOM, CHILD_ROOM}
+use Rattle.engine_revival.specs.declared.words.StandInAnswer.{StandInAnswer}
+use Rattle.engine_revival.specs.declared.words.StandInAnswer.TheVariants as answers
 use Rattle.engine_revival.specs.declared.words.DialogueState.{DialogueState}
-use Rattle.engine_revival.specs.declared.words.Due.{Due}
-use Rattle.engine_revival.specs.declared.words.Due.TheVariants as due
+use Rattle.engine_revival.specs.declared.words.DueOrders.{DueOrders}
+use Rattle.engine_revival.specs.declared.words.DueOrders.TheVariants as due
 use Rattle.engine_revival.specs.declared.words.LifeState.{LifeState}
 use Rattle.engine_revival.specs.Dialogue.{is_before}
-use Rattle.engine_revival.specs.Kept.{Spells, spelled, line_at, orders_at, IsLineIn, AreIn}
+use Rattle.engine_revival.specs.Kept.{Spells, spelled, line_at, orders_at, AreIn}
 use Rattle.engine_revival.specs.Lists.{batch_text, order_line}
 use Rattle.engine_revival.specs.Marks.{IsOneLine, AreLines, HaveRoom}
 use Rattle.engine_revival.specs.Rooms.{IsRoomy}
@@ -51,13 +52,13 @@ marked_le letter (b ∷ bs) = marked_step (is_feed b) letter b bs (marked_le let
 
 -- THE MARKS OF ORDERS
 
-first_marked : (letter : ℕ) (c : Order) (cs : List Order) → IsOneLine c → lines_marked letter (batch_text (c ∷ cs)) ≡ line_marked letter (order_text c) ++ lines_marked letter (batch_text cs)
+first_marked : (letter : ℕ) (c : RevivalOrder) (cs : List RevivalOrder) → IsOneLine c → lines_marked letter (batch_text (c ∷ cs)) ≡ line_marked letter (order_text c) ++ lines_marked letter (batch_text cs)
 first_marked letter c cs h =
     ap (λ (t : List ℕ). lines_marked letter t) (append_assoc (order_text c) (10 ∷ []) (batch_text cs))
     ∙ ap (λ (ps : List (List ℕ)). flat_map (line_marked letter) ps) (parts_line (order_text c) (batch_text cs) h)
 
 -- two bytes more for each
-marked_length : (letter : ℕ) (list : List Order) → AllByRecursion IsOneLine list → length (lines_marked letter (batch_text list)) ≡ length (batch_text list) + 2 * length list
+marked_length : (letter : ℕ) (list : List RevivalOrder) → AllByRecursion IsOneLine list → length (lines_marked letter (batch_text list)) ≡ length (batch_text list) + 2 * length list
 marked_length letter [] h = refl
 marked_length letter (c ∷ cs) h =
     let i = marked_length letter cs h.1 in
@@ -66,11 +67,11 @@ marked_length letter (c ∷ cs) h =
 
 -- WHICH ORDERS ARE LINES
 
-all_of : (a b : List Order) → AllByRecursion IsOneLine a → AllByRecursion IsOneLine b → AllByRecursion IsOneLine (a ++ b)
+all_of : (a b : List RevivalOrder) → AllByRecursion IsOneLine a → AllByRecursion IsOneLine b → AllByRecursion IsOneLine (a ++ b)
 all_of [] b h k = k
 all_of (c ∷ cs) b h k = (h.0, all_of cs b h.1 k)
 
-pub both_lines : (a b : List Order) (n m most : ℕ) → AreLines a n → AreLines b m → n + m ≤ most → AreLines (a ++ b) most
+pub both_lines : (a b : List RevivalOrder) (n m most : ℕ) → AreLines a n → AreLines b m → n + m ≤ most → AreLines (a ++ b) most
 both_lines a b n m most h k l = record {
   one_line = all_of a b h.one_line k.one_line;
   few = omega (arith, h.few, k.few, l, length-append a b);
@@ -80,35 +81,35 @@ pub no_lines : (most : ℕ) → AreLines [] most
 no_lines most = record { one_line = tt; few = omega arith }
 
 pub spelled_line : (line : List ℕ) → Spells line → IsOneLine (spelled line)
-spelled_line line h = ap (λ (t : List ℕ). has_feed t) (sym h.order.text) ∙ h.one_line
+spelled_line line h = ap (λ (t : List ℕ). has_feed t) (sym h.text) ∙ h.one_line
 
-kept_all : (texts : List ℕ) (lines : List Span) → AreIn texts lines → AllByRecursion IsOneLine (orders_at texts lines)
+kept_all : (texts : List ℕ) (lines : List LineSpan) → AreIn texts lines → AllByRecursion IsOneLine (orders_at texts lines)
 kept_all texts [] h = tt
 kept_all texts (l ∷ ls) h = (spelled_line (line_at texts l) h.0.spells, kept_all texts ls h.1)
 
 -- those that are kept
-pub kept_lines : (texts : List ℕ) (lines : List Span) → AreIn texts lines → length lines ≤ LIST_ORDERS → AreLines (orders_at texts lines) LIST_ORDERS
+pub kept_lines : (texts : List ℕ) (lines : List LineSpan) → AreIn texts lines → length lines ≤ LIST_ORDERS → AreLines (orders_at texts lines) LIST_ORDERS
 kept_lines texts lines h k = record {
   one_line = kept_all texts lines h;
-  few = omega (arith, k, length-map lines (λ (s : Span). spelled (line_at texts s)));
+  few = omega (arith, k, length-map lines (λ (s : LineSpan). spelled (line_at texts s)));
 }
 
 -- THE ORDERS THAT ARE WRITTEN AS THEY COME
 
-one : (c : Order) → IsOneLine c → AreLines (c ∷ []) 1
+one : (c : RevivalOrder) → IsOneLine c → AreLines (c ∷ []) 1
 one c h = record { one_line = (h, tt); few = omega arith }
 
-one_if : (w : Bool) (c : Order) → IsOneLine c → AreLines (if w then c ∷ [] else []) 1
+one_if : (w : Bool) (c : RevivalOrder) → IsOneLine c → AreLines (if w then c ∷ [] else []) 1
 one_if true c h = one c h
 one_if false c h = no_lines 1
 
-accepted_lines : (w : Option DialogueState) (life : LifeState) (c : Order) → IsOneLine c → AreLines (accepted_at_once w life c) 1
+accepted_lines : (w : Option DialogueState) (life : LifeState) (c : RevivalOrder) → IsOneLine c → AreLines (accepted_at_once w life c) 1
 accepted_lines None life c h = no_lines 1
 accepted_lines (Some up) life c h = one_if (takes_at_once life c) c h
 
-read_lines : (s : State) (line : List ℕ) (o : Option Order) → order_in line ≡ o → has_feed line ≡ false → AreLines (read_at_once s o) 1
+read_lines : (s : RevivalState) (line : List ℕ) (o : Option RevivalOrder) → order_in line ≡ o → has_feed line ≡ false → AreLines (read_at_once s o) 1
 read_lines s line None e h = no_lines 1
-read_lines s line (Some c) e h = accepted_lines (accepted s c) s.life c (ap (λ (t : List ℕ). has_feed t) (sym (order_takes line c e).text) ∙ h)
+read_lines s line (Some c) e h = accepted_lines (accepted s c) s.life c (ap (λ (t : List ℕ). has_feed t) (sym (asked_text line c e)) ∙ h)
 
 quit_line : IsOneLine orders.Quit
 unfolding order_text
@@ -122,11 +123,11 @@ pub ready_line : AreLines (orders.IsReady ∷ []) 1
 unfolding order_text
 ready_line = record { one_line = (refl, tt); few = omega arith }
 
-at_once_by : (w : Bool) (s : State) (line : List ℕ) → has_feed line ≡ false → AreLines (if w then quit_to s.quit s.life else read_at_once s (order_in line)) 1
+at_once_by : (w : Bool) (s : RevivalState) (line : List ℕ) → has_feed line ≡ false → AreLines (if w then quit_to s.quit s.life else read_at_once s (asked line)) 1
 at_once_by true s line h = one_if (not s.quit && is_served s.life) orders.Quit quit_line
-at_once_by false s line h = read_lines s line (order_in line) refl h
+at_once_by false s line h = read_lines s (trimmed line) (asked line) refl (trimmed_feedless line h)
 
-pub at_once_lines : (s : State) (line : List ℕ) → has_feed line ≡ false → AreLines (at_once s line) 1
+pub at_once_lines : (s : RevivalState) (line : List ℕ) → has_feed line ≡ false → AreLines (at_once s line) 1
 at_once_lines s line h = at_once_by (is_quit line) s line h
 
 first_by : (w : Bool) → AreLines (if w then [] else orders.Uci ∷ []) 1
@@ -142,18 +143,18 @@ ready_length : length (order_text orders.IsReady) ≡ 7
 unfolding order_text
 ready_length = refl
 
-due_short : (d : Due) (unsent search : List Order) → length (batch_text unsent) ≤ LIST_BYTES → length (batch_text search) ≤ SEARCH_BYTES → length (batch_text (due_orders d unsent search)) ≤ LIST_BYTES + SEARCH_BYTES
+due_short : (d : DueOrders) (unsent search : List RevivalOrder) → length (batch_text unsent) ≤ LIST_BYTES → length (batch_text search) ≤ SEARCH_BYTES → length (batch_text (due_orders d unsent search)) ≤ LIST_BYTES + SEARCH_BYTES
 due_short due.Nothing unsent search u s = omega arith
 due_short due.Settings unsent search u s = omega (arith, u, batch_last unsent orders.IsReady, ready_length)
 due_short due.Search unsent search u s = omega (arith, u, s, ap (λ (t : List ℕ). length t) (flat_map-append order_line unsent search), length-append (batch_text unsent) (batch_text search))
 
-pub answer_short : (a : Answer) → length (answer_text a) ≤ 16
+pub answer_short : (a : StandInAnswer) → length (answer_text a) ≤ 16
 answer_short answers.Nothing = omega arith
 answer_short answers.UciOk = omega arith
 answer_short answers.ReadyOk = omega arith
 answer_short answers.NoMove = omega arith
 
-marks_room : (up child : List ℕ) (first more : List Order) → length up ≤ UP_ROOM → length child ≤ CHILD_ROOM → child ≡ batch_text (first ++ more) → AreLines first 1 → AreLines more DUE_ORDERS → HaveRoom up child
+marks_room : (up child : List ℕ) (first more : List RevivalOrder) → length up ≤ UP_ROOM → length child ≤ CHILD_ROOM → child ≡ batch_text (first ++ more) → AreLines first 1 → AreLines more DUE_ORDERS → HaveRoom up child
 marks_room up child first more u k e f d =
     let all = both_lines first more 1 DUE_ORDERS (1 + DUE_ORDERS) f d (omega arith) in
     let l = marked_length 85 (first ++ more) all.one_line in
@@ -161,7 +162,7 @@ marks_room up child first more u k e f d =
     let long : length child ≡ length (batch_text (first ++ more)) = ap (λ (t : List ℕ). length t) e in
     omega (arith, all.few, l, same, long, u, k, marked_le 88 up, length-append (lines_marked 88 up) (lines_marked 85 child))
 
-pub call_marks : (up child : List ℕ) (first : List Order) (s : State) → length up ≤ UP_ROOM → child ≡ batch_text first ++ batch_text (settled_orders s) → length (batch_text first) ≤ MOST_LINE + 1
+pub call_marks : (up child : List ℕ) (first : List RevivalOrder) (s : RevivalState) → length up ≤ UP_ROOM → child ≡ batch_text first ++ batch_text (settled_orders s) → length (batch_text first) ≤ MOST_LINE + 1
     → AreLines first 1 → AreLines (settled_orders s) DUE_ORDERS → IsRoomy s → HaveRoom up child
 call_marks up child first s u e k f d r =
     let more = settled_orders s in

@@ -4,71 +4,72 @@ use Rattle.std.proofs.lemmas.Bool.{leb-true, and_parts}
 use Rattle.std.proofs.lemmas.List.Elements.{filter-append}
 use Rattle.peer_words.specs.declared.kinds.GoKind.{GoKind}
 use Rattle.peer_words.specs.declared.kinds.GoKind.TheVariants as kinds
-use Rattle.uci_lines.specs.declared.orders.Order.{Order as CodeOrder}
-use Rattle.uci_lines.specs.declared.orders.Order.TheVariants as says
-use Rattle.uci_lines.specs.Orders.{Order, order_of, order_text, NewGame}
-use Rattle.uci_lines.specs.Orders as orders
-use Rattle.uci_lines.specs.OrderReading.{order_in}
-use Rattle.uci_lines.proofs.Spelling.{order_takes}
+use Rattle.peer_words.specs.Tokens.{trimmed}
+use Rattle.engine_revival.specs.declared.orders.RevivalOrder.{RevivalOrder as CodeOrder}
+use Rattle.engine_revival.specs.declared.orders.RevivalOrder.TheVariants as says
+use Rattle.engine_revival.specs.Orders.{RevivalOrder, order_of, order_text, NewGame}
+use Rattle.engine_revival.specs.Orders as orders
+use Rattle.engine_revival.specs.Asked.{asked, order_in}
+use Rattle.engine_revival.proofs.Asked.{asked_text, trimmed_short}
 use Rattle.cecp_lines.specs.Quit.{is_quit}
 use Rattle.engine_revival.specs.declared.words.DialogueState.{DialogueState}
 use Rattle.engine_revival.specs.declared.words.DialogueState.TheVariants as upper
 use Rattle.engine_revival.specs.declared.words.LifeState.{LifeState}
-use Rattle.engine_revival.specs.declared.words.Said.{Said}
-use Rattle.engine_revival.specs.declared.words.Said.TheVariants as said
-use Rattle.engine_revival.specs.declared.words.Due.{Due}
-use Rattle.engine_revival.specs.declared.words.Due.TheVariants as due
-use Rattle.engine_revival.specs.declared.words.Answer.{Answer}
-use Rattle.engine_revival.specs.declared.words.Answer.TheVariants as answers
-use Rattle.engine_revival.specs.declared.state.State.{State}
+use Rattle.engine_revival.specs.declared.words.LifeSaid.{LifeSaid}
+use Rattle.engine_revival.specs.declared.words.LifeSaid.TheVariants as said
+use Rattle.engine_revival.specs.declared.words.DueOrders.{DueOrders}
+use Rattle.engine_revival.specs.declared.words.DueOrders.TheVariants as due
+use Rattle.engine_revival.specs.declared.words.StandInAnswer.{StandInAnswer}
+use Rattle.engine_revival.specs.declared.words.StandInAnswer.TheVariants as answers
+use Rattle.engine_revival.specs.declared.state.RevivalState.{RevivalState}
 use Rattle.engine_revival.specs.declared.state.TheConstants.{MOST_LINE, SEARCH_BYTES}
 use Rattle.engine_revival.specs.declared.order_list.TheConstants.{MOST_ORDERS, MOST_BYTES, LIST_BYTES}
-use Rattle.engine_revival.specs.Dialogue.{said_in, after_order, after_said, where_true, is_placed, is_idle, is_before, kind_of, after_hit, after_stop}
+use Rattle.engine_revival.specs.Dialogue.{said_in, after_order, after_said, where_true, is_placed, is_idle, is_before, after_hit, after_stop}
 use Rattle.engine_revival.specs.Lists.{staying_beside, with_order, batch_text, can_join, are_for_same}
 use Rattle.engine_revival.specs.Rooms.{AreWithin, IsSearchIn, IsRoomy}
 use Rattle.engine_revival.specs.Steps.{keeping, with_value, with_button, accepting, accepted, reading, ordering, with_quit, hearing, given, gives, beginning, after_due, after_answer, due_of, answer_of, settled, after_at_once}
 use Rattle.engine_revival.proofs.Lines.{batch_first, batch_last}
 
-pub is_new_game : (o : CodeOrder) (c : Order) → order_of o ≡ c → o ≡ says.NewGame → c ≡ NewGame
+pub is_new_game : (o : CodeOrder) (c : RevivalOrder) → order_of o ≡ c → o ≡ says.NewGame → c ≡ NewGame
 is_new_game o c e f = sym e ∙ ap order_of f
 
 -- WHAT STAYS IS NO LONGER
 
-few_step : (w : Bool) (c : Order) (kept cs : List Order) → length kept ≤ length cs → length (cond w (c ∷ kept) kept) ≤ length (c ∷ cs)
+few_step : (w : Bool) (c : RevivalOrder) (kept cs : List RevivalOrder) → length kept ≤ length cs → length (cond w (c ∷ kept) kept) ≤ length (c ∷ cs)
 few_step true c kept cs h = omega (arith, h)
 few_step false c kept cs h = omega (arith, h)
 
-few : (test : Order → Bool) (cs : List Order) → length (filter test cs) ≤ length cs
+few : (test : RevivalOrder → Bool) (cs : List RevivalOrder) → length (filter test cs) ≤ length cs
 few test [] = omega arith
 few test (c ∷ cs) = few_step (test c) c (filter test cs) cs (few test cs)
 
-short_step : (w : Bool) (c : Order) (kept cs : List Order) → length (batch_text kept) ≤ length (batch_text cs) → length (batch_text (cond w (c ∷ kept) kept)) ≤ length (batch_text (c ∷ cs))
+short_step : (w : Bool) (c : RevivalOrder) (kept cs : List RevivalOrder) → length (batch_text kept) ≤ length (batch_text cs) → length (batch_text (cond w (c ∷ kept) kept)) ≤ length (batch_text (c ∷ cs))
 short_step true c kept cs h = omega (arith, h, batch_first c kept, batch_first c cs)
 short_step false c kept cs h = omega (arith, h, batch_first c cs)
 
-short : (test : Order → Bool) (cs : List Order) → length (batch_text (filter test cs)) ≤ length (batch_text cs)
+short : (test : RevivalOrder → Bool) (cs : List RevivalOrder) → length (batch_text (filter test cs)) ≤ length (batch_text cs)
 short test [] = omega arith
 short test (c ∷ cs) = short_step (test c) c (filter test cs) cs (short test cs)
 
-beside : (order : Order) (cs : List Order) (n m : ℕ) → AreWithin cs n m → AreWithin (staying_beside order cs) n m
+beside : (order : RevivalOrder) (cs : List RevivalOrder) (n m : ℕ) → AreWithin cs n m → AreWithin (staying_beside order cs) n m
 beside order cs n m h = record {
   few = omega (arith, h.few, few (λ o. not (are_for_same order o)) cs);
   short = omega (arith, h.short, short (λ o. not (are_for_same order o)) cs);
 }
 
-joined : (list : List Order) (c : Order) → can_join list c ≡ true → AreWithin (with_order list c) MOST_ORDERS MOST_BYTES
+joined : (list : List RevivalOrder) (c : RevivalOrder) → can_join list c ≡ true → AreWithin (with_order list c) MOST_ORDERS MOST_BYTES
 joined list c h =
     let all = with_order list c in
     let p = and_parts (nat_le (length all) MOST_ORDERS) (nat_le (length (batch_text all)) MOST_BYTES) h in
     record { few = leb-true (length all) MOST_ORDERS p.0; short = leb-true (length (batch_text all)) MOST_BYTES p.1 }
 
-one_more : (search : List Order) (c : Order) (n m k : ℕ) → AreWithin search n m → length (order_text c) ≤ k → AreWithin (search ++ c ∷ []) (n + 1) (m + (k + 1))
+one_more : (search : List RevivalOrder) (c : RevivalOrder) (n m k : ℕ) → AreWithin search n m → length (order_text c) ≤ k → AreWithin (search ++ c ∷ []) (n + 1) (m + (k + 1))
 one_more search c n m k h l = record {
   few = omega (arith, h.few, length-append search (c ∷ []));
   short = omega (arith, h.short, l, batch_last search c);
 }
 
-wider : (search : List Order) (n m n' m' : ℕ) → AreWithin search n m → n ≤ n' → m ≤ m' → AreWithin search n' m'
+wider : (search : List RevivalOrder) (n m n' m' : ℕ) → AreWithin search n m → n ≤ n' → m ≤ m' → AreWithin search n' m'
 wider search n m n' m' h a b = record { few = omega (arith, h.few, a); short = omega (arith, h.short, b) }
 
 -- `ucinewgame` has its room.
@@ -84,28 +85,28 @@ stop_length : length (order_text orders.Stop) ≡ 4
 unfolding order_text
 stop_length = refl
 
-pub new_game_room : (l : List Order) → length (batch_text (staying_beside NewGame l)) ≤ MOST_BYTES → length (batch_text (with_order l NewGame)) ≤ LIST_BYTES
+pub new_game_room : (l : List RevivalOrder) → length (batch_text (staying_beside NewGame l)) ≤ MOST_BYTES → length (batch_text (with_order l NewGame)) ≤ LIST_BYTES
 new_game_room l h = omega (arith, h, batch_last (staying_beside NewGame l) NewGame, new_game_length)
 
 -- THE SEARCH
 
-all_search : (u : DialogueState) (search : List Order) → IsSearchIn u search → AreWithin search 4 SEARCH_BYTES
+all_search : (u : DialogueState) (search : List RevivalOrder) → IsSearchIn u search → AreWithin search 4 SEARCH_BYTES
 all_search upper.Placed search h = wider search 1 (MOST_LINE + 1) 4 SEARCH_BYTES h (omega arith) (omega arith)
 all_search (upper.Search kinds.Ponder false) search h = wider search 2 (2 * MOST_LINE + 2) 4 SEARCH_BYTES h (omega arith) (omega arith)
 all_search (upper.Search x false) search h = wider search 3 (2 * MOST_LINE + 12) 4 SEARCH_BYTES h (omega arith) (omega arith)
 all_search u search h = h
 
-begun : (k : GoKind) (search : List Order) → AreWithin search 2 (2 * MOST_LINE + 2) → IsSearchIn (upper.Search k false) search
+begun : (k : GoKind) (search : List RevivalOrder) → AreWithin search 2 (2 * MOST_LINE + 2) → IsSearchIn (upper.Search k false) search
 begun kinds.Ponder search h = h
 begun kinds.Move search h = wider search 2 (2 * MOST_LINE + 2) 3 (2 * MOST_LINE + 12) h (omega arith) (omega arith)
 begun kinds.Analyse search h = wider search 2 (2 * MOST_LINE + 2) 3 (2 * MOST_LINE + 12) h (omega arith) (omega arith)
 
-unstopped : (k : GoKind) (search : List Order) → IsSearchIn (upper.Search k false) search → AreWithin search 3 (2 * MOST_LINE + 12)
+unstopped : (k : GoKind) (search : List RevivalOrder) → IsSearchIn (upper.Search k false) search → AreWithin search 3 (2 * MOST_LINE + 12)
 unstopped kinds.Ponder search h = wider search 2 (2 * MOST_LINE + 2) 3 (2 * MOST_LINE + 12) h (omega arith) (omega arith)
 unstopped kinds.Move search h = h
 unstopped kinds.Analyse search h = h
 
-stopped : (k : GoKind) (search : List Order) → AreWithin search 4 SEARCH_BYTES → IsSearchIn (upper.Search k true) search
+stopped : (k : GoKind) (search : List RevivalOrder) → AreWithin search 4 SEARCH_BYTES → IsSearchIn (upper.Search k true) search
 stopped kinds.Ponder search h = h
 stopped kinds.Move search h = h
 stopped kinds.Analyse search h = h
@@ -115,7 +116,7 @@ pub where_is : (w : Bool) (next up : DialogueState) → where_true w next ≡ So
 where_is true next up e = (refl, cc)
 where_is false next up e = absurd (cc)
 
-placed_search : (u : DialogueState) (search : List Order) → is_placed u ≡ true → IsSearchIn u search → AreWithin search 1 (MOST_LINE + 1)
+placed_search : (u : DialogueState) (search : List RevivalOrder) → is_placed u ≡ true → IsSearchIn u search → AreWithin search 1 (MOST_LINE + 1)
 placed_search upper.Before search e h = absurd (true≢false (sym e))
 placed_search upper.Boot search e h = absurd (true≢false (sym e))
 placed_search upper.Getting search e h = absurd (true≢false (sym e))
@@ -123,17 +124,17 @@ placed_search upper.Idle search e h = absurd (true≢false (sym e))
 placed_search upper.Placed search e h = h
 placed_search (upper.Search k b) search e h = absurd (true≢false (sym e))
 
-go_stage : (w : Bool) (k : GoKind) (up : DialogueState) (search : List Order) → where_true w (upper.Search k false) ≡ Some up → AreWithin search 2 (2 * MOST_LINE + 2) → IsSearchIn up search
+go_stage : (w : Bool) (k : GoKind) (up : DialogueState) (search : List RevivalOrder) → where_true w (upper.Search k false) ≡ Some up → AreWithin search 2 (2 * MOST_LINE + 2) → IsSearchIn up search
 go_stage w k up search e h = subst (λ (x : DialogueState). IsSearchIn x search) (where_is w (upper.Search k false) up e).1 (begun k search h)
 
-hit_stage : (u up : DialogueState) (search : List Order) → after_hit u ≡ Some up → IsSearchIn u search → IsSearchIn up (search ++ orders.PonderHit ∷ [])
+hit_stage : (u up : DialogueState) (search : List RevivalOrder) → after_hit u ≡ Some up → IsSearchIn u search → IsSearchIn up (search ++ orders.PonderHit ∷ [])
 hit_stage (upper.Search kinds.Ponder false) up search e h =
     let is : upper.Search kinds.Move false ≡ up = cc in
     let more = one_more search orders.PonderHit 2 (2 * MOST_LINE + 2) 9 h (omega (arith, hit_length)) in
     subst (λ (x : DialogueState). IsSearchIn x (search ++ orders.PonderHit ∷ [])) is (wider (search ++ orders.PonderHit ∷ []) 3 (2 * MOST_LINE + 12) 3 (2 * MOST_LINE + 12) more (omega arith) (omega arith))
 hit_stage u up search e h = absurd (cc)
 
-stop_stage : (u up : DialogueState) (search : List Order) → after_stop u ≡ Some up → IsSearchIn u search → IsSearchIn up (search ++ orders.Stop ∷ [])
+stop_stage : (u up : DialogueState) (search : List RevivalOrder) → after_stop u ≡ Some up → IsSearchIn u search → IsSearchIn up (search ++ orders.Stop ∷ [])
 stop_stage upper.Before up search e h = absurd (cc)
 stop_stage upper.Boot up search e h = absurd (cc)
 stop_stage upper.Getting up search e h = absurd (cc)
@@ -148,13 +149,13 @@ stop_stage (upper.Search k false) up search e h =
 -- AN ACCEPTED ORDER
 
 -- a state with this upper state and life
-abbrev standing : State → DialogueState → LifeState → State
+abbrev standing : RevivalState → DialogueState → LifeState → RevivalState
 standing s up life = record s { upper = up; life = life }
 
-calm : (s : State) (up : DialogueState) (life : LifeState) → IsRoomy s → IsSearchIn up s.search → IsRoomy (standing s up life)
+calm : (s : RevivalState) (up : DialogueState) (life : LifeState) → IsRoomy s → IsSearchIn up s.search → IsRoomy (standing s up life)
 calm s up life h k = record { kept = h.kept; settings = h.settings; unsent = h.unsent; search = h.search; stage = k }
 
-value_step : (w : Bool) (s : State) (c : Order) → (can_join s.kept c && can_join s.unsent c) ≡ w → IsRoomy s → IsRoomy (with_value w s c)
+value_step : (w : Bool) (s : RevivalState) (c : RevivalOrder) → (can_join s.kept c && can_join s.unsent c) ≡ w → IsRoomy s → IsRoomy (with_value w s c)
 value_step true s c e h =
     let p = and_parts (can_join s.kept c) (can_join s.unsent c) e in
     let unsent = joined s.unsent c p.1 in
@@ -167,7 +168,7 @@ value_step true s c e h =
     }
 value_step false s c e h = record { kept = h.kept; settings = h.settings; unsent = h.unsent; search = h.search; stage = h.stage }
 
-button_step : (w : Bool) (s : State) (c : Order) → can_join s.unsent c ≡ w → IsRoomy s → IsRoomy (with_button w s c)
+button_step : (w : Bool) (s : RevivalState) (c : RevivalOrder) → can_join s.unsent c ≡ w → IsRoomy s → IsRoomy (with_button w s c)
 button_step true s c e h =
     let unsent = joined s.unsent c e in
     record {
@@ -180,21 +181,21 @@ button_step true s c e h =
 button_step false s c e h = record { kept = h.kept; settings = h.settings; unsent = h.unsent; search = h.search; stage = h.stage }
 
 -- Beside a new game nothing new stays.
-game_beside : (l : List Order) (n m : ℕ) → AreWithin (staying_beside NewGame l) n m → AreWithin (staying_beside NewGame (with_order l NewGame)) n m
+game_beside : (l : List RevivalOrder) (n m : ℕ) → AreWithin (staying_beside NewGame l) n m → AreWithin (staying_beside NewGame (with_order l NewGame)) n m
 game_beside l n m h =
     let stays = staying_beside NewGame l in
     let e : staying_beside NewGame (with_order l NewGame) ≡ staying_beside NewGame stays ++ [] = filter-append (λ o. not (are_for_same NewGame o)) stays (NewGame ∷ []) in
     let k = beside NewGame stays n m h in
     record {
-      few = omega (arith, ap (λ (x : List Order). length x) e, length-append (staying_beside NewGame stays) [], k.few);
-      short = subst (λ (x : List Order). length (batch_text x) ≤ m) (sym (e ∙ nil (staying_beside NewGame stays))) k.short;
+      few = omega (arith, ap (λ (x : List RevivalOrder). length x) e, length-append (staying_beside NewGame stays) [], k.few);
+      short = subst (λ (x : List RevivalOrder). length (batch_text x) ≤ m) (sym (e ∙ nil (staying_beside NewGame stays))) k.short;
     }
   where
-    nil : (x : List Order) → x ++ [] ≡ x
+    nil : (x : List RevivalOrder) → x ++ [] ≡ x
     nil [] = refl
-    nil (c ∷ cs) = ap (λ (t : List Order). c ∷ t) (nil cs)
+    nil (c ∷ cs) = ap (λ (t : List RevivalOrder). c ∷ t) (nil cs)
 
-game_step : (s : State) → IsRoomy s → IsRoomy (keeping s NewGame)
+game_step : (s : RevivalState) → IsRoomy s → IsRoomy (keeping s NewGame)
 game_step s h = record {
   kept = h.kept;
   settings = game_beside s.unsent MOST_ORDERS MOST_BYTES h.settings;
@@ -203,36 +204,36 @@ game_step s h = record {
   stage = h.stage;
 }
 
-with_search : (s : State) (up : DialogueState) (life : LifeState) (search : List Order) → IsRoomy s → IsSearchIn up search → IsRoomy (record s { upper = up; life = life; search = search })
+with_search : (s : RevivalState) (up : DialogueState) (life : LifeState) (search : List RevivalOrder) → IsRoomy s → IsSearchIn up search → IsRoomy (record s { upper = up; life = life; search = search })
 with_search s up life search h k = record { kept = h.kept; settings = h.settings; unsent = h.unsent; search = all_search up search k; stage = k }
 
 -- after an order that may stand in the upper state, of a line that is no longer than a line may be
-pub accepting_roomy : (s : State) (c : Order) (up : DialogueState) → after_order c s.upper ≡ Some up → length (order_text c) ≤ MOST_LINE → IsRoomy s → IsRoomy (accepting (Some up) s c)
+pub accepting_roomy : (s : RevivalState) (c : RevivalOrder) (up : DialogueState) → after_order c s.upper ≡ Some up → length (order_text c) ≤ MOST_LINE → IsRoomy s → IsRoomy (accepting (Some up) s c)
 accepting_roomy s orders.Uci up e l h =
     calm s up (after_at_once s.life orders.Uci) h (subst (λ (x : DialogueState). IsSearchIn x s.search) (where_is (is_before s.upper) upper.Boot up e).1 h.search)
 accepting_roomy s orders.IsReady up e l h =
     calm s up (after_at_once s.life orders.IsReady) h (subst (λ (x : DialogueState). IsSearchIn x s.search) (where_is (is_idle s.upper) upper.Getting up e).1 h.search)
 accepting_roomy s orders.NewGame up e l h =
     calm (keeping s NewGame) up (after_at_once s.life NewGame) (game_step s h) (subst (λ (x : DialogueState). IsSearchIn x s.search) (where_is (is_idle s.upper) upper.Idle up e).1 h.search)
-accepting_roomy s (orders.SetOption name (Some value)) up e l h =
-    let order = orders.SetOption name (Some value) in
+accepting_roomy s (orders.Value name line) up e l h =
+    let order = orders.Value name line in
     let fits = can_join s.kept order && can_join s.unsent order in
     let k = value_step fits s order refl h in
     calm (with_value fits s order) up (after_at_once s.life order) k (subst (λ (x : DialogueState). IsSearchIn x (with_value fits s order).search) (where_is (is_idle s.upper) upper.Idle up e).1 k.search)
-accepting_roomy s (orders.SetOption name None) up e l h =
-    let order = orders.SetOption name None in
+accepting_roomy s (orders.Button name line) up e l h =
+    let order = orders.Button name line in
     let k = button_step (can_join s.unsent order) s order refl h in
     calm (with_button (can_join s.unsent order) s order) up (after_at_once s.life order) k (subst (λ (x : DialogueState). IsSearchIn x (with_button (can_join s.unsent order) s order).search) (where_is (is_idle s.upper) upper.Idle up e).1 k.search)
-accepting_roomy s (orders.Position fen moves) up e l h =
-    let order = orders.Position fen moves in
+accepting_roomy s (orders.Position line) up e l h =
+    let order = orders.Position line in
     let one : AreWithin (order ∷ []) 1 (MOST_LINE + 1) = record { few = omega arith; short = omega (arith, l, batch_first order []) } in
     with_search s up (after_at_once s.life order) (order ∷ []) h (subst (λ (x : DialogueState). IsSearchIn x (order ∷ [])) (where_is (is_idle s.upper) upper.Placed up e).1 one)
-accepting_roomy s (orders.Go ponder control depth) up e l h =
-    let order = orders.Go ponder control depth in
-    let before = placed_search s.upper s.search (where_is (is_placed s.upper) (upper.Search (kind_of ponder control) false) up e).0 h.stage in
+accepting_roomy s (orders.Go kind line) up e l h =
+    let order = orders.Go kind line in
+    let before = placed_search s.upper s.search (where_is (is_placed s.upper) (upper.Search kind false) up e).0 h.stage in
     let more = one_more s.search order 1 (MOST_LINE + 1) MOST_LINE before l in
     with_search s up (after_at_once s.life order) (s.search ++ order ∷ []) h
-    (go_stage (is_placed s.upper) (kind_of ponder control) up (s.search ++ order ∷ []) e (wider (s.search ++ order ∷ []) 2 (MOST_LINE + 1 + (MOST_LINE + 1)) 2 (2 * MOST_LINE + 2) more (omega arith) (omega arith)))
+    (go_stage (is_placed s.upper) kind up (s.search ++ order ∷ []) e (wider (s.search ++ order ∷ []) 2 (MOST_LINE + 1 + (MOST_LINE + 1)) 2 (2 * MOST_LINE + 2) more (omega arith) (omega arith)))
 accepting_roomy s orders.PonderHit up e l h =
     with_search s up (after_at_once s.life orders.PonderHit) (s.search ++ orders.PonderHit ∷ []) h (hit_stage s.upper up s.search e h.stage)
 accepting_roomy s orders.Stop up e l h =
@@ -243,33 +244,33 @@ pub unquit : (q : Bool) (o : Option DialogueState) (up : DialogueState) → (if 
 unquit true o up e = absurd (cc)
 unquit false o up e = e
 
-accepting_by : (s : State) (c : Order) (w : Option DialogueState) → accepted s c ≡ w → length (order_text c) ≤ MOST_LINE → IsRoomy s → IsRoomy (accepting w s c)
+accepting_by : (s : RevivalState) (c : RevivalOrder) (w : Option DialogueState) → accepted s c ≡ w → length (order_text c) ≤ MOST_LINE → IsRoomy s → IsRoomy (accepting w s c)
 accepting_by s c None e l h = h
 accepting_by s c (Some up) e l h = accepting_roomy s c up (unquit s.quit (after_order c s.upper) up e) l h
 
-reading_roomy : (s : State) (line : List ℕ) (o : Option Order) → order_in line ≡ o → length line ≤ MOST_LINE → IsRoomy s → IsRoomy (reading s o)
+reading_roomy : (s : RevivalState) (line : List ℕ) (o : Option RevivalOrder) → order_in line ≡ o → length line ≤ MOST_LINE → IsRoomy s → IsRoomy (reading s o)
 reading_roomy s line None e l h = h
-reading_roomy s line (Some c) e l h = accepting_by s c (accepted s c) refl (omega (arith, l, ap (λ (t : List ℕ). length t) (order_takes line c e).text)) h
+reading_roomy s line (Some c) e l h = accepting_by s c (accepted s c) refl (omega (arith, l, ap (λ (t : List ℕ). length t) (asked_text line c e))) h
 
-ordering_by : (s : State) (line : List ℕ) (w : Bool) → length line ≤ MOST_LINE → IsRoomy s → IsRoomy (if w then with_quit s else reading s (order_in line))
+ordering_by : (s : RevivalState) (line : List ℕ) (w : Bool) → length line ≤ MOST_LINE → IsRoomy s → IsRoomy (if w then with_quit s else reading s (asked line))
 ordering_by s line true l h = record { kept = h.kept; settings = h.settings; unsent = h.unsent; search = h.search; stage = h.stage }
-ordering_by s line false l h = reading_roomy s line (order_in line) refl l h
+ordering_by s line false l h = reading_roomy s (trimmed line) (asked line) refl (trimmed_short line MOST_LINE l) h
 
-pub ordering_roomy : (s : State) (line : List ℕ) → length line ≤ MOST_LINE → IsRoomy s → IsRoomy (ordering s line)
+pub ordering_roomy : (s : RevivalState) (line : List ℕ) → length line ≤ MOST_LINE → IsRoomy s → IsRoomy (ordering s line)
 ordering_roomy s line l h = ordering_by s line (is_quit line) l h
 
 -- THE OTHER CALLS
 
-said_stage : (w : Bool) (u : DialogueState) (word : Said) (search : List Order) → IsSearchIn u search → AreWithin search 4 SEARCH_BYTES → IsSearchIn (if w then after_said u word else u) search
+said_stage : (w : Bool) (u : DialogueState) (word : LifeSaid) (search : List RevivalOrder) → IsSearchIn u search → AreWithin search 4 SEARCH_BYTES → IsSearchIn (if w then after_said u word else u) search
 said_stage true upper.Boot said.UciOk search h k = k
 said_stage true upper.Getting said.ReadyOk search h k = k
 said_stage true (upper.Search kind b) said.Best search h k = k
 said_stage w u word search h k = h
 
-pub hearing_roomy : (s : State) (word : Said) → IsRoomy s → IsRoomy (hearing s word)
+pub hearing_roomy : (s : RevivalState) (word : LifeSaid) → IsRoomy s → IsRoomy (hearing s word)
 hearing_roomy s word h = record { kept = h.kept; settings = h.settings; unsent = h.unsent; search = h.search; stage = said_stage (gives s word) s.upper word s.search h.stage h.search }
 
-pub beginning_roomy : (s : State) → IsRoomy s → IsRoomy (beginning s)
+pub beginning_roomy : (s : RevivalState) → IsRoomy s → IsRoomy (beginning s)
 beginning_roomy s h = record {
   kept = h.kept;
   settings = beside NewGame s.kept MOST_ORDERS MOST_BYTES h.kept;
@@ -281,23 +282,23 @@ beginning_roomy s h = record {
 no_orders : AreWithin (staying_beside NewGame []) MOST_ORDERS MOST_BYTES
 no_orders = record { few = omega arith; short = omega arith }
 
-due_roomy : (d : Due) (s : State) → IsRoomy s → IsRoomy (after_due d s)
+due_roomy : (d : DueOrders) (s : RevivalState) → IsRoomy s → IsRoomy (after_due d s)
 due_roomy due.Nothing s h = h
 due_roomy due.Settings s h = record { kept = h.kept; settings = no_orders; unsent = omega arith; search = h.search; stage = h.stage }
 due_roomy due.Search s h = record { kept = h.kept; settings = no_orders; unsent = omega arith; search = h.search; stage = h.stage }
 
-answer_roomy : (a : Answer) (s : State) → IsRoomy s → IsRoomy (after_answer a s)
+answer_roomy : (a : StandInAnswer) (s : RevivalState) → IsRoomy s → IsRoomy (after_answer a s)
 answer_roomy answers.Nothing s h = h
 answer_roomy answers.UciOk s h = record { kept = h.kept; settings = h.settings; unsent = h.unsent; search = h.search; stage = h.search }
 answer_roomy answers.ReadyOk s h = record { kept = h.kept; settings = h.settings; unsent = h.unsent; search = h.search; stage = h.search }
 answer_roomy answers.NoMove s h = record { kept = h.kept; settings = h.settings; unsent = h.unsent; search = h.search; stage = h.search }
 
-pub settled_roomy : (s : State) → IsRoomy s → IsRoomy (settled s)
+pub settled_roomy : (s : RevivalState) → IsRoomy s → IsRoomy (settled s)
 settled_roomy s h = answer_roomy (answer_of s) (after_due (due_of s) s) (due_roomy (due_of s) s h)
 
 given_by : (w : Bool) (line : List ℕ) → length (if w then line ++ 10 ∷ [] else []) ≤ length line + 1
 given_by true line = omega (arith, length-append line (10 ∷ []))
 given_by false line = omega arith
 
-pub given_short : (s : State) (line : List ℕ) → length (given s line) ≤ length line + 1
+pub given_short : (s : RevivalState) (line : List ℕ) → length (given s line) ≤ length line + 1
 given_short s line = given_by (gives s (said_in line)) line

@@ -1,5 +1,5 @@
 -- What is written for events is a script, and its events are these.
-use Rattle.std.proofs.Common.{◌≡◌, ◌≤◌, ◌&&◌, ◌||◌, ℕ, List, [], ◌∷◌, ◌++◌, map, length, filter, cond, Bool, true, false, not, Option, Some, None, is_some, refl, sym, ap, subst, ◌∙◌, arith, append_assoc, append-nil, if◌then◌else◌}
+use Rattle.std.proofs.Common.{◌≡◌, ◌≤◌, ◌&&◌, ℕ, List, [], ◌∷◌, ◌++◌, map, length, filter, cond, Bool, true, false, not, Option, Some, None, refl, sym, ap, subst, ◌∙◌, arith, append_assoc, if◌then◌else◌}
 use Rattle.std.specs.Prelude.{nat_le}
 use Rattle.std.specs.List.{AllByRecursion, flat_map}
 use Rattle.std.proofs.lemmas.Bool.Decides.{nat_tests}
@@ -7,27 +7,28 @@ use Rattle.std.proofs.lemmas.List.Concat.{flat_map-append}
 use Rattle.std.proofs.lemmas.Bool.{and_parts}
 use Rattle.line_io.specs.Event.{Event, Iface, IfaceEnd, Engine, EngineLong, has_feed, is_line}
 use Rattle.line_io.specs.Lines.{parts}
-use Rattle.script_lines.specs.Marks.{Mark, Happens, ToIface, ToEngine, IsSpelled, event_marked, is_written, line_marked, mark_of, mark_line, mark_text}
+use Rattle.script_lines.specs.Marks.{Mark, Happens, ToIface, ToEngine, IsSpelled, event_marked, is_written, line_marked, mark_line}
 use Rattle.script_lines.specs.Scripts.{AreSpelled, script_of}
 use Rattle.script_lines.specs.StepText.{lines_marked, step_marks}
 use Rattle.script_lines.proofs.Scripts.{parts_line}
 use Rattle.cecp_lines.specs.Quit.{is_quit}
-use Rattle.uci_lines.specs.Orders.{Order as AnyOrder, NewGame, order_text}
-use Rattle.uci_lines.specs.Orders as orders
-use Rattle.uci_lines.specs.OrderReading.{order_in}
-use Rattle.uci_lines.proofs.Spelling.{order_takes}
-use Rattle.engine_revival.specs.declared.state.State.{State}
-use Rattle.engine_revival.specs.declared.words.Answer.{Answer}
-use Rattle.engine_revival.specs.declared.words.Answer.TheVariants as answers
+use Rattle.engine_revival.specs.Orders.{RevivalOrder as AnyOrder, NewGame, order_text}
+use Rattle.engine_revival.specs.Orders as orders
+use Rattle.peer_words.specs.Tokens.{trimmed}
+use Rattle.engine_revival.specs.Asked.{asked, order_in}
+use Rattle.engine_revival.proofs.Asked.{asked_text, trimmed_line}
+use Rattle.engine_revival.specs.declared.state.RevivalState.{RevivalState}
+use Rattle.engine_revival.specs.declared.words.StandInAnswer.{StandInAnswer}
+use Rattle.engine_revival.specs.declared.words.StandInAnswer.TheVariants as answers
 use Rattle.engine_revival.specs.declared.words.DialogueState.{DialogueState}
-use Rattle.engine_revival.specs.declared.words.Due.{Due}
-use Rattle.engine_revival.specs.declared.words.Due.TheVariants as due
+use Rattle.engine_revival.specs.declared.words.DueOrders.{DueOrders}
+use Rattle.engine_revival.specs.declared.words.DueOrders.TheVariants as due
 use Rattle.engine_revival.specs.declared.words.LifeState.{LifeState}
 use Rattle.engine_revival.specs.Dialogue.{is_before, said_in}
 use Rattle.engine_revival.specs.Lists.{are_for_same, batch_text, can_join, staying_beside, with_order}
-use Rattle.engine_revival.specs.Steps.{accepted, accepted_at_once, accepting, after_answer, after_due, answer_of, answer_text, at_once, beginning, closing, due_of, due_orders, ending, first_order, given, gives, hearing, is_served, keeping, may_begin, opening, ordering, quit_to, read_at_once, reading, settled, settled_orders, takes_at_once, with_button, with_quit, with_value}
-use Rattle.engine_revival.specs.Calls.{Call, Order, Heard, Ended, Begin, Over, after, child_of, first_orders, first_up, orders_of, turned, up_of}
-use Rattle.engine_revival.specs.Script.{call_of, event_text, state_after, state_before, texts_from}
+use Rattle.engine_revival.specs.Steps.{accepted, accepted_at_once, accepting, after_answer, after_due, answer_of, answer_text, due_of, due_orders, gives, is_served, keeping, may_begin, opening, quit_to, read_at_once, reading, settled_orders, takes_at_once, with_button, with_quit, with_value}
+use Rattle.engine_revival.specs.Calls.{Call, Order, Heard, Ended, Begin, Over, after, child_of, first_orders, orders_of, turned, up_of}
+use Rattle.engine_revival.specs.Script.{call_of, state_after, state_before, texts_from}
 
 -- ORDERS WHOSE MARKS ARE LINES OF SCRIPTS
 
@@ -74,48 +75,48 @@ line_written line h =
     ap (λ b. b && not (has_feed line)) (longer (length line) p.0) ∙ p.1
 
 came : (line : List ℕ) (c : AnyOrder) → is_line line ≡ true → order_in line ≡ Some c → CanMark c
-came line c h e = ap (λ (t : List ℕ). is_written t) (sym (order_takes line c e).text) ∙ line_written line h
+came line c h e = ap (λ (t : List ℕ). is_written t) (sym (asked_text line c e)) ∙ line_written line h
 
 -- THE STATES
 
-pub record HasMarks (s : State) : Type 0 where
+pub record HasMarks (s : RevivalState) : Type 0 where
   pub kept : AllMark s.kept
   pub unsent : AllMark s.unsent
   pub search : AllMark s.search
 
-value_marks : (w : Bool) (s : State) (c : AnyOrder) → CanMark c → HasMarks s → HasMarks (with_value w s c)
+value_marks : (w : Bool) (s : RevivalState) (c : AnyOrder) → CanMark c → HasMarks s → HasMarks (with_value w s c)
 value_marks true s c k h = record { kept = with_mark s.kept c h.kept k; unsent = with_mark s.unsent c h.unsent k; search = h.search }
 value_marks false s c k h = record { kept = h.kept; unsent = h.unsent; search = h.search }
 
-button_marks : (w : Bool) (s : State) (c : AnyOrder) → CanMark c → HasMarks s → HasMarks (with_button w s c)
+button_marks : (w : Bool) (s : RevivalState) (c : AnyOrder) → CanMark c → HasMarks s → HasMarks (with_button w s c)
 button_marks true s c k h = record { kept = h.kept; unsent = with_mark s.unsent c h.unsent k; search = h.search }
 button_marks false s c k h = record { kept = h.kept; unsent = h.unsent; search = h.search }
 
-search_marks : (s : State) (c : AnyOrder) → CanMark c → HasMarks s → HasMarks (record s { search = s.search ++ c ∷ [] })
+search_marks : (s : RevivalState) (c : AnyOrder) → CanMark c → HasMarks s → HasMarks (record s { search = s.search ++ c ∷ [] })
 search_marks s c k h = record { kept = h.kept; unsent = h.unsent; search = all_mark s.search (c ∷ []) h.search (k, tt) }
 
-keeping_marks : (s : State) (c : AnyOrder) → CanMark c → HasMarks s → HasMarks (keeping s c)
-keeping_marks s (orders.SetOption name (Some value)) k h =
-    value_marks (can_join s.kept (orders.SetOption name (Some value)) && can_join s.unsent (orders.SetOption name (Some value))) s (orders.SetOption name (Some value)) k h
-keeping_marks s (orders.SetOption name None) k h = button_marks (can_join s.unsent (orders.SetOption name None)) s (orders.SetOption name None) k h
+keeping_marks : (s : RevivalState) (c : AnyOrder) → CanMark c → HasMarks s → HasMarks (keeping s c)
+keeping_marks s (orders.Value name line) k h =
+    value_marks (can_join s.kept (orders.Value name line) && can_join s.unsent (orders.Value name line)) s (orders.Value name line) k h
+keeping_marks s (orders.Button name line) k h = button_marks (can_join s.unsent (orders.Button name line)) s (orders.Button name line) k h
 keeping_marks s orders.NewGame k h = record { kept = h.kept; unsent = with_mark s.unsent NewGame h.unsent k; search = h.search }
-keeping_marks s (orders.Position fen moves) k h = record { kept = h.kept; unsent = h.unsent; search = (k, tt) }
+keeping_marks s (orders.Position line) k h = record { kept = h.kept; unsent = h.unsent; search = (k, tt) }
 keeping_marks s orders.Uci k h = h
 keeping_marks s orders.IsReady k h = h
 keeping_marks s orders.Quit k h = h
 keeping_marks s c k h = search_marks s c k h
 
-accepting_marks : (w : Option DialogueState) (s : State) (c : AnyOrder) → CanMark c → HasMarks s → HasMarks (accepting w s c)
+accepting_marks : (w : Option DialogueState) (s : RevivalState) (c : AnyOrder) → CanMark c → HasMarks s → HasMarks (accepting w s c)
 accepting_marks None s c k h = h
 accepting_marks (Some up) s c k h = let m = keeping_marks s c k h in record { kept = m.kept; unsent = m.unsent; search = m.search }
 
-reading_marks : (s : State) (line : List ℕ) (o : Option AnyOrder) → order_in line ≡ o → is_line line ≡ true → HasMarks s → HasMarks (reading s o)
+reading_marks : (s : RevivalState) (line : List ℕ) (o : Option AnyOrder) → order_in line ≡ o → is_line line ≡ true → HasMarks s → HasMarks (reading s o)
 reading_marks s line None e l h = h
 reading_marks s line (Some c) e l h = accepting_marks (accepted s c) s c (came line c l e) h
 
-ordering_by : (w : Bool) (s : State) (line : List ℕ) → is_line line ≡ true → HasMarks s → HasMarks (if w then with_quit s else reading s (order_in line))
+ordering_by : (w : Bool) (s : RevivalState) (line : List ℕ) → is_line line ≡ true → HasMarks s → HasMarks (if w then with_quit s else reading s (asked line))
 ordering_by true s line l h = record { kept = h.kept; unsent = h.unsent; search = h.search }
-ordering_by false s line l h = reading_marks s line (order_in line) refl l h
+ordering_by false s line l h = reading_marks s (trimmed line) (asked line) refl (trimmed_line line l) h
 
 -- a call whose line is one that a peer may send
 abbrev pub IsProperCall : Call → Type 0
@@ -123,25 +124,25 @@ IsProperCall (Order line) = is_line line ≡ true
 IsProperCall (Heard line) = is_line line ≡ true
 IsProperCall call = Unit {0}
 
-turned_marks : (s : State) (call : Call) → IsProperCall call → HasMarks s → HasMarks (turned s call)
+turned_marks : (s : RevivalState) (call : Call) → IsProperCall call → HasMarks s → HasMarks (turned s call)
 turned_marks s (Order line) l h = ordering_by (is_quit line) s line l h
 turned_marks s (Heard line) l h = record { kept = h.kept; unsent = h.unsent; search = h.search }
 turned_marks s Ended l h = record { kept = h.kept; unsent = h.unsent; search = h.search }
 turned_marks s Begin l h = record { kept = h.kept; unsent = h.kept; search = h.search }
 turned_marks s Over l h = record { kept = h.kept; unsent = h.unsent; search = h.search }
 
-due_marks : (d : Due) (s : State) → HasMarks s → HasMarks (after_due d s)
+due_marks : (d : DueOrders) (s : RevivalState) → HasMarks s → HasMarks (after_due d s)
 due_marks due.Nothing s h = h
 due_marks due.Settings s h = record { kept = h.kept; unsent = tt; search = h.search }
 due_marks due.Search s h = record { kept = h.kept; unsent = tt; search = h.search }
 
-answer_marks : (a : Answer) (s : State) → HasMarks s → HasMarks (after_answer a s)
+answer_marks : (a : StandInAnswer) (s : RevivalState) → HasMarks s → HasMarks (after_answer a s)
 answer_marks answers.Nothing s h = h
 answer_marks answers.UciOk s h = record { kept = h.kept; unsent = h.unsent; search = h.search }
 answer_marks answers.ReadyOk s h = record { kept = h.kept; unsent = h.unsent; search = h.search }
 answer_marks answers.NoMove s h = record { kept = h.kept; unsent = h.unsent; search = h.search }
 
-after_marks : (s : State) (call : Call) → IsProperCall call → HasMarks s → HasMarks (after s call)
+after_marks : (s : RevivalState) (call : Call) → IsProperCall call → HasMarks s → HasMarks (after s call)
 after_marks s call l h = let t = turned s call in answer_marks (answer_of t) (after_due (due_of t) t) (due_marks (due_of t) t (turned_marks s call l h))
 
 -- THE ORDERS OF A CALL
@@ -154,31 +155,31 @@ accepted_mark : (w : Option DialogueState) (life : LifeState) (c : AnyOrder) →
 accepted_mark None life c k = tt
 accepted_mark (Some up) life c k = mark_if (takes_at_once life c) c k
 
-read_mark : (s : State) (line : List ℕ) (o : Option AnyOrder) → order_in line ≡ o → is_line line ≡ true → AllMark (read_at_once s o)
+read_mark : (s : RevivalState) (line : List ℕ) (o : Option AnyOrder) → order_in line ≡ o → is_line line ≡ true → AllMark (read_at_once s o)
 read_mark s line None e l = tt
 read_mark s line (Some c) e l = accepted_mark (accepted s c) s.life c (came line c l e)
 
-at_once_by : (w : Bool) (s : State) (line : List ℕ) → is_line line ≡ true → AllMark (if w then quit_to s.quit s.life else read_at_once s (order_in line))
+at_once_by : (w : Bool) (s : RevivalState) (line : List ℕ) → is_line line ≡ true → AllMark (if w then quit_to s.quit s.life else read_at_once s (asked line))
 at_once_by true s line l = mark_if (not s.quit && is_served s.life) orders.Quit quit_mark
-at_once_by false s line l = read_mark s line (order_in line) refl l
+at_once_by false s line l = read_mark s (trimmed line) (asked line) refl (trimmed_line line l)
 
 first_by : (w : Bool) → AllMark (if w then [] else orders.Uci ∷ [])
 first_by true = tt
 first_by false = (uci_mark, tt)
 
-first_mark : (s : State) (call : Call) → IsProperCall call → AllMark (first_orders s call)
+first_mark : (s : RevivalState) (call : Call) → IsProperCall call → AllMark (first_orders s call)
 first_mark s (Order line) l = at_once_by (is_quit line) s line l
 first_mark s (Heard line) l = tt
 first_mark s Ended l = tt
 first_mark s Begin l = first_by (is_before s.upper)
 first_mark s Over l = tt
 
-due_mark : (d : Due) (unsent search : List AnyOrder) → AllMark unsent → AllMark search → AllMark (due_orders d unsent search)
+due_mark : (d : DueOrders) (unsent search : List AnyOrder) → AllMark unsent → AllMark search → AllMark (due_orders d unsent search)
 due_mark due.Nothing u s h k = tt
 due_mark due.Settings u s h k = all_mark u (orders.IsReady ∷ []) h (ready_mark, tt)
 due_mark due.Search u s h k = all_mark u s h k
 
-orders_mark : (s : State) (call : Call) → IsProperCall call → HasMarks s → AllMark (orders_of s call)
+orders_mark : (s : RevivalState) (call : Call) → IsProperCall call → HasMarks s → AllMark (orders_of s call)
 orders_mark s call l h =
     let t = turned s call in
     let m = turned_marks s call l h in
@@ -206,17 +207,17 @@ batch_parts : (list : List AnyOrder) → AllMark list → AllWritten (parts (bat
 batch_parts [] h = tt
 batch_parts (c ∷ cs) h = line_parts (order_text c) (batch_text cs) h.0 (batch_parts cs h.1)
 
-answer_parts : (a : Answer) → AllWritten (parts (answer_text a))
+answer_parts : (a : StandInAnswer) → AllWritten (parts (answer_text a))
 answer_parts answers.Nothing = tt
 answer_parts answers.UciOk = (refl, tt)
 answer_parts answers.ReadyOk = (refl, tt)
 answer_parts answers.NoMove = (refl, tt)
 
-given_parts : (w : Bool) (line : List ℕ) (a : Answer) → is_line line ≡ true → AllWritten (parts ((if w then line ++ 10 ∷ [] else []) ++ answer_text a))
+given_parts : (w : Bool) (line : List ℕ) (a : StandInAnswer) → is_line line ≡ true → AllWritten (parts ((if w then line ++ 10 ∷ [] else []) ++ answer_text a))
 given_parts true line a l = line_parts line (answer_text a) (line_written line l) (answer_parts a)
 given_parts false line a l = answer_parts a
 
-up_parts : (s : State) (call : Call) → IsProperCall call → AllWritten (parts (up_of s call))
+up_parts : (s : RevivalState) (call : Call) → IsProperCall call → AllWritten (parts (up_of s call))
 up_parts s (Heard line) l = given_parts (gives s (said_in line)) line (answer_of (turned s (Heard line))) l
 up_parts s (Order line) l = answer_parts (answer_of (turned s (Order line)))
 up_parts s Ended l = answer_parts (answer_of (turned s Ended))
@@ -248,7 +249,7 @@ both_spelled (m ∷ ms) b h k = (h.0, both_spelled ms b h.1 k)
 abbrev pub written_by : List ℕ → List ℕ → List Mark
 written_by up child = map ToIface (parts up) ++ map ToEngine (parts child)
 
-abbrev pub marks_of : State → Event → List Mark
+abbrev pub marks_of : RevivalState → Event → List Mark
 marks_of s e = Happens e ∷ written_by (up_of (state_before s e) (call_of s e)) (child_of (state_before s e) (call_of s e))
 
 marks_text : (e : Event) (up child : List ℕ) → step_marks e up child ≡ script_of (Happens e ∷ written_by up child)
@@ -284,18 +285,18 @@ proper_by : (w : Bool) → IsProperCall (if w then Begin else Over)
 proper_by true = tt
 proper_by false = tt
 
-proper_call : (s : State) (e : Event) → IsSpelled (Happens e) → IsProperCall (call_of s e)
+proper_call : (s : RevivalState) (e : Event) → IsSpelled (Happens e) → IsProperCall (call_of s e)
 proper_call s (Iface line) h = h
 proper_call s IfaceEnd h = refl
 proper_call s (Engine line) h = h
 proper_call s EngineLong h = proper_by (may_begin s)
 proper_call s e h = tt
 
-before_marks : (s : State) (e : Event) → HasMarks s → HasMarks (state_before s e)
+before_marks : (s : RevivalState) (e : Event) → HasMarks s → HasMarks (state_before s e)
 before_marks s EngineLong h = record { kept = h.kept; unsent = h.unsent; search = h.search }
 before_marks s e h = h
 
-event_spelled : (s : State) (e : Event) → IsSpelled (Happens e) → HasMarks s → AreSpelled (marks_of s e)
+event_spelled : (s : RevivalState) (e : Event) → IsSpelled (Happens e) → HasMarks s → AreSpelled (marks_of s e)
 event_spelled s e l h =
     let b = state_before s e in
     let call = call_of s e in
@@ -308,11 +309,11 @@ event_spelled s e l h =
 
 -- EVENTS IN A ROW
 
-abbrev pub marks_from : State → List Event → List Mark
+abbrev pub marks_from : RevivalState → List Event → List Mark
 marks_from s [] = []
 marks_from s (e ∷ es) = marks_of s e ++ marks_from (state_after s e) es
 
-pub from_text : (s : State) (es : List Event) → texts_from s es ≡ script_of (marks_from s es)
+pub from_text : (s : RevivalState) (es : List Event) → texts_from s es ≡ script_of (marks_from s es)
 from_text s [] = refl
 from_text s (e ∷ es) =
     let b = state_before s e in
@@ -320,7 +321,7 @@ from_text s (e ∷ es) =
     ∙ ap (λ (t : List ℕ). script_of (marks_of s e) ++ t) (from_text (state_after s e) es)
     ∙ sym (flat_map-append mark_line (marks_of s e) (marks_from (state_after s e) es))
 
-pub from_told : (s : State) (es : List Event) → told_in (marks_from s es) ≡ es
+pub from_told : (s : RevivalState) (es : List Event) → told_in (marks_from s es) ≡ es
 from_told s [] = refl
 from_told s (e ∷ es) =
     let b = state_before s e in
@@ -328,7 +329,7 @@ from_told s (e ∷ es) =
     ∙ ap (λ (x : List Event). (e ∷ x) ++ told_in (marks_from (state_after s e) es)) (told_written (up_of b (call_of s e)) (child_of b (call_of s e)))
     ∙ ap (λ (x : List Event). e ∷ x) (from_told (state_after s e) es)
 
-pub from_spelled : (s : State) (es : List Event) → AreSpelled (map Happens es) → HasMarks s → AreSpelled (marks_from s es)
+pub from_spelled : (s : RevivalState) (es : List Event) → AreSpelled (map Happens es) → HasMarks s → AreSpelled (marks_from s es)
 from_spelled s [] l h = tt
 from_spelled s (e ∷ es) l h =
     both_spelled (marks_of s e) (marks_from (state_after s e) es) (event_spelled s e l.0 h)

@@ -1,40 +1,41 @@
 -- What options are set to last.
-use Rattle.std.proofs.Common.{◌≡◌, ◌&&◌, ℕ, List, [], ◌∷◌, ◌++◌, Bool, true, false, not, cond, filter, Option, Some, None, refl, sym, ap, ◌∙◌, subst, true≢false, if◌then◌else◌}
+use Rattle.std.proofs.Common.{◌≡◌, ◌&&◌, ℕ, List, [], ◌∷◌, ◌++◌, Bool, true, false, not, cond, Option, Some, None, refl, sym, ap, ◌∙◌, subst, true≢false, if◌then◌else◌}
 use Rattle.std.proofs.lemmas.Slice.Eq.{bytes_eq-Decides}
 use Rattle.std.specs.Str.{bytes_eq}
-use Rattle.std.proofs.lemmas.Bool.{not-false}
+use Rattle.std.proofs.lemmas.Bool.{and_parts, not-false}
 use Rattle.cecp_lines.specs.Quit.{is_quit}
-use Rattle.uci_lines.specs.Orders.{Order as AnyOrder}
-use Rattle.uci_lines.specs.Orders as orders
-use Rattle.uci_lines.specs.OrderReading.{order_in}
+use Rattle.engine_revival.specs.Orders.{RevivalOrder as AnyOrder, are_same_names}
+use Rattle.engine_revival.specs.Orders as orders
+use Rattle.engine_revival.specs.Asked.{asked}
 use Rattle.engine_revival.specs.declared.words.DialogueState.{DialogueState}
 use Rattle.engine_revival.specs.declared.words.DialogueState.TheVariants as upper
 use Rattle.engine_revival.specs.declared.words.LifeState.{LifeState}
 use Rattle.engine_revival.specs.declared.words.LifeState.TheVariants as life
-use Rattle.engine_revival.specs.declared.words.Due.{Due}
-use Rattle.engine_revival.specs.declared.words.Due.TheVariants as due
-use Rattle.engine_revival.specs.declared.words.Answer.{Answer}
-use Rattle.engine_revival.specs.declared.words.Answer.TheVariants as answers
-use Rattle.engine_revival.specs.declared.state.State.{State}
+use Rattle.engine_revival.specs.declared.words.DueOrders.{DueOrders}
+use Rattle.engine_revival.specs.declared.words.DueOrders.TheVariants as due
+use Rattle.engine_revival.specs.declared.words.StandInAnswer.{StandInAnswer}
+use Rattle.engine_revival.specs.declared.words.StandInAnswer.TheVariants as answers
+use Rattle.engine_revival.specs.declared.state.RevivalState.{RevivalState}
 use Rattle.engine_revival.specs.Dialogue.{is_before}
 use Rattle.engine_revival.specs.Lists.{are_for_same, staying_beside, with_order, can_join}
-use Rattle.engine_revival.specs.Steps.{opening, keeping, with_value, with_button, takes_at_once, is_served, due_to, due_orders, after_due, after_answer, accepting, accepted, reading, with_quit, ordering, accepted_at_once, read_at_once, quit_to, at_once, first_order, due_of, answer_of, settled, settled_orders, after_at_once}
-use Rattle.engine_revival.specs.Calls.{Call, Order, Heard, Ended, Begin, Over, may, turned, first_orders, orders_of, after}
-use Rattle.engine_revival.specs.Laws.{Open, all_written, state_of, MayCome, value_of, later_or, value_in, accepted_by, accepted_read, accepted_in, accepted_of, carried, life_orders, IsGiven, SearchesAreGiven, is_search}
-use Rattle.engine_revival.proofs.Wires.{told, search_open, is_open, SearchIs}
-use Rattle.engine_revival.proofs.Agrees.{agrees, turned_agrees, Agrees}
+use Rattle.engine_revival.specs.Steps.{with_value, with_button, takes_at_once, is_served, due_to, due_orders, after_due, after_answer, accepting, accepted, reading, with_quit, accepted_at_once, read_at_once, quit_to, first_order, due_of, answer_of, settled, settled_orders, after_at_once}
+use Rattle.engine_revival.specs.Calls.{Call, Order, Heard, Ended, Begin, Over, turned, first_orders, after}
+use Rattle.engine_revival.specs.Laws.{state_of, value_of, later_or, value_in, accepted_by, accepted_read, accepted_in, accepted_of, carried, life_orders, SearchesAreGiven, is_search}
+use Rattle.engine_revival.proofs.Wires.{told, search_open, is_open}
+use Rattle.engine_revival.proofs.Agrees.{agrees, turned_agrees}
+use Rattle.engine_revival.proofs.Searches.{searches_turned}
 
 -- OF LISTS
 
-later_none : (a : Option (List ℕ)) → later_or a None ≡ a
+pub later_none : {T : Type 0} (a : Option T) → later_or a None ≡ a
 later_none None = refl
 later_none (Some v) = refl
 
-later_assoc : (a b c : Option (List ℕ)) → later_or (later_or a b) c ≡ later_or a (later_or b c)
+pub later_assoc : {T : Type 0} (a b c : Option T) → later_or (later_or a b) c ≡ later_or a (later_or b c)
 later_assoc None b c = refl
 later_assoc (Some v) b c = refl
 
-behind : (name : List ℕ) (xs ys : List AnyOrder) → value_in name (xs ++ ys) ≡ later_or (value_in name ys) (value_in name xs)
+behind : (name : List (List ℕ)) (xs ys : List AnyOrder) → value_in name (xs ++ ys) ≡ later_or (value_in name ys) (value_in name xs)
 behind name [] ys = sym (later_none (value_in name ys))
 behind name (x ∷ xs) ys = ap (λ (o : Option (List ℕ)). later_or o (value_of name x)) (behind name xs ys) ∙ later_assoc (value_in name ys) (value_in name xs) (value_of name x)
 
@@ -42,74 +43,81 @@ other_value : (w : Bool) (v : List ℕ) → w ≡ false → (if w then Some v el
 other_value true v e = absurd (true≢false e)
 other_value false v e = refl
 
+pub same_names : (a b : List (List ℕ)) → are_same_names a b ≡ true → a ≡ b
+same_names [] [] e = refl
+same_names [] (b ∷ bs) e = absurd (true≢false (sym e))
+same_names (a ∷ more) [] e = absurd (true≢false (sym e))
+same_names (a ∷ more) (b ∷ others) e =
+    let p = and_parts (bytes_eq a b) (are_same_names more others) e in
+    ap (λ (t : List ℕ). t ∷ more) ((bytes_eq-Decides a b).0 p.0) ∙ ap (λ (ts : List (List ℕ)). b ∷ ts) (same_names more others p.1)
+
 -- What is for the same as an order that does not set the option does not set it either.
-apart : (name : List ℕ) (c o : AnyOrder) → value_of name c ≡ None → are_for_same c o ≡ true → value_of name o ≡ None
-apart name (orders.SetOption n (Some v)) (orders.SetOption k (Some w)) e h = subst (λ (t : List ℕ). (if bytes_eq t name then Some w else None) ≡ None) ((bytes_eq-Decides n k).0 h) (unset (bytes_eq n name) v w e)
+apart : (name : List (List ℕ)) (c o : AnyOrder) → value_of name c ≡ None → are_for_same c o ≡ true → value_of name o ≡ None
+apart name (orders.Value n v) (orders.Value k w) e h = subst (λ (t : List (List ℕ)). (if are_same_names t name then Some w else None) ≡ None) (same_names n k h) (unset (are_same_names n name) v w e)
   where
     unset : (b : Bool) (x y : List ℕ) → (if b then Some x else None) ≡ None → (if b then Some y else None) ≡ None
     unset true x y e = absurd (cc)
     unset false x y e = refl
-apart name c (orders.SetOption k (Some w)) e h = absurd (true≢false (sym h))
+apart name c (orders.Value k w) e h = absurd (true≢false (sym h))
 apart name c o e h = refl
 
-stay_step : (w : Bool) (name : List ℕ) (o : AnyOrder) (kept os : List AnyOrder) → (w ≡ false → value_of name o ≡ None) → value_in name kept ≡ value_in name os → value_in name (cond w (o ∷ kept) kept) ≡ value_in name (o ∷ os)
+stay_step : (w : Bool) (name : List (List ℕ)) (o : AnyOrder) (kept os : List AnyOrder) → (w ≡ false → value_of name o ≡ None) → value_in name kept ≡ value_in name os → value_in name (cond w (o ∷ kept) kept) ≡ value_in name (o ∷ os)
 stay_step true name o kept os h e = ap (λ (x : Option (List ℕ)). later_or x (value_of name o)) e
 stay_step false name o kept os h e = e ∙ sym (ap (later_or (value_in name os)) (h refl) ∙ later_none (value_in name os))
 
-stays : (name : List ℕ) (c : AnyOrder) (os : List AnyOrder) → value_of name c ≡ None → value_in name (staying_beside c os) ≡ value_in name os
+stays : (name : List (List ℕ)) (c : AnyOrder) (os : List AnyOrder) → value_of name c ≡ None → value_in name (staying_beside c os) ≡ value_in name os
 stays name c [] e = refl
 stays name c (o ∷ os) e =
     stay_step (not (are_for_same c o)) name o (staying_beside c os) os (λ f. apart name c o e (not-false (are_for_same c o) f)) (stays name c os e)
 
-joins_by : (name : List ℕ) (c : AnyOrder) (os : List AnyOrder) (v : Option (List ℕ)) → value_of name c ≡ v → later_or v (value_in name (staying_beside c os)) ≡ later_or v (value_in name os)
+joins_by : (name : List (List ℕ)) (c : AnyOrder) (os : List AnyOrder) (v : Option (List ℕ)) → value_of name c ≡ v → later_or v (value_in name (staying_beside c os)) ≡ later_or v (value_in name os)
 joins_by name c os None e = stays name c os e
 joins_by name c os (Some v) e = refl
 
-one : (name : List ℕ) (c : AnyOrder) → value_in name (c ∷ []) ≡ value_of name c
+one : (name : List (List ℕ)) (c : AnyOrder) → value_in name (c ∷ []) ≡ value_of name c
 one name c = refl
 
 -- An order that joins sets its option last.
-joins : (name : List ℕ) (os : List AnyOrder) (c : AnyOrder) → value_in name (with_order os c) ≡ later_or (value_of name c) (value_in name os)
+joins : (name : List (List ℕ)) (os : List AnyOrder) (c : AnyOrder) → value_in name (with_order os c) ≡ later_or (value_of name c) (value_in name os)
 joins name os c = behind name (staying_beside c os) (c ∷ []) ∙ joins_by name c os (value_of name c) refl
 
 -- THE STATE
 
 -- of these orders to the life and these accepted ones
-record Values (name : List ℕ) (s : State) (l a : List AnyOrder) : Type 0 where
+record Values (name : List (List ℕ)) (s : RevivalState) (l a : List AnyOrder) : Type 0 where
   kept : value_in name s.kept ≡ value_in name a
   unsent : later_or (value_in name s.unsent) (value_in name l) ≡ value_in name a
   search : value_in name s.search ≡ None
 
-nil_behind : (xs : List AnyOrder) → xs ++ [] ≡ xs
+pub nil_behind : (xs : List AnyOrder) → xs ++ [] ≡ xs
 nil_behind [] = refl
 nil_behind (x ∷ xs) = ap (λ (t : List AnyOrder). x ∷ t) (nil_behind xs)
 
 -- an order that sets nothing
-plain : (name : List ℕ) (xs : List AnyOrder) (c : AnyOrder) → value_of name c ≡ None → value_in name (xs ++ c ∷ []) ≡ value_in name xs
+plain : (name : List (List ℕ)) (xs : List AnyOrder) (c : AnyOrder) → value_of name c ≡ None → value_in name (xs ++ c ∷ []) ≡ value_in name xs
 plain name xs c e = behind name xs (c ∷ []) ∙ ap (λ (o : Option (List ℕ)). later_or o (value_in name xs)) e
 
 -- the orders that are written as they come set nothing
-abbrev as_it_comes : LifeState → AnyOrder → List AnyOrder
+abbrev pub as_it_comes : LifeState → AnyOrder → List AnyOrder
 as_it_comes l c = if takes_at_once l c then c ∷ [] else []
 
-sets_none_by : (w : Bool) (name : List ℕ) (c : AnyOrder) → (w ≡ true → value_of name c ≡ None) → value_in name (if w then c ∷ [] else []) ≡ None
+sets_none_by : (w : Bool) (name : List (List ℕ)) (c : AnyOrder) → (w ≡ true → value_of name c ≡ None) → value_in name (if w then c ∷ [] else []) ≡ None
 sets_none_by true name c h = h refl
 sets_none_by false name c h = refl
 
-at_once_none : (name : List ℕ) (l : LifeState) (c : AnyOrder) → takes_at_once l c ≡ true → value_of name c ≡ None
-at_once_none name l (orders.SetOption n None) e = refl
-at_once_none name life.Fresh (orders.SetOption n m) e = absurd (true≢false (sym e))
-at_once_none name l (orders.SetOption n m) e = absurd (true≢false (sym e))
+at_once_none : (name : List (List ℕ)) (l : LifeState) (c : AnyOrder) → takes_at_once l c ≡ true → value_of name c ≡ None
+at_once_none name life.Fresh (orders.Value n m) e = absurd (true≢false (sym e))
+at_once_none name l (orders.Value n m) e = absurd (true≢false (sym e))
 at_once_none name l c e = refl
 
-comes_none : (name : List ℕ) (l : LifeState) (c : AnyOrder) → value_in name (as_it_comes l c) ≡ None
+comes_none : (name : List (List ℕ)) (l : LifeState) (c : AnyOrder) → value_in name (as_it_comes l c) ≡ None
 comes_none name l c = sets_none_by (takes_at_once l c) name c (at_once_none name l c)
 
-none_behind : (name : List ℕ) (xs ys : List AnyOrder) → value_in name ys ≡ None → value_in name (xs ++ ys) ≡ value_in name xs
+none_behind : (name : List (List ℕ)) (xs ys : List AnyOrder) → value_in name ys ≡ None → value_in name (xs ++ ys) ≡ value_in name xs
 none_behind name xs ys e = behind name xs ys ∙ ap (λ (o : Option (List ℕ)). later_or o (value_in name xs)) e
 
 -- orders of the life that set nothing, and accepted orders as they were
-quiet : (name : List ℕ) (s t : State) (l a more : List AnyOrder) → t.kept ≡ s.kept → t.unsent ≡ s.unsent → value_in name t.search ≡ None → value_in name more ≡ None → Values name s l a → Values name t (l ++ more) a
+quiet : (name : List (List ℕ)) (s t : RevivalState) (l a more : List AnyOrder) → t.kept ≡ s.kept → t.unsent ≡ s.unsent → value_in name t.search ≡ None → value_in name more ≡ None → Values name s l a → Values name t (l ++ more) a
 quiet name s t l a more k u e n h = record {
   kept = ap (value_in name) k ∙ h.kept;
   unsent = ap (λ (x : List AnyOrder). later_or (value_in name x) (value_in name (l ++ more))) u ∙ ap (later_or (value_in name s.unsent)) (none_behind name l more n) ∙ h.unsent;
@@ -117,10 +125,10 @@ quiet name s t l a more k u e n h = record {
 }
 
 -- an accepted order that sets nothing
-accepts : (name : List ℕ) (t : State) (l a : List AnyOrder) (c : AnyOrder) → value_of name c ≡ None → Values name t l a → Values name t l (a ++ c ∷ [])
+accepts : (name : List (List ℕ)) (t : RevivalState) (l a : List AnyOrder) (c : AnyOrder) → value_of name c ≡ None → Values name t l a → Values name t l (a ++ c ∷ [])
 accepts name t l a c e h = record { kept = h.kept ∙ sym (plain name a c e); unsent = h.unsent ∙ sym (plain name a c e); search = h.search }
 
-value_step : (w : Bool) (name : List ℕ) (s : State) (l a : List AnyOrder) (c : AnyOrder) (up : DialogueState) (x : LifeState) (more : List AnyOrder) → (with_value w s c).full ≡ false → value_in name more ≡ None → Values name s l a → Values name (record (with_value w s c) { upper = up; life = x }) (l ++ more) (a ++ c ∷ [])
+value_step : (w : Bool) (name : List (List ℕ)) (s : RevivalState) (l a : List AnyOrder) (c : AnyOrder) (up : DialogueState) (x : LifeState) (more : List AnyOrder) → (with_value w s c).full ≡ false → value_in name more ≡ None → Values name s l a → Values name (record (with_value w s c) { upper = up; life = x }) (l ++ more) (a ++ c ∷ [])
 value_step true name s l a c up x more f n h =
     let last : value_in name (a ++ c ∷ []) ≡ later_or (value_of name c) (value_in name a) = behind name a (c ∷ []) in
     record {
@@ -135,11 +143,11 @@ value_step true name s l a c up x more f n h =
     }
 value_step false name s l a c up x more f n h = absurd (true≢false f)
 
-joins_none : (name : List ℕ) (os : List AnyOrder) (c : AnyOrder) → value_of name c ≡ None → value_in name (with_order os c) ≡ value_in name os
+joins_none : (name : List (List ℕ)) (os : List AnyOrder) (c : AnyOrder) → value_of name c ≡ None → value_in name (with_order os c) ≡ value_in name os
 joins_none name os c e = joins name os c ∙ ap (λ (o : Option (List ℕ)). later_or o (value_in name os)) e
 
 -- an order that joins the unsent ones and sets nothing
-joined : (name : List ℕ) (s t : State) (l a more : List AnyOrder) (c : AnyOrder) → value_of name c ≡ None → t.kept ≡ s.kept → t.unsent ≡ with_order s.unsent c → t.search ≡ s.search → value_in name more ≡ None → Values name s l a → Values name t (l ++ more) (a ++ c ∷ [])
+joined : (name : List (List ℕ)) (s t : RevivalState) (l a more : List AnyOrder) (c : AnyOrder) → value_of name c ≡ None → t.kept ≡ s.kept → t.unsent ≡ with_order s.unsent c → t.search ≡ s.search → value_in name more ≡ None → Values name s l a → Values name t (l ++ more) (a ++ c ∷ [])
 joined name s t l a more c e k u x n h = record {
   kept = ap (value_in name) k ∙ h.kept ∙ sym (plain name a c e);
   unsent =
@@ -151,55 +159,55 @@ joined name s t l a more c e k u x n h = record {
   search = ap (value_in name) x ∙ h.search;
 }
 
-button_step : (w : Bool) (name : List ℕ) (s : State) (l a : List AnyOrder) (c : AnyOrder) (up : DialogueState) (x : LifeState) (more : List AnyOrder) → value_of name c ≡ None → (with_button w s c).full ≡ false → value_in name more ≡ None → Values name s l a → Values name (record (with_button w s c) { upper = up; life = x }) (l ++ more) (a ++ c ∷ [])
+button_step : (w : Bool) (name : List (List ℕ)) (s : RevivalState) (l a : List AnyOrder) (c : AnyOrder) (up : DialogueState) (x : LifeState) (more : List AnyOrder) → value_of name c ≡ None → (with_button w s c).full ≡ false → value_in name more ≡ None → Values name s l a → Values name (record (with_button w s c) { upper = up; life = x }) (l ++ more) (a ++ c ∷ [])
 button_step true name s l a c up x more e f n h = joined name s (record (with_button true s c) { upper = up; life = x }) l a more c e refl refl refl n h
 button_step false name s l a c up x more e f n h = absurd (true≢false f)
 
 -- an order that joins no setting
-other : (name : List ℕ) (s t : State) (l a more : List AnyOrder) (c : AnyOrder) → value_of name c ≡ None → t.kept ≡ s.kept → t.unsent ≡ s.unsent → value_in name t.search ≡ None → value_in name more ≡ None → Values name s l a → Values name t (l ++ more) (a ++ c ∷ [])
+other : (name : List (List ℕ)) (s t : RevivalState) (l a more : List AnyOrder) (c : AnyOrder) → value_of name c ≡ None → t.kept ≡ s.kept → t.unsent ≡ s.unsent → value_in name t.search ≡ None → value_in name more ≡ None → Values name s l a → Values name t (l ++ more) (a ++ c ∷ [])
 other name s t l a more c e k u x n h = accepts name t (l ++ more) a c e (quiet name s t l a more k u x n h)
 
-in_search : (name : List ℕ) (search : List AnyOrder) (c : AnyOrder) → value_of name c ≡ None → value_in name search ≡ None → value_in name (search ++ c ∷ []) ≡ None
+in_search : (name : List (List ℕ)) (search : List AnyOrder) (c : AnyOrder) → value_of name c ≡ None → value_in name search ≡ None → value_in name (search ++ c ∷ []) ≡ None
 in_search name search c e h = plain name search c e ∙ h
 
-accepting_values : (name : List ℕ) (s : State) (l a : List AnyOrder) (c : AnyOrder) (up : DialogueState) → (accepting (Some up) s c).full ≡ false → Values name s l a → Values name (accepting (Some up) s c) (l ++ as_it_comes s.life c) (a ++ c ∷ [])
+accepting_values : (name : List (List ℕ)) (s : RevivalState) (l a : List AnyOrder) (c : AnyOrder) (up : DialogueState) → (accepting (Some up) s c).full ≡ false → Values name s l a → Values name (accepting (Some up) s c) (l ++ as_it_comes s.life c) (a ++ c ∷ [])
 accepting_values name s l a orders.NewGame up f h = joined name s (accepting (Some up) s orders.NewGame) l a (as_it_comes s.life orders.NewGame) orders.NewGame refl refl refl refl (comes_none name s.life orders.NewGame) h
 accepting_values name s l a orders.Stop up f h = other name s (accepting (Some up) s orders.Stop) l a (as_it_comes s.life orders.Stop) orders.Stop refl refl refl (in_search name s.search orders.Stop refl h.search) (comes_none name s.life orders.Stop) h
 accepting_values name s l a orders.PonderHit up f h = other name s (accepting (Some up) s orders.PonderHit) l a (as_it_comes s.life orders.PonderHit) orders.PonderHit refl refl refl (in_search name s.search orders.PonderHit refl h.search) (comes_none name s.life orders.PonderHit) h
-accepting_values name s l a (orders.SetOption n None) up f h =
-    let c = orders.SetOption n None in
+accepting_values name s l a (orders.Button n v) up f h =
+    let c = orders.Button n v in
     button_step (can_join s.unsent c) name s l a c up (after_at_once s.life c) (as_it_comes s.life c) refl f (comes_none name s.life c) h
-accepting_values name s l a (orders.SetOption n (Some v)) up f h =
-    let c = orders.SetOption n (Some v) in
+accepting_values name s l a (orders.Value n v) up f h =
+    let c = orders.Value n v in
     value_step (can_join s.kept c && can_join s.unsent c) name s l a c up (after_at_once s.life c) (as_it_comes s.life c) f (comes_none name s.life c) h
-accepting_values name s l a (orders.Position p m) up f h = other name s (accepting (Some up) s (orders.Position p m)) l a (as_it_comes s.life (orders.Position p m)) (orders.Position p m) refl refl refl refl (comes_none name s.life (orders.Position p m)) h
-accepting_values name s l a (orders.Go p t d) up f h = other name s (accepting (Some up) s (orders.Go p t d)) l a (as_it_comes s.life (orders.Go p t d)) (orders.Go p t d) refl refl refl (in_search name s.search (orders.Go p t d) refl h.search) (comes_none name s.life (orders.Go p t d)) h
+accepting_values name s l a (orders.Position p) up f h = other name s (accepting (Some up) s (orders.Position p)) l a (as_it_comes s.life (orders.Position p)) (orders.Position p) refl refl refl refl (comes_none name s.life (orders.Position p)) h
+accepting_values name s l a (orders.Go k p) up f h = other name s (accepting (Some up) s (orders.Go k p)) l a (as_it_comes s.life (orders.Go k p)) (orders.Go k p) refl refl refl (in_search name s.search (orders.Go k p) refl h.search) (comes_none name s.life (orders.Go k p)) h
 accepting_values name s l a c up f h = other name s (accepting (Some up) s c) l a (as_it_comes s.life c) c refl refl refl h.search (comes_none name s.life c) h
 
-same_nil : (name : List ℕ) (t : State) (l a : List AnyOrder) → Values name t l a → Values name t (l ++ []) (a ++ [])
+same_nil : (name : List (List ℕ)) (t : RevivalState) (l a : List AnyOrder) → Values name t l a → Values name t (l ++ []) (a ++ [])
 same_nil name t l a h = subst (λ (x : List AnyOrder). Values name t x (a ++ [])) (sym (nil_behind l)) (subst (λ (x : List AnyOrder). Values name t l x) (sym (nil_behind a)) h)
 
-accepted_values : (name : List ℕ) (s : State) (l a : List AnyOrder) (c : AnyOrder) (o : Option DialogueState) → (accepting o s c).full ≡ false → Values name s l a → Values name (accepting o s c) (l ++ accepted_at_once o s.life c) (a ++ accepted_by o c)
+accepted_values : (name : List (List ℕ)) (s : RevivalState) (l a : List AnyOrder) (c : AnyOrder) (o : Option DialogueState) → (accepting o s c).full ≡ false → Values name s l a → Values name (accepting o s c) (l ++ accepted_at_once o s.life c) (a ++ accepted_by o c)
 accepted_values name s l a c None f h = same_nil name s l a h
 accepted_values name s l a c (Some up) f h = accepting_values name s l a c up f h
 
-reading_values : (name : List ℕ) (s : State) (l a : List AnyOrder) (o : Option AnyOrder) → (reading s o).full ≡ false → Values name s l a → Values name (reading s o) (l ++ read_at_once s o) (a ++ accepted_read s o)
+reading_values : (name : List (List ℕ)) (s : RevivalState) (l a : List AnyOrder) (o : Option AnyOrder) → (reading s o).full ≡ false → Values name s l a → Values name (reading s o) (l ++ read_at_once s o) (a ++ accepted_read s o)
 reading_values name s l a None f h = same_nil name s l a h
 reading_values name s l a (Some c) f h = accepted_values name s l a c (accepted s c) f h
 
-to_a : (name : List ℕ) (t : State) (l a : List AnyOrder) → Values name t l a → Values name t l (a ++ [])
+to_a : (name : List (List ℕ)) (t : RevivalState) (l a : List AnyOrder) → Values name t l a → Values name t l (a ++ [])
 to_a name t l a h = subst (λ (x : List AnyOrder). Values name t l x) (sym (nil_behind a)) h
 
-ordering_values : (name : List ℕ) (s : State) (l a : List AnyOrder) (line : List ℕ) (q : Bool) → (if q then with_quit s else reading s (order_in line)).full ≡ false → Values name s l a → Values name (if q then with_quit s else reading s (order_in line)) (l ++ (if q then quit_to s.quit s.life else read_at_once s (order_in line))) (a ++ (if q then [] else accepted_read s (order_in line)))
+ordering_values : (name : List (List ℕ)) (s : RevivalState) (l a : List AnyOrder) (line : List ℕ) (q : Bool) → (if q then with_quit s else reading s (asked line)).full ≡ false → Values name s l a → Values name (if q then with_quit s else reading s (asked line)) (l ++ (if q then quit_to s.quit s.life else read_at_once s (asked line))) (a ++ (if q then [] else accepted_read s (asked line)))
 ordering_values name s l a line true f h =
     to_a name (with_quit s) (l ++ quit_to s.quit s.life) a (quiet name s (with_quit s) l a (quit_to s.quit s.life) refl refl h.search (sets_none_by (not s.quit && is_served s.life) name orders.Quit (λ e. refl)) h)
-ordering_values name s l a line false f h = reading_values name s l a (order_in line) f h
+ordering_values name s l a line false f h = reading_values name s l a (asked line) f h
 
-first_none : (name : List ℕ) (w : Bool) → value_in name (if w then [] else orders.Uci ∷ []) ≡ None
+first_none : (name : List (List ℕ)) (w : Bool) → value_in name (if w then [] else orders.Uci ∷ []) ≡ None
 first_none name true = refl
 first_none name false = refl
 
-turned_values : (name : List ℕ) (s : State) (call : Call) (l a : List AnyOrder) → (turned s call).full ≡ false → Values name s l a → Values name (turned s call) (carried call l ++ first_orders s call) (a ++ accepted_in s call)
+turned_values : (name : List (List ℕ)) (s : RevivalState) (call : Call) (l a : List AnyOrder) → (turned s call).full ≡ false → Values name s l a → Values name (turned s call) (carried call l ++ first_orders s call) (a ++ accepted_in s call)
 turned_values name s (Order line) l a f h = ordering_values name s l a line (is_quit line) f h
 turned_values name s (Heard line) l a f h = to_a name (turned s (Heard line)) (l ++ []) a (quiet name s (turned s (Heard line)) l a [] refl refl h.search refl h)
 turned_values name s Ended l a f h = to_a name (turned s Ended) (l ++ []) a (quiet name s (turned s Ended) l a [] refl refl h.search refl h)
@@ -212,67 +220,67 @@ turned_values name s Over l a f h = to_a name (turned s Over) (l ++ []) a (quiet
 
 -- WHAT FOLLOWS
 
-answered_values : (name : List ℕ) (w : Answer) (t : State) (l a : List AnyOrder) → Values name t l a → Values name (after_answer w t) l a
+answered_values : (name : List (List ℕ)) (w : StandInAnswer) (t : RevivalState) (l a : List AnyOrder) → Values name t l a → Values name (after_answer w t) l a
 answered_values name answers.Nothing t l a h = h
 answered_values name answers.UciOk t l a h = record { kept = h.kept; unsent = h.unsent; search = h.search }
 answered_values name answers.ReadyOk t l a h = record { kept = h.kept; unsent = h.unsent; search = h.search }
 answered_values name answers.NoMove t l a h = record { kept = h.kept; unsent = h.unsent; search = h.search }
 
-all_sent : (name : List ℕ) (l u r : List AnyOrder) → value_in name r ≡ None → value_in name (l ++ (u ++ r)) ≡ later_or (value_in name u) (value_in name l)
+all_sent : (name : List (List ℕ)) (l u r : List AnyOrder) → value_in name r ≡ None → value_in name (l ++ (u ++ r)) ≡ later_or (value_in name u) (value_in name l)
 all_sent name l u r e = behind name l (u ++ r) ∙ ap (λ (o : Option (List ℕ)). later_or o (value_in name l)) (none_behind name u r e)
 
-due_values : (name : List ℕ) (d : Due) (t : State) (l a : List AnyOrder) → Values name t l a → Values name (after_due d t) (l ++ due_orders d t.unsent t.search) a
+due_values : (name : List (List ℕ)) (d : DueOrders) (t : RevivalState) (l a : List AnyOrder) → Values name t l a → Values name (after_due d t) (l ++ due_orders d t.unsent t.search) a
 due_values name due.Nothing t l a h = subst (λ (x : List AnyOrder). Values name t x a) (sym (nil_behind l)) h
 due_values name due.Settings t l a h = record { kept = h.kept; unsent = all_sent name l t.unsent (orders.IsReady ∷ []) refl ∙ h.unsent; search = h.search }
 due_values name due.Search t l a h = record { kept = h.kept; unsent = all_sent name l t.unsent t.search h.search ∙ h.unsent; search = h.search }
 
-settled_values : (name : List ℕ) (t : State) (l a : List AnyOrder) → Values name t l a → Values name (settled t) (l ++ settled_orders t) a
+settled_values : (name : List (List ℕ)) (t : RevivalState) (l a : List AnyOrder) → Values name t l a → Values name (settled t) (l ++ settled_orders t) a
 settled_values name t l a h = answered_values name (answer_of t) (after_due (due_of t) t) (l ++ settled_orders t) a (due_values name (due_of t) t l a h)
 
 -- A list that was full stays so.
-settled_full : (w : Answer) (d : Due) (t : State) → (after_answer w (after_due d t)).full ≡ false → t.full ≡ false
+pub settled_full : (w : StandInAnswer) (d : DueOrders) (t : RevivalState) → (after_answer w (after_due d t)).full ≡ false → t.full ≡ false
 settled_full answers.Nothing due.Nothing t e = e
 settled_full w due.Nothing t e = e
 settled_full w d t e = e
 
-value_full : (w : Bool) (s : State) (c : AnyOrder) → (with_value w s c).full ≡ false → s.full ≡ false
+value_full : (w : Bool) (s : RevivalState) (c : AnyOrder) → (with_value w s c).full ≡ false → s.full ≡ false
 value_full true s c e = e
 value_full false s c e = absurd (true≢false e)
 
-button_full : (w : Bool) (s : State) (c : AnyOrder) → (with_button w s c).full ≡ false → s.full ≡ false
+button_full : (w : Bool) (s : RevivalState) (c : AnyOrder) → (with_button w s c).full ≡ false → s.full ≡ false
 button_full true s c e = e
 button_full false s c e = absurd (true≢false e)
 
-accepting_full : (s : State) (c : AnyOrder) (o : Option DialogueState) → (accepting o s c).full ≡ false → s.full ≡ false
-accepting_full s (orders.SetOption n None) (Some up) e =
-    let c = orders.SetOption n None in
+accepting_full : (s : RevivalState) (c : AnyOrder) (o : Option DialogueState) → (accepting o s c).full ≡ false → s.full ≡ false
+accepting_full s (orders.Button n v) (Some up) e =
+    let c = orders.Button n v in
     button_full (can_join s.unsent c) s c e
-accepting_full s (orders.SetOption n (Some v)) (Some up) e =
-    let c = orders.SetOption n (Some v) in
+accepting_full s (orders.Value n v) (Some up) e =
+    let c = orders.Value n v in
     value_full (can_join s.kept c && can_join s.unsent c) s c e
 accepting_full s c None e = e
 accepting_full s c o e = e
 
-reading_full : (s : State) (o : Option AnyOrder) → (reading s o).full ≡ false → s.full ≡ false
+reading_full : (s : RevivalState) (o : Option AnyOrder) → (reading s o).full ≡ false → s.full ≡ false
 reading_full s None e = e
 reading_full s (Some c) e = accepting_full s c (accepted s c) e
 
-ordering_full : (s : State) (line : List ℕ) (q : Bool) → (if q then with_quit s else reading s (order_in line)).full ≡ false → s.full ≡ false
+ordering_full : (s : RevivalState) (line : List ℕ) (q : Bool) → (if q then with_quit s else reading s (asked line)).full ≡ false → s.full ≡ false
 ordering_full s line true e = e
-ordering_full s line false e = reading_full s (order_in line) e
+ordering_full s line false e = reading_full s (asked line) e
 
-turned_full : (s : State) (call : Call) → (turned s call).full ≡ false → s.full ≡ false
+pub turned_full : (s : RevivalState) (call : Call) → (turned s call).full ≡ false → s.full ≡ false
 turned_full s (Order line) e = ordering_full s line (is_quit line) e
 turned_full s (Heard line) e = e
 turned_full s Ended e = e
 turned_full s Begin e = e
 turned_full s Over e = e
 
-append_regrouped : (a b c : List AnyOrder) → (a ++ b) ++ c ≡ a ++ (b ++ c)
+pub append_regrouped : (a b c : List AnyOrder) → (a ++ b) ++ c ≡ a ++ (b ++ c)
 append_regrouped [] b c = refl
 append_regrouped (x ∷ xs) b c = ap (λ (t : List AnyOrder). x ∷ t) (append_regrouped xs b c)
 
-values : (name : List ℕ) (lives : ℕ) (calls : List Call) → (state_of lives calls).full ≡ false → Values name (state_of lives calls) (life_orders lives calls) (accepted_of lives calls)
+values : (name : List (List ℕ)) (lives : ℕ) (calls : List Call) → (state_of lives calls).full ≡ false → Values name (state_of lives calls) (life_orders lives calls) (accepted_of lives calls)
 values name lives [] f = record { kept = refl; unsent = refl; search = refl }
 values name lives (call ∷ calls) f =
     let s = state_of lives calls in
@@ -289,7 +297,7 @@ search_due : (l : LifeState) (q : Bool) (u : DialogueState) → due_to l q u ≡
 search_due life.Idle false (upper.Search k b) e = refl
 search_due l q u e = absurd (cc)
 
-none_unsent : (w : Answer) (d : Due) (t : State) → d ≡ due.Search → (after_answer w (after_due d t)).unsent ≡ []
+none_unsent : (w : StandInAnswer) (d : DueOrders) (t : RevivalState) → d ≡ due.Search → (after_answer w (after_due d t)).unsent ≡ []
 none_unsent answers.Nothing due.Search t e = refl
 none_unsent w due.Search t e = refl
 none_unsent w d t e = absurd (cc)
@@ -301,7 +309,8 @@ given_searches lives call calls m e =
     let a = turned_agrees s call _ m.1 (agrees lives calls m.0) in
     let open_up : is_open t.upper ≡ true = search_open t.upper (search_due t.life t.quit t.upper e) in
     record {
-      orders_are = ap (λ (d : Due). due_orders d t.unsent t.search) e;
+      orders_are = ap (λ (d : DueOrders). due_orders d t.unsent t.search) e;
+      as_they_came = (searches_turned lives call calls m) open_up;
       leads = told t.search upper.Idle t.upper (a.search open_up);
       settings = λ name f.
           ap (λ (x : List AnyOrder). later_or (value_in name x) (value_in name (life_orders lives (call ∷ calls)))) (sym (none_unsent (answer_of t) (due_of t) t e))

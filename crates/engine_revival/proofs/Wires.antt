@@ -1,31 +1,30 @@
 -- Orders in a row, in a dialogue.
-use Rattle.std.proofs.Common.{◌≡◌, ◌&&◌, ℕ, List, [], ◌∷◌, ◌++◌, Bool, true, false, not, cond, filter, Option, Some, None, refl, sym, ap, ◌∙◌, subst, true≢false, if◌then◌else◌}
+use Rattle.std.proofs.Common.{◌≡◌, List, [], ◌∷◌, ◌++◌, Bool, true, false, not, cond, filter, Option, Some, None, refl, sym, ap, ◌∙◌, true≢false}
 use Rattle.std.specs.List.{AllByRecursion}
 use Rattle.std.specs.Option.{option_and_then}
-use Rattle.uci_lines.specs.Orders.{Order}
-use Rattle.uci_lines.specs.Orders as orders
-use Rattle.peer_words.specs.declared.kinds.GoKind.TheVariants as kinds
+use Rattle.engine_revival.specs.Orders.{RevivalOrder}
+use Rattle.engine_revival.specs.Orders as orders
 use Rattle.engine_revival.specs.declared.words.DialogueState.{DialogueState}
 use Rattle.engine_revival.specs.declared.words.DialogueState.TheVariants as upper
-use Rattle.engine_revival.specs.Dialogue.{after_order, where_true, after_hit, after_stop, is_idle, is_placed, is_before, kind_of}
+use Rattle.engine_revival.specs.Dialogue.{after_order, after_hit, after_stop, is_placed}
 use Rattle.engine_revival.specs.Lists.{staying_beside, with_order, are_for_same}
-use Rattle.engine_revival.specs.Laws.{Wire, Open, Closed, Gone, Broken, written, all_written, open_or_broken, is_search}
+use Rattle.engine_revival.specs.Laws.{Open, written, all_written, open_or_broken, is_search}
 
 -- the dialogue after orders in a row, where each may stand at its place
-abbrev pub telling : List Order → DialogueState → Option DialogueState
+abbrev pub telling : List RevivalOrder → DialogueState → Option DialogueState
 telling [] d = Some d
 telling (c ∷ cs) d = option_and_then (telling cs) (after_order c d)
 
-one_written : (c : Order) (d next : DialogueState) → after_order c d ≡ Some next → written c (Open d) ≡ Open next
+one_written : (c : RevivalOrder) (d next : DialogueState) → after_order c d ≡ Some next → written c (Open d) ≡ Open next
 one_written orders.Quit d next e = absurd (cc)
 one_written c d next e = ap open_or_broken e
 
-told_step : (o : Option DialogueState) (c : Order) (cs : List Order) (d last : DialogueState) → after_order c d ≡ o → option_and_then (telling cs) o ≡ Some last → ((next : DialogueState) → telling cs next ≡ Some last → all_written cs (Open next) ≡ Open last) → all_written cs (written c (Open d)) ≡ Open last
+told_step : (o : Option DialogueState) (c : RevivalOrder) (cs : List RevivalOrder) (d last : DialogueState) → after_order c d ≡ o → option_and_then (telling cs) o ≡ Some last → ((next : DialogueState) → telling cs next ≡ Some last → all_written cs (Open next) ≡ Open last) → all_written cs (written c (Open d)) ≡ Open last
 told_step None c cs d last e f h = absurd (cc)
 told_step (Some next) c cs d last e f h = ap (all_written cs) (one_written c d next e) ∙ h next f
 
 -- Orders that may stand are written so.
-pub told : (cs : List Order) (d last : DialogueState) → telling cs d ≡ Some last → all_written cs (Open d) ≡ Open last
+pub told : (cs : List RevivalOrder) (d last : DialogueState) → telling cs d ≡ Some last → all_written cs (Open d) ≡ Open last
 told [] d last e = ap Open (some_is d last e)
   where
     some_is : (a b : DialogueState) → Some a ≡ Some b → a ≡ b
@@ -34,37 +33,39 @@ told (c ∷ cs) d last e = told_step (after_order c d) c cs d last refl e (λ ne
 
 -- SETTINGS
 
-abbrev pub is_setup : Order → Bool
-is_setup (orders.SetOption name value) = true
+abbrev pub is_setup : RevivalOrder → Bool
+is_setup (orders.Value name line) = true
+is_setup (orders.Button name line) = true
 is_setup orders.NewGame = true
 is_setup order = false
 
-abbrev pub AreSetups : List Order → Type 0
+abbrev pub AreSetups : List RevivalOrder → Type 0
 AreSetups list = AllByRecursion (λ c. is_setup c ≡ true) list
 
-setup_stays : (c : Order) → is_setup c ≡ true → after_order c upper.Idle ≡ Some upper.Idle
-setup_stays (orders.SetOption n v) e = refl
+setup_stays : (c : RevivalOrder) → is_setup c ≡ true → after_order c upper.Idle ≡ Some upper.Idle
+setup_stays (orders.Value n v) e = refl
+setup_stays (orders.Button n v) e = refl
 setup_stays orders.NewGame e = refl
 setup_stays c e = absurd (true≢false (sym e))
 
 -- Settings leave an idle engine idle.
-pub behind_setups : (unsent more : List Order) → AreSetups unsent → telling (unsent ++ more) upper.Idle ≡ telling more upper.Idle
+pub behind_setups : (unsent more : List RevivalOrder) → AreSetups unsent → telling (unsent ++ more) upper.Idle ≡ telling more upper.Idle
 behind_setups [] more h = refl
 behind_setups (c ∷ cs) more h = ap (option_and_then (telling (cs ++ more))) (setup_stays c h.0) ∙ behind_setups cs more h.1
 
-kept_step : (w : Bool) (o : Order) (os : List Order) → is_setup o ≡ true → AreSetups os → AreSetups (cond w (o ∷ os) os)
+kept_step : (w : Bool) (o : RevivalOrder) (os : List RevivalOrder) → is_setup o ≡ true → AreSetups os → AreSetups (cond w (o ∷ os) os)
 kept_step true o os h k = (h, k)
 kept_step false o os h k = k
 
-kept : (test : Order → Bool) (os : List Order) → AreSetups os → AreSetups (filter test os)
+kept : (test : RevivalOrder → Bool) (os : List RevivalOrder) → AreSetups os → AreSetups (filter test os)
 kept test [] h = tt
 kept test (o ∷ os) h = kept_step (test o) o (filter test os) h.0 (kept test os h.1)
 
-one_more : (os : List Order) (o : Order) → AreSetups os → is_setup o ≡ true → AreSetups (os ++ o ∷ [])
+one_more : (os : List RevivalOrder) (o : RevivalOrder) → AreSetups os → is_setup o ≡ true → AreSetups (os ++ o ∷ [])
 one_more [] o h k = (k, tt)
 one_more (p ∷ os) o h k = (h.0, one_more os o h.1 k)
 
-pub with_setup : (list : List Order) (order : Order) → AreSetups list → is_setup order ≡ true → AreSetups (with_order list order)
+pub with_setup : (list : List RevivalOrder) (order : RevivalOrder) → AreSetups list → is_setup order ≡ true → AreSetups (with_order list order)
 with_setup list order h k = one_more (staying_beside order list) order (kept (λ o. not (are_for_same order o)) list h) k
 
 -- THE ORDERS OF A SEARCH
@@ -75,10 +76,10 @@ is_open (upper.Search kind stopped) = true
 is_open state = false
 
 -- The orders of the open search lead to the state that it is in.
-abbrev pub SearchIs : DialogueState → List Order → Type 0
+abbrev pub SearchIs : DialogueState → List RevivalOrder → Type 0
 SearchIs u search = is_open u ≡ true → telling search upper.Idle ≡ Some u
 
-last_step : (o : Option DialogueState) (c : Order) (cs : List Order) → ((next : DialogueState) → telling (cs ++ c ∷ []) next ≡ option_and_then (after_order c) (telling cs next)) → option_and_then (telling (cs ++ c ∷ [])) o ≡ option_and_then (after_order c) (option_and_then (telling cs) o)
+last_step : (o : Option DialogueState) (c : RevivalOrder) (cs : List RevivalOrder) → ((next : DialogueState) → telling (cs ++ c ∷ []) next ≡ option_and_then (after_order c) (telling cs next)) → option_and_then (telling (cs ++ c ∷ [])) o ≡ option_and_then (after_order c) (option_and_then (telling cs) o)
 last_step None c cs h = refl
 last_step (Some next) c cs h = h next
 
@@ -86,12 +87,12 @@ nothing_more : (o : Option DialogueState) → option_and_then (λ d. Some d) o �
 nothing_more None = refl
 nothing_more (Some d) = refl
 
-pub telling_last : (cs : List Order) (c : Order) (d : DialogueState) → telling (cs ++ c ∷ []) d ≡ option_and_then (after_order c) (telling cs d)
+pub telling_last : (cs : List RevivalOrder) (c : RevivalOrder) (d : DialogueState) → telling (cs ++ c ∷ []) d ≡ option_and_then (after_order c) (telling cs d)
 telling_last [] c d = nothing_more (after_order c d)
 telling_last (x ∷ xs) c d = last_step (after_order x d) c xs (λ next. telling_last xs c next)
 
 -- one more order of the open search
-pub search_more : (u up : DialogueState) (search : List Order) (c : Order) → is_open u ≡ true → after_order c u ≡ Some up → SearchIs u search → SearchIs up (search ++ c ∷ [])
+pub search_more : (u up : DialogueState) (search : List RevivalOrder) (c : RevivalOrder) → is_open u ≡ true → after_order c u ≡ Some up → SearchIs u search → SearchIs up (search ++ c ∷ [])
 search_more u up search c o e h = λ open_up. telling_last search c upper.Idle ∙ ap (option_and_then (after_order c)) (h o) ∙ e
 
 pub hit_open : (u up : DialogueState) → after_hit u ≡ Some up → is_search u ≡ true

@@ -1,24 +1,15 @@
 -- The order of a dialogue with an engine: which orders may stand where, and what the engine's lines change.
 use Rattle.std.specs.Prelude.{ℕ, List, Bool, true, false, Option, Some, None}
-use Rattle.peer_words.specs.declared.kinds.GoKind.{GoKind}
 use Rattle.peer_words.specs.declared.kinds.GoKind.TheVariants as kinds
-use Rattle.uci_lines.specs.declared.orders.GoControl.{GoControl}
-use Rattle.uci_lines.specs.declared.orders.GoControl.TheVariants.{Infinite}
-use Rattle.uci_lines.specs.Orders.{Order}
-use Rattle.uci_lines.specs.Orders as orders
 use Rattle.uci_lines.specs.Messages.{EngineMsg}
 use Rattle.uci_lines.specs.Messages as says
 use Rattle.uci_lines.specs.Engine.{engine_message}
+use Rattle.engine_revival.specs.Orders.{RevivalOrder}
+use Rattle.engine_revival.specs.Orders as orders
 use Rattle.engine_revival.specs.declared.words.DialogueState.{DialogueState}
 use Rattle.engine_revival.specs.declared.words.DialogueState.TheVariants.{Before, Boot, Getting, Idle, Placed, Search}
-use Rattle.engine_revival.specs.declared.words.Said.{Said}
-use Rattle.engine_revival.specs.declared.words.Said.TheVariants as said
-
--- what a search is for, by the words of its `go`
-abbrev pub kind_of : Bool → GoControl → GoKind
-kind_of true control = kinds.Ponder
-kind_of false Infinite = kinds.Analyse
-kind_of false control = kinds.Move
+use Rattle.engine_revival.specs.declared.words.LifeSaid.{LifeSaid}
+use Rattle.engine_revival.specs.declared.words.LifeSaid.TheVariants as said
 
 abbrev pub is_before : DialogueState → Bool
 is_before Before = true
@@ -47,25 +38,26 @@ after_stop state = None
 -- After an order; nothing if it may not stand there. `uci` is the first and stands once. Settings, `isready` and `position` go to
 -- an idle engine, `go` stands directly behind a `position`, and what stands behind a `position` is its `go`. `ponderhit` goes into a
 -- Ponder search that is not stopped, and `stop` into a search that is not stopped. Of `quit` it says nothing.
-abbrev pub after_order : Order → DialogueState → Option DialogueState
+abbrev pub after_order : RevivalOrder → DialogueState → Option DialogueState
 after_order orders.Uci state = where_true (is_before state) Boot
-after_order (orders.SetOption name value) state = where_true (is_idle state) Idle
+after_order (orders.Value name line) state = where_true (is_idle state) Idle
+after_order (orders.Button name line) state = where_true (is_idle state) Idle
 after_order orders.NewGame state = where_true (is_idle state) Idle
 after_order orders.IsReady state = where_true (is_idle state) Getting
-after_order (orders.Position fen moves) state = where_true (is_idle state) Placed
-after_order (orders.Go ponder control depth) state = where_true (is_placed state) (Search (kind_of ponder control) false)
+after_order (orders.Position line) state = where_true (is_idle state) Placed
+after_order (orders.Go kind line) state = where_true (is_placed state) (Search kind false)
 after_order orders.PonderHit state = after_hit state
 after_order orders.Stop state = after_stop state
 after_order orders.Quit state = None
 
 -- after the engine was heard
-abbrev pub after_said : DialogueState → Said → DialogueState
+abbrev pub after_said : DialogueState → LifeSaid → DialogueState
 after_said Boot said.UciOk = Idle
 after_said Getting said.ReadyOk = Idle
 after_said (Search kind stopped) said.Best = Idle
 after_said state s = state
 
-abbrev pub said_of : EngineMsg → Said
+abbrev pub said_of : EngineMsg → LifeSaid
 said_of (says.Name text) = said.Introduction
 said_of (says.OptionLine name shape) = said.Introduction
 said_of says.UciOk = said.UciOk
@@ -75,5 +67,5 @@ said_of (says.Best best hint) = said.Best
 said_of says.Nothing = said.Nothing
 
 -- what a line of the engine says
-abbrev pub said_in : List ℕ → Said
+abbrev pub said_in : List ℕ → LifeSaid
 said_in line = said_of (engine_message line)

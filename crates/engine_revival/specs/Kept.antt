@@ -3,42 +3,42 @@ use Rattle.std.specs.Prelude.{◌≡◌, ℕ, ◌+◌, ◌≤◌, List, take, dr
 use Rattle.std.specs.List.{AllByRecursion}
 use Rattle.line_io.specs.Event.{has_feed}
 use Rattle.line_io.specs.Out.{Text}
-use Rattle.uci_lines.specs.Orders.{Order, Uci}
-use Rattle.uci_lines.specs.OrderReading.{order_in, SpellsOrder}
-use Rattle.engine_revival.specs.declared.order_list.Span.{Span}
+use Rattle.engine_revival.specs.Orders.{RevivalOrder, Uci, order_text}
+use Rattle.engine_revival.specs.Asked.{order_in}
+use Rattle.engine_revival.specs.declared.order_list.LineSpan.{LineSpan}
 use Rattle.engine_revival.specs.declared.order_list.TheConstants.{LIST_ORDERS, LIST_BYTES}
 use Rattle.engine_revival.specs.Lists.{batch_text}
 
 -- the line in a part of the texts
-abbrev pub line_at : List ℕ → Span → List ℕ
+abbrev pub line_at : List ℕ → LineSpan → List ℕ
 line_at texts s = take s.len (drop s.at texts)
 
 -- the order that a line spells, if it spells one
-abbrev pub or_uci : Option Order → Order
+abbrev pub or_uci : Option RevivalOrder → RevivalOrder
 or_uci None = Uci
 or_uci (Some order) = order
 
-abbrev pub spelled : List ℕ → Order
+abbrev pub spelled : List ℕ → RevivalOrder
 spelled line = or_uci (order_in line)
 
--- The line is one line, and spells an order.
+-- The line is one line, and the text of the order that it is.
 pub record Spells (line : List ℕ) : Type 0 where
-  pub order : SpellsOrder line (spelled line)
+  pub text : line ≡ order_text (spelled line)
   pub one_line : has_feed line ≡ false
 
-abbrev pub orders_at : List ℕ → List Span → List Order
+abbrev pub orders_at : List ℕ → List LineSpan → List RevivalOrder
 orders_at texts lines = map (λ s. spelled (line_at texts s)) lines
 
 -- a line lies in the texts and spells an order
-pub record IsLineIn (texts : List ℕ) (s : Span) : Type 0 where
+pub record IsLineIn (texts : List ℕ) (s : LineSpan) : Type 0 where
   pub within : s.at + s.len ≤ length texts
   pub spells : Spells (line_at texts s)
 
-abbrev pub AreIn : List ℕ → List Span → Type 0
+abbrev pub AreIn : List ℕ → List LineSpan → Type 0
 AreIn texts lines = AllByRecursion (IsLineIn texts) lines
 
 -- what holds of the buffer of lines, the buffer beside it, and where the lines are
-pub record IsKept (texts beside : Text) (lines : List Span) : Type 0 where
+pub record IsKept (texts beside : Text) (lines : List LineSpan) : Type 0 where
   pub within : AreIn texts.text lines
   pub whole : texts.text ≡ batch_text (orders_at texts.text lines)
   pub few : length lines ≤ LIST_ORDERS

@@ -1,28 +1,29 @@
 -- Laws of every list of calls.
-use Rattle.std.specs.Prelude.{◌≡◌, ℕ, List, [], ◌∷◌, ◌++◌, Bool, true, false, if◌then◌else◌, Option, Some, None}
-use Rattle.uci_lines.specs.Orders.{Order as AnyOrder}
-use Rattle.uci_lines.specs.Orders as orders
-use Rattle.uci_lines.specs.OrderReading.{order_in}
+use Rattle.std.specs.Prelude.{◌≡◌, ◌⊎◌, ℕ, List, [], ◌∷◌, ◌++◌, Bool, true, false, if◌then◌else◌, Option, Some, None}
+use Rattle.engine_revival.specs.Orders.{RevivalOrder as AnyOrder, are_same_names}
+use Rattle.engine_revival.specs.Lists.{are_for_same}
+use Rattle.engine_revival.specs.Orders as orders
+use Rattle.engine_revival.specs.Asked.{asked}
 use Rattle.cecp_lines.specs.Quit.{is_quit}
-use Rattle.std.specs.Str.{bytes_eq}
 use Rattle.engine_revival.specs.declared.words.DialogueState.{DialogueState}
 use Rattle.engine_revival.specs.declared.words.DialogueState.TheVariants as upper
 use Rattle.engine_revival.specs.declared.words.LifeState.{LifeState}
 use Rattle.engine_revival.specs.declared.words.LifeState.TheVariants as life
-use Rattle.engine_revival.specs.declared.words.Said.{Said}
-use Rattle.engine_revival.specs.declared.words.Said.TheVariants as said
-use Rattle.engine_revival.specs.declared.words.Due.TheVariants as due
-use Rattle.engine_revival.specs.declared.words.Answer.{Answer}
-use Rattle.engine_revival.specs.declared.words.Answer.TheVariants as answers
-use Rattle.engine_revival.specs.declared.state.State.{State}
+use Rattle.engine_revival.specs.declared.words.LifeSaid.{LifeSaid}
+use Rattle.engine_revival.specs.declared.words.LifeSaid.TheVariants as said
+use Rattle.engine_revival.specs.declared.words.DueOrders.{DueOrders}
+use Rattle.engine_revival.specs.declared.words.DueOrders.TheVariants as due
+use Rattle.engine_revival.specs.declared.words.StandInAnswer.{StandInAnswer}
+use Rattle.engine_revival.specs.declared.words.StandInAnswer.TheVariants as answers
+use Rattle.engine_revival.specs.declared.state.RevivalState.{RevivalState}
 use Rattle.engine_revival.specs.Dialogue.{after_order, after_said, said_in}
-use Rattle.engine_revival.specs.Steps.{opening, gives, answer_of, accepted, due_of, settled_orders}
+use Rattle.engine_revival.specs.Steps.{opening, is_alive, gives, answer_of, accepted, due_of, settled_orders}
 use Rattle.engine_revival.specs.Calls.{Call, Order, Heard, Ended, Begin, Over, may, after, turned, orders_of}
 
 -- CALLS IN A ROW, THE LAST ONE FIRST
 
 -- what they leave, if so many lives may be begun
-abbrev pub state_of : ℕ → List Call → State
+abbrev pub state_of : ℕ → List Call → RevivalState
 state_of lives [] = opening lives
 state_of lives (call ∷ calls) = after (state_of lives calls) call
 
@@ -60,7 +61,7 @@ abbrev pub all_written : List AnyOrder → Wire → Wire
 all_written [] wire = wire
 all_written (order ∷ list) wire = all_written list (written order wire)
 
-abbrev pub heard : Said → Wire → Wire
+abbrev pub heard : LifeSaid → Wire → Wire
 heard word (Open state) = Open (after_said state word)
 heard word wire = wire
 
@@ -94,7 +95,7 @@ is_search (upper.Search kind stopped) = true
 is_search state = false
 
 -- where a line up may stand in the upper dialogue
-abbrev pub FitsUp : Said → DialogueState → Type 0
+abbrev pub FitsUp : LifeSaid → DialogueState → Type 0
 FitsUp said.Introduction state = state ≡ upper.Boot
 FitsUp said.UciOk state = state ≡ upper.Boot
 FitsUp said.ReadyOk state = state ≡ upper.Getting
@@ -109,19 +110,19 @@ GivenFits =
     → FitsUp (said_in line) (state_of lives calls).upper
 
 -- what stands in for the engine says
-abbrev pub answer_says : Answer → Said
+abbrev pub answer_says : StandInAnswer → LifeSaid
 answer_says answers.Nothing = said.Nothing
 answer_says answers.UciOk = said.UciOk
 answer_says answers.ReadyOk = said.ReadyOk
 answer_says answers.NoMove = said.Best
 
-abbrev pub IsAnswerIn : Answer → State → Type 0
+abbrev pub IsAnswerIn : StandInAnswer → RevivalState → Type 0
 IsAnswerIn answers.Nothing s = Unit {0}
 IsAnswerIn answer s = (s.life ≡ life.Over) × FitsUp (answer_says answer) s.upper
 
 -- Something stands in for the engine only if no life follows, and only if the upper dialogue waits for it.
 abbrev pub AnswersFit : Type 0
-AnswersFit = (s : State) → IsAnswerIn (answer_of s) s
+AnswersFit = (s : RevivalState) → IsAnswerIn (answer_of s) s
 
 -- IDLE LIVES
 
@@ -137,21 +138,46 @@ waits state = false
 -- After each call before an accepted `quit` no life is idle while the upper state is Getting or Search.
 abbrev pub NoLifeIdles : Type 0
 NoLifeIdles =
-    (s : State) (call : Call) → (after s call).quit ≡ false → is_idle_life (after s call).life ≡ true → waits (after s call).upper ≡ false
+    (s : RevivalState) (call : Call) → (after s call).quit ≡ false → is_idle_life (after s call).life ≡ true → waits (after s call).upper ≡ false
+
+-- WHAT A LIFE ANSWERS
+
+-- what a life was asked for, by the lines written to it and heard from it: that it is ready, or what it says of a search
+abbrev pub is_awaited : Wire → LifeSaid → Bool
+is_awaited (Open upper.Getting) said.ReadyOk = true
+is_awaited (Open (upper.Search kind stopped)) said.Report = true
+is_awaited (Open (upper.Search kind stopped)) said.Best = true
+is_awaited wire word = false
+
+-- The `readyok` of a life that got `isready` is given up, and each `info` and the `bestmove` of one that got a `go`, until that
+-- `bestmove`.
+abbrev pub AwaitedIsGiven : Type 0
+AwaitedIsGiven =
+    (lives : ℕ) (calls : List Call) (line : List ℕ) → MayCome lives calls → is_awaited (wire_of lives calls) (said_in line) ≡ true
+    → gives (state_of lives calls) (said_in line) ≡ true
+
+-- While `readyok` or `bestmove` is waited for, a life that has not ended boots, or was asked for just this.
+abbrev pub IsAskedIn : ℕ → List Call → Type 0
+IsAskedIn lives calls =
+    (state_of lives calls).quit ≡ false → is_alive (state_of lives calls).life ≡ true → waits (state_of lives calls).upper ≡ true
+    → (wire_of lives calls ≡ Open upper.Boot) ⊎ (wire_of lives calls ≡ Open (state_of lives calls).upper)
+
+abbrev pub LivesAreAsked : Type 0
+LivesAreAsked = (lives : ℕ) (calls : List Call) → MayCome lives calls → IsAskedIn lives calls
 
 -- SETTINGS
 
--- what an order sets an option to
-abbrev pub value_of : List ℕ → AnyOrder → Option (List ℕ)
-value_of name (orders.SetOption other (Some value)) = if bytes_eq other name then Some value else None
+-- the line of an order that sets an option to a value
+abbrev pub value_of : List (List ℕ) → AnyOrder → Option (List ℕ)
+value_of name (orders.Value other line) = if are_same_names other name then Some line else None
 value_of name order = None
 
-abbrev pub later_or : Option (List ℕ) → Option (List ℕ) → Option (List ℕ)
+abbrev pub later_or : {T : Type 0} → Option T → Option T → Option T
 later_or None earlier = earlier
 later_or (Some value) earlier = Some value
 
--- what orders in a row set an option to last
-abbrev pub value_in : List ℕ → List AnyOrder → Option (List ℕ)
+-- the line of the order that sets an option to a value last
+abbrev pub value_in : List (List ℕ) → List AnyOrder → Option (List ℕ)
 value_in name [] = None
 value_in name (order ∷ list) = later_or (value_in name list) (value_of name order)
 
@@ -159,13 +185,13 @@ abbrev pub accepted_by : Option DialogueState → AnyOrder → List AnyOrder
 accepted_by None order = []
 accepted_by (Some state) order = order ∷ []
 
-abbrev pub accepted_read : State → Option AnyOrder → List AnyOrder
+abbrev pub accepted_read : RevivalState → Option AnyOrder → List AnyOrder
 accepted_read s None = []
 accepted_read s (Some order) = accepted_by (accepted s order) order
 
 -- the order that a call brought, if it was accepted; `quit` left out
-abbrev pub accepted_in : State → Call → List AnyOrder
-accepted_in s (Order line) = if is_quit line then [] else accepted_read s (order_in line)
+abbrev pub accepted_in : RevivalState → Call → List AnyOrder
+accepted_in s (Order line) = if is_quit line then [] else accepted_read s (asked line)
 accepted_in s call = []
 
 -- all accepted orders, the first one first
@@ -182,16 +208,63 @@ abbrev pub life_orders : ℕ → List Call → List AnyOrder
 life_orders lives [] = []
 life_orders lives (call ∷ calls) = carried call (life_orders lives calls) ++ orders_of (state_of lives calls) call
 
--- Wherever a life is given a search, the orders behind its settings are those of the open upper search: they lead from an idle
--- engine to the state that the search is in. And unless a setting had no room, this life was given of each option the value that it
--- was set to last, whenever that was.
+-- an order behind those seen since the last `position`
+abbrev pub seen_then : AnyOrder → List AnyOrder → List AnyOrder
+seen_then (orders.Position line) seen = orders.Position line ∷ []
+seen_then order seen = seen ++ order ∷ []
+
+-- the orders from the last `position` on
+abbrev pub since_position : List AnyOrder → List AnyOrder → List AnyOrder
+since_position [] seen = seen
+since_position (order ∷ list) seen = since_position list (seen_then order seen)
+
+-- Wherever a life is given a search, the orders behind its settings are those of the open upper search: all that were accepted from
+-- the last `position` on, as they came. They lead from an idle engine to the state that the search is in. And unless a setting had no room, this life was given of each option the line that set
+-- it to a value last, whenever that was.
 pub record IsGiven (lives : ℕ) (call : Call) (calls : List Call) : Type 0 where
   pub orders_are : settled_orders (turned (state_of lives calls) call) ≡ (turned (state_of lives calls) call).unsent ++ (turned (state_of lives calls) call).search
+  pub as_they_came : (turned (state_of lives calls) call).search ≡ since_position (accepted_of lives (call ∷ calls)) []
   pub leads : all_written (turned (state_of lives calls) call).search (Open upper.Idle) ≡ Open (turned (state_of lives calls) call).upper
-  pub settings : (name : List ℕ) → (state_of lives (call ∷ calls)).full ≡ false
+  pub settings : (name : List (List ℕ)) → (state_of lives (call ∷ calls)).full ≡ false
       → value_in name (life_orders lives (call ∷ calls)) ≡ value_in name (accepted_of lives (call ∷ calls))
 
 abbrev pub SearchesAreGiven : Type 0
 SearchesAreGiven =
     (lives : ℕ) (call : Call) (calls : List Call) → MayCome lives (call ∷ calls) → due_of (turned (state_of lives calls) call) ≡ due.Search
     → IsGiven lives call calls
+
+-- BUTTONS AND NEW GAMES
+
+-- an order for the present life alone: a button, or the beginning of a game
+abbrev pub is_press : AnyOrder → Bool
+is_press (orders.Button name line) = true
+is_press orders.NewGame = true
+is_press order = false
+
+abbrev pub same_order : AnyOrder → AnyOrder → Option AnyOrder
+same_order order other = if are_for_same order other then Some other else None
+
+-- the last order that is for the same as this one
+abbrev pub last_for : AnyOrder → List AnyOrder → Option AnyOrder
+last_for order [] = None
+last_for order (other ∷ list) = later_or (last_for order list) (same_order order other)
+
+-- the orders that were accepted since the present life began, the first one first
+abbrev pub accepted_in_life : ℕ → List Call → List AnyOrder
+accepted_in_life lives [] = []
+accepted_in_life lives (call ∷ calls) = carried call (accepted_in_life lives calls) ++ accepted_in (state_of lives calls) call
+
+-- the settings go to the life, with `isready` or with a search
+abbrev pub gives_settings : DueOrders → Bool
+gives_settings due.Nothing = false
+gives_settings d = true
+
+-- A life that is given settings was given, unless one had no room, each button and `ucinewgame` that was accepted since it
+-- began, the last line of each, and none that a life before it was sent.
+abbrev pub IsPressed : ℕ → Call → List Call → AnyOrder → Type 0
+IsPressed lives call calls order =
+    gives_settings (due_of (turned (state_of lives calls) call)) ≡ true → is_press order ≡ true → (state_of lives (call ∷ calls)).full ≡ false
+    → last_for order (life_orders lives (call ∷ calls)) ≡ last_for order (accepted_in_life lives (call ∷ calls))
+
+abbrev pub PressesAreGiven : Type 0
+PressesAreGiven = (lives : ℕ) (call : Call) (calls : List Call) (order : AnyOrder) → IsPressed lives call calls order

@@ -1,3 +1,5 @@
+pub mod Orders
+pub mod Asked
 pub mod Dialogue
 pub mod Lists
 pub mod Kept
@@ -9,3 +11,4 @@ pub mod View
 pub mod Lending
 pub mod Laws
 pub mod Script
+pub mod Talk

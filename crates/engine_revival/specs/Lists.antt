@@ -1,37 +1,36 @@
 -- Lists of orders that set up an engine.
-use Rattle.std.specs.Prelude.{ℕ, List, [], ◌∷◌, ◌++◌, filter, length, Bool, true, false, not, ◌&&◌, nat_le, Option, Some, None}
+use Rattle.std.specs.Prelude.{ℕ, List, [], ◌∷◌, ◌++◌, filter, length, Bool, true, false, not, ◌&&◌, nat_le}
 use Rattle.std.specs.List.{flat_map}
-use Rattle.std.specs.Str.{bytes_eq}
-use Rattle.uci_lines.specs.Orders.{Order, NewGame, SetOption, order_text}
+use Rattle.engine_revival.specs.Orders.{RevivalOrder, NewGame, Value, Button, are_same_names, order_text}
 use Rattle.engine_revival.specs.declared.order_list.TheConstants.{MOST_ORDERS, MOST_BYTES}
 use Rattle.line_io.specs.Lines.{line_feed}
 
 -- Both begin a game, or both set the same option: to a value, or without one.
-abbrev pub are_for_same : Order → Order → Bool
+abbrev pub are_for_same : RevivalOrder → RevivalOrder → Bool
 are_for_same NewGame NewGame = true
-are_for_same (SetOption a (Some v)) (SetOption b (Some w)) = bytes_eq a b
-are_for_same (SetOption a None) (SetOption b None) = bytes_eq a b
+are_for_same (Value a line) (Value b other) = are_same_names a b
+are_for_same (Button a line) (Button b other) = are_same_names a b
 are_for_same _ _ = false
 
 -- the orders of a list that stay beside one that joins it
-abbrev pub staying_beside : Order → List Order → List Order
+abbrev pub staying_beside : RevivalOrder → List RevivalOrder → List RevivalOrder
 staying_beside order list = filter (λ o. not (are_for_same order o)) list
 
 -- An order takes the place of one that is for the same, and stands last.
-abbrev pub with_order : List Order → Order → List Order
+abbrev pub with_order : List RevivalOrder → RevivalOrder → List RevivalOrder
 with_order list order = staying_beside order list ++ order ∷ []
 
-abbrev pub order_line : Order → List ℕ
+abbrev pub order_line : RevivalOrder → List ℕ
 order_line order = order_text order ++ line_feed ∷ []
 
 -- the orders as they are written, each with its line feed
-abbrev pub batch_text : List Order → List ℕ
+abbrev pub batch_text : List RevivalOrder → List ℕ
 batch_text list = flat_map order_line list
 
 -- whether an order may join within both limits
-abbrev pub can_join : List Order → Order → Bool
+abbrev pub can_join : List RevivalOrder → RevivalOrder → Bool
 can_join list order = nat_le (length (with_order list order)) MOST_ORDERS && nat_le (length (batch_text (with_order list order))) MOST_BYTES
 
-abbrev pub is_nil : List Order → Bool
+abbrev pub is_nil : List RevivalOrder → Bool
 is_nil [] = true
 is_nil (order ∷ list) = false

@@ -3,14 +3,14 @@ use Rattle.std.specs.Prelude.{◌≡◌, ℕ, ◌≤◌, List, length, false}
 use Rattle.std.specs.List.{AllByRecursion}
 use Rattle.line_io.specs.Event.{has_feed}
 use Rattle.script_lines.specs.StepText.{written_marks}
-use Rattle.uci_lines.specs.Orders.{Order, order_text}
+use Rattle.engine_revival.specs.Orders.{RevivalOrder, order_text}
 use Rattle.engine_revival.specs.declared.revival.TheConstants.{MARKS_ROOM}
 
-abbrev pub IsOneLine : Order → Type 0
+abbrev pub IsOneLine : RevivalOrder → Type 0
 IsOneLine order = has_feed (order_text order) ≡ false
 
 -- each is one line, and they are no more than this
-pub record AreLines (list : List Order) (most : ℕ) : Type 0 where
+pub record AreLines (list : List RevivalOrder) (most : ℕ) : Type 0 where
   pub one_line : AllByRecursion IsOneLine list
   pub few : length list ≤ most
 

@@ -1,28 +1,27 @@
 -- The room that is left in lists and buffers.
-use Rattle.std.specs.Prelude.{◌≡◌, ℕ, ◌+◌, ◌*◌, ◌≤◌, List, length, Bool, false, true}
-use Rattle.line_io.specs.Out.{Text}
+use Rattle.std.specs.Prelude.{ℕ, ◌+◌, ◌*◌, ◌≤◌, List, length, false}
 use Rattle.peer_words.specs.declared.kinds.GoKind.TheVariants as kinds
-use Rattle.uci_lines.specs.Orders.{Order, NewGame}
+use Rattle.engine_revival.specs.Orders.{RevivalOrder, NewGame}
 use Rattle.engine_revival.specs.declared.words.DialogueState.{DialogueState}
 use Rattle.engine_revival.specs.declared.words.DialogueState.TheVariants as upper
 use Rattle.engine_revival.specs.declared.order_list.TheConstants.{MOST_ORDERS, MOST_BYTES, LIST_BYTES}
 use Rattle.engine_revival.specs.declared.state.TheConstants.{MOST_LINE, SEARCH_BYTES}
-use Rattle.engine_revival.specs.declared.state.State.{State}
+use Rattle.engine_revival.specs.declared.state.RevivalState.{RevivalState}
 use Rattle.engine_revival.specs.Lists.{staying_beside, batch_text}
 
-pub record AreWithin (list : List Order) (orders bytes : ℕ) : Type 0 where
+pub record AreWithin (list : List RevivalOrder) (orders bytes : ℕ) : Type 0 where
   pub few : length list ≤ orders
   pub short : length (batch_text list) ≤ bytes
 
 -- how long the orders of the open search are at most: `position`, `go`, `ponderhit`, `stop`
-abbrev pub IsSearchIn : DialogueState → List Order → Type 0
+abbrev pub IsSearchIn : DialogueState → List RevivalOrder → Type 0
 IsSearchIn upper.Placed search = AreWithin search 1 (MOST_LINE + 1)
 IsSearchIn (upper.Search kinds.Ponder false) search = AreWithin search 2 (2 * MOST_LINE + 2)
 IsSearchIn (upper.Search kind false) search = AreWithin search 3 (2 * MOST_LINE + 12)
 IsSearchIn up search = AreWithin search 4 SEARCH_BYTES
 
 -- what holds of the lists between two calls
-pub record IsRoomy (s : State) : Type 0 where
+pub record IsRoomy (s : RevivalState) : Type 0 where
   pub kept : AreWithin s.kept MOST_ORDERS MOST_BYTES
   pub settings : AreWithin (staying_beside NewGame s.unsent) MOST_ORDERS MOST_BYTES
   pub unsent : length (batch_text s.unsent) ≤ LIST_BYTES

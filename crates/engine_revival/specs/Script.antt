@@ -2,12 +2,12 @@
 use Rattle.std.specs.Prelude.{◌≡◌, ℕ, List, [], ◌∷◌, ◌++◌, codes, Bool, true, false, not, if◌then◌else◌}
 use Rattle.line_io.specs.Event.{Event, Iface, IfaceEnd, Engine, EngineLong, EngineEnd}
 use Rattle.script_lines.specs.StepText.{step_marks}
-use Rattle.engine_revival.specs.declared.state.State.{State}
+use Rattle.engine_revival.specs.declared.state.RevivalState.{RevivalState}
 use Rattle.engine_revival.specs.Steps.{opening, ending, may_begin, is_alive, is_ended}
 use Rattle.engine_revival.specs.Calls.{Call, Order, Heard, Begin, Over, after, up_of, child_of}
 
 -- The events that may come. No line of the engine comes after it was over.
-abbrev pub may_happen : State → Event → Bool
+abbrev pub may_happen : RevivalState → Event → Bool
 may_happen s (Iface line) = not (is_ended s.life)
 may_happen s IfaceEnd = not (is_ended s.life)
 may_happen s (Engine line) = is_alive s.life
@@ -17,7 +17,7 @@ may_happen s event = false
 
 -- The last call of an event: a line of the interface is an order, and its end is `quit`; behind the end of a life, which is the
 -- mark of a long line of the engine, another begins or none follows; and none follows behind the engine's end.
-abbrev pub call_of : State → Event → Call
+abbrev pub call_of : RevivalState → Event → Call
 call_of s (Iface line) = Order line
 call_of s IfaceEnd = Order (codes "quit")
 call_of s (Engine line) = Heard line
@@ -25,31 +25,31 @@ call_of s EngineLong = if may_begin s then Begin else Over
 call_of s event = Over
 
 -- the state in which it comes
-abbrev pub state_before : State → Event → State
+abbrev pub state_before : RevivalState → Event → RevivalState
 state_before s EngineLong = ending s
 state_before s event = s
 
-abbrev pub state_after : State → Event → State
+abbrev pub state_after : RevivalState → Event → RevivalState
 state_after s event = after (state_before s event) (call_of s event)
 
 -- the mark of the event, and those of the lines up and to the engine
-abbrev pub event_text : State → Event → List ℕ
+abbrev pub event_text : RevivalState → Event → List ℕ
 event_text s event = step_marks event (up_of (state_before s event) (call_of s event)) (child_of (state_before s event) (call_of s event))
 
 -- EVENTS IN A ROW, THE FIRST ONE FIRST
 
 -- Each of them may come at its place.
-abbrev pub AllMayHappen : State → List Event → Type 0
+abbrev pub AllMayHappen : RevivalState → List Event → Type 0
 AllMayHappen s [] = Unit {0}
 AllMayHappen s (event ∷ events) = (may_happen s event ≡ true) × AllMayHappen (state_after s event) events
 
 -- the state behind them
-abbrev pub state_behind : State → List Event → State
+abbrev pub state_behind : RevivalState → List Event → RevivalState
 state_behind s [] = s
 state_behind s (event ∷ events) = state_behind (state_after s event) events
 
 -- their texts, one behind the other
-abbrev pub texts_from : State → List Event → List ℕ
+abbrev pub texts_from : RevivalState → List Event → List ℕ
 texts_from s [] = []
 texts_from s (event ∷ events) = event_text s event ++ texts_from (state_after s event) events
 

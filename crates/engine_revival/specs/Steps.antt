@@ -1,22 +1,21 @@
 -- What is kept of an engine that is started again, and how each call changes it.
-use Rattle.std.specs.Prelude.{ℕ, ◌+◌, List, [], ◌∷◌, ◌++◌, codes, Bool, true, false, not, ◌||◌, ◌&&◌, if◌then◌else◌, nat_lt, Option, Some, None}
-use Rattle.std.specs.List.{flat_map}
+use Rattle.std.specs.Prelude.{ℕ, ◌+◌, List, [], ◌∷◌, ◌++◌, codes, Bool, true, false, not, ◌&&◌, if◌then◌else◌, nat_lt, Option, Some, None}
 use Rattle.peer_words.specs.declared.kinds.GoKind.TheVariants as kinds
 use Rattle.cecp_lines.specs.Quit.{is_quit}
-use Rattle.uci_lines.specs.Orders.{Order}
-use Rattle.uci_lines.specs.Orders as orders
-use Rattle.uci_lines.specs.OrderReading.{order_in}
+use Rattle.engine_revival.specs.Orders.{RevivalOrder}
+use Rattle.engine_revival.specs.Orders as orders
+use Rattle.engine_revival.specs.Asked.{asked}
 use Rattle.engine_revival.specs.declared.words.DialogueState.{DialogueState}
 use Rattle.engine_revival.specs.declared.words.DialogueState.TheVariants as upper
 use Rattle.engine_revival.specs.declared.words.LifeState.{LifeState}
 use Rattle.engine_revival.specs.declared.words.LifeState.TheVariants as life
-use Rattle.engine_revival.specs.declared.words.Said.{Said}
-use Rattle.engine_revival.specs.declared.words.Said.TheVariants as said
-use Rattle.engine_revival.specs.declared.words.Due.{Due}
-use Rattle.engine_revival.specs.declared.words.Due.TheVariants as due
-use Rattle.engine_revival.specs.declared.words.Answer.{Answer}
-use Rattle.engine_revival.specs.declared.words.Answer.TheVariants as answers
-use Rattle.engine_revival.specs.declared.state.State.{State}
+use Rattle.engine_revival.specs.declared.words.LifeSaid.{LifeSaid}
+use Rattle.engine_revival.specs.declared.words.LifeSaid.TheVariants as said
+use Rattle.engine_revival.specs.declared.words.DueOrders.{DueOrders}
+use Rattle.engine_revival.specs.declared.words.DueOrders.TheVariants as due
+use Rattle.engine_revival.specs.declared.words.StandInAnswer.{StandInAnswer}
+use Rattle.engine_revival.specs.declared.words.StandInAnswer.TheVariants as answers
+use Rattle.engine_revival.specs.declared.state.RevivalState.{RevivalState}
 use Rattle.engine_revival.specs.Dialogue.{after_order, after_said, said_in, is_before}
 use Rattle.engine_revival.specs.Lists.{with_order, can_join, is_nil}
 use Rattle.line_io.specs.Lines.{line_feed}
@@ -27,7 +26,7 @@ use Rattle.line_io.specs.Lines.{line_feed}
 -- `unsent` what the present life did not get of the settings, and `search` the orders of the last search.
 
 -- the first life is begun
-abbrev pub opening : ℕ → State
+abbrev pub opening : ℕ → RevivalState
 opening lives = record {
   lives = lives;
   begun = 1;
@@ -43,24 +42,23 @@ opening lives = record {
 -- KEPT AND UNSENT
 
 -- A setting that either list has no room for joins neither.
-abbrev pub with_value : Bool → State → Order → State
+abbrev pub with_value : Bool → RevivalState → RevivalOrder → RevivalState
 with_value true s order = record s { kept = with_order s.kept order; unsent = with_order s.unsent order }
 with_value false s order = record s { full = true }
 
-abbrev pub with_button : Bool → State → Order → State
+abbrev pub with_button : Bool → RevivalState → RevivalOrder → RevivalState
 with_button true s order = record s { unsent = with_order s.unsent order }
 with_button false s order = record s { full = true }
 
 -- The lists after an accepted order. Kept is of each option the last value that it was set to. Unsent is that too, and each button
 -- and `ucinewgame` once, all in the order in which they came last. Of a search all orders are kept, from its `position` on.
-abbrev pub keeping : State → Order → State
-keeping s (orders.SetOption name (Some value)) =
-    with_value (can_join s.kept (orders.SetOption name (Some value)) && can_join s.unsent (orders.SetOption name (Some value))) s
-    (orders.SetOption name (Some value))
-keeping s (orders.SetOption name None) = with_button (can_join s.unsent (orders.SetOption name None)) s (orders.SetOption name None)
+abbrev pub keeping : RevivalState → RevivalOrder → RevivalState
+keeping s (orders.Value name line) =
+    with_value (can_join s.kept (orders.Value name line) && can_join s.unsent (orders.Value name line)) s (orders.Value name line)
+keeping s (orders.Button name line) = with_button (can_join s.unsent (orders.Button name line)) s (orders.Button name line)
 keeping s orders.NewGame = record s { unsent = with_order s.unsent orders.NewGame }
-keeping s (orders.Position fen moves) = record s { search = orders.Position fen moves ∷ [] }
-keeping s (orders.Go ponder control depth) = record s { search = s.search ++ orders.Go ponder control depth ∷ [] }
+keeping s (orders.Position line) = record s { search = orders.Position line ∷ [] }
+keeping s (orders.Go kind line) = record s { search = s.search ++ orders.Go kind line ∷ [] }
 keeping s orders.PonderHit = record s { search = s.search ++ orders.PonderHit ∷ [] }
 keeping s orders.Stop = record s { search = s.search ++ orders.Stop ∷ [] }
 keeping s order = s
@@ -68,13 +66,13 @@ keeping s order = s
 -- THE LIFE
 
 -- an order that is written to the life as it comes
-abbrev pub takes_at_once : LifeState → Order → Bool
+abbrev pub takes_at_once : LifeState → RevivalOrder → Bool
 takes_at_once life.Fresh orders.Uci = true
 takes_at_once life.Search orders.Stop = true
 takes_at_once life.Search orders.PonderHit = true
 takes_at_once state order = false
 
-abbrev pub after_at_once : LifeState → Order → LifeState
+abbrev pub after_at_once : LifeState → RevivalOrder → LifeState
 after_at_once life.Fresh orders.Uci = life.Boot
 after_at_once state order = state
 
@@ -97,7 +95,7 @@ abbrev pub is_ended : LifeState → Bool
 is_ended life.Ended = true
 is_ended state = false
 
-abbrev pub life_after_said : LifeState → Said → LifeState
+abbrev pub life_after_said : LifeState → LifeSaid → LifeState
 life_after_said life.Boot said.UciOk = life.Idle
 life_after_said life.Getting said.ReadyOk = life.Idle
 life_after_said life.Search said.Best = life.Idle
@@ -106,18 +104,18 @@ life_after_said state s = state
 -- WHAT IS WRITTEN TO AN IDLE LIFE
 
 -- what an idle life gets, unless `quit` was accepted
-abbrev pub due_to : LifeState → Bool → DialogueState → Due
+abbrev pub due_to : LifeState → Bool → DialogueState → DueOrders
 due_to life.Idle false upper.Getting = due.Settings
 due_to life.Idle false (upper.Search kind stopped) = due.Search
 due_to state quit up = due.Nothing
 
 -- the unsent orders, and then `isready` or the orders of the open search
-abbrev pub due_orders : Due → List Order → List Order → List Order
+abbrev pub due_orders : DueOrders → List RevivalOrder → List RevivalOrder → List RevivalOrder
 due_orders due.Nothing unsent search = []
 due_orders due.Settings unsent search = unsent ++ orders.IsReady ∷ []
 due_orders due.Search unsent search = unsent ++ search
 
-abbrev pub after_due : Due → State → State
+abbrev pub after_due : DueOrders → RevivalState → RevivalState
 after_due due.Nothing s = s
 after_due due.Settings s = record s { life = life.Getting; unsent = [] }
 after_due due.Search s = record s { life = life.Search; unsent = [] }
@@ -125,18 +123,18 @@ after_due due.Search s = record s { life = life.Search; unsent = [] }
 -- WHAT STANDS IN FOR AN ENGINE THAT HAS NO MORE LIVES
 
 -- It boots, is ready, and moves nowhere: in a search for a move, and in one that is stopped.
-abbrev pub answer_to : LifeState → DialogueState → Answer
+abbrev pub answer_to : LifeState → DialogueState → StandInAnswer
 answer_to life.Over upper.Boot = answers.UciOk
 answer_to life.Over upper.Getting = answers.ReadyOk
 answer_to life.Over (upper.Search kinds.Move stopped) = answers.NoMove
 answer_to life.Over (upper.Search kind true) = answers.NoMove
 answer_to state up = answers.Nothing
 
-abbrev pub after_answer : Answer → State → State
+abbrev pub after_answer : StandInAnswer → RevivalState → RevivalState
 after_answer answers.Nothing s = s
 after_answer answer s = record s { upper = upper.Idle }
 
-abbrev pub answer_text : Answer → List ℕ
+abbrev pub answer_text : StandInAnswer → List ℕ
 answer_text answers.Nothing = []
 answer_text answers.UciOk = codes "uciok" ++ line_feed ∷ []
 answer_text answers.ReadyOk = codes "readyok" ++ line_feed ∷ []
@@ -145,7 +143,7 @@ answer_text answers.NoMove = codes "bestmove 0000" ++ line_feed ∷ []
 -- WHAT IS GIVEN UP AS HEARD
 
 -- Names, options and `uciok` while the upper engine boots; `readyok` of a life that got all settings; what a life says of its search.
-abbrev pub is_given : Said → LifeState → DialogueState → Bool → Bool
+abbrev pub is_given : LifeSaid → LifeState → DialogueState → Bool → Bool
 is_given said.Introduction state upper.Boot got_all = true
 is_given said.UciOk state upper.Boot got_all = true
 is_given said.ReadyOk life.Getting upper.Getting got_all = got_all
@@ -153,91 +151,91 @@ is_given said.Report life.Search up got_all = true
 is_given said.Best life.Search up got_all = true
 is_given s state up got_all = false
 
-abbrev pub gives : State → Said → Bool
+abbrev pub gives : RevivalState → LifeSaid → Bool
 gives s word = is_given word s.life s.upper (is_nil s.unsent)
 
 -- the line, if it is given up
-abbrev pub given : State → List ℕ → List ℕ
+abbrev pub given : RevivalState → List ℕ → List ℕ
 given s line = if gives s (said_in line) then line ++ line_feed ∷ [] else []
 
 -- EACH CALL, BEFORE WHAT FOLLOWS OF IT
 
-abbrev pub accepting : Option DialogueState → State → Order → State
+abbrev pub accepting : Option DialogueState → RevivalState → RevivalOrder → RevivalState
 accepting None s order = s
 accepting (Some up) s order = record (keeping s order) { upper = up; life = after_at_once s.life order }
 
 -- No order is accepted behind `quit`.
-abbrev pub accepted : State → Order → Option DialogueState
+abbrev pub accepted : RevivalState → RevivalOrder → Option DialogueState
 accepted s order = if s.quit then None else after_order order s.upper
 
-abbrev pub reading : State → Option Order → State
+abbrev pub reading : RevivalState → Option RevivalOrder → RevivalState
 reading s None = s
 reading s (Some order) = accepting (accepted s order) s order
 
-abbrev pub with_quit : State → State
+abbrev pub with_quit : RevivalState → RevivalState
 with_quit s = record s { quit = true }
 
 -- An order came. `quit` is accepted once, in every state.
-abbrev pub ordering : State → List ℕ → State
-ordering s line = if is_quit line then with_quit s else reading s (order_in line)
+abbrev pub ordering : RevivalState → List ℕ → RevivalState
+ordering s line = if is_quit line then with_quit s else reading s (asked line)
 
-abbrev pub accepted_at_once : Option DialogueState → LifeState → Order → List Order
+abbrev pub accepted_at_once : Option DialogueState → LifeState → RevivalOrder → List RevivalOrder
 accepted_at_once None state order = []
 accepted_at_once (Some up) state order = if takes_at_once state order then order ∷ [] else []
 
-abbrev pub read_at_once : State → Option Order → List Order
+abbrev pub read_at_once : RevivalState → Option RevivalOrder → List RevivalOrder
 read_at_once s None = []
 read_at_once s (Some order) = accepted_at_once (accepted s order) s.life order
 
 -- `quit` is written at once to a life that got `uci` and has not ended.
-abbrev pub quit_to : Bool → LifeState → List Order
+abbrev pub quit_to : Bool → LifeState → List RevivalOrder
 quit_to quit state = if not quit && is_served state then orders.Quit ∷ [] else []
 
 -- what is written to the life as it comes
-abbrev pub at_once : State → List ℕ → List Order
+abbrev pub at_once : RevivalState → List ℕ → List RevivalOrder
 at_once s line =
-    if is_quit line then quit_to s.quit s.life else read_at_once s (order_in line)
+    if is_quit line then quit_to s.quit s.life else read_at_once s (asked line)
 
 -- The life was heard.
-abbrev pub hearing : State → Said → State
+abbrev pub hearing : RevivalState → LifeSaid → RevivalState
 hearing s word = record s {
   upper = (if gives s word then after_said s.upper word else s.upper);
   life = life_after_said s.life word;
 }
 
 -- The life has ended.
-abbrev pub ending : State → State
+abbrev pub ending : RevivalState → RevivalState
 ending s = record s { life = life.Ended }
 
 -- whether another life may begin
-abbrev pub may_begin : State → Bool
+abbrev pub may_begin : RevivalState → Bool
 may_begin s = nat_lt s.begun s.lives && not s.quit && not s.full
 
 -- Another life begins. It got none of the settings, and `uci` if that came.
-abbrev pub beginning : State → State
+abbrev pub beginning : RevivalState → RevivalState
 beginning s = record s {
   begun = s.begun + 1;
   life = (if is_before s.upper then life.Fresh else life.Boot);
   unsent = s.kept;
 }
 
-abbrev pub first_order : DialogueState → List Order
+abbrev pub first_order : DialogueState → List RevivalOrder
 first_order up = if is_before up then [] else orders.Uci ∷ []
 
 -- The life has ended, and no other follows.
-abbrev pub closing : State → State
+abbrev pub closing : RevivalState → RevivalState
 closing s = record s { life = life.Over }
 
 -- AFTER EACH CALL
 
-abbrev pub due_of : State → Due
+abbrev pub due_of : RevivalState → DueOrders
 due_of s = due_to s.life s.quit s.upper
 
-abbrev pub answer_of : State → Answer
+abbrev pub answer_of : RevivalState → StandInAnswer
 answer_of s = answer_to s.life s.upper
 
-abbrev pub settled : State → State
+abbrev pub settled : RevivalState → RevivalState
 settled s = after_answer (answer_of s) (after_due (due_of s) s)
 
-abbrev pub settled_orders : State → List Order
+abbrev pub settled_orders : RevivalState → List RevivalOrder
 settled_orders s = due_orders (due_of s) s.unsent s.search

@@ -1,7 +1,7 @@
 -- What the whole keeps.
 use Rattle.std.specs.Prelude.{◌≡◌, ℕ}
 use Rattle.line_io.specs.Out.{empty}
-use Rattle.engine_revival.specs.declared.revival.Parts.{Parts}
+use Rattle.engine_revival.specs.declared.revival.RevivalParts.{RevivalParts}
 use Rattle.engine_revival.specs.declared.revival.TheConstants.{UP_ROOM, CHILD_ROOM}
 use Rattle.engine_revival.specs.Marks.{HaveRoom}
 use Rattle.engine_revival.specs.Rooms.{IsRoomy}
@@ -9,7 +9,7 @@ use Rattle.engine_revival.specs.Steps as steps
 
 -- the state, and the lines of the last call
 abbrev pub View : Type 0
-View = Parts
+View = RevivalParts
 
 abbrev pub opening : ℕ → View
 opening lives = record { state = steps.opening lives; up = empty UP_ROOM; child = empty CHILD_ROOM }

@@ -1,6 +1,7 @@
 // What holds of every list of calls.
 ghost use Rattle.engine_revival.specs.Laws.{LivesAreInOrder, GivenFits, AnswersFit, NoLifeIdles};
-ghost use Rattle.engine_revival.specs.Laws.{SearchesAreGiven};
+ghost use Rattle.engine_revival.specs.Talk.{TalkIsLawful};
+ghost use Rattle.engine_revival.specs.Laws.{AwaitedIsGiven, LivesAreAsked, SearchesAreGiven, PressesAreGiven};
 
 /// The lines to each life are a dialogue in order, whatever comes.
 pub fn lives_are_in_order()
@@ -13,6 +14,13 @@ pub fn lines_up_are_waited_for()
     ensures answers { AnswersFit }
 {}
 
+/// No awaited `readyok`, `info` or `bestmove` of a living engine is lost: it is given up, and the engine was asked for it
+/// unless it boots.
+pub fn living_engines_are_heard()
+    ensures given { AwaitedIsGiven }
+    ensures asked { LivesAreAsked }
+{}
+
 /// What is asked for reaches the engine: no life is idle while `readyok` or `bestmove` is waited for.
 pub fn no_life_idles()
     ensures { NoLifeIdles }
@@ -21,4 +29,14 @@ pub fn no_life_idles()
 /// Each life searches what the upper search is, with the settings that were asked for last.
 pub fn searches_are_given()
     ensures { SearchesAreGiven }
+{}
+
+/// Each life is given the buttons and the beginnings of games that came to it, and those alone.
+pub fn presses_are_given()
+    ensures { PressesAreGiven }
+{}
+
+/// All this holds of the talk that the events of any script bring about.
+pub fn talk_is_lawful()
+    ensures { TalkIsLawful }
 {}

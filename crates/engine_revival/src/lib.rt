@@ -2,15 +2,21 @@
 #![tactic(auto)]
 
 mod laws;
+mod names;
 mod order_list;
+mod orders;
 mod revival;
 mod script;
 mod state;
 mod words;
 
-pub use laws::{lines_up_are_waited_for, lives_are_in_order, no_life_idles, searches_are_given};
+pub use laws::{
+    lines_up_are_waited_for, lives_are_in_order, living_engines_are_heard, no_life_idles,
+    presses_are_given, searches_are_given, talk_is_lawful,
+};
 pub use order_list::{MOST_BYTES, MOST_ORDERS};
-pub use revival::{Both, MARKS_ROOM, Revival};
+pub use orders::{RevivalOrder, read_order};
+pub use revival::{MARKS_ROOM, Revival, RevivalStep};
 pub use script::{EVENT_ROOM, put_marks};
 pub use state::MOST_LINE;
-pub use words::{DialogueState, LifeState, Said, said_in};
+pub use words::{DialogueState, LifeSaid, LifeState, said_in};

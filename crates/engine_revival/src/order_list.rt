@@ -1,20 +1,19 @@
 // Lists of orders, kept as their lines.
 ghost use Rattle.std.specs.Prelude.{◌≡◌, ◌≤◌, ◌<◌, ◌+◌, ◌++◌, ◌∷◌, [], length, true, MatchOption};
-ghost use Rattle.std.specs.Option.{option_map};
 ghost use Rattle.line_io.specs.Out.{with};
-ghost use Rattle.uci_lines.specs.OrderReading.{order_in};
-ghost use Rattle.uci_lines.specs.Orders.{order_of as order_of_by};
+ghost use Rattle.engine_revival.specs.Orders.{order_of};
 ghost use Rattle.engine_revival.specs.Lists.{are_for_same, staying_beside, batch_text, is_nil};
 ghost use Rattle.engine_revival.specs.Marks.{AreLines};
 ghost use Rattle.engine_revival.specs.Kept.{line_at, spelled, Spells, orders_at, IsLineIn, AreIn};
 ghost use Rattle.line_io.specs.Lines.{line_feed};
 
+use crate::names::have_same_name;
+use crate::orders::{RevivalOrder, read_order};
 use arrayvec::ArrayVec;
 use line_io::{NoMemory, Out};
 use std::alloc::Global;
 use std::marker::Model;
 use std::mem;
-use uci_lines::{Order, read_order};
 
 /// How many settings a list may have.
 pub const MOST_ORDERS: usize = 512;
@@ -29,60 +28,39 @@ pub(crate) const LIST_BYTES: usize = MOST_BYTES + 11;
 
 /// Where a line stands in a buffer, without its line feed.
 #[derive(Clone, Copy, Default)]
-pub(crate) struct Span {
+pub(crate) struct LineSpan {
     at: usize,
     len: usize,
 }
 
-type Lines = ArrayVec<Span, LIST_ORDERS>;
+type ListedLines = ArrayVec<LineSpan, LIST_ORDERS>;
 
-/// The order of a line.
-pub(crate) fn order_of(line: &[u8]) -> Option<Order<'_>>
-    ensures { option_map order_of_by result ≡ order_in line.now }
+fn spelled(line: &[u8]) -> RevivalOrder<'_>
+    ensures { order_of result ≡ spelled line.now }
 {
-    read_order(line).ok()
-}
-
-fn spelled(line: &[u8]) -> Order<'_>
-    ensures { order_of_by result ≡ spelled line.now }
-{
-    match order_of(line) {
+    match read_order(line) {
         Some(order) => order,
-        None => Order::Uci,
+        None => RevivalOrder::Uci,
     }
 }
 
 // Whether both begin a game, or set the same option.
-fn are_for_same(a: &Order, b: &Order) -> bool
-    ensures { result ≡ are_for_same (order_of_by a.now) (order_of_by b.now) }
+fn are_for_same(a: &RevivalOrder, b: &RevivalOrder) -> bool
+    ensures { result ≡ are_for_same (order_of a.now) (order_of b.now) }
 {
     match (a, b) {
-        (Order::NewGame, Order::NewGame) => true,
-        (
-            Order::SetOption {
-                name: a,
-                value: Some(_),
-            },
-            Order::SetOption {
-                name: b,
-                value: Some(_),
-            },
-        ) => a == b,
-        (
-            Order::SetOption {
-                name: a,
-                value: None,
-            },
-            Order::SetOption {
-                name: b,
-                value: None,
-            },
-        ) => a == b,
+        (RevivalOrder::NewGame, RevivalOrder::NewGame) => true,
+        (RevivalOrder::Value { name: a, line: _ }, RevivalOrder::Value { name: b, line: _ }) => {
+            have_same_name(a, b)
+        }
+        (RevivalOrder::Button { name: a, line: _ }, RevivalOrder::Button { name: b, line: _ }) => {
+            have_same_name(a, b)
+        }
         _ => false,
     }
 }
 
-fn line_at(texts: &[u8], line: Span) -> &[u8]
+fn line_at(texts: &[u8], line: LineSpan) -> &[u8]
     requires { line.at + line.len ≤ length texts.now }
     ensures { result.now ≡ line_at texts.now line }
 {
@@ -90,7 +68,7 @@ fn line_at(texts: &[u8], line: Span) -> &[u8]
 }
 
 // The first line, and the others.
-fn next_line(lines: &[Span]) -> Option<(Span, &[Span])>
+fn next_line(lines: &[LineSpan]) -> Option<(LineSpan, &[LineSpan])>
     ensures { MatchOption result (lines.now ≡ []) (λ p. lines.now ≡ p.0 ∷ p.1.now) }
 {
     match lines {
@@ -100,7 +78,7 @@ fn next_line(lines: &[Span]) -> Option<(Span, &[Span])>
 }
 
 // Puts a line behind the others.
-fn put_line(line: &[u8], lines: &mut Lines, texts: &mut Out)
+fn put_line(line: &[u8], lines: &mut ListedLines, texts: &mut Out)
     requires spells { Spells line.now }
     requires within { AreIn texts.old.text lines.old.items }
     requires few { length lines.old.items < LIST_ORDERS }
@@ -114,14 +92,20 @@ fn put_line(line: &[u8], lines: &mut Lines, texts: &mut Out)
     let at = texts.bytes().len();
     texts.put(line);
     texts.put(b"\n");
-    lines.push(Span {
+    lines.push(LineSpan {
         at,
         len: line.len(),
     });
 }
 
 // Puts the orders of a list that stay beside another.
-fn put_staying(held: &[Span], old: &[u8], order: &Order, lines: &mut Lines, texts: &mut Out)
+fn put_staying(
+    held: &[LineSpan],
+    old: &[u8],
+    order: &RevivalOrder,
+    lines: &mut ListedLines,
+    texts: &mut Out,
+)
     requires held { AreIn old.now held.now }
     requires within { AreIn texts.old.text lines.old.items }
     requires few { length lines.old.items + length held.now ≤ LIST_ORDERS }
@@ -129,10 +113,10 @@ fn put_staying(held: &[Span], old: &[u8], order: &Order, lines: &mut Lines, text
         ≤ texts.old.room }
     ensures texts { texts.new
         ≡ with texts.old
-        (batch_text (staying_beside (order_of_by order.now) (orders_at old.now held.now))) }
+        (batch_text (staying_beside (order_of order.now) (orders_at old.now held.now))) }
     ensures orders { orders_at texts.new.text lines.new.items
         ≡ orders_at texts.old.text lines.old.items
-        ++ staying_beside (order_of_by order.now) (orders_at old.now held.now) }
+        ++ staying_beside (order_of order.now) (orders_at old.now held.now) }
     ensures within { AreIn texts.new.text lines.new.items }
 {
     let mut others = held;
@@ -152,12 +136,12 @@ pub(crate) struct OrderList {
     texts: Out,
     /// The room for the lines that stay, while an order joins them.
     beside: Out,
-    lines: Lines,
+    lines: ListedLines,
 }
 
 impl Model for OrderList {
     ghost use Rattle.std.specs.Prelude.{List};
-    ghost use Rattle.uci_lines.specs.Orders.{Order as AnyOrder};
+    ghost use Rattle.engine_revival.specs.Orders.{RevivalOrder as AnyOrder};
     ghost use Rattle.engine_revival.specs.Kept.{orders_at, IsKept};
 
     ghost Value = { List AnyOrder };

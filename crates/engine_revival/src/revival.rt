@@ -8,7 +8,7 @@ ghost use Rattle.engine_revival.specs.Marks.{HaveRoom};
 ghost use Rattle.engine_revival.specs.View.{opening, cleared, Keeps};
 ghost use Rattle.engine_revival.specs.declared.state.TheConstants.{MOST_LINE};
 
-use crate::state::State;
+use crate::state::RevivalState;
 use line_io::{NoMemory, Out, PEER_LINE};
 use std::alloc::Global;
 use std::marker::Model;
@@ -24,13 +24,13 @@ pub const MARKS_ROOM: usize = 2_000_000;
 
 // The state, and the lines of the last call.
 #[derive(Drop)]
-pub(crate) struct Parts {
-    state: State,
+pub(crate) struct RevivalParts {
+    state: RevivalState,
     up: Out,
     child: Out,
 }
 
-impl Parts {
+impl RevivalParts {
     fn clear(&mut self)
         ensures { self.new ≡ cleared self.old }
     {
@@ -94,7 +94,7 @@ impl Parts {
 /// lines are given up, and what stands in for it once no life follows.
 #[derive(Drop)]
 pub struct Revival {
-    parts: Parts,
+    parts: RevivalParts,
 }
 
 impl Model for Revival {
@@ -109,7 +109,7 @@ impl Model for Revival {
 
 /// What a call writes: whole lines to those who give the orders, and to the engine, each with its line feed.
 #[derive(Clone, Copy)]
-pub struct Both<'a> {
+pub struct RevivalStep<'a> {
     pub up: &'a [u8],
     pub child: &'a [u8],
 }
@@ -123,8 +123,8 @@ impl Revival {
         ensures { IfOk result (λ revival. revival ≡ opening lives) }
     {
         Ok(Revival {
-            parts: Parts {
-                state: State::make(alloc, lives)?,
+            parts: RevivalParts {
+                state: RevivalState::make(alloc, lives)?,
                 up: Out::make(alloc, UP_ROOM)?,
                 child: Out::make(alloc, CHILD_ROOM)?,
             },
@@ -132,7 +132,7 @@ impl Revival {
     }
 
     /// An order came. The line has no line feed.
-    pub fn order<'a>(&'a mut self, line: &[u8]) -> Both<'a>
+    pub fn order<'a>(&'a mut self, line: &[u8]) -> RevivalStep<'a>
         requires may { may self.old.state (calls.Order line.now) ≡ true }
         requires one_line { has_feed line.now ≡ false }
         requires short { length line.now ≤ MOST_LINE }
@@ -144,7 +144,7 @@ impl Revival {
     }
 
     /// The present life wrote a line. It has no line feed.
-    pub fn heard<'a>(&'a mut self, line: &[u8]) -> Both<'a>
+    pub fn heard<'a>(&'a mut self, line: &[u8]) -> RevivalStep<'a>
         requires may { may self.old.state (calls.Heard line.now) ≡ true }
         requires short { length line.now ≤ MOST_LINE }
         ensures* gives { sem 𝓛 (CallGives self.entry (calls.Heard line.now) result) }
@@ -164,7 +164,7 @@ impl Revival {
     }
 
     /// Another life is begun.
-    pub fn begin(&mut self) -> Both<'_>
+    pub fn begin(&mut self) -> RevivalStep<'_>
         requires { may self.old.state calls.Begin ≡ true }
         ensures* gives { sem 𝓛 (CallGives self.entry calls.Begin result) }
         ensures marks { HaveRoom result.up.now result.child.now }
@@ -174,7 +174,7 @@ impl Revival {
     }
 
     /// The present life has ended, and no life follows.
-    pub fn over(&mut self) -> Both<'_>
+    pub fn over(&mut self) -> RevivalStep<'_>
         requires { may self.old.state calls.Over ≡ true }
         ensures* gives { sem 𝓛 (CallGives self.entry calls.Over result) }
         ensures marks { HaveRoom result.up.now result.child.now }
@@ -244,12 +244,12 @@ impl Revival {
         self.parts.close();
     }
 
-    pub(crate) fn lines(&self) -> Both<'_>
+    pub(crate) fn lines(&self) -> RevivalStep<'_>
         ensures up { result.up.now ≡ self.now.up.text }
         ensures child { result.child.now ≡ self.now.child.text }
         ensures marks { HaveRoom result.up.now result.child.now }
     {
-        Both {
+        RevivalStep {
             up: self.parts.up.bytes(),
             child: self.parts.child.bytes(),
         }

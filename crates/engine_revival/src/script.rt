@@ -12,7 +12,7 @@ ghost use Rattle.engine_revival.specs.Marks.{HaveRoom};
 ghost use Rattle.engine_revival.specs.Steps.{ending};
 ghost use Rattle.line_io.specs.declared.limits.TheConstants.{PEER_LINE};
 
-use crate::{Both, Revival};
+use crate::{Revival, RevivalStep};
 use line_io::{Event, Out, split_line};
 use script_lines::{Mark, STEP_ROOM, write_mark_line};
 
@@ -43,7 +43,7 @@ fn put_lines(letter: u8, lines: &[u8], text: &mut Out)
 
 /// Puts the mark of an event and those of the lines that a call gave for it: `X` before those up,
 /// `U` before those to the engine.
-pub fn put_marks(event: &Event, both: Both, text: &mut Out)
+pub fn put_marks(event: &Event, both: RevivalStep, text: &mut Out)
     requires mark { length (event_marked (event_of event.now)) ≤ PEER_LINE + 3 }
     requires marks { HaveRoom both.up.now both.child.now }
     requires room { length text.old.text + EVENT_ROOM ≤ text.old.room }

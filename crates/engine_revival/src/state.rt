@@ -1,8 +1,10 @@
 // What is kept between two calls.
 ghost use Rattle.std.specs.Prelude.{◌≡◌, ◌≤◌, ◌<◌, ◌+◌, ◌++◌, ◌∷◌, [], length, true, false, not, IfOk, if◌then◌else◌};
 ghost use Rattle.line_io.specs.Out.{with};
-ghost use Rattle.uci_lines.specs.Orders.{order_of as order_of_by};
-ghost use Rattle.uci_lines.specs.Orders as orders;
+ghost use Rattle.peer_words.specs.Tokens.{trimmed};
+ghost use Rattle.engine_revival.specs.Orders.{order_of};
+ghost use Rattle.engine_revival.specs.Orders as orders;
+ghost use Rattle.engine_revival.specs.Asked.{order_in};
 ghost use Rattle.engine_revival.specs.Dialogue.{said_in};
 ghost use Rattle.engine_revival.specs.Kept.{Spells, spelled};
 ghost use Rattle.engine_revival.specs.Lists.{batch_text};
@@ -18,13 +20,14 @@ ghost use Rattle.engine_revival.specs.Steps.{settled, settled_orders, answer_of,
 ghost use Rattle.engine_revival.specs.Steps.{due_orders, after_due, after_answer};
 ghost use Rattle.line_io.specs.Lines.{line_feed};
 
-use crate::order_list::{LIST_ORDERS, OrderList, order_of};
-use crate::words::{Answer, DialogueState, Due, LifeState, Said, said_in};
+use crate::order_list::{LIST_ORDERS, OrderList};
+use crate::orders::{RevivalOrder, read_order};
+use crate::words::{DialogueState, DueOrders, LifeSaid, LifeState, StandInAnswer, said_in};
 use cecp_lines::is_quit;
 use line_io::{NoMemory, Out, PEER_LINE};
-use peer_words::GoKind;
+use peer_words::{GoKind, trim};
 use std::alloc::Global;
-use uci_lines::Order;
+use uci_lines::write_order;
 
 /// How many bytes a line may have.
 pub const MOST_LINE: usize = PEER_LINE;
@@ -37,7 +40,7 @@ pub(crate) const SEARCH_BYTES: usize = 2 * MOST_LINE + 17;
 
 /// What is kept between two calls.
 #[derive(Drop)]
-pub(crate) struct State {
+pub(crate) struct RevivalState {
     lives: u32,
     begun: u32,
     quit: bool,
@@ -50,22 +53,22 @@ pub(crate) struct State {
 }
 
 impl LifeState {
-    fn takes_at_once(self, order: &Order) -> bool
-        ensures { result ≡ takes_at_once self (order_of_by order.now) }
+    fn takes_at_once(self, order: &RevivalOrder) -> bool
+        ensures { result ≡ takes_at_once self (order_of order.now) }
     {
         matches!(
             (self, order),
-            (LifeState::Fresh, Order::Uci)
-                | (LifeState::Search, Order::Stop)
-                | (LifeState::Search, Order::PonderHit)
+            (LifeState::Fresh, RevivalOrder::Uci)
+                | (LifeState::Search, RevivalOrder::Stop)
+                | (LifeState::Search, RevivalOrder::PonderHit)
         )
     }
 
-    fn after_at_once(self, order: &Order) -> LifeState
-        ensures { result ≡ after_at_once self (order_of_by order.now) }
+    fn after_at_once(self, order: &RevivalOrder) -> LifeState
+        ensures { result ≡ after_at_once self (order_of order.now) }
     {
         match (self, order) {
-            (LifeState::Fresh, Order::Uci) => LifeState::Boot,
+            (LifeState::Fresh, RevivalOrder::Uci) => LifeState::Boot,
             _ => self,
         }
     }
@@ -80,23 +83,23 @@ impl LifeState {
         )
     }
 
-    fn after_said(self, said: Said) -> LifeState
+    fn after_said(self, said: LifeSaid) -> LifeState
         ensures { result ≡ life_after_said self said }
     {
         match (self, said) {
-            (LifeState::Boot, Said::UciOk) => LifeState::Idle,
-            (LifeState::Getting, Said::ReadyOk) => LifeState::Idle,
-            (LifeState::Search, Said::Best) => LifeState::Idle,
+            (LifeState::Boot, LifeSaid::UciOk) => LifeState::Idle,
+            (LifeState::Getting, LifeSaid::ReadyOk) => LifeState::Idle,
+            (LifeState::Search, LifeSaid::Best) => LifeState::Idle,
             _ => self,
         }
     }
 }
 
-fn due_to(life: LifeState, quit: bool, upper: DialogueState) -> Due
+fn due_to(life: LifeState, quit: bool, upper: DialogueState) -> DueOrders
     ensures { result ≡ due_to life quit upper }
 {
     match (life, quit, upper) {
-        (LifeState::Idle, false, DialogueState::Getting) => Due::Settings,
+        (LifeState::Idle, false, DialogueState::Getting) => DueOrders::Settings,
         (
             LifeState::Idle,
             false,
@@ -104,44 +107,44 @@ fn due_to(life: LifeState, quit: bool, upper: DialogueState) -> Due
                 kind: _,
                 stopped: _,
             },
-        ) => Due::Search,
-        _ => Due::Nothing,
+        ) => DueOrders::Search,
+        _ => DueOrders::Nothing,
     }
 }
 
-fn answer_to(life: LifeState, upper: DialogueState) -> Answer
+fn answer_to(life: LifeState, upper: DialogueState) -> StandInAnswer
     ensures { result ≡ answer_to life upper }
 {
     match (life, upper) {
-        (LifeState::Over, DialogueState::Boot) => Answer::UciOk,
-        (LifeState::Over, DialogueState::Getting) => Answer::ReadyOk,
+        (LifeState::Over, DialogueState::Boot) => StandInAnswer::UciOk,
+        (LifeState::Over, DialogueState::Getting) => StandInAnswer::ReadyOk,
         (
             LifeState::Over,
             DialogueState::Search {
                 kind: GoKind::Move,
                 stopped: _,
             },
-        ) => Answer::NoMove,
+        ) => StandInAnswer::NoMove,
         (
             LifeState::Over,
             DialogueState::Search {
                 kind: _,
                 stopped: true,
             },
-        ) => Answer::NoMove,
-        _ => Answer::Nothing,
+        ) => StandInAnswer::NoMove,
+        _ => StandInAnswer::Nothing,
     }
 }
 
-fn is_given(said: Said, life: LifeState, upper: DialogueState, got_all: bool) -> bool
+fn is_given(said: LifeSaid, life: LifeState, upper: DialogueState, got_all: bool) -> bool
     ensures { result ≡ is_given said life upper got_all }
 {
     match (said, life, upper) {
-        (Said::Introduction, _, DialogueState::Boot) => true,
-        (Said::UciOk, _, DialogueState::Boot) => true,
-        (Said::ReadyOk, LifeState::Getting, DialogueState::Getting) => got_all,
-        (Said::Report, LifeState::Search, _) => true,
-        (Said::Best, LifeState::Search, _) => true,
+        (LifeSaid::Introduction, _, DialogueState::Boot) => true,
+        (LifeSaid::UciOk, _, DialogueState::Boot) => true,
+        (LifeSaid::ReadyOk, LifeState::Getting, DialogueState::Getting) => got_all,
+        (LifeSaid::Report, LifeState::Search, _) => true,
+        (LifeSaid::Best, LifeState::Search, _) => true,
         _ => false,
     }
 }
@@ -167,49 +170,52 @@ fn put_if(is_written: bool, line: &[u8], out: &mut Out)
     }
 }
 
-#[tactic(auto, unfolding(uci_lines::specs::Orders::order_text))]
+#[tactic(auto, unfolding(crate::specs::Orders::order_text, uci_lines::specs::Orders::order_text))]
 fn put_uci(out: &mut Out)
     requires { length out.old.text + 16 ≤ out.old.room }
     ensures out { out.new ≡ with out.old (batch_text (orders.Uci ∷ [])) }
     ensures short { length out.new.text ≤ length out.old.text + 16 }
 {
-    out.put(b"uci\n");
+    write_order(&uci_lines::Order::Uci, out);
+    out.put(b"\n");
 }
 
-#[tactic(auto, unfolding(uci_lines::specs::Orders::order_text))]
+#[tactic(auto, unfolding(crate::specs::Orders::order_text, uci_lines::specs::Orders::order_text))]
 fn put_ready(out: &mut Out)
     requires { length out.old.text + 16 ≤ out.old.room }
     ensures { out.new ≡ with out.old (batch_text (orders.IsReady ∷ [])) }
 {
-    out.put(b"isready\n");
+    write_order(&uci_lines::Order::IsReady, out);
+    out.put(b"\n");
 }
 
-#[tactic(auto, unfolding(uci_lines::specs::Orders::order_text))]
+#[tactic(auto, unfolding(crate::specs::Orders::order_text, uci_lines::specs::Orders::order_text))]
 fn put_quit(out: &mut Out)
     requires { length out.old.text + 16 ≤ out.old.room }
     ensures out { out.new ≡ with out.old (batch_text (orders.Quit ∷ [])) }
     ensures short { length out.new.text ≤ length out.old.text + 16 }
 {
-    out.put(b"quit\n");
+    write_order(&uci_lines::Order::Quit, out);
+    out.put(b"\n");
 }
 
-fn put_answer(answer: Answer, up: &mut Out)
+fn put_answer(answer: StandInAnswer, up: &mut Out)
     requires { length up.old.text + length (answer_text answer) ≤ up.old.room }
     ensures { up.new ≡ with up.old (answer_text answer) }
 {
     match answer {
-        Answer::Nothing => {}
-        Answer::UciOk => up.put(b"uciok\n"),
-        Answer::ReadyOk => up.put(b"readyok\n"),
-        Answer::NoMove => up.put(b"bestmove 0000\n"),
+        StandInAnswer::Nothing => {}
+        StandInAnswer::UciOk => up.put(b"uciok\n"),
+        StandInAnswer::ReadyOk => up.put(b"readyok\n"),
+        StandInAnswer::NoMove => up.put(b"bestmove 0000\n"),
     }
 }
 
-impl State {
-    pub(crate) fn make(alloc: Global, lives: u32) -> Result<State, NoMemory>
+impl RevivalState {
+    pub(crate) fn make(alloc: Global, lives: u32) -> Result<RevivalState, NoMemory>
         ensures { IfOk result (λ state. state ≡ opening lives) }
     {
-        Ok(State {
+        Ok(RevivalState {
             lives,
             begun: 1,
             quit: false,
@@ -223,11 +229,10 @@ impl State {
     }
 
     ghost use Rattle.std.specs.Prelude.{◌&&◌, Some};
-    ghost use Rattle.uci_lines.specs.OrderReading.{order_in};
     ghost use Rattle.engine_revival.specs.Lists.{can_join};
     ghost use Rattle.engine_revival.specs.Steps.{quit_to, given};
     ghost use Rattle.engine_revival.specs.declared.order_list.TheConstants.{LIST_ORDERS, LIST_BYTES};
-    ghost use Rattle.engine_revival.specs.declared.state.State.{State};
+    ghost use Rattle.engine_revival.specs.declared.state.RevivalState.{RevivalState};
 
     fn keep_value(&mut self, line: &[u8])
         requires spells { Spells line.now }
@@ -265,42 +270,32 @@ impl State {
         self.search.add(line);
     }
 
-    fn keep(&mut self, order: &Order, line: &[u8])
+    fn keep(&mut self, order: &RevivalOrder, line: &[u8])
         requires spells { Spells line.now }
-        requires order { order_of_by order.now ≡ spelled line.now }
+        requires order { order_of order.now ≡ spelled line.now }
         requires short { length line.now ≤ MOST_LINE }
         requires roomy { IsRoomy self.old }
         ensures { self.new ≡ keeping self.old (spelled line.now) }
     {
         match order {
-            Order::SetOption {
-                name: _,
-                value: Some(_),
-            } => self.keep_value(line),
-            Order::SetOption {
-                name: _,
-                value: None,
-            } => self.keep_button(line),
-            Order::NewGame => self.unsent.replace(line),
-            Order::Position { fen: _, moves: _ } => {
+            RevivalOrder::Value { name: _, line: _ } => self.keep_value(line),
+            RevivalOrder::Button { name: _, line: _ } => self.keep_button(line),
+            RevivalOrder::NewGame => self.unsent.replace(line),
+            RevivalOrder::Position(_) => {
                 self.search.clear();
                 self.search.add(line);
             }
-            Order::Go {
-                ponder: _,
-                control: _,
-                depth: _,
-            } => self.keep_search(line),
-            Order::PonderHit => self.keep_search(line),
-            Order::Stop => self.keep_search(line),
+            RevivalOrder::Go { kind: _, line: _ } => self.keep_search(line),
+            RevivalOrder::PonderHit => self.keep_search(line),
+            RevivalOrder::Stop => self.keep_search(line),
             _ => {}
         }
     }
 
     // An order other than `quit` was read.
-    fn take(&mut self, order: &Order, line: &[u8], child: &mut Out)
+    fn take(&mut self, order: &RevivalOrder, line: &[u8], child: &mut Out)
         requires spells { Spells line.now }
-        requires order { order_of_by order.now ≡ spelled line.now }
+        requires order { order_of order.now ≡ spelled line.now }
         requires short { length line.now ≤ MOST_LINE }
         requires roomy { IsRoomy self.old }
         requires room { length child.old.text + MOST_LINE < child.old.room }
@@ -321,7 +316,7 @@ impl State {
         self.life = self.life.after_at_once(order);
     }
 
-    // A line that is not `quit` came.
+    // A line that is not `quit` came, without white space at its ends.
     fn take_line(&mut self, line: &[u8], child: &mut Out)
         requires one_line { has_feed line.now ≡ false }
         requires short { length line.now ≤ MOST_LINE }
@@ -332,7 +327,7 @@ impl State {
             ≡ with child.old (batch_text (read_at_once self.old (order_in line.now))) }
         ensures short { length child.new.text ≤ length child.old.text + (MOST_LINE + 1) }
     {
-        if let Some(order) = order_of(line) {
+        if let Some(order) = read_order(line) {
             self.take(&order, line, child);
         }
     }
@@ -363,7 +358,7 @@ impl State {
         if is_quit(line) {
             self.take_quit(child);
         } else {
-            self.take_line(line, child);
+            self.take_line(trim(line), child);
         }
     }
 
@@ -415,7 +410,7 @@ impl State {
         self.life = LifeState::Over;
     }
 
-    fn write_due(&mut self, due: Due, child: &mut Out)
+    fn write_due(&mut self, due: DueOrders, child: &mut Out)
         requires room { length child.old.text + length (batch_text self.old.unsent)
             + SEARCH_BYTES ≤ child.old.room }
         requires search { length (batch_text self.old.search) ≤ SEARCH_BYTES }
@@ -425,14 +420,14 @@ impl State {
         ensures lines { AreLines (due_orders due self.old.unsent self.old.search) DUE_ORDERS }
     {
         match due {
-            Due::Nothing => {}
-            Due::Settings => {
+            DueOrders::Nothing => {}
+            DueOrders::Settings => {
                 self.unsent.write(child);
                 put_ready(child);
                 self.unsent.clear();
                 self.life = LifeState::Getting;
             }
-            Due::Search => {
+            DueOrders::Search => {
                 self.unsent.write(child);
                 self.search.write(child);
                 self.unsent.clear();
@@ -441,11 +436,11 @@ impl State {
         }
     }
 
-    fn stand_in(&mut self, answer: Answer)
+    fn stand_in(&mut self, answer: StandInAnswer)
         ensures { self.new ≡ after_answer answer self.old }
     {
         match answer {
-            Answer::Nothing => {}
+            StandInAnswer::Nothing => {}
             _ => self.upper = DialogueState::Idle,
         }
     }

@@ -1,11 +1,12 @@
 // The words of a revival.
 ghost use Rattle.std.specs.Prelude.{◌≡◌, false};
-ghost use Rattle.uci_lines.specs.Orders.{order_of};
+ghost use Rattle.engine_revival.specs.Orders.{order_of};
 ghost use Rattle.uci_lines.specs.Messages.{engine_message_of};
-ghost use Rattle.engine_revival.specs.Dialogue.{kind_of, said_of, said_in};
+ghost use Rattle.engine_revival.specs.Dialogue.{said_of, said_in};
 
+use crate::orders::RevivalOrder;
 use peer_words::GoKind;
-use uci_lines::{EngineMsg, GoControl, Order, read_engine};
+use uci_lines::{EngineMsg, read_engine};
 
 /// The state of a dialogue with an engine, by the orders to it and by what it said (UCI, April 2006).
 #[derive(Clone, Copy)]
@@ -45,7 +46,7 @@ pub enum LifeState {
 
 /// What a line of an engine says, as far as it matters here.
 #[derive(Clone, Copy)]
-pub enum Said {
+pub enum LifeSaid {
     /// A name or an option.
     Introduction,
     UciOk,
@@ -58,7 +59,7 @@ pub enum Said {
 
 /// What is written to an idle life.
 #[derive(Clone, Copy)]
-pub(crate) enum Due {
+pub(crate) enum DueOrders {
     Nothing,
     /// The settings that it did not get, and `isready`.
     Settings,
@@ -68,22 +69,12 @@ pub(crate) enum Due {
 
 /// What stands in for an engine that has no more lives.
 #[derive(Clone, Copy)]
-pub(crate) enum Answer {
+pub(crate) enum StandInAnswer {
     Nothing,
     UciOk,
     ReadyOk,
     /// `bestmove 0000`.
     NoMove,
-}
-
-fn kind_of(ponder: bool, control: GoControl) -> GoKind
-    ensures { result ≡ kind_of ponder control }
-{
-    match (ponder, control) {
-        (true, _) => GoKind::Ponder,
-        (false, GoControl::Infinite) => GoKind::Analyse,
-        (false, _) => GoKind::Move,
-    }
 }
 
 impl DialogueState {
@@ -150,62 +141,59 @@ impl DialogueState {
     }
 
     /// After an order. None if the order may not stand here.
-    pub fn after_order(self, order: &Order) -> Option<DialogueState>
+    pub fn after_order(self, order: &RevivalOrder) -> Option<DialogueState>
         ensures { result ≡ after_order (order_of order.now) self }
     {
         match order {
-            Order::Uci if self.is_before() => Some(DialogueState::Boot),
-            Order::Uci => None,
-            Order::SetOption { name: _, value: _ } => self.if_idle(DialogueState::Idle),
-            Order::NewGame => self.if_idle(DialogueState::Idle),
-            Order::IsReady => self.if_idle(DialogueState::Getting),
-            Order::Position { fen: _, moves: _ } => self.if_idle(DialogueState::Placed),
-            Order::Go {
-                ponder,
-                control,
-                depth: _,
-            } => self.after_go(kind_of(*ponder, *control)),
-            Order::PonderHit => self.after_hit(),
-            Order::Stop => self.after_stop(),
-            Order::Quit => None,
+            RevivalOrder::Uci if self.is_before() => Some(DialogueState::Boot),
+            RevivalOrder::Uci => None,
+            RevivalOrder::Value { name: _, line: _ } => self.if_idle(DialogueState::Idle),
+            RevivalOrder::Button { name: _, line: _ } => self.if_idle(DialogueState::Idle),
+            RevivalOrder::NewGame => self.if_idle(DialogueState::Idle),
+            RevivalOrder::IsReady => self.if_idle(DialogueState::Getting),
+            RevivalOrder::Position(_) => self.if_idle(DialogueState::Placed),
+            RevivalOrder::Go { kind, line: _ } => self.after_go(*kind),
+            RevivalOrder::PonderHit => self.after_hit(),
+            RevivalOrder::Stop => self.after_stop(),
+            RevivalOrder::Quit => None,
         }
     }
 
     /// After the engine was heard.
-    pub fn after_said(self, said: Said) -> DialogueState
+    pub fn after_said(self, said: LifeSaid) -> DialogueState
         ensures { result ≡ after_said self said }
     {
         match (self, said) {
-            (DialogueState::Boot, Said::UciOk) => DialogueState::Idle,
-            (DialogueState::Getting, Said::ReadyOk) => DialogueState::Idle,
+            (DialogueState::Boot, LifeSaid::UciOk) => DialogueState::Idle,
+            (DialogueState::Getting, LifeSaid::ReadyOk) => DialogueState::Idle,
             (
                 DialogueState::Search {
                     kind: _,
                     stopped: _,
                 },
-                Said::Best,
+                LifeSaid::Best,
             ) => DialogueState::Idle,
             _ => self,
         }
     }
 }
 
-fn said_of(msg: EngineMsg) -> Said
+fn said_of(msg: EngineMsg) -> LifeSaid
     ensures { result ≡ said_of (engine_message_of msg.entry) }
 {
     match msg {
-        EngineMsg::Name(_) => Said::Introduction,
-        EngineMsg::OptionLine(_) => Said::Introduction,
-        EngineMsg::UciOk => Said::UciOk,
-        EngineMsg::ReadyOk => Said::ReadyOk,
-        EngineMsg::Info(_) => Said::Report,
-        EngineMsg::Best { best: _, hint: _ } => Said::Best,
-        EngineMsg::Nothing => Said::Nothing,
+        EngineMsg::Name(_) => LifeSaid::Introduction,
+        EngineMsg::OptionLine(_) => LifeSaid::Introduction,
+        EngineMsg::UciOk => LifeSaid::UciOk,
+        EngineMsg::ReadyOk => LifeSaid::ReadyOk,
+        EngineMsg::Info(_) => LifeSaid::Report,
+        EngineMsg::Best { best: _, hint: _ } => LifeSaid::Best,
+        EngineMsg::Nothing => LifeSaid::Nothing,
     }
 }
 
 /// What a line of the engine says.
-pub fn said_in(line: &[u8]) -> Said
+pub fn said_in(line: &[u8]) -> LifeSaid
     ensures { result ≡ said_in line.now }
 {
     said_of(read_engine(line))

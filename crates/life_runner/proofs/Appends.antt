@@ -4,7 +4,7 @@ use Rattle.std.specs.Io.KnownBytes.{Appends}
 use Rattle.std.proofs.KnownBytes.{Appends-nil, Appends-trans}
 use Rattle.line_io.specs.Event.{Event}
 use Rattle.line_io.specs.Source.{Received}
-use Rattle.engine_revival.specs.declared.state.State.{State}
+use Rattle.engine_revival.specs.declared.state.RevivalState.{RevivalState}
 use Rattle.engine_revival.specs.Script.{AllMayHappen, state_after, state_behind, texts_from, event_text, may_happen}
 use Rattle.event_pipe.specs.Counts.{Tells}
 use Rattle.sink_offers.specs.declared.offering.LoopEnd.{LoopEnd}
@@ -13,26 +13,26 @@ use Rattle.sink_offers.specs.Took.{LogTook}
 use Rattle.life_runner.specs.Played.{event_up, event_child, lines_up, lines_to_child}
 use Rattle.life_runner.specs.Looped.{Offers, Played, PlayedUp}
 
-pub behind_append : (s : State) (es fs : List Event) → state_behind s (es ++ fs) ≡ state_behind (state_behind s es) fs
+pub behind_append : (s : RevivalState) (es fs : List Event) → state_behind s (es ++ fs) ≡ state_behind (state_behind s es) fs
 behind_append s [] fs = refl
 behind_append s (e ∷ es) fs = behind_append (state_after s e) es fs
 
-pub may_append : (s : State) (es fs : List Event) → AllMayHappen s es → AllMayHappen (state_behind s es) fs → AllMayHappen s (es ++ fs)
+pub may_append : (s : RevivalState) (es fs : List Event) → AllMayHappen s es → AllMayHappen (state_behind s es) fs → AllMayHappen s (es ++ fs)
 may_append s [] fs a b = b
 may_append s (e ∷ es) fs a b = (a.0, may_append (state_after s e) es fs a.1 b)
 
-pub up_append : (s : State) (es fs : List Event) → lines_up s (es ++ fs) ≡ lines_up s es ++ lines_up (state_behind s es) fs
+pub up_append : (s : RevivalState) (es fs : List Event) → lines_up s (es ++ fs) ≡ lines_up s es ++ lines_up (state_behind s es) fs
 up_append s [] fs = refl
 up_append s (e ∷ es) fs =
     ap (λ (l : List ℕ). event_up s e ++ l) (up_append (state_after s e) es fs) ∙ sym (append_assoc (event_up s e) (lines_up (state_after s e) es) (lines_up (state_behind (state_after s e) es) fs))
 
-pub child_append : (s : State) (es fs : List Event) → lines_to_child s (es ++ fs) ≡ lines_to_child s es ++ lines_to_child (state_behind s es) fs
+pub child_append : (s : RevivalState) (es fs : List Event) → lines_to_child s (es ++ fs) ≡ lines_to_child s es ++ lines_to_child (state_behind s es) fs
 child_append s [] fs = refl
 child_append s (e ∷ es) fs =
     ap (λ (l : List ℕ). event_child s e ++ l) (child_append (state_after s e) es fs)
     ∙ sym (append_assoc (event_child s e) (lines_to_child (state_after s e) es) (lines_to_child (state_behind (state_after s e) es) fs))
 
-pub text_append : (s : State) (es fs : List Event) → texts_from s (es ++ fs) ≡ texts_from s es ++ texts_from (state_behind s es) fs
+pub text_append : (s : RevivalState) (es fs : List Event) → texts_from s (es ++ fs) ≡ texts_from s es ++ texts_from (state_behind s es) fs
 text_append s [] fs = refl
 text_append s (e ∷ es) fs =
     ap (λ (l : List ℕ). event_text s e ++ l) (text_append (state_after s e) es fs)
@@ -101,36 +101,36 @@ took f a b p x = record { whole = λ h. x.whole h; front = λ h. (x.front refl h
 
 -- EVENTS THAT WERE PLAYED
 
-pub played_none : (s : State) (a : Sinks) (f : LoopEnd) → Played s s [] a a f f
+pub played_none : (s : RevivalState) (a : Sinks) (f : LoopEnd) → Played s s [] a a f f
 played_none s a f =
     record { may = tt; state_is = refl; offers = record { output = offered_none f.output a.output; engine = offered_none f.engine a.engine; log = offered_none f.log a.log } }
 
-pub played_more : (s s' s'' : State) (es : List Event) (e : Event) (a b c : Sinks) (f g h : LoopEnd) → Played s s' es a b f g → may_happen s' e ≡ true → s'' ≡ state_after s' e
+pub played_more : (s s' s'' : RevivalState) (es : List Event) (e : Event) (a b c : Sinks) (f g h : LoopEnd) → Played s s' es a b f g → may_happen s' e ≡ true → s'' ≡ state_after s' e
     → Offers (event_up s' e) (event_child s' e) (event_text s' e) b c g h → Played s s'' (es ++ e ∷ []) a c f h
 played_more s s' s'' es e a b c f g h p m z o =
     let k = p.state_is in
     let last = e ∷ [] in
     record {
-      may = may_append s es last p.may (ap (λ (x : State). may_happen x e) (sym k) ∙ m, tt);
-      state_is = z ∙ ap (λ (x : State). state_after x e) k ∙ sym (behind_append s es last);
+      may = may_append s es last p.may (ap (λ (x : RevivalState). may_happen x e) (sym k) ∙ m, tt);
+      state_is = z ∙ ap (λ (x : RevivalState). state_after x e) k ∙ sym (behind_append s es last);
       offers = record {
-        output = offered_as _ _ _ _ _ _ (up_append s es last ∙ ap (λ (x : State). lines_up s es ++ lines_up x last) (sym k) ∙ ap (λ (l : List ℕ). lines_up s es ++ l) (append-nil (event_up s' e))) (offered_both _ _ _ _ _ _ _ _ p.offers.output o.output);
+        output = offered_as _ _ _ _ _ _ (up_append s es last ∙ ap (λ (x : RevivalState). lines_up s es ++ lines_up x last) (sym k) ∙ ap (λ (l : List ℕ). lines_up s es ++ l) (append-nil (event_up s' e))) (offered_both _ _ _ _ _ _ _ _ p.offers.output o.output);
         engine =
-            offered_as _ _ _ _ _ _ (child_append s es last ∙ ap (λ (x : State). lines_to_child s es ++ lines_to_child x last) (sym k) ∙ ap (λ (l : List ℕ). lines_to_child s es ++ l) (append-nil (event_child s' e)))
+            offered_as _ _ _ _ _ _ (child_append s es last ∙ ap (λ (x : RevivalState). lines_to_child s es ++ lines_to_child x last) (sym k) ∙ ap (λ (l : List ℕ). lines_to_child s es ++ l) (append-nil (event_child s' e)))
             (offered_both _ _ _ _ _ _ _ _ p.offers.engine o.engine);
-        log = offered_as _ _ _ _ _ _ (text_append s es last ∙ ap (λ (x : State). texts_from s es ++ texts_from x last) (sym k) ∙ ap (λ (l : List ℕ). texts_from s es ++ l) (append-nil (event_text s' e))) (offered_both _ _ _ _ _ _ _ _ p.offers.log o.log);
+        log = offered_as _ _ _ _ _ _ (text_append s es last ∙ ap (λ (x : RevivalState). texts_from s es ++ texts_from x last) (sym k) ∙ ap (λ (l : List ℕ). texts_from s es ++ l) (append-nil (event_text s' e))) (offered_both _ _ _ _ _ _ _ _ p.offers.log o.log);
       };
     }
 
 -- OF THE INTERFACE AND THE LOG
 
-pub up_none : (s : State) (o l : Received) (f : LoopEnd) → PlayedUp s s [] o o l l f f
+pub up_none : (s : RevivalState) (o l : Received) (f : LoopEnd) → PlayedUp s s [] o o l l f f
 up_none s o l f = record { may = tt; state_is = refl; up = offered_none f.output o; marks = offered_none f.log l }
 
-pub up_of_all : (s s' : State) (es : List Event) (a b : Sinks) (f g : LoopEnd) → Played s s' es a b f g → PlayedUp s s' es a.output b.output a.log b.log f g
+pub up_of_all : (s s' : RevivalState) (es : List Event) (a b : Sinks) (f g : LoopEnd) → Played s s' es a b f g → PlayedUp s s' es a.output b.output a.log b.log f g
 up_of_all s s' es a b f g p = record { may = p.may; state_is = p.state_is; up = p.offers.output; marks = p.offers.log }
 
-pub up_one : (s s' : State) (e : Event) (o o' l l' : Received) (f g : LoopEnd) → may_happen s e ≡ true → s' ≡ state_after s e → Offered f.output g.output o o' (event_up s e)
+pub up_one : (s s' : RevivalState) (e : Event) (o o' l l' : Received) (f g : LoopEnd) → may_happen s e ≡ true → s' ≡ state_after s e → Offered f.output g.output o o' (event_up s e)
     → Offered f.log g.log l l' (event_text s e) → PlayedUp s s' (e ∷ []) o o' l l' f g
 up_one s s' e o o' l l' f g m z u v =
     record {
@@ -140,13 +140,13 @@ up_one s s' e o o' l l' f g m z u v =
       marks = offered_as _ _ _ _ _ _ (append-nil (event_text s e)) v;
     }
 
-pub up_both : (s s' s'' : State) (es fs : List Event) (o o' o'' l l' l'' : Received) (f g h : LoopEnd) → PlayedUp s s' es o o' l l' f g → PlayedUp s' s'' fs o' o'' l' l'' g h
+pub up_both : (s s' s'' : RevivalState) (es fs : List Event) (o o' o'' l l' l'' : Received) (f g h : LoopEnd) → PlayedUp s s' es o o' l l' f g → PlayedUp s' s'' fs o' o'' l' l'' g h
     → PlayedUp s s'' (es ++ fs) o o'' l l'' f h
 up_both s s' s'' es fs o o' o'' l l' l'' f g h x y =
     let k = x.state_is in
     record {
-      may = may_append s es fs x.may (subst (λ (z : State). AllMayHappen z fs) k y.may);
-      state_is = y.state_is ∙ ap (λ (z : State). state_behind z fs) k ∙ sym (behind_append s es fs);
-      up = offered_as _ _ _ _ _ _ (up_append s es fs ∙ ap (λ (z : State). lines_up s es ++ lines_up z fs) (sym k)) (offered_both _ _ _ _ _ _ _ _ x.up y.up);
-      marks = offered_as _ _ _ _ _ _ (text_append s es fs ∙ ap (λ (z : State). texts_from s es ++ texts_from z fs) (sym k)) (offered_both _ _ _ _ _ _ _ _ x.marks y.marks);
+      may = may_append s es fs x.may (subst (λ (z : RevivalState). AllMayHappen z fs) k y.may);
+      state_is = y.state_is ∙ ap (λ (z : RevivalState). state_behind z fs) k ∙ sym (behind_append s es fs);
+      up = offered_as _ _ _ _ _ _ (up_append s es fs ∙ ap (λ (z : RevivalState). lines_up s es ++ lines_up z fs) (sym k)) (offered_both _ _ _ _ _ _ _ _ x.up y.up);
+      marks = offered_as _ _ _ _ _ _ (text_append s es fs ∙ ap (λ (z : RevivalState). texts_from s es ++ texts_from z fs) (sym k)) (offered_both _ _ _ _ _ _ _ _ x.marks y.marks);
     }

@@ -1,7 +1,7 @@
 -- Steps of the loop of a life.
 use Rattle.std.proofs.Common.{◌≡◌, ℕ, List, [], ◌∷◌, ◌++◌, Bool, true, false, filter, cond, not, ◌||◌, refl, sym, ap, subst, ◌∙◌, append-nil, append_assoc}
 use Rattle.line_io.specs.Event.{Event, Iface, IfaceLong, IfaceEnd, Engine, EngineLong}
-use Rattle.engine_revival.specs.declared.state.State.{State}
+use Rattle.engine_revival.specs.declared.state.RevivalState.{RevivalState}
 use Rattle.engine_revival.specs.Steps.{is_alive, is_ended}
 use Rattle.engine_revival.specs.declared.words.LifeState.{LifeState}
 use Rattle.engine_revival.specs.declared.words.LifeState.TheVariants as life
@@ -26,7 +26,7 @@ heard_last (x ∷ es) e = heard_more (is_heard x) x (heard_of (es ++ e ∷ [])) 
 
 -- THE LOOP
 
-pub going_first : (s : State) (first now : List Event) (a : Sinks) (f : LoopEnd) → now ≡ first → Going s s first now a a f f
+pub going_first : (s : RevivalState) (first now : List Event) (a : Sinks) (f : LoopEnd) → now ≡ first → Going s s first now a a f f
 going_first s first now a f e = record { events = []; taken_is = e ∙ sym (append-nil first); unended = refl; played = played_none s a f }
 
 no_close : (e : Event) (es : List Event) → has_close es ≡ false → is_close e ≡ false → has_close (es ++ e ∷ []) ≡ false
@@ -51,13 +51,13 @@ alive_unended life.Ended h = cc
 alive_unended life.Over h = refl
 
 -- what is heard may come while a life goes on
-pub may_hear : (s : State) (e : Event) → is_alive s.life ≡ true → is_heard e ≡ true → may_happen s e ≡ true
+pub may_hear : (s : RevivalState) (e : Event) → is_alive s.life ≡ true → is_heard e ≡ true → may_happen s e ≡ true
 may_hear s (Iface line) a h = ap not (alive_unended s.life a)
 may_hear s IfaceEnd a h = ap not (alive_unended s.life a)
 may_hear s (Engine line) a h = a
 may_hear s e a h = cc
 
-pub going_heard : (s s' s'' : State) (first now now' : List Event) (e : Event) (a b c : Sinks) (f g h : LoopEnd) → Going s s' first now a b f g → now' ≡ now ++ e ∷ [] → is_heard e ≡ true
+pub going_heard : (s s' s'' : RevivalState) (first now now' : List Event) (e : Event) (a b c : Sinks) (f g h : LoopEnd) → Going s s' first now a b f g → now' ≡ now ++ e ∷ [] → is_heard e ≡ true
     → is_alive s'.life ≡ true → s'' ≡ state_after s' e → Offers (event_up s' e) (event_child s' e) (event_text s' e) b c g h → Going s s'' first now' a c f h
 going_heard s s' s'' first now now' e a b c f g h x t heard alive z o =
     record {
@@ -67,7 +67,7 @@ going_heard s s' s'' first now now' e a b c f g h x t heard alive z o =
       played = subst (λ (l : List Event). Played s s'' l a c f h) (sym (heard_last x.events e ∙ ap (λ v. heard_of x.events ++ cond v (e ∷ []) []) heard)) (played_more s s' s'' (heard_of x.events) e a b c f g h x.played (may_hear s' e alive heard) z o);
     }
 
-pub going_passed : (s s' : State) (first now now' : List Event) (a b : Sinks) (f g : LoopEnd) → Going s s' first now a b f g → now' ≡ now ++ IfaceLong ∷ [] → Going s s' first now' a b f g
+pub going_passed : (s s' : RevivalState) (first now now' : List Event) (a b : Sinks) (f g : LoopEnd) → Going s s' first now a b f g → now' ≡ now ++ IfaceLong ∷ [] → Going s s' first now' a b f g
 going_passed s s' first now now' a b f g x t =
     record {
       events = x.events ++ IfaceLong ∷ [];
@@ -76,9 +76,9 @@ going_passed s s' first now now' a b f g x t =
       played = subst (λ (l : List Event). Played s s' l a b f g) (sym (heard_last x.events IfaceLong ∙ append-nil (heard_of x.events))) x.played;
     }
 
-pub looped : (s s' : State) (first now now' : List Event) (a b : Sinks) (f g : LoopEnd) → Going s s' first now a b f g → now' ≡ now ++ EngineLong ∷ [] → LoopedLife s s' first now' a b f g
+pub looped : (s s' : RevivalState) (first now now' : List Event) (a b : Sinks) (f g : LoopEnd) → Going s s' first now a b f g → now' ≡ now ++ EngineLong ∷ [] → LoopedLife s s' first now' a b f g
 looped s s' first now now' a b f g x t =
     record { events = x.events; taken_is = one_more first now now' x.events EngineLong x.taken_is t; unended = x.unended; played = x.played }
 
-pub alive_still : (s s' : State) (e : Event) → is_heard e ≡ true → is_alive s.life ≡ true → s' ≡ state_after s e → is_alive s'.life ≡ true
-alive_still s s' e h a z = ap (λ (x : State). is_alive x.life) z ∙ (event_stays s e h).alive a
+pub alive_still : (s s' : RevivalState) (e : Event) → is_heard e ≡ true → is_alive s.life ≡ true → s' ≡ state_after s e → is_alive s'.life ≡ true
+alive_still s s' e h a z = ap (λ (x : RevivalState). is_alive x.life) z ∙ (event_stays s e h).alive a

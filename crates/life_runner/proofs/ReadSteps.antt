@@ -14,15 +14,15 @@ use Rattle.line_io.specs.declared.lines.Item.{Item}
 use Rattle.line_io.specs.declared.faults.ReadFault.{ReadFault}
 use Rattle.event_pipe.specs.declared.message.Peer.{Peer}
 use Rattle.event_pipe.specs.declared.message.Peer.TheVariants as peers
-use Rattle.event_pipe.specs.declared.message.What.TheVariants as says
+use Rattle.event_pipe.specs.declared.message.MessageBody.TheVariants as says
 use Rattle.event_pipe.specs.declared.reader.ReadEnd.{ReadEnd}
 use Rattle.event_pipe.specs.declared.reader.ReadEnd.TheVariants as read_ends
 use Rattle.event_pipe.specs.Counts.{Tells}
 use Rattle.event_pipe.specs.Message.{sent_event, is_end}
 use Rattle.event_pipe.specs.Rule.{ended}
 use Rattle.event_pipe.proofs.Reading.{any_append, at_end_after, counted}
-use Rattle.life_runner.specs.declared.reading.Turn.{Turn}
-use Rattle.life_runner.specs.declared.reading.Turn.TheVariants as turns
+use Rattle.life_runner.specs.declared.reading.ReadingTurn.{ReadingTurn}
+use Rattle.life_runner.specs.declared.reading.ReadingTurn.TheVariants as turns
 use Rattle.life_runner.specs.Reading.{line_event, line_events, ReadLines, ReadLife, LinesOf, Goes, SoFar}
 
 -- TURNS
@@ -41,14 +41,14 @@ opens held s sent h e = record {
   same = refl;
 }
 
-pub turn_as : (old new : Held) (so sn : Supplied) (before now : List Event) (t t' : Turn) → t ≡ t' → Goes old new so sn before now t → Goes old new so sn before now t'
-turn_as old new so sn before now t t' f g = subst (λ (x : Turn). Goes old new so sn before now x) f g
+pub turn_as : (old new : Held) (so sn : Supplied) (before now : List Event) (t t' : ReadingTurn) → t ≡ t' → Goes old new so sn before now t → Goes old new so sn before now t'
+turn_as old new so sn before now t t' f g = subst (λ (x : ReadingTurn). Goes old new so sn before now x) f g
 
 module _ (first : List Event) (old new : Held) (s0 so sn : Supplied) (before now : List Event) (h : SoFar old s0 so first before) where
-  all_got : (t : Turn) (g : Goes old new so sn before now t) → Reads s0 sn (h.got ++ g.got)
+  all_got : (t : ReadingTurn) (g : Goes old new so sn before now t) → Reads s0 sn (h.got ++ g.got)
   all_got t g = record { given = Appends-trans s0.given so.given sn.given _ _ h.reads.given g.reads.given; left = Consumes-trans s0.left so.left sn.left _ _ h.reads.left g.reads.left }
 
-  end_after : (t : Turn) (g : Goes old new so sn before now t) → new.ended ≡ true → IfSome s0.left (λ _. IsAtEnd sn.left)
+  end_after : (t : ReadingTurn) (g : Goes old new so sn before now t) → new.ended ≡ true → IfSome s0.left (λ _. IsAtEnd sn.left)
   end_after t g e = at_end_after old.ended old new s0.left so.left sn.left h.got g.got refl h.reads.left g.reads.left h.at_end (λ o. g.call.advances.idle (inr o)) g.ends_at e
 
   pub goes_more : Goes old new so sn before now turns.More → SoFar new s0 sn first now

@@ -2,23 +2,23 @@
 use Rattle.std.specs.Prelude.{ℕ, suc, List, [], ◌∷◌, ◌++◌, Bool, true, false, filter, ◌||◌}
 use Rattle.std.specs.List.{list_any}
 use Rattle.line_io.specs.Event.{Event, Iface, IfaceEnd, Engine, EngineLong, EngineEnd}
-use Rattle.engine_revival.specs.declared.state.State.{State}
+use Rattle.engine_revival.specs.declared.state.RevivalState.{RevivalState}
 use Rattle.engine_revival.specs.Calls.{up_of, child_of}
 use Rattle.engine_revival.specs.Script.{state_before, call_of, state_after}
 
 -- the lines up, and those to the life, that are given for an event
-abbrev pub event_up : State → Event → List ℕ
+abbrev pub event_up : RevivalState → Event → List ℕ
 event_up s event = up_of (state_before s event) (call_of s event)
 
-abbrev pub event_child : State → Event → List ℕ
+abbrev pub event_child : RevivalState → Event → List ℕ
 event_child s event = child_of (state_before s event) (call_of s event)
 
 -- the lines that are given for events, one behind the other
-abbrev pub lines_up : State → List Event → List ℕ
+abbrev pub lines_up : RevivalState → List Event → List ℕ
 lines_up s [] = []
 lines_up s (event ∷ events) = event_up s event ++ lines_up (state_after s event) events
 
-abbrev pub lines_to_child : State → List Event → List ℕ
+abbrev pub lines_to_child : RevivalState → List Event → List ℕ
 lines_to_child s [] = []
 lines_to_child s (event ∷ events) = event_child s event ++ lines_to_child (state_after s event) events
 

@@ -14,8 +14,8 @@ use Rattle.event_pipe.specs.declared.reader.ReadEnd.TheVariants as read_ends
 use Rattle.event_pipe.specs.Arrivals.{line_limit, failed}
 use Rattle.event_pipe.specs.Counts.{Tells}
 use Rattle.event_pipe.specs.Rule.{ended}
-use Rattle.life_runner.specs.declared.reading.Turn.{Turn}
-use Rattle.life_runner.specs.declared.reading.Turn.TheVariants as turns
+use Rattle.life_runner.specs.declared.reading.ReadingTurn.{ReadingTurn}
+use Rattle.life_runner.specs.declared.reading.ReadingTurn.TheVariants as turns
 
 -- a long line is ignored
 abbrev pub line_event : Piece → List Event
@@ -58,18 +58,18 @@ pub record ReadLife (before after : Supplied) (sent now : List Event) (r : ReadE
   pub read : LinesOf before after lines r
 
 -- what a turn has sent, if the call of the reader of lines answered this
-abbrev pub Sends : Result Item ReadFault → List Event → List Event → Turn → Type 0
+abbrev pub Sends : Result Item ReadFault → List Event → List Event → ReadingTurn → Type 0
 Sends r before now turns.More = IsTrue (goes_on r) × (now ≡ before ++ line_events (pieces_of (outcome r))) × (ended now ≡ false)
 Sends r before now turns.Done = IsTrue (is_end_answer r) × (now ≡ before)
 Sends r before now turns.Fault = IsErr r × (now ≡ before)
 Sends r before now turns.NoMemory = IsTrue (goes_on r) × (now ≡ before)
 
-abbrev pub is_fault : Turn → Bool
+abbrev pub is_fault : ReadingTurn → Bool
 is_fault turns.Fault = true
 is_fault t = false
 
 -- what one turn of the reader did
-pub record Goes (old new : Held) (before after : Supplied) (sent now : List Event) (turn : Turn) : Type 0 where
+pub record Goes (old new : Held) (before after : Supplied) (sent now : List Event) (turn : ReadingTurn) : Type 0 where
   pub got : List ℕ
   pub reads : Reads before after got
   pub result : Result Item ReadFault

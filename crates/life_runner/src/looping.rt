@@ -4,7 +4,7 @@ ghost use Rattle.std.specs.Prelude.{◌≡◌, ◌≤◌, List, is_some, true, f
 ghost use Rattle.line_io.specs.Event.{Event as AnyEvent, event_of};
 ghost use Rattle.script_lines.specs.StepText.{step_marks};
 ghost use Rattle.engine_revival.specs.Marks.{HaveRoom};
-ghost use Rattle.engine_revival.specs.declared.state.State.{State};
+ghost use Rattle.engine_revival.specs.declared.state.RevivalState.{RevivalState};
 ghost use Rattle.engine_revival.specs.Script.{may_happen, state_after, event_text};
 ghost use Rattle.engine_revival.specs.Steps.{is_alive};
 ghost use Rattle.engine_revival.specs.declared.script.TheConstants.{EVENT_ROOM};
@@ -16,7 +16,7 @@ ghost use Rattle.life_runner.specs.Looped.{Offers, Going, GoesOrEnds, LoopedLife
 ghost use Rattle.life_runner.specs.Played.{event_up, event_child, is_heard};
 
 use child_engine::LetGo;
-use engine_revival::{Both, Revival, put_marks};
+use engine_revival::{Revival, RevivalStep, put_marks};
 use event_pipe::PipeTake;
 use line_io::{Event, Out, Sink};
 use sink_offers::{LoopEnd, offer, offer_log};
@@ -27,7 +27,7 @@ use std::thread;
 /// marks of both to the log, which nobody waits for; each unless it failed before.
 pub fn offer_all<K: Sink, O: Sink, L: Sink>(
     event: &Event,
-    both: Both,
+    both: RevivalStep,
     child: &mut K,
     output: &mut O,
     log: &mut Option<L>,
@@ -165,7 +165,7 @@ fn hear_next<K: LetGo, O: Sink, L: Sink, R: Wait>(
     ensures alive { is_alive revival.new.state.life ≡ true }
     ensures let_go { (revival.old.state.quit ≡ true → K.is_let_go child.old)
         → revival.new.state.quit ≡ true → K.is_let_go child.new }
-    ensures next { (s : State) (first : List AnyEvent) (before : Sinks) (failed0 : LoopEnd)
+    ensures next { (s : RevivalState) (first : List AnyEvent) (before : Sinks) (failed0 : LoopEnd)
         → Going s revival.old.state first (taken from.old) before
         (sinks (O.state output.old) (K.state child.old) (log_state L.state log.old))
         failed0 failed.old

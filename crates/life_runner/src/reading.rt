@@ -6,14 +6,14 @@ ghost use Rattle.event_pipe.specs.Arrivals.{line_limit};
 ghost use Rattle.event_pipe.specs.declared.message.Peer.TheVariants as peers;
 ghost use Rattle.life_runner.specs.Reading.{Goes, ReadLines, ReadLife};
 
-use event_pipe::{Bytes, PipeSend, ReadEnd, What};
+use event_pipe::{Bytes, MessageBody, PipeSend, ReadEnd};
 use line_io::{Item, Lines, PEER_LINE, ReadFault, Source, lines_of_all_calls};
 use std::alloc::Global;
 use std::sync::Wait;
 
 /// What one turn came to.
 #[derive(Clone, Copy)]
-pub enum Turn {
+pub enum ReadingTurn {
     /// There may be more lines.
     More,
     /// The engine's output has ended.
@@ -31,7 +31,7 @@ fn read_turn<S: Source, R: Wait>(
     lines: &mut Lines,
     source: &mut S,
     to: &mut PipeSend,
-) -> Turn
+) -> ReadingTurn
     requires sender { IsSender to.old }
     requires engine { to.old.peer ≡ peers.Engine }
     requires going { ended (sent to.old) ≡ false }
@@ -41,16 +41,16 @@ fn read_turn<S: Source, R: Wait>(
         (sent to.old) (sent to.new) result }
 {
     match lines.next(source) {
-        Err(_) => Turn::Fault,
-        Ok(Item::End) => Turn::Done,
-        Ok(Item::More) => Turn::More,
-        Ok(Item::Long) => Turn::More,
+        Err(_) => ReadingTurn::Fault,
+        Ok(Item::End) => ReadingTurn::Done,
+        Ok(Item::More) => ReadingTurn::More,
+        Ok(Item::Long) => ReadingTurn::More,
         Ok(Item::Line(line)) => {
             let Ok(bytes) = Bytes::make(alloc, line) else {
-                return Turn::NoMemory;
+                return ReadingTurn::NoMemory;
             };
-            to.send(rt, What::Line(bytes));
-            Turn::More
+            to.send(rt, MessageBody::Line(bytes));
+            ReadingTurn::More
         }
     }
 }
@@ -76,10 +76,10 @@ fn read_lines<S: Source, R: Wait>(
     };
     for _ in rt.forever() {
         match read_turn(rt, alloc, &mut lines, source, to) {
-            Turn::More => {}
-            Turn::Done => return ReadEnd::Done,
-            Turn::Fault => return ReadEnd::Fault(ReadFault),
-            Turn::NoMemory => return ReadEnd::NoMemory,
+            ReadingTurn::More => {}
+            ReadingTurn::Done => return ReadEnd::Done,
+            ReadingTurn::Fault => return ReadEnd::Fault(ReadFault),
+            ReadingTurn::NoMemory => return ReadEnd::NoMemory,
         }
     }
     unreachable!()
@@ -102,6 +102,6 @@ pub fn read_life<S: Source, R: Wait>(
         (sent to.old) (sent to.new) result }
 {
     let end = read_lines(rt, alloc, source, to);
-    to.send(rt, What::Long);
+    to.send(rt, MessageBody::Long);
     end
 }

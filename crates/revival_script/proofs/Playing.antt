@@ -12,7 +12,7 @@ use Rattle.command_endings.specs.declared.ending.Ending.{Ending}
 use Rattle.command_endings.specs.declared.ending.Ending.TheVariants as endings
 use Rattle.line_scribe.specs.Putting.{IsInputEnd, IsOfLine, Puts}
 use Rattle.line_scribe.specs.Putting as scribe
-use Rattle.engine_revival.specs.declared.state.State.{State}
+use Rattle.engine_revival.specs.declared.state.RevivalState.{RevivalState}
 use Rattle.engine_revival.specs.Steps.{opening}
 use Rattle.engine_revival.specs.Script.{AllMayHappen, event_text, may_happen, state_after, state_behind, texts_from}
 use Rattle.revival_script.specs.Played.{ArePlayed, IsFault, event_by, events_in, mark_in, revived, state_over}
@@ -20,15 +20,15 @@ use Rattle.revival_script.specs.Reviving.{Closes, HasPlayed, IsPlayed, IsPlayedA
 
 -- ONE EVENT MORE
 
-state_more : (s : State) (events : List Event) (e : Event) → state_behind s (events ++ e ∷ []) ≡ state_after (state_behind s events) e
+state_more : (s : RevivalState) (events : List Event) (e : Event) → state_behind s (events ++ e ∷ []) ≡ state_after (state_behind s events) e
 state_more s [] e = refl
 state_more s (x ∷ xs) e = state_more (state_after s x) xs e
 
-may_more : (s : State) (events : List Event) (e : Event) → AllMayHappen s events → may_happen (state_behind s events) e ≡ true → AllMayHappen s (events ++ e ∷ [])
+may_more : (s : RevivalState) (events : List Event) (e : Event) → AllMayHappen s events → may_happen (state_behind s events) e ≡ true → AllMayHappen s (events ++ e ∷ [])
 may_more s [] e h k = (k, tt)
 may_more s (x ∷ xs) e h k = (h.0, may_more (state_after s x) xs e h.1 k)
 
-texts_more : (s : State) (events : List Event) (e : Event) → texts_from s (events ++ e ∷ []) ≡ texts_from s events ++ event_text (state_behind s events) e
+texts_more : (s : RevivalState) (events : List Event) (e : Event) → texts_from s (events ++ e ∷ []) ≡ texts_from s events ++ event_text (state_behind s events) e
 texts_more s [] e = append-nil (event_text s e)
 texts_more s (x ∷ xs) e =
     ap (λ (t : List ℕ). event_text s x ++ t) (texts_more (state_after s x) xs e)
@@ -45,28 +45,28 @@ events_more lines p m e =
     flat_map-append (λ (line : Piece). event_by (mark_in line)) lines (p ∷ [])
     ∙ ap (λ (t : List Event). events_in lines ++ t) (append-nil (event_by (mark_in p)) ∙ ap (λ (x : Option Mark). event_by x) e)
 
-module _ (lives : ℕ) (lines : List Piece) (s : State) (text : List ℕ) (h : HasPlayed lives lines s text) (p : Piece) where
+module _ (lives : ℕ) (lines : List Piece) (s : RevivalState) (text : List ℕ) (h : HasPlayed lives lines s text) (p : Piece) where
   -- with an event that may come
-  event_played : (e : Event) (s' : State) → mark_in p ≡ Some (Happens e) → may_happen s e ≡ true → s' ≡ state_after s e → HasPlayed lives (lines ++ p ∷ []) s' (text ++ event_text s e)
+  event_played : (e : Event) (s' : RevivalState) → mark_in p ≡ Some (Happens e) → may_happen s e ≡ true → s' ≡ state_after s e → HasPlayed lives (lines ++ p ∷ []) s' (text ++ event_text s e)
   event_played e s' m may after =
       let events = events_in lines in
       let all : events_in (lines ++ p ∷ []) ≡ events ++ e ∷ [] = events_more lines p (Some (Happens e)) m in
-      let comes : may_happen (state_over lives lines) e ≡ true = ap (λ (x : State). may_happen x e) (sym h.state_is) ∙ may in
+      let comes : may_happen (state_over lives lines) e ≡ true = ap (λ (x : RevivalState). may_happen x e) (sym h.state_is) ∙ may in
       record {
         played = record {
           marked = marked_more lines p h.played.marked (ap (λ (x : Option Mark). is_some x) m);
           may_come = subst (λ (es : List Event). AllMayHappen (opening lives) es) (sym all) (may_more (opening lives) events e h.played.may_come comes);
         };
-        state_is = after ∙ ap (λ (x : State). state_after x e) h.state_is ∙ sym (state_more (opening lives) events e) ∙ ap (λ (es : List Event). state_behind (opening lives) es) (sym all);
+        state_is = after ∙ ap (λ (x : RevivalState). state_after x e) h.state_is ∙ sym (state_more (opening lives) events e) ∙ ap (λ (es : List Event). state_behind (opening lives) es) (sym all);
         text_is =
             ap (λ (t : List ℕ). t ++ event_text s e) h.text_is
-            ∙ ap (λ (x : State). revived lives lines ++ event_text x e) h.state_is
+            ∙ ap (λ (x : RevivalState). revived lives lines ++ event_text x e) h.state_is
             ∙ sym (texts_more (opening lives) events e)
             ∙ ap (λ (es : List Event). texts_from (opening lives) es) (sym all);
       }
 
   -- with one that was written
-  line_passed : (mark : Mark) (s' : State) → mark_in p ≡ Some mark → event_by (Some mark) ≡ [] → s' ≡ s → HasPlayed lives (lines ++ p ∷ []) s' (text ++ [])
+  line_passed : (mark : Mark) (s' : RevivalState) → mark_in p ≡ Some mark → event_by (Some mark) ≡ [] → s' ≡ s → HasPlayed lives (lines ++ p ∷ []) s' (text ++ [])
   line_passed mark s' m none same =
       let events = events_in lines in
       let all : events_in (lines ++ p ∷ []) ≡ events = events_more lines p (Some mark) m ∙ ap (λ (es : List Event). events ++ es) none ∙ append-nil events in
@@ -82,7 +82,7 @@ module _ (lives : ℕ) (lines : List Piece) (s : State) (text : List ℕ) (h : H
   -- with one whose event may not come
   event_refused : (number : ℕ) (e : Event) (ending : Ending) → number ≡ length lines + 1 → mark_in p ≡ Some (Happens e) → may_happen s e ≡ false → ending ≡ endings.MayNotCome number → Says lives (lines ++ p ∷ []) ending (text ++ [])
   event_refused number e ending n m refused is =
-      let comes : may_happen (state_over lives lines) e ≡ false = ap (λ (x : State). may_happen x e) (sym h.state_is) ∙ refused in
+      let comes : may_happen (state_over lives lines) e ≡ false = ap (λ (x : RevivalState). may_happen x e) (sym h.state_is) ∙ refused in
       subst (λ (x : Ending). Says lives (lines ++ p ∷ []) x (text ++ [])) (sym is)
       (record {
         is_fault = record { before = lines; line = p; lines_are = refl; played = h.played; reason = (n, (e, m, comes)) };
@@ -100,7 +100,7 @@ module _ (lives : ℕ) (lines : List Piece) (s : State) (text : List ℕ) (h : H
 
 -- AS A SCRIBE
 
-pub puts_by : (number : ℕ) (p : Piece) (m : Option Mark) (result : Option Ending) (s s' : State) (held held' : Text) → mark_in p ≡ m → Takes number m result s held s' held' → Puts revives number p result s held s' held'
+pub puts_by : (number : ℕ) (p : Piece) (m : Option Mark) (result : Option Ending) (s s' : RevivalState) (held held' : Text) → mark_in p ≡ m → Takes number m result s held s' held' → Puts revives number p result s held s' held'
 puts_by number p (Some (Happens e)) None s s' held held' m t = record {
   more = event_text s e;
   put = t.put;
@@ -131,14 +131,14 @@ puts_by number p None (Some ending) s s' held held' m t = record {
 }
 
 -- a fault is one of a line
-pub of_line : (number : ℕ) (m : Option Mark) (result : Option Ending) (s s' : State) (held held' : Text) → Takes number m result s held s' held' → IfSome result (λ ending. IsOfLine ending)
+pub of_line : (number : ℕ) (m : Option Mark) (result : Option Ending) (s s' : RevivalState) (held held' : Text) → Takes number m result s held s' held' → IfSome result (λ ending. IsOfLine ending)
 of_line number (Some (Happens e)) (Some ending) s s' held held' t = subst (λ (x : Ending). IsOfLine x) (sym t.1.ending_is) tt
 of_line number None (Some ending) s s' held held' t = subst (λ (x : Ending). IsOfLine x) (sym t.ending_is) tt
 of_line number m (Some ending) s s' held held' t = absurd t
 of_line number m result s s' held held' t = tt
 
 -- a line that is too long
-pub puts_long : (number : ℕ) (s : State) (held : Text) → Puts revives number TooLong (Some (endings.NoMark number)) s held s held
+pub puts_long : (number : ℕ) (s : RevivalState) (held : Text) → Puts revives number TooLong (Some (endings.NoMark number)) s held s held
 puts_long number s held = puts_by number TooLong None (Some (endings.NoMark number)) s s held held refl (record { ending_is = refl; same = record { state_is = refl; put = refl } })
 
 closed_by : (lives : ℕ) (lines : List Piece) (text : List ℕ) (ending : Ending) → IsInputEnd ending → Closes lives lines text → Says lives lines ending text
@@ -148,7 +148,7 @@ closed_by lives lines text endings.TooLong i c = c
 closed_by lives lines text ending i c = absurd i
 
 -- no more lines
-pub closes_by : (ending : Ending) (s : State) (held held' : Text) → IsInputEnd ending → held' ≡ held → scribe.Closes revives ending s held held'
+pub closes_by : (ending : Ending) (s : RevivalState) (held held' : Text) → IsInputEnd ending → held' ≡ held → scribe.Closes revives ending s held held'
 closes_by ending s held held' i e = record {
   more = [];
   put = e ∙ put_none held;
@@ -158,5 +158,5 @@ closes_by ending s held held' i e = record {
 }
 
 -- before the first line
-pub begins : (s0 : State) (lives : ℕ) → s0 ≡ opening lives → HasPlayed lives [] s0 []
+pub begins : (s0 : RevivalState) (lives : ℕ) → s0 ≡ opening lives → HasPlayed lives [] s0 []
 begins s0 lives first = record { played = record { marked = tt; may_come = tt }; state_is = first; text_is = refl }

@@ -20,8 +20,9 @@ use Rattle.line_scribe.proofs.Outcomes.{outcome}
 use Rattle.line_scribe.specs.Outcomes.{LineReported, Outcome, WroteLast}
 use Rattle.line_scribe.specs.Putting.{IsOfLine}
 use Rattle.line_scribe.specs.Scribed.{EndsBy, IsText, WroteFront, WroteAll, WroteWhole}
-use Rattle.engine_revival.specs.declared.state.State.{State}
+use Rattle.engine_revival.specs.declared.state.RevivalState.{RevivalState}
 use Rattle.engine_revival.specs.Steps.{opening}
+use Rattle.engine_revival.proofs.Talks.{talk_is_lawful}
 use Rattle.script_lines.specs.Marks.{Mark}
 use Rattle.engine_revival.specs.Script.{AllMayHappen, may_happen, revival_script, state_after, state_behind}
 use Rattle.revival_script.specs.Played.{ArePlayed, IsFault, IsReason, event_by, events_in, mark_in, revived, state_over}
@@ -37,7 +38,7 @@ is_marked : (before : List Piece) (line : Piece) (more : List Piece) → AllByRe
 is_marked [] line more h = h.0
 is_marked (b ∷ bs) line more h = is_marked bs line more h.1
 
-may_part : (s : State) (events more : List Event) (e : Event) → AllMayHappen s (events ++ e ∷ more) → may_happen (state_behind s events) e ≡ true
+may_part : (s : RevivalState) (events more : List Event) (e : Event) → AllMayHappen s (events ++ e ∷ more) → may_happen (state_behind s events) e ≡ true
 may_part s [] more e h = h.0
 may_part s (x ∷ xs) more e h = may_part (state_after s x) xs more e h.1
 
@@ -193,6 +194,7 @@ module _ (lives : ℕ) (U : Type 0) (start now : Streams) (code : ℕ) (r : Ran 
     too_long = λ z. let w = o.too_long z in record { whole_lines = whole_by (endings.TooLong, 2 ^ 32, w) (w.says lives refl); least = w.least_is };
     complete = complete;
     plays_all = plays_all;
+    lawful = λ lines read p. talk_is_lawful lives (events_in lines) p.may_come;
     again = again;
   }
 

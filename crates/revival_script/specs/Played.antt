@@ -6,7 +6,7 @@ use Rattle.line_io.specs.Lines.{Piece, Whole, TooLong}
 use Rattle.script_lines.specs.Marks.{Mark, Happens, mark_of}
 use Rattle.command_endings.specs.declared.ending.Ending.{Ending}
 use Rattle.command_endings.specs.declared.ending.Ending.TheVariants as endings
-use Rattle.engine_revival.specs.declared.state.State.{State}
+use Rattle.engine_revival.specs.declared.state.RevivalState.{RevivalState}
 use Rattle.engine_revival.specs.Steps.{opening}
 use Rattle.engine_revival.specs.Script.{AllMayHappen, may_happen, revival_script, state_behind}
 
@@ -25,7 +25,7 @@ abbrev pub events_in : List Piece → List Event
 events_in lines = flat_map (λ line. event_by (mark_in line)) lines
 
 -- the state of the engine behind lines
-abbrev pub state_over : ℕ → List Piece → State
+abbrev pub state_over : ℕ → List Piece → RevivalState
 state_over lives lines = state_behind (opening lives) (events_in lines)
 
 -- Each line has a mark, and each event may come at its place.
@@ -38,7 +38,7 @@ abbrev pub revived : ℕ → List Piece → List ℕ
 revived lives lines = revival_script lives (events_in lines)
 
 -- Why a line with this number is not played in this state: it has no mark, or its event may not come.
-abbrev pub IsReason : State → ℕ → Piece → Ending → Type 0
+abbrev pub IsReason : RevivalState → ℕ → Piece → Ending → Type 0
 IsReason s number line (endings.NoMark n) = (n ≡ number) × (mark_in line ≡ None)
 IsReason s number line (endings.MayNotCome n) =
     (n ≡ number)

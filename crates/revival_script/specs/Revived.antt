@@ -15,7 +15,8 @@ use Rattle.command_endings.specs.Streams.{Streams, AreSame, IsSteady}
 use Rattle.line_scribe.specs.Scribed.{EndsBy}
 use Rattle.engine_revival.specs.Script.{AllMayHappen, revival_script}
 use Rattle.engine_revival.specs.Steps.{opening}
-use Rattle.revival_script.specs.Played.{ArePlayed, IsFault, revived}
+use Rattle.engine_revival.specs.Talk.{IsLawfulTalk}
+use Rattle.revival_script.specs.Played.{ArePlayed, IsFault, events_in, revived}
 use Rattle.revival_script.specs.Reviving.{revives}
 use Rattle.line_io.specs.declared.limits.TheConstants.{SCRIPT_LINE}
 
@@ -81,6 +82,12 @@ RevivesAgain lives before after code =
     → ((code ≡ 0) × Appends before.output.taken after.output.taken (revival_script lives events))
     ⊎ (code ≡ 3)
 
+-- The talk up to each line is lawful, if the lines before it are played.
+abbrev pub TalksLawfully : ℕ → Streams → Streams → Type 0
+TalksLawfully lives before after =
+    (lines : List Piece) → AreRead before after lines → ArePlayed lives lines
+    → IsLawfulTalk lives (events_in lines)
+
 -- `Untouched` says that the input and the output are just as they were.
 pub record Revived (lives : ℕ) (Untouched : Type 0) (before after : Streams)
     (code : ℕ) : Type 0 where
@@ -96,6 +103,7 @@ pub record Revived (lives : ℕ) (Untouched : Type 0) (before after : Streams)
   pub writing_failed : code ≡ 5 → WritingBroke before after × (Untouched
       ⊎ FrontRevived lives before after)
   pub too_long : code ≡ 6 → MuchRevived lives before after
+  pub lawful : TalksLawfully lives before after
   -- which status comes
   pub complete : CompletesRevival lives before after code
   pub plays_all : PlaysAll lives before after code

@@ -7,7 +7,7 @@ use Rattle.script_lines.specs.Marks.{Mark, Happens}
 use Rattle.command_endings.specs.declared.ending.Ending.{Ending}
 use Rattle.command_endings.specs.declared.ending.Ending.TheVariants as endings
 use Rattle.line_scribe.specs.Putting.{Putting}
-use Rattle.engine_revival.specs.declared.state.State.{State}
+use Rattle.engine_revival.specs.declared.state.RevivalState.{RevivalState}
 use Rattle.engine_revival.specs.Steps.{opening}
 use Rattle.engine_revival.specs.Script.{event_text, may_happen, state_after}
 use Rattle.revival_script.specs.Played.{ArePlayed, IsFault, revived, state_over}
@@ -15,37 +15,37 @@ use Rattle.revival_script.specs.Played.{ArePlayed, IsFault, revived, state_over}
 -- ONE LINE
 
 -- an event was played, and its text was put
-pub record IsPlayed (event : Event) (s : State) (held : Text) (s' : State) (held' : Text) : Type 0 where
+pub record IsPlayed (event : Event) (s : RevivalState) (held : Text) (s' : RevivalState) (held' : Text) : Type 0 where
   pub may_come : may_happen s event ≡ true
   pub state_is : s' ≡ state_after s event
   pub put : held' ≡ with held (event_text s event)
 
 -- nothing was done
-pub record IsSame (s : State) (held : Text) (s' : State) (held' : Text) : Type 0 where
+pub record IsSame (s : RevivalState) (held : Text) (s' : RevivalState) (held' : Text) : Type 0 where
   pub state_is : s' ≡ s
   pub put : held' ≡ held
 
 -- it is a fault, and nothing was done
-pub record IsRefused (fault ending : Ending) (s : State) (held : Text) (s' : State) (held' : Text) : Type 0 where
+pub record IsRefused (fault ending : Ending) (s : RevivalState) (held : Text) (s' : RevivalState) (held' : Text) : Type 0 where
   pub ending_is : ending ≡ fault
   pub same : IsSame s held s' held'
 
 -- An event was played if it may come, and else it is a fault.
-abbrev pub IsPlayedAs : ℕ → Event → Option Ending → State → Text → State → Text → Type 0
+abbrev pub IsPlayedAs : ℕ → Event → Option Ending → RevivalState → Text → RevivalState → Text → Type 0
 IsPlayedAs number event None s held s' held' = IsPlayed event s held s' held'
 IsPlayedAs number event (Some ending) s held s' held' =
     (may_happen s event ≡ false) × IsRefused (endings.MayNotCome number) ending s held s' held'
 
-abbrev pub Passes : Option Ending → State → Text → State → Text → Type 0
+abbrev pub Passes : Option Ending → RevivalState → Text → RevivalState → Text → Type 0
 Passes None s held s' held' = IsSame s held s' held'
 Passes (Some ending) s held s' held' = ⊥
 
-abbrev pub HasNoMark : ℕ → Option Ending → State → Text → State → Text → Type 0
+abbrev pub HasNoMark : ℕ → Option Ending → RevivalState → Text → RevivalState → Text → Type 0
 HasNoMark number None s held s' held' = ⊥
 HasNoMark number (Some ending) s held s' held' = IsRefused (endings.NoMark number) ending s held s' held'
 
 -- what was done for a line with this mark
-abbrev pub Takes : ℕ → Option Mark → Option Ending → State → Text → State → Text → Type 0
+abbrev pub Takes : ℕ → Option Mark → Option Ending → RevivalState → Text → RevivalState → Text → Type 0
 Takes number (Some (Happens event)) result s held s' held' = IsPlayedAs number event result s held s' held'
 Takes number (Some mark) result s held s' held' = Passes result s held s' held'
 Takes number None result s held s' held' = HasNoMark number result s held s' held'
@@ -53,7 +53,7 @@ Takes number None result s held s' held' = HasNoMark number result s held s' hel
 -- THE LINES IN ORDER
 
 -- these lines were played, and this is what is written for them
-pub record HasPlayed (lives : ℕ) (lines : List Piece) (s : State) (text : List ℕ) : Type 0 where
+pub record HasPlayed (lives : ℕ) (lines : List Piece) (s : RevivalState) (text : List ℕ) : Type 0 where
   pub played : ArePlayed lives lines
   pub state_is : s ≡ state_over lives lines
   pub text_is : text ≡ revived lives lines
@@ -77,7 +77,7 @@ Says lives lines endings.TooLong text = Closes lives lines text
 Says lives lines ending text = ⊥
 
 -- what a reviver puts that has played nothing, whatever number of lives may be begun
-abbrev pub revives : Putting State
+abbrev pub revives : Putting RevivalState
 revives = record {
   put = λ s0 lines s text. (lives : ℕ) → s0 ≡ opening lives → HasPlayed lives lines s text;
   says = λ s0 lines ending text. (lives : ℕ) → s0 ≡ opening lives → Says lives lines ending text;

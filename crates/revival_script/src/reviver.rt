@@ -23,9 +23,9 @@ pub struct Reviver {
 }
 
 impl Model for Reviver {
-    ghost use Rattle.engine_revival.specs.declared.state.State.{State};
+    ghost use Rattle.engine_revival.specs.declared.state.RevivalState.{RevivalState};
 
-    ghost Value = { State };
+    ghost Value = { RevivalState };
 
     ghost view = { λ r. r.revival.state };
 }

@@ -1,7 +1,7 @@
 -- What the words of the reviver ask for.
 use Rattle.std.specs.Prelude.{◌≡◌, ℕ, ◌+◌, Bool, true, false, ◌&&◌, nat_le, drop, string_bytes, List, [], ◌∷◌, map}
 use Rattle.program_words.specs.Words as engine_words
-use Rattle.reviver_app.specs.declared.words.Request.{Request}
+use Rattle.reviver_app.specs.declared.words.ReviverRequest.{ReviverRequest}
 
 -- a number of one digit, as a word
 abbrev pub digit_of : ℕ → List ℕ
@@ -23,5 +23,5 @@ pub record AreTaken (words : List (List ℕ)) : Type 0 where
   pub rest : engine_words.AreTaken (drop 1 words)
 
 -- the first word is the number of lives, the second the log's name, and the others are the engine's program and its arguments
-pub record IsAsked (words : List (List ℕ)) (request : Request) : Type 0 where
+pub record IsAsked (words : List (List ℕ)) (request : ReviverRequest) : Type 0 where
   pub words_are : words ≡ digit_of request.lives ∷ string_bytes request.log_name ∷ map string_bytes request.engine.items

@@ -5,4 +5,4 @@ mod main_call;
 mod words;
 
 pub use main_call::{refuse_for_memory, revive_main};
-pub use words::{Request, read_words};
+pub use words::{ReviverRequest, read_words};

@@ -1,17 +1,18 @@
 // The program over any host.
-ghost use Rattle.std.specs.Prelude.{◌≡◌, true, IfSome};
+ghost use Rattle.std.specs.Prelude.{◌≡◌, drop, true, IfSome};
 ghost use Rattle.child_engine.specs.Hosts.{IsUnused};
 ghost use Rattle.host_run.specs.Endings.{code_of, diagnostic};
+ghost use Rattle.host_run.specs.Asked.{AsksByWords};
 ghost use Rattle.host_run.specs.Outside.{outside};
 ghost use Rattle.host_run.specs.Program.{Answers, Ends, IsToldTo, StatusSays};
-ghost use Rattle.host_run.specs.declared.ending.Ending.TheVariants as endings;
+ghost use Rattle.host_run.specs.declared.ending.ProgramEnding.TheVariants as endings;
 ghost use Rattle.program_words.specs.Words.{bytes_of};
 ghost use Rattle.reviver_app.specs.Program.{program, LeavesFor, RunsWhole};
 ghost use Rattle.reviver_app.specs.Words.{AreTaken};
 
-use crate::{Request, read_words};
+use crate::{ReviverRequest, read_words};
 use child_engine::{Host, LetGo};
-use host_run::{Ending, tell};
+use host_run::{ProgramEnding, tell};
 use line_io::{Sink, Source, Status};
 use reviver_runner::revive_run;
 use std::alloc::Global;
@@ -26,27 +27,30 @@ fn end_of<I: Source + Send, O: Sink + Send, H: Host + Send, R: Threads + Wait + 
     input: &mut I,
     output: &mut O,
     host: &mut H,
-) -> Ending
+) -> ProgramEnding
 where
-    H::Src: Drop,
-    H::Snk: LetGo + Drop,
-    H::Kid: Drop + Send,
+    H::EngineSource: Drop,
+    H::EngineSink: LetGo + Drop,
+    H::ChildProcess: Drop + Send,
     requires { IsUnused (H.books host.old) }
-    ensures { Ends (AreTaken (bytes_of words.now)) (LeavesFor (bytes_of words.now)
+    ensures ends { Ends (AreTaken (bytes_of words.now)) (LeavesFor (bytes_of words.now)
         (outside (I.state input.old) (O.state output.old) (H.faults host.old) (H.books host.old))
         (outside (I.state input.new) (O.state output.new) (H.faults host.new) (H.books host.new)))
         (outside (I.state input.old) (O.state output.old) (H.faults host.old) (H.books host.old))
         (outside (I.state input.new) (O.state output.new) (H.faults host.new) (H.books host.new))
         result }
+    ensures asked { AsksByWords (drop 1 (bytes_of words.now))
+        (H.asked host.old) (H.asked host.new)
+        (H.faults host.old) (H.faults host.new) (H.books host.new) }
 {
     match read_words(alloc, words) {
         Ok(request) => {
-            let Request {
+            let ReviverRequest {
                 lives,
                 log_name,
                 engine,
             } = request;
-            Ending::of(revive_run(
+            ProgramEnding::of(revive_run(
                 rt,
                 alloc,
                 lives,
@@ -57,7 +61,7 @@ where
                 host,
             ))
         }
-        Err(refusal) => Ending::from(refusal),
+        Err(refusal) => ProgramEnding::from(refusal),
     }
 }
 
@@ -67,9 +71,9 @@ pub fn refuse_for_memory<D: Sink>(diag: &mut D) -> Status
     ensures told { IsToldTo (D.state diag.old) (D.state diag.new)
         (diagnostic program endings.NoMemory) }
 {
-    tell(b"reviver", Ending::NoMemory, diag);
+    tell(b"reviver", ProgramEnding::NoMemory, diag);
     Status {
-        code: Ending::NoMemory.code(),
+        code: ProgramEnding::NoMemory.code(),
     }
 }
 
@@ -93,9 +97,9 @@ pub fn revive_main<
     diag: &mut D,
 ) -> Status
 where
-    H::Src: Drop,
-    H::Snk: LetGo + Drop,
-    H::Kid: Drop + Send,
+    H::EngineSource: Drop,
+    H::EngineSink: LetGo + Drop,
+    H::ChildProcess: Drop + Send,
     requires { IsUnused (H.books host.old) }
     ensures answers { Answers program (AreTaken (bytes_of words.now)) (LeavesFor (bytes_of words.now)
         (outside (I.state input.old) (O.state output.old) (H.faults host.old) (H.books host.old))
@@ -111,6 +115,9 @@ where
         → IfSome (H.books host.old).says (λ bytes. RunsWhole (bytes_of words.now) bytes
         (outside (I.state input.old) (O.state output.old) (H.faults host.old) (H.books host.old))
         (outside (I.state input.new) (O.state output.new) (H.faults host.new) (H.books host.new))) }
+    ensures asked { AsksByWords (drop 1 (bytes_of words.now))
+        (H.asked host.old) (H.asked host.new)
+        (H.faults host.old) (H.faults host.new) (H.books host.new) }
 {
     let ending = end_of(rt, alloc, words, input, output, host);
     tell(b"reviver", ending, diag);

@@ -1,15 +1,15 @@
 // What the words ask for.
 ghost use Rattle.std.specs.Prelude.{◌≡◌, ◌<◌, ◌≤◌, length, Err, None, IfOk, OnOk, IfSome, true, false};
 ghost use Rattle.program_words.specs.Words.{bytes_of};
-ghost use Rattle.program_words.specs.declared.refusal.Refusal.TheVariants as refusals;
+ghost use Rattle.program_words.specs.declared.refusal.WordsRefusal.TheVariants as refusals;
 ghost use Rattle.reviver_app.specs.Words.{digit_of, is_digit, AreTaken, IsAsked};
 
-use program_words::{EngineRequest, Refusal};
+use program_words::{EngineRequest, WordsRefusal};
 use std::alloc::Global;
 
 /// What the words ask for.
 #[derive(Drop)]
-pub struct Request {
+pub struct ReviverRequest {
     /// How many lives may be begun at most.
     pub lives: u32,
     pub log_name: String,
@@ -38,7 +38,7 @@ fn digit_in(word: &[u8]) -> Option<u32>
 
 /// Reads the words: how many lives may be begun at most, the name of the log, the engine's program
 /// and its arguments. No word is an option: each may begin with a dash.
-pub fn read_words(alloc: Global, words: &[Vec<u8>]) -> Result<Request, Refusal>
+pub fn read_words(alloc: Global, words: &[Vec<u8>]) -> Result<ReviverRequest, WordsRefusal>
     ensures taken { OnOk result (AreTaken (bytes_of words.now)) }
     ensures asked { IfOk result (IsAsked (bytes_of words.now)) }
     ensures some { IfOk result (λ request. 1 ≤ request.lives) }
@@ -47,13 +47,13 @@ pub fn read_words(alloc: Global, words: &[Vec<u8>]) -> Result<Request, Refusal>
     ensures usage { result ≡ Err refusals.Usage → ¬ (AreTaken (bytes_of words.now)) }
 {
     let [digit, rest @ ..] = words else {
-        return Err(Refusal::Usage);
+        return Err(WordsRefusal::Usage);
     };
     let Some(lives) = digit_in(digit.as_slice()) else {
-        return Err(Refusal::Usage);
+        return Err(WordsRefusal::Usage);
     };
     let EngineRequest { log_name, engine } = program_words::read_words(alloc, rest)?;
-    Ok(Request {
+    Ok(ReviverRequest {
         lives,
         log_name,
         engine,

@@ -2,7 +2,7 @@
 use Rattle.std.proofs.Common.{◌≡◌, ◌∙◌, ℕ, ◌+◌, List, [], ◌∷◌, ◌++◌, length, refl, sym, ap, arith, append_assoc, append-nil}
 use Rattle.line_io.specs.Source.{Supplied, Received}
 use Rattle.child_engine.specs.Hosts.{Books, Told, told_by, with_closed_run}
-use Rattle.reviver_runner.specs.declared.lives.Run.{Run}
+use Rattle.reviver_runner.specs.declared.lives.LifeRun.{LifeRun}
 use Rattle.reviver_runner.specs.Closing.{HasClosed, told_of_runs}
 
 length_last : {T : Type 0} (xs : List T) (x : T) → length (xs ++ x ∷ []) ≡ length xs + 1
@@ -18,15 +18,15 @@ closed_count b b' source sink x xs ys e h c =
     omega (arith, runs, out, more, c)
 
 -- what the host is told of the next one
-pub closed_told : {S K : Type 0} (source : S → Supplied) (sink : K → Received) (b b' : Books) (xs ys : List (Run S K)) (x : Run S K)
+pub closed_told : {S K : Type 0} (source : S → Supplied) (sink : K → Received) (b b' : Books) (xs ys : List (LifeRun S K)) (x : LifeRun S K)
     → b' ≡ with_closed_run b (source x.src) (sink x.snk) → xs ≡ x ∷ ys → b'.runs ++ told_of_runs source sink ys ≡ b.runs ++ told_of_runs source sink xs
 closed_told source sink b b' xs ys x e h =
     ap (λ (y : Books). y.runs ++ told_of_runs source sink ys) e
     ∙ append_assoc b.runs (told_by (source x.src) (sink x.snk) ∷ []) (told_of_runs source sink ys)
-    ∙ ap (λ (l : List (Run _ _)). b.runs ++ told_of_runs source sink l) (sym h)
+    ∙ ap (λ (l : List (LifeRun _ _)). b.runs ++ told_of_runs source sink l) (sym h)
 
-pub none_told : {S K : Type 0} (source : S → Supplied) (sink : K → Received) (told told' : List Told) (xs : List (Run S K)) → xs ≡ [] → told ++ told_of_runs source sink xs ≡ told' → told ≡ told'
-none_told source sink told told' xs e h = sym (append-nil told) ∙ ap (λ (l : List (Run _ _)). told ++ told_of_runs source sink l) (sym e) ∙ h
+pub none_told : {S K : Type 0} (source : S → Supplied) (sink : K → Received) (told told' : List Told) (xs : List (LifeRun S K)) → xs ≡ [] → told ++ told_of_runs source sink xs ≡ told' → told ≡ told'
+none_told source sink told told' xs e h = sym (append-nil told) ∙ ap (λ (l : List (LifeRun _ _)). told ++ told_of_runs source sink l) (sym e) ∙ h
 
 pub all_closed : {T : Type 0} (m n : ℕ) (xs : List T) → xs ≡ [] → m + length xs ≡ n → m ≡ n
 all_closed m n xs e h = let none = ap (λ (l : List _). length l) e in omega (arith, none, h)

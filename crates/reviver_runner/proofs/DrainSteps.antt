@@ -6,9 +6,9 @@ use Rattle.std.proofs.lemmas.List.Folds.{list_any-append}
 use Rattle.line_io.specs.Event.{Event, Iface, IfaceLong, IfaceEnd}
 use Rattle.line_io.specs.Source.{Received}
 use Rattle.cecp_lines.specs.Quit.{is_quit}
-use Rattle.uci_lines.specs.Orders.{Order as AnyOrder}
-use Rattle.uci_lines.specs.OrderReading.{order_in}
-use Rattle.engine_revival.specs.declared.state.State.{State}
+use Rattle.engine_revival.specs.Orders.{RevivalOrder as AnyOrder}
+use Rattle.engine_revival.specs.Asked.{asked}
+use Rattle.engine_revival.specs.declared.state.RevivalState.{RevivalState}
 use Rattle.engine_revival.specs.declared.words.DialogueState.{DialogueState}
 use Rattle.engine_revival.specs.declared.words.LifeState.{LifeState}
 use Rattle.engine_revival.specs.declared.words.LifeState.TheVariants as life
@@ -33,7 +33,7 @@ order_heard e h = cc
 open_still : (l : LifeState) → l ≡ life.Over → not (is_ended l) ≡ true
 open_still l h = ap (λ (x : LifeState). not (is_ended x)) h
 
-pub may_order : (s : State) (e : Event) → s.life ≡ life.Over → is_order e ≡ true → may_happen s e ≡ true
+pub may_order : (s : RevivalState) (e : Event) → s.life ≡ life.Over → is_order e ≡ true → may_happen s e ≡ true
 may_order s (Iface line) a h = open_still s.life a
 may_order s IfaceEnd a h = open_still s.life a
 may_order s e a h = cc
@@ -52,43 +52,43 @@ once_over : (up : Option DialogueState) (order : AnyOrder) → accepted_at_once 
 once_over None order = refl
 once_over (Some up) order = refl
 
-read_over : (s : State) (order : Option AnyOrder) → s.life ≡ life.Over → read_at_once s order ≡ []
+read_over : (s : RevivalState) (order : Option AnyOrder) → s.life ≡ life.Over → read_at_once s order ≡ []
 read_over s None h = refl
 read_over s (Some order) h = ap (λ (l : LifeState). accepted_at_once (accepted s order) l order) h ∙ once_over (accepted s order) order
 
-at_once_over : (s : State) (line : List ℕ) → s.life ≡ life.Over → at_once s line ≡ []
-at_once_over s line h = either_none (is_quit line) _ _ (ap (λ (l : LifeState). quit_to s.quit l) h ∙ quit_to_over s.quit) (read_over s (order_in line) h)
+at_once_over : (s : RevivalState) (line : List ℕ) → s.life ≡ life.Over → at_once s line ≡ []
+at_once_over s line h = either_none (is_quit line) _ _ (ap (λ (l : LifeState). quit_to s.quit l) h ∙ quit_to_over s.quit) (read_over s (asked line) h)
 
-settled_none : (s : State) → s.life ≡ life.Over → settled_orders s ≡ []
+settled_none : (s : RevivalState) → s.life ≡ life.Over → settled_orders s ≡ []
 settled_none s h = ap (λ (l : LifeState). due_orders (due_to l s.quit s.upper) s.unsent s.search) h
 
-accepting_over : (up : Option DialogueState) (s : State) (order : AnyOrder) → s.life ≡ life.Over → (accepting up s order).life ≡ life.Over
+accepting_over : (up : Option DialogueState) (s : RevivalState) (order : AnyOrder) → s.life ≡ life.Over → (accepting up s order).life ≡ life.Over
 accepting_over None s order h = h
 accepting_over (Some up) s order h = ap (λ (l : LifeState). after_at_once l order) h
 
-reading_over : (s : State) (order : Option AnyOrder) → s.life ≡ life.Over → (reading s order).life ≡ life.Over
+reading_over : (s : RevivalState) (order : Option AnyOrder) → s.life ≡ life.Over → (reading s order).life ≡ life.Over
 reading_over s None h = h
 reading_over s (Some order) h = accepting_over (accepted s order) s order h
 
-either_over : (b : Bool) (s t : State) → s.life ≡ life.Over → t.life ≡ life.Over → (cond b s t).life ≡ life.Over
+either_over : (b : Bool) (s t : RevivalState) → s.life ≡ life.Over → t.life ≡ life.Over → (cond b s t).life ≡ life.Over
 either_over true s t h k = h
 either_over false s t h k = k
 
-ordering_over : (s : State) (line : List ℕ) → s.life ≡ life.Over → (ordering s line).life ≡ life.Over
-ordering_over s line h = either_over (is_quit line) (with_quit s) (reading s (order_in line)) h (reading_over s (order_in line) h)
+ordering_over : (s : RevivalState) (line : List ℕ) → s.life ≡ life.Over → (ordering s line).life ≡ life.Over
+ordering_over s line h = either_over (is_quit line) (with_quit s) (reading s (asked line)) h (reading_over s (asked line) h)
 
-order_child : (s : State) (line : List ℕ) → s.life ≡ life.Over → child_of s (Order line) ≡ []
+order_child : (s : RevivalState) (line : List ℕ) → s.life ≡ life.Over → child_of s (Order line) ≡ []
 order_child s line h = ap batch_text (ap (λ (l : List AnyOrder). l ++ settled_orders (ordering s line)) (at_once_over s line h) ∙ settled_none (ordering s line) (ordering_over s line h))
 
-order_over : (s : State) (line : List ℕ) → s.life ≡ life.Over → (after s (Order line)).life ≡ life.Over
+order_over : (s : RevivalState) (line : List ℕ) → s.life ≡ life.Over → (after s (Order line)).life ≡ life.Over
 order_over s line h = settled_over (ordering s line) (ordering_over s line h)
 
-event_child_over : (s : State) (e : Event) → is_order e ≡ true → s.life ≡ life.Over → event_child s e ≡ []
+event_child_over : (s : RevivalState) (e : Event) → is_order e ≡ true → s.life ≡ life.Over → event_child s e ≡ []
 event_child_over s (Iface line) o h = order_child s line h
 event_child_over s IfaceEnd o h = order_child s (codes "quit") h
 event_child_over s e o h = cc
 
-event_over : (s : State) (e : Event) → is_order e ≡ true → s.life ≡ life.Over → (state_after s e).life ≡ life.Over
+event_over : (s : RevivalState) (e : Event) → is_order e ≡ true → s.life ≡ life.Over → (state_after s e).life ≡ life.Over
 event_over s (Iface line) o h = order_over s line h
 event_over s IfaceEnd o h = order_over s (codes "quit") h
 event_over s e o h = cc
@@ -110,14 +110,14 @@ order_ends (Iface line) h = refl
 order_ends IfaceEnd h = refl
 order_ends e h = cc
 
-pub drained_order : (s s' : State) (taken taken' : List Event) (e : Event) (o o' l l' : Received) (f g : LoopEnd) → is_order e ≡ true → s.life ≡ life.Over → taken' ≡ taken ++ e ∷ [] → s' ≡ state_after s e
+pub drained_order : (s s' : RevivalState) (taken taken' : List Event) (e : Event) (o o' l l' : Received) (f g : LoopEnd) → is_order e ≡ true → s.life ≡ life.Over → taken' ≡ taken ++ e ∷ [] → s' ≡ state_after s e
     → Offered f.output g.output o o' (event_up s e) → Offered f.log g.log l l' (event_text s e) → Drained s s' taken taken' o o' l l' f g
 drained_order s s' taken taken' e o o' l l' f g h over t z u v =
     record {
       events = e ∷ [];
       played = up_one s s' e o o' l l' f g (may_order s e over h) z u v;
-      over = ap (λ (x : State). x.life) z ∙ event_over s e h over;
-      begun = ap (λ (x : State). x.begun) z ∙ (event_stays s e (order_heard e h)).begun;
+      over = ap (λ (x : RevivalState). x.life) z ∙ event_over s e h over;
+      begun = ap (λ (x : RevivalState). x.begun) z ∙ (event_stays s e (order_heard e h)).begun;
       open_ended = order_open e h;
       unwritten = append-nil (event_child s e) ∙ event_child_over s e h over;
       got = e ∷ [];
@@ -126,7 +126,7 @@ drained_order s s' taken taken' e o o' l l' f g h over t z u v =
       ends = order_ends e h;
     }
 
-pub drained_passed : (s : State) (taken taken' : List Event) (o l : Received) (f : LoopEnd) → s.life ≡ life.Over → taken' ≡ taken ++ IfaceLong ∷ [] → Drained s s taken taken' o o l l f f
+pub drained_passed : (s : RevivalState) (taken taken' : List Event) (o l : Received) (f : LoopEnd) → s.life ≡ life.Over → taken' ≡ taken ++ IfaceLong ∷ [] → Drained s s taken taken' o o l l f f
 drained_passed s taken taken' o l f over t =
     record {
       events = [];
@@ -141,7 +141,7 @@ drained_passed s taken taken' o l f over t =
       ends = refl;
     }
 
-pub drained_none : (s : State) (taken : List Event) (o l : Received) (f : LoopEnd) → s.life ≡ life.Over → Drained s s taken taken o o l l f f
+pub drained_none : (s : RevivalState) (taken : List Event) (o l : Received) (f : LoopEnd) → s.life ≡ life.Over → Drained s s taken taken o o l l f f
 drained_none s taken o l f over =
     record {
       events = [];
@@ -156,7 +156,7 @@ drained_none s taken o l f over =
       ends = refl;
     }
 
-pub drained_both : (s s' s'' : State) (taken taken' taken'' : List Event) (o o' o'' l l' l'' : Received) (f g h : LoopEnd) → Drained s s' taken taken' o o' l l' f g → Drained s' s'' taken' taken'' o' o'' l' l'' g h
+pub drained_both : (s s' s'' : RevivalState) (taken taken' taken'' : List Event) (o o' o'' l l' l'' : Received) (f g h : LoopEnd) → Drained s s' taken taken' o o' l l' f g → Drained s' s'' taken' taken'' o' o'' l' l'' g h
     → Drained s s'' taken taken'' o o'' l l'' f h
 drained_both s s' s'' taken taken' taken'' o o' o'' l l' l'' f g h x y =
     record {
@@ -167,7 +167,7 @@ drained_both s s' s'' taken taken' taken'' o o' o'' l l' l'' f g h x y =
       open_ended = list_any-append is_close x.events y.events ∙ ap (λ (b : Bool). b || has_close y.events) x.open_ended ∙ y.open_ended;
       unwritten =
           child_append s x.events y.events ∙ ap (λ (t : List ℕ). t ++ lines_to_child (state_behind s x.events) y.events) x.unwritten
-          ∙ ap (λ (z : State). lines_to_child z y.events) (sym x.played.state_is) ∙ y.unwritten;
+          ∙ ap (λ (z : RevivalState). lines_to_child z y.events) (sym x.played.state_is) ∙ y.unwritten;
       got = x.got ++ y.got;
       taken_is = y.taken_is ∙ ap (λ (t : List Event). t ++ y.got) x.taken_is ∙ append_assoc taken x.got y.got;
       got_are = map-append as_long x.events y.events ∙ ap (λ (t : List Event). t ++ map as_long y.events) x.got_are ∙ ap (λ (t : List Event). told_of x.got ++ t) y.got_are ∙ sym (filter-append is_told x.got y.got);

@@ -6,16 +6,17 @@ use Rattle.line_io.specs.Lines.{Piece, Whole, TooLong, items}
 use Rattle.line_io.specs.Runs.{whole}
 use Rattle.line_io.specs.Source.{Supplied, Received}
 use Rattle.cecp_lines.specs.Quit.{is_quit}
-use Rattle.uci_lines.specs.Orders.{Order as AnyOrder}
-use Rattle.uci_lines.specs.Orders as orders
-use Rattle.uci_lines.specs.OrderReading.{order_in}
-use Rattle.engine_revival.specs.declared.state.State.{State}
+use Rattle.engine_revival.specs.Orders.{RevivalOrder as AnyOrder}
+use Rattle.engine_revival.specs.Orders as orders
+use Rattle.engine_revival.specs.Asked.{asked}
+use Rattle.engine_revival.specs.declared.state.RevivalState.{RevivalState}
 use Rattle.engine_revival.specs.declared.words.DialogueState.{DialogueState}
 use Rattle.engine_revival.specs.Dialogue.{said_in}
 use Rattle.engine_revival.specs.Lists.{can_join}
 use Rattle.engine_revival.specs.Steps.{opening, ending, beginning, closing, may_begin, keeping, with_value, with_button, accepting, accepted, reading, ordering, with_quit, hearing, settled}
 use Rattle.engine_revival.specs.Calls.{Begin, Over, after}
 use Rattle.engine_revival.specs.Script.{state_after, state_behind}
+use Rattle.engine_revival.proofs.Talks.{always_lawful}
 use Rattle.event_pipe.specs.declared.message.Peer.TheVariants as peers
 use Rattle.event_pipe.specs.declared.reader.ReadEnd.{ReadEnd}
 use Rattle.event_pipe.specs.declared.reader.ReadEnd.TheVariants as read_ends
@@ -143,25 +144,24 @@ ended_told (x ∷ es) = ended_told es
 
 -- THE LAST ORDER IS THE QUIT
 
-value_quit : (b : Bool) (s : State) (order : AnyOrder) → (with_value b s order).quit ≡ s.quit
+value_quit : (b : Bool) (s : RevivalState) (order : AnyOrder) → (with_value b s order).quit ≡ s.quit
 value_quit true s order = refl
 value_quit false s order = refl
 
-button_quit : (b : Bool) (s : State) (order : AnyOrder) → (with_button b s order).quit ≡ s.quit
+button_quit : (b : Bool) (s : RevivalState) (order : AnyOrder) → (with_button b s order).quit ≡ s.quit
 button_quit true s order = refl
 button_quit false s order = refl
 
-keeping_quit : (s : State) (order : AnyOrder) → (keeping s order).quit ≡ s.quit
-keeping_quit s (orders.SetOption name (Some value)) =
-    value_quit (can_join s.kept (orders.SetOption name (Some value)) && can_join s.unsent (orders.SetOption name (Some value))) s (orders.SetOption name (Some value))
-keeping_quit s (orders.SetOption name None) = button_quit (can_join s.unsent (orders.SetOption name None)) s (orders.SetOption name None)
+keeping_quit : (s : RevivalState) (order : AnyOrder) → (keeping s order).quit ≡ s.quit
+keeping_quit s (orders.Value name line) = value_quit (can_join s.kept (orders.Value name line) && can_join s.unsent (orders.Value name line)) s (orders.Value name line)
+keeping_quit s (orders.Button name line) = button_quit (can_join s.unsent (orders.Button name line)) s (orders.Button name line)
 keeping_quit s order = refl
 
-accepting_quit : (up : Option DialogueState) (s : State) (order : AnyOrder) → (accepting up s order).quit ≡ s.quit
+accepting_quit : (up : Option DialogueState) (s : RevivalState) (order : AnyOrder) → (accepting up s order).quit ≡ s.quit
 accepting_quit None s order = refl
 accepting_quit (Some up) s order = keeping_quit s order
 
-reading_quit : (s : State) (order : Option AnyOrder) → (reading s order).quit ≡ s.quit
+reading_quit : (s : RevivalState) (order : Option AnyOrder) → (reading s order).quit ≡ s.quit
 reading_quit s None = refl
 reading_quit s (Some order) = accepting_quit (accepted s order) s order
 
@@ -169,28 +169,28 @@ or_assoc : (a b c : Bool) → ((a || b) || c) ≡ (a || (b || c))
 or_assoc true b c = refl
 or_assoc false b c = refl
 
-either_quit : (b : Bool) (s t : State) → t.quit ≡ s.quit → (cond b (with_quit s) t).quit ≡ (s.quit || (b || false))
+either_quit : (b : Bool) (s t : RevivalState) → t.quit ≡ s.quit → (cond b (with_quit s) t).quit ≡ (s.quit || (b || false))
 either_quit true s t h = sym (or-true s.quit)
 either_quit false s t h = h ∙ sym (or-false s.quit)
 
-order_quit : (s : State) (line : List ℕ) → (settled (ordering s line)).quit ≡ (s.quit || (is_quit line || false))
-order_quit s line = settled_quit (ordering s line) ∙ either_quit (is_quit line) s (reading s (order_in line)) (reading_quit s (order_in line))
+order_quit : (s : RevivalState) (line : List ℕ) → (settled (ordering s line)).quit ≡ (s.quit || (is_quit line || false))
+order_quit s line = settled_quit (ordering s line) ∙ either_quit (is_quit line) s (reading s (asked line)) (reading_quit s (asked line))
 
-over_quit : (s : State) → (after s Over).quit ≡ (s.quit || false)
+over_quit : (s : RevivalState) → (after s Over).quit ≡ (s.quit || false)
 over_quit s = settled_quit (closing s) ∙ sym (or-false s.quit)
 
-next_quit : (b : Bool) (s : State) → (after (ending s) (cond b Begin Over)).quit ≡ (s.quit || false)
+next_quit : (b : Bool) (s : RevivalState) → (after (ending s) (cond b Begin Over)).quit ≡ (s.quit || false)
 next_quit true s = settled_quit (beginning (ending s)) ∙ sym (or-false s.quit)
 next_quit false s = settled_quit (closing (ending s)) ∙ sym (or-false s.quit)
 
-event_quit : (s : State) (e : Event) → (state_after s e).quit ≡ (s.quit || ended (of 1 (e ∷ [])))
+event_quit : (s : RevivalState) (e : Event) → (state_after s e).quit ≡ (s.quit || ended (of 1 (e ∷ [])))
 event_quit s (Iface line) = order_quit s line
 event_quit s IfaceEnd = order_quit s (codes "quit")
 event_quit s (Engine line) = settled_quit (hearing s (said_in line)) ∙ sym (or-false s.quit)
 event_quit s EngineLong = next_quit (may_begin s) s
 event_quit s e = over_quit s
 
-quit_behind : (s : State) (es : List Event) → (state_behind s es).quit ≡ (s.quit || ended (of 1 es))
+quit_behind : (s : RevivalState) (es : List Event) → (state_behind s es).quit ≡ (s.quit || ended (of 1 es))
 quit_behind s [] = sym (or-false s.quit)
 quit_behind s (e ∷ es) =
     quit_behind (state_after s e) es ∙ ap (λ (b : Bool). b || ended (of 1 es)) (event_quit s e) ∙ or_assoc s.quit (ended (of 1 (e ∷ []))) (ended (of 1 es))
@@ -198,7 +198,7 @@ quit_behind s (e ∷ es) =
 
 -- BOTH SIDES HAVE ENDED
 
-module _ (number : ℕ) (says : Option (List ℕ)) (tells : Bool) (s : State) (sent sent_up taken : List Event) (lives : List Life) (refused : Bool) (o o' l l' : Received) (f f' : LoopEnd)
+module _ (number : ℕ) (says : Option (List ℕ)) (tells : Bool) (s : RevivalState) (sent sent_up taken : List Event) (lives : List Life) (refused : Bool) (o o' l l' : Received) (f f' : LoopEnd)
     (lived : Lived says tells (opening number) s sent taken lives [] refused o o' l l' f f') (up : Came peers.Iface taken sent_up) (engine : Came peers.Engine taken sent) (some : 1 ≤ length lives) (quit : s.quit ≡ true) where
   last : (ls : List Life) → 1 ≤ length ls → ends_long (life_events ls) ≡ true
   last [] h = absurd (omega (arith, h))
@@ -217,7 +217,7 @@ module _ (number : ℕ) (says : Option (List ℕ)) (tells : Bool) (s : State) (s
   told_up = sym (iface_marks lived.events) ∙ ap (λ (x : List Event). of 1 x) lived.taken_are ∙ iface_told taken
 
   over : ended (of 1 taken) ≡ true
-  over = sym (ended_told (of 1 taken)) ∙ ap ended (sym told_up) ∙ sym (quit_behind (opening number) lived.events) ∙ ap (λ (x : State). x.quit) (sym lived.played.state_is) ∙ quit
+  over = sym (ended_told (of 1 taken)) ∙ ap ended (sym told_up) ∙ sym (quit_behind (opening number) lived.events) ∙ ap (λ (x : RevivalState). x.quit) (sym lived.played.state_is) ∙ quit
 
   pub orders_are : of 1 lived.events ≡ told_of sent_up
   orders_are = told_up ∙ ap told_of (sym (up.front ∙ ap (λ (x : List Event). of 1 taken ++ x) (up.whole over) ∙ append-nil (of 1 taken)))
@@ -225,10 +225,11 @@ module _ (number : ℕ) (says : Option (List ℕ)) (tells : Bool) (s : State) (s
   pub heard : (before after : Outside) (upper : ReadEnd) → Arrived peers.Iface before.input after.input sent_up upper → s.begun ≡ length lives → Heard number before after upper lives lived.events
   heard before after upper arrived begun = record {
     may = lived.played.may;
+    lawful = always_lawful number lived.events lived.played.may;
     arrived = sent_up;
     did_arrive = arrived;
     orders = orders_are;
     marks = marks;
     texts = lived.given;
-    begun = ap (λ (x : State). x.begun) (sym lived.played.state_is) ∙ begun;
+    begun = ap (λ (x : RevivalState). x.begun) (sym lived.played.state_is) ∙ begun;
   }

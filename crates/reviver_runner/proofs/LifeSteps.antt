@@ -11,17 +11,17 @@ use Rattle.line_io.specs.Event.{Event, Open, Iface, IfaceEnd, Engine, EngineLong
 use Rattle.line_io.specs.Source.{Supplied, Received}
 use Rattle.child_engine.specs.Hosts.{Books, fresh_sink}
 use Rattle.child_engine.specs.declared.host.HostFault.{HostFault}
-use Rattle.engine_revival.specs.declared.state.State.{State}
+use Rattle.engine_revival.specs.declared.state.RevivalState.{RevivalState}
 use Rattle.engine_revival.specs.Script.{state_after, state_behind}
 use Rattle.event_pipe.specs.Arrivals.{failed}
 use Rattle.event_pipe.specs.declared.reader.ReadEnd.{ReadEnd}
 use Rattle.host_run.specs.Readers.{lacked_memory}
 use Rattle.sink_offers.specs.declared.offering.LoopEnd.{LoopEnd}
 use Rattle.sink_offers.specs.Streams.{Sinks, Offered}
-use Rattle.reviver_runner.specs.declared.lives.Run.{Run}
-use Rattle.reviver_runner.specs.declared.lives.Tally.{Tally}
-use Rattle.reviver_runner.specs.declared.turns.Next.{Next}
-use Rattle.reviver_runner.specs.declared.turns.Next.TheVariants as nexts
+use Rattle.reviver_runner.specs.declared.lives.LifeRun.{LifeRun}
+use Rattle.reviver_runner.specs.declared.lives.LivesTally.{LivesTally}
+use Rattle.reviver_runner.specs.declared.turns.NextLife.{NextLife}
+use Rattle.reviver_runner.specs.declared.turns.NextLife.TheVariants as nexts
 use Rattle.life_runner.specs.Played.{event_child, lines_to_child, heard_of, is_close, has_close, is_refusal, has_refusal, as_long, is_told, told_of, ends_in}
 use Rattle.life_runner.specs.Looped.{LoopedLife}
 use Rattle.life_runner.specs.Reading.{ReadLife, LinesOf}
@@ -32,7 +32,7 @@ use Rattle.life_runner.proofs.Appends.{offered_both, took, up_of_all, up_both}
 
 -- MORE EVENTS
 
-to_append : (to : ToLives) (s : State) (es fs : List Event) → to_lives to s (es ++ fs) ≡ to_lives (to_lives to s es) (state_behind s es) fs
+to_append : (to : ToLives) (s : RevivalState) (es fs : List Event) → to_lives to s (es ++ fs) ≡ to_lives (to_lives to s es) (state_behind s es) fs
 to_append to s [] fs = refl
 to_append to s (e ∷ es) fs = to_append (to_next (is_close e) to (event_child s e)) (state_after s e) es fs
 
@@ -74,7 +74,7 @@ ends_append (x ∷ es) fs = ends_append es fs
 more_text : (ended : List (List ℕ)) (a b c d : List ℕ) → d ≡ b ++ c → ◌≡◌ {A = ToLives} (record { ended = ended; present = (a ++ b) ++ c }) (record { ended = ended; present = a ++ d })
 more_text ended a b c d h = ap (λ (l : List ℕ). record { ended = ended; present = l }) (append_assoc a b c ∙ ap (λ (l : List ℕ). a ++ l) (sym h))
 
-one_text : (b : Bool) (to : ToLives) (s : State) (e : Event) (es : List Event) → is_close e ≡ b → b ≡ false
+one_text : (b : Bool) (to : ToLives) (s : RevivalState) (e : Event) (es : List Event) → is_close e ≡ b → b ≡ false
     → to_lives (to_next false to (event_child s e)) (state_after s e) es ≡ record { ended = to.ended; present = (to.present ++ event_child s e) ++ lines_to_child (state_after s e) es }
     → to_lives to s (e ∷ es) ≡ record { ended = to.ended; present = to.present ++ (event_child s e ++ lines_to_child (state_after s e) es) }
 one_text true to s e es h f x = cc
@@ -84,7 +84,7 @@ one_text false to s e es h f x =
 none_text : (to : ToLives) → to ≡ record { ended = to.ended; present = to.present ++ [] }
 none_text to = ap (λ (l : List ℕ). record { ended = to.ended; present = l }) (sym (append-nil to.present))
 
-pub present_text : (to : ToLives) (s : State) (es : List Event) → has_close es ≡ false → to_lives to s es ≡ record { ended = to.ended; present = to.present ++ lines_to_child s es }
+pub present_text : (to : ToLives) (s : RevivalState) (es : List Event) → has_close es ≡ false → to_lives to s es ≡ record { ended = to.ended; present = to.present ++ lines_to_child s es }
 present_text to s [] h = none_text to
 present_text to s (e ∷ es) h =
     one_text (is_close e) to s e es refl (or_parts (is_close e) (has_close es) h).0 (present_text (to_next false to (event_child s e)) (state_after s e) es (or_parts (is_close e) (has_close es) h).1)
@@ -103,24 +103,24 @@ or_false false false = refl
 any_last : (p : Life → Bool) (xs : List Life) (x : Life) → list_any p (xs ++ x ∷ []) ≡ (list_any p xs || p x)
 any_last p xs x = list_any-append p xs (x ∷ []) ∙ or_false (list_any p xs) (p x)
 
-mark_long : {S K : Type 0} (next : Next S K) → as_long (mark_of next) ≡ EngineLong
+mark_long : {S K : Type 0} (next : NextLife S K) → as_long (mark_of next) ≡ EngineLong
 mark_long (nexts.Life run) = refl
 mark_long nexts.Over = refl
 mark_long (nexts.Refused fault) = refl
 
-mark_closes : {S K : Type 0} (next : Next S K) → is_close (mark_of next) ≡ true
+mark_closes : {S K : Type 0} (next : NextLife S K) → is_close (mark_of next) ≡ true
 mark_closes (nexts.Life run) = refl
 mark_closes nexts.Over = refl
 mark_closes (nexts.Refused fault) = refl
 
-mark_refuses : {S K : Type 0} (next : Next S K) → has_refusal (mark_of next ∷ []) ≡ is_refused next
+mark_refuses : {S K : Type 0} (next : NextLife S K) → has_refusal (mark_of next ∷ []) ≡ is_refused next
 mark_refuses (nexts.Life run) = refl
 mark_refuses nexts.Over = refl
 mark_refuses (nexts.Refused fault) = refl
 
 -- WHAT WAS HEARD OF A LIFE
 
-pub got_told : {S K : Type 0} (es : List Event) (next : Next S K) → has_close es ≡ false → map as_long (heard_of es ++ mark_of next ∷ []) ≡ told_of (es ++ EngineLong ∷ [])
+pub got_told : {S K : Type 0} (es : List Event) (next : NextLife S K) → has_close es ≡ false → map as_long (heard_of es ++ mark_of next ∷ []) ≡ told_of (es ++ EngineLong ∷ [])
 got_told es next h =
     map-append as_long (heard_of es) (mark_of next ∷ []) ∙ ap (λ (l : List Event). l ++ as_long (mark_of next) ∷ []) (heard_told es h)
     ∙ ap (λ (e : Event). told_of es ++ e ∷ []) (mark_long next) ∙ sym (filter-append is_told es (EngineLong ∷ []))
@@ -128,12 +128,12 @@ got_told es next h =
 pub got_one : (es : List Event) → has_close es ≡ false → ends_in (es ++ EngineLong ∷ []) ≡ 1
 got_one es h = let none = no_ends es h in let more = ends_append es (EngineLong ∷ []) in omega (arith, none, more)
 
-next_from : {S K : Type 0} (source : S → Supplied) (sink : K → Received) (says : Option (List ℕ)) (tells : Bool) (s s' : State) (next : Next S K) (o o' l l' : Received) (f g : LoopEnd) (z : State) → s ≡ z → Ended source sink says tells s s' next o o' l l' f g
+next_from : {S K : Type 0} (source : S → Supplied) (sink : K → Received) (says : Option (List ℕ)) (tells : Bool) (s s' : RevivalState) (next : NextLife S K) (o o' l l' : Received) (f g : LoopEnd) (z : RevivalState) → s ≡ z → Ended source sink says tells s s' next o o' l l' f g
     → IsNext source sink says tells (event_child z (mark_of next)) next g.engine
-next_from source sink says tells s s' next o o' l l' f g z e x = subst (λ (y : State). IsNext source sink says tells (event_child y (mark_of next)) next g.engine) e x.next_is
+next_from source sink says tells s s' next o o' l l' f g z e x = subst (λ (y : RevivalState). IsNext source sink says tells (event_child y (mark_of next)) next g.engine) e x.next_is
 
 -- a life, and what follows of its end
-pub lives_on : {S K : Type 0} (source : S → Supplied) (sink : K → Received) (says : Option (List ℕ)) (tells : Bool) (s s1 s2 : State) (sent sent' taken taken' : List Event) (run last : Run S K) (runs runs' : List (Run S K)) (tally tally' : Tally) (next : Next S K)
+pub lives_on : {S K : Type 0} (source : S → Supplied) (sink : K → Received) (says : Option (List ℕ)) (tells : Bool) (s s1 s2 : RevivalState) (sent sent' taken taken' : List Event) (run last : LifeRun S K) (runs runs' : List (LifeRun S K)) (tally tally' : LivesTally) (next : NextLife S K)
     (b a : Sinks) (o l : Received) (f f1 f2 : LoopEnd) (end : ReadEnd) → LoopedLife s s1 taken taken' b a f f1 → Ended source sink says tells s1 s2 next a.output o a.log l f1 f2
     → ReadLife (source run.src) (source last.src) sent sent' end → runs' ≡ runs ++ last ∷ [] → b.engine ≡ sink run.snk → a.engine ≡ sink last.snk
     → tally'.engine_read ≡ (tally.engine_read || failed end) → tally'.engine_write ≡ (tally.engine_write || f1.engine) → tally'.memory ≡ (tally.memory || lacked_memory end)
@@ -164,7 +164,7 @@ lives_on source sink says tells s s1 s2 sent sent' taken taken' run last runs ru
     }
 
 -- a host's books of more runs tell as much
-pub lives_as : {S K : Type 0} (source : S → Supplied) (sink : K → Received) (b0 b : Books) (s s' : State) (sent sent' taken taken' : List Event) (run : Run S K) (runs runs' : List (Run S K)) (tally tally' : Tally) (next : Next S K) (o o' l l' : Received) (f g : LoopEnd) (n : ℕ)
+pub lives_as : {S K : Type 0} (source : S → Supplied) (sink : K → Received) (b0 b : Books) (s s' : RevivalState) (sent sent' taken taken' : List Event) (run : LifeRun S K) (runs runs' : List (LifeRun S K)) (tally tally' : LivesTally) (next : NextLife S K) (o o' l l' : Received) (f g : LoopEnd) (n : ℕ)
     → b ≡ record b0 { runs_out = n } → LivesOn source sink b.says b.tells s s' sent sent' taken taken' run runs runs' tally tally' next o o' l l' f g
     → LivesOn source sink b0.says b0.tells s s' sent sent' taken taken' run runs runs' tally tally' next o o' l l' f g
 lives_as source sink b0 b s s' sent sent' taken taken' run runs runs' tally tally' next o o' l l' f g n e x =
@@ -176,8 +176,8 @@ begun_as b0 b source sink failed text n e x = subst (λ (y : Books). IsBegun y.s
 
 -- ONE MORE LIFE
 
-module _ {S K : Type 0} (source : S → Supplied) (sink : K → Received) (says : Option (List ℕ)) (tells : Bool) (s0 s s' : State) (sent sent' taken taken' : List Event) (run : Run S K) (runs runs' : List (Run S K))
-    (tally tally' : Tally) (next : Next S K) (o o' o'' l l' l'' : Received) (f0 f g : LoopEnd)
+module _ {S K : Type 0} (source : S → Supplied) (sink : K → Received) (says : Option (List ℕ)) (tells : Bool) (s0 s s' : RevivalState) (sent sent' taken taken' : List Event) (run : LifeRun S K) (runs runs' : List (LifeRun S K))
+    (tally tally' : LivesTally) (next : NextLife S K) (o o' o'' l l' l'' : Received) (f0 f g : LoopEnd)
     (goes : GoesOn source sink says tells s0 s sent taken runs run tally o o' l l' f0 f)
     (more : LivesOn source sink says tells s s' sent sent' taken taken' run runs runs' tally tally' next o' o'' l' l'' f g) where
   abbrev pub text : List ℕ
@@ -218,7 +218,7 @@ module _ {S K : Type 0} (source : S → Supplied) (sink : K → Received) (says 
   given_next =
       to_append to_none s0 so_far.events events'
       ∙ ap (λ (to : ToLives). to_lives to (state_behind s0 so_far.events) events') so_far.given
-      ∙ ap (λ (x : State). to_lives to_now x events') (sym so_far.played.state_is)
+      ∙ ap (λ (x : RevivalState). to_lives to_now x events') (sym so_far.played.state_is)
       ∙ to_append to_now s more.events (mark_of next ∷ [])
       ∙ ap (λ (to : ToLives). to_lives to (state_behind s more.events) (mark_of next ∷ [])) (present_text to_now s more.events more.unended)
       ∙ ap (λ (b : Bool). to_next b (record { ended = map (λ (x : Life). x.text) lives; present = text }) next_text) (mark_closes next)
@@ -275,11 +275,11 @@ module _ {S K : Type 0} (source : S → Supplied) (sink : K → Received) (says 
     so_far = lived_next;
   }
 
-  pub goes_next : (begun : Run S K) → next ≡ nexts.Life begun → GoesOn source sink says tells s0 s' sent' taken' runs' begun tally' o o'' l l'' f0 g
+  pub goes_next : (begun : LifeRun S K) → next ≡ nexts.Life begun → GoesOn source sink says tells s0 s' sent' taken' runs' begun tally' o o'' l l'' f0 g
   goes_next begun e = record {
     text = next_text;
     lived = subst (λ (b : Bool). HasLived source sink says tells s0 s' sent' taken' runs' tally' next_text b o o'' l l'' f0 g) (ap is_refused e) has_lived_next;
-    begun = subst (λ (n : Next S K). IsNext source sink says tells next_text n g.engine) e more.next_is;
+    begun = subst (λ (n : NextLife S K). IsNext source sink says tells next_text n g.engine) e more.next_is;
   }
 
   pub is_over : next_text ≡ [] → (refused : Bool) → is_refused next ≡ refused → HasLived source sink says tells s0 s' sent' taken' runs' tally' [] refused o o'' l l'' f0 g
@@ -288,14 +288,14 @@ module _ {S K : Type 0} (source : S → Supplied) (sink : K → Received) (says 
       (subst (λ (b : Bool). HasLived source sink says tells s0 s' sent' taken' runs' tally' next_text b o o'' l l'' f0 g) e has_lived_next)
 
   pub ends_over : next ≡ nexts.Over → HasLived source sink says tells s0 s' sent' taken' runs' tally' [] false o o'' l l'' f0 g
-  ends_over e = is_over (subst (λ (n : Next S K). IsNext source sink says tells next_text n g.engine) e more.next_is) false (ap is_refused e)
+  ends_over e = is_over (subst (λ (n : NextLife S K). IsNext source sink says tells next_text n g.engine) e more.next_is) false (ap is_refused e)
 
   pub ends_refused : (fault : HostFault) → next ≡ nexts.Refused fault → HasLived source sink says tells s0 s' sent' taken' runs' tally' [] true o o'' l l'' f0 g
-  ends_refused fault e = is_over (subst (λ (n : Next S K). IsNext source sink says tells next_text n g.engine) e more.next_is) true (ap is_refused e)
+  ends_refused fault e = is_over (subst (λ (n : NextLife S K). IsNext source sink says tells next_text n g.engine) e more.next_is) true (ap is_refused e)
 
 -- BEHIND THE LAST LIFE
 
-pub lived_drained : {S K : Type 0} (source : S → Supplied) (sink : K → Received) (says : Option (List ℕ)) (tells : Bool) (s0 s s' : State) (sent taken taken' : List Event) (runs : List (Run S K)) (tally : Tally) (refused : Bool)
+pub lived_drained : {S K : Type 0} (source : S → Supplied) (sink : K → Received) (says : Option (List ℕ)) (tells : Bool) (s0 s s' : RevivalState) (sent taken taken' : List Event) (runs : List (LifeRun S K)) (tally : LivesTally) (refused : Bool)
     (o o' o'' l l' l'' : Received) (f0 f g : LoopEnd) → HasLived source sink says tells s0 s sent taken runs tally [] refused o o' l l' f0 f → Drained s s' taken taken' o' o'' l' l'' f g
     → HasLived source sink says tells s0 s' sent taken' runs tally [] refused o o'' l l'' f0 g
 lived_drained source sink says tells s0 s s' sent taken taken' runs tally refused o o' o'' l l' l'' f0 f g x d =
@@ -310,7 +310,7 @@ lived_drained source sink says tells s0 s s' sent taken taken' runs tally refuse
         played = up_both _ _ _ _ _ _ _ _ _ _ _ _ _ _ was.played d.played;
         given =
             to_append to_none s0 was.events d.events ∙ ap (λ (t : ToLives). to_lives t (state_behind s0 was.events) d.events) was.given
-            ∙ ap (λ (z : State). to_lives to z d.events) (sym was.played.state_is) ∙ present_text to s d.events d.open_ended
+            ∙ ap (λ (z : RevivalState). to_lives to z d.events) (sym was.played.state_is) ∙ present_text to s d.events d.open_ended
             ∙ ap (λ (t : List ℕ). record { ended = map (λ (x : Life). x.text) x.lives; present = t }) d.unwritten;
         refusal =
             list_any-append is_refusal was.events d.events ∙ ap (λ (b : Bool). has_refusal was.events || b) (no_refusal d.events d.open_ended)

@@ -111,6 +111,7 @@ module _ (number : ℕ) (before after : Outside) where
       record {
         events = r.events;
         may = r.heard.may;
+        lawful = r.heard.lawful;
         unrefused = not_refused (has_refusal r.events) r.refused;
         log = r.recorded.log tells one refl;
         arrived = r.heard.arrived;

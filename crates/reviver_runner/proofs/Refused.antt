@@ -3,7 +3,7 @@ use Rattle.std.proofs.Common.{◌≡◌, ◌∙◌, ℕ, true, false, refl, sym,
 use Rattle.line_io.specs.Event.{Event, Iface, IfaceEnd, Engine, EngineLong, EngineEnd}
 use Rattle.event_pipe.specs.declared.message.Peer.TheVariants as peers
 use Rattle.event_pipe.specs.Rule.{sent_by, ended}
-use Rattle.engine_revival.specs.declared.state.State.{State}
+use Rattle.engine_revival.specs.declared.state.RevivalState.{RevivalState}
 use Rattle.engine_revival.specs.Script.{AllMayHappen, texts_from, revival_script}
 use Rattle.engine_revival.specs.Steps.{opening}
 use Rattle.host_run.proofs.Logs.{one_log, none_longer}
@@ -14,7 +14,7 @@ some_byte : {P : Type 0} (byte : ℕ) (bytes : List ℕ) → byte ∷ bytes ≡ 
 some_byte byte bytes e = cc
 
 -- the mark of an event that may come
-some_mark : (s : State) (events : List Event) → AllMayHappen s events → texts_from s events ≡ [] → events ≡ []
+some_mark : (s : RevivalState) (events : List Event) → AllMayHappen s events → texts_from s events ≡ [] → events ≡ []
 some_mark s [] may e = refl
 some_mark s (Iface line ∷ events) may e = some_byte _ _ e
 some_mark s (IfaceEnd ∷ events) may e = some_byte _ _ e

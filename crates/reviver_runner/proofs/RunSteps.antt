@@ -3,10 +3,12 @@ use Rattle.std.proofs.Common.{◌≡◌, ◌∙◌, ◌⊎◌, ℕ, suc, ◌+◌
 use mathlib.Core.Bool.{or-true}
 use Rattle.line_io.specs.Source.{Supplied, Received}
 use Rattle.event_pipe.specs.Counts.{Tells}
+use Rattle.child_engine.specs.Asked.{Asked}
 use Rattle.child_engine.specs.Hosts.{Books, Told, RisesBy, IsUnused, IsStarted, with_run, told_by}
 use Rattle.child_engine.specs.declared.host.Faults.{Faults}
 use Rattle.child_engine.specs.declared.host.HostFault.{HostFault}
 use Rattle.host_run.specs.declared.failures.Failures.{Failures}
+use Rattle.host_run.specs.Asked.{StartsEngines}
 use Rattle.host_run.specs.Early.{AreEarly, only_memory, only_start}
 use Rattle.host_run.specs.Logs.{is_failed, fresh_log}
 use Rattle.sink_offers.specs.Took.{LogTook}
@@ -14,7 +16,7 @@ use Rattle.host_run.specs.Outside.{Outside, outside, AreTold}
 use Rattle.host_run.proofs.Counts.{told_by as counts_told_by, log_told, same_told}
 use Rattle.line_io.specs.Event.{Event}
 use Rattle.child_engine.specs.declared.host.HostFault.TheVariants as faults
-use Rattle.engine_revival.specs.declared.state.State.{State}
+use Rattle.engine_revival.specs.declared.state.RevivalState.{RevivalState}
 use Rattle.host_run.specs.Logs.{is_no_memory}
 use Rattle.host_run.proofs.Early.{early_told}
 use Rattle.event_pipe.specs.Ends.{IsSender, KeepsSender, KeepsTaker, sent}
@@ -22,15 +24,15 @@ use Rattle.event_pipe.specs.Rule.{ended}
 use Rattle.event_pipe.specs.declared.pipe.PipeSend.{PipeSend}
 use Rattle.engine_revival.specs.declared.script.TheConstants.{EVENT_ROOM}
 use Rattle.sink_offers.specs.declared.offering.LoopEnd.{LoopEnd}
-use Rattle.reviver_runner.specs.declared.lives.Run.{Run}
-use Rattle.reviver_runner.specs.declared.lives.Tally.{Tally}
-use Rattle.reviver_runner.specs.declared.parts.Parts.{Parts}
-use Rattle.reviver_runner.specs.declared.turns.Next.{Next}
-use Rattle.reviver_runner.specs.declared.turns.Next.TheVariants as nexts
+use Rattle.reviver_runner.specs.declared.lives.LifeRun.{LifeRun}
+use Rattle.reviver_runner.specs.declared.lives.LivesTally.{LivesTally}
+use Rattle.reviver_runner.specs.declared.parts.ReviverParts.{ReviverParts}
+use Rattle.reviver_runner.specs.declared.turns.NextLife.{NextLife}
+use Rattle.reviver_runner.specs.declared.turns.NextLife.TheVariants as nexts
 use Rattle.reviver_runner.specs.Closing.{ClosesAll, HasClosed, told_of_runs}
 use Rattle.life_runner.specs.Looped.{PlayedUp}
 use Rattle.life_runner.specs.Played.{told_of, ends_in}
-use Rattle.reviver_runner.specs.Lives.{AreReady, AreTallied, Life, AreLives, told_of_lives, IsBegun, Tallies, HasLived, GoesOn, Continues, Hands, lives_in, none_failed}
+use Rattle.reviver_runner.specs.Lives.{AreReady, AreTallied, Life, AreLives, told_of_lives, IsBegun, Tallies, HasLived, GoesOn, Continues, Hands, is_failed_start, lives_in, none_failed}
 use Rattle.life_runner.proofs.Appends.{up_none}
 use Rattle.reviver_runner.specs.Ran.{HandsOut, HasFirst, KeepsEnds, Revived, Leaves}
 use Rattle.reviver_runner.proofs.Records.{leaves_by}
@@ -95,6 +97,7 @@ revived_from lives i o f f' b after failures x =
       events = x.events;
       heard = record {
         may = x.heard.may;
+        lawful = x.heard.lawful;
         arrived = x.heard.arrived;
         did_arrive = x.heard.did_arrive;
         orders = x.heard.orders;
@@ -203,14 +206,14 @@ log_may lives n d count b0 b1 b2 h1 h2 start e f x k =
 
 -- THE LIVES
 
-pub keeps_both : (a b c : Parts) → KeepsEnds a b → KeepsEnds b c → KeepsEnds a c
+pub keeps_both : (a b c : ReviverParts) → KeepsEnds a b → KeepsEnds b c → KeepsEnds a c
 keeps_both a b c x y = record {
   ready = y.ready;
   sender = (y.sender.0, y.sender.1 ∙ x.sender.1, y.sender.2 ∙ x.sender.2);
   taker = (y.taker.0, y.taker.1 ∙ x.taker.1);
 }
 
-pub keeps_same : (a : Parts) → AreReady a → KeepsEnds a a
+pub keeps_same : (a : ReviverParts) → AreReady a → KeepsEnds a a
 keeps_same a r = record { ready = r; sender = (r.sender, refl, refl); taker = (r.taker, refl) }
 
 pub empty : {T : Type 0} (xs : List T) (n : ℕ) → n ≡ length xs → n ≡ 0 → xs ≡ []
@@ -218,7 +221,7 @@ empty [] n e z = refl
 empty (x ∷ xs) n e z = absurd (omega (arith, e, z))
 
 -- before the first life has ended
-pub goes_first : {S K : Type 0} (source : S → Supplied) (sink : K → Received) (says : Option (List ℕ)) (tells : Bool) (s : State) (sent taken : List Event) (runs : List (Run S K)) (run : Run S K) (tally : Tally) (o l : Received) (f : LoopEnd)
+pub goes_first : {S K : Type 0} (source : S → Supplied) (sink : K → Received) (says : Option (List ℕ)) (tells : Bool) (s : RevivalState) (sent taken : List Event) (runs : List (LifeRun S K)) (run : LifeRun S K) (tally : LivesTally) (o l : Received) (f : LoopEnd)
     → sent ≡ [] → taken ≡ [] → runs ≡ [] → Tallies [] tally → IsBegun says tells (source run.src) (sink run.snk) false [] → f ≡ none_failed → GoesOn source sink says tells s s sent taken runs run tally o o l l none_failed f
 goes_first source sink says tells s sent taken runs run tally o l f e t r ts b z =
     record {
@@ -241,11 +244,15 @@ goes_first source sink says tells s sent taken runs run tally o l f e t r ts b z
       begun = subst (λ (x : LoopEnd). IsBegun says tells (source run.src) (sink run.snk) x.engine []) (sym z) b;
     }
 
-pub next_as : {S K : Type 0} (s : State) (n : ℕ) (x y : Next S K) → x ≡ y → Continues s n x → Continues s n y
-next_as s n x y e c = subst (λ (z : Next _ _). Continues s n z) e c
+pub next_as : {S K : Type 0} (s : RevivalState) (n : ℕ) (x y : NextLife S K) → x ≡ y → Continues s n x → Continues s n y
+next_as s n x y e c = subst (λ (z : NextLife _ _). Continues s n z) e c
 
-pub hands_as : {S K : Type 0} (b b' : Books) (h h' : Faults) (x y : Next S K) → x ≡ y → Hands b b' h h' x → Hands b b' h h' y
-hands_as b b' h h' x y e c = subst (λ (z : Next _ _). Hands b b' h h' z) e c
+pub hands_as : {S K : Type 0} (b b' : Books) (h h' : Faults) (x y : NextLife S K) → x ≡ y → Hands b b' h h' x → Hands b b' h h' y
+hands_as b b' h h' x y e c = subst (λ (z : NextLife _ _). Hands b b' h h' z) e c
+
+pub starts_as : {S K : Type 0} (words : List (List ℕ)) (a a' : Asked) (b b' : Books) (x y : NextLife S K) → x ≡ y → StartsEngines words a a' b b' (is_failed_start x)
+    → StartsEngines words a a' b b' (is_failed_start y)
+starts_as words a a' b b' x y e s = subst (λ (z : NextLife _ _). StartsEngines words a a' b b' (is_failed_start z)) e s
 
 -- why there was no start
 pub why_refused : (start : Option HostFault) (refused engine_start memory : Bool) → refused ≡ is_some start → refused ≡ true → engine_start ≡ is_failed start → (is_no_memory start ≡ true → memory ≡ true)
@@ -265,16 +272,16 @@ pub few_as : (d n m : ℕ) → suc d ≤ n → n ≡ m → suc d ≤ m
 few_as d n m few e = subst (λ (k : ℕ). suc d ≤ k) e few
 
 -- no life has ended
-pub none_tallied : {S K : Type 0} (source : S → Supplied) (sink : K → Received) (runs : List (Run S K)) (tally : Tally) → runs ≡ [] → tally.engine_read ≡ false → tally.engine_write ≡ false → AreTallied source sink runs tally
+pub none_tallied : {S K : Type 0} (source : S → Supplied) (sink : K → Received) (runs : List (LifeRun S K)) (tally : LivesTally) → runs ≡ [] → tally.engine_read ≡ false → tally.engine_write ≡ false → AreTallied source sink runs tally
 none_tallied source sink runs tally e r w =
-    subst (λ (l : List (Run _ _)). AreTallied source sink l tally) (sym e)
+    subst (λ (l : List (LifeRun _ _)). AreTallied source sink l tally) (sym e)
     (record {
       reads = subst (λ (b : Bool). Tells 0 0 b) (sym r) (same_told 0 0 refl);
       writes = subst (λ (b : Bool). Tells 0 0 b) (sym w) (same_told 0 0 refl);
     })
 
 -- the ends of the channel behind the last life
-pub keeps_drained : (a b c : Parts) → KeepsEnds a b → c.to ≡ b.to → KeepsTaker b.from c.from → c.text.room ≡ b.text.room → KeepsEnds a c
+pub keeps_drained : (a b c : ReviverParts) → KeepsEnds a b → c.to ≡ b.to → KeepsTaker b.from c.from → c.text.room ≡ b.text.room → KeepsEnds a c
 keeps_drained a b c k to taker room = record {
   ready = record {
     room = subst (λ (n : ℕ). EVENT_ROOM ≤ n) (sym room) k.ready.room;
@@ -292,15 +299,15 @@ length-map : {A B : Type 0} (f : A → B) (xs : List A) → length (map f xs) �
 length-map f [] = refl
 length-map f (x ∷ xs) = ap suc (length-map f xs)
 
-pub lives_count : {S K : Type 0} (source : S → Supplied) (sink : K → Received) (runs : List (Run S K)) (lives : List Life) (n : ℕ) → n ≡ length runs → told_of_runs source sink runs ≡ told_of_lives lives → n ≡ length lives
+pub lives_count : {S K : Type 0} (source : S → Supplied) (sink : K → Received) (runs : List (LifeRun S K)) (lives : List Life) (n : ℕ) → n ≡ length runs → told_of_runs source sink runs ≡ told_of_lives lives → n ≡ length lives
 lives_count source sink runs lives n e t =
-    e ∙ sym (length-map (λ (r : Run _ _). told_by (source r.src) (sink r.snk)) runs) ∙ ap length t ∙ length-map (λ (l : Life). told_by l.read l.written) lives
+    e ∙ sym (length-map (λ (r : LifeRun _ _). told_by (source r.src) (sink r.snk)) runs) ∙ ap length t ∙ length-map (λ (l : Life). told_by l.read l.written) lives
 
 -- one more is waited for, or none
-pub more_kids : {S K : Type 0} (k k' d d' : ℕ) (x : Next S K) {run : Run S K} → x ≡ nexts.Life run → k' ≡ k + lives_in x → k ≡ d + 1 → d' ≡ d + 1 → k' ≡ d' + 1
+pub more_kids : {S K : Type 0} (k k' d d' : ℕ) (x : NextLife S K) {run : LifeRun S K} → x ≡ nexts.Life run → k' ≡ k + lives_in x → k ≡ d + 1 → d' ≡ d + 1 → k' ≡ d' + 1
 more_kids k k' d d' x e more was next = let one = ap lives_in e in omega (arith, more, one, was, next)
 
-pub same_kids : {S K : Type 0} (k k' d d' : ℕ) (x : Next S K) {y : Next S K} → x ≡ y → lives_in y ≡ 0 → k' ≡ k + lives_in x → k ≡ d + 1 → d' ≡ d + 1 → k' ≡ d'
+pub same_kids : {S K : Type 0} (k k' d d' : ℕ) (x : NextLife S K) {y : NextLife S K} → x ≡ y → lives_in y ≡ 0 → k' ≡ k + lives_in x → k ≡ d + 1 → d' ≡ d + 1 → k' ≡ d'
 same_kids k k' d d' x e none more was next = let same = ap lives_in e ∙ none in omega (arith, more, same, was, next)
 
 -- there is room for one more
@@ -308,16 +315,16 @@ pub room_for : (k room room0 d lives lives0 : ℕ) → k ≡ d + 1 → room ≡ 
 room_for k room room0 d lives lives0 e f g h i j = omega (arith, e, f, g, h, i, j)
 
 -- the same of a state that is the first one
-pub lived_from : {S K : Type 0} (source : S → Supplied) (sink : K → Received) (says : Option (List ℕ)) (tells : Bool) (s0 z s : State) (sent taken : List Event) (runs : List (Run S K)) (tally : Tally) (text : List ℕ) (refused : Bool) (o o' l l' : Received) (f0 f : LoopEnd)
+pub lived_from : {S K : Type 0} (source : S → Supplied) (sink : K → Received) (says : Option (List ℕ)) (tells : Bool) (s0 z s : RevivalState) (sent taken : List Event) (runs : List (LifeRun S K)) (tally : LivesTally) (text : List ℕ) (refused : Bool) (o o' l l' : Received) (f0 f : LoopEnd)
     → s0 ≡ z → HasLived source sink says tells s0 s sent taken runs tally text refused o o' l l' f0 f → HasLived source sink says tells z s sent taken runs tally text refused o o' l l' f0 f
-lived_from source sink says tells s0 z s sent taken runs tally text refused o o' l l' f0 f e x = subst (λ (y : State). HasLived source sink says tells y s sent taken runs tally text refused o o' l l' f0 f) e x
+lived_from source sink says tells s0 z s sent taken runs tally text refused o o' l l' f0 f e x = subst (λ (y : RevivalState). HasLived source sink says tells y s sent taken runs tally text refused o o' l l' f0 f) e x
 
 -- of as many lives, seen from before the engine was started
 pub ran_as : (n m : ℕ) (i : Supplied) (o : Received) (f f' : Faults) (b b' : Books) (after : Outside) (failures : Failures) → f' ≡ f → b' ≡ with_run b → n ≡ m → Leaves n (outside i o f' b') after failures → Leaves m (outside i o f b) after failures
 ran_as n m i o f f' b b' after failures e w h x = ran_from m i o f f' b b' after failures e w (subst (λ (k : ℕ). Leaves k (outside i o f' b') after failures) h x)
 
 -- the log's books tell as much
-pub first_as : {S K : Type 0} (source : S → Supplied) (sink : K → Received) (b0 b : Books) (first : Option (Run S K)) (n : ℕ) → b ≡ record b0 { logs_out = n } → HasFirst source sink b0.says b0.tells first
+pub first_as : {S K : Type 0} (source : S → Supplied) (sink : K → Received) (b0 b : Books) (first : Option (LifeRun S K)) (n : ℕ) → b ≡ record b0 { logs_out = n } → HasFirst source sink b0.says b0.tells first
     → HasFirst source sink b.says b.tells first
 first_as source sink b0 b first n e x = subst (λ (y : Books). HasFirst source sink y.says y.tells first) (sym e) x
 

@@ -1,31 +1,31 @@
 -- What follows of a call leaves it open whether the life is over, and whether `quit` was accepted.
 use Rattle.std.proofs.Common.{◌≡◌, ◌∙◌, Bool, true, false, refl, ap}
 use Rattle.peer_words.specs.declared.kinds.GoKind.TheVariants as kinds
-use Rattle.engine_revival.specs.declared.state.State.{State}
+use Rattle.engine_revival.specs.declared.state.RevivalState.{RevivalState}
 use Rattle.engine_revival.specs.declared.words.DialogueState.{DialogueState}
 use Rattle.engine_revival.specs.declared.words.DialogueState.TheVariants as upper
 use Rattle.engine_revival.specs.declared.words.LifeState.{LifeState}
 use Rattle.engine_revival.specs.declared.words.LifeState.TheVariants as life
 use Rattle.engine_revival.specs.Steps.{due_to, after_due, answer_to, after_answer, due_of, settled}
 
-record Same (s s' : State) : Type 0 where
+record Same (s s' : RevivalState) : Type 0 where
   life : s'.life ≡ s.life
   quit : s'.quit ≡ s.quit
 
-answered : (l : LifeState) (u : DialogueState) (s : State) → Same s (after_answer (answer_to l u) s)
+answered : (l : LifeState) (u : DialogueState) (s : RevivalState) → Same s (after_answer (answer_to l u) s)
 answered life.Over (upper.Search kinds.Ponder true) s = record { life = refl; quit = refl }
 answered life.Over (upper.Search kinds.Analyse true) s = record { life = refl; quit = refl }
 answered l u s = record { life = refl; quit = refl }
 
-due_quit : (l : LifeState) (q : Bool) (u : DialogueState) (s : State) → (after_due (due_to l q u) s).quit ≡ s.quit
+due_quit : (l : LifeState) (q : Bool) (u : DialogueState) (s : RevivalState) → (after_due (due_to l q u) s).quit ≡ s.quit
 due_quit life.Idle false upper.Before s = refl
 due_quit l q u s = refl
 
-pub settled_quit : (s : State) → (settled s).quit ≡ s.quit
+pub settled_quit : (s : RevivalState) → (settled s).quit ≡ s.quit
 settled_quit s = (answered s.life s.upper (after_due (due_of s) s)).quit ∙ due_quit s.life s.quit s.upper s
 
-due_over : (s : State) → s.life ≡ life.Over → (after_due (due_of s) s).life ≡ life.Over
+due_over : (s : RevivalState) → s.life ≡ life.Over → (after_due (due_of s) s).life ≡ life.Over
 due_over s h = ap (λ (l : LifeState). (after_due (due_to l s.quit s.upper) s).life) h ∙ h
 
-pub settled_over : (s : State) → s.life ≡ life.Over → (settled s).life ≡ life.Over
+pub settled_over : (s : RevivalState) → s.life ≡ life.Over → (settled s).life ≡ life.Over
 settled_over s h = (answered s.life s.upper (after_due (due_of s) s)).life ∙ due_over s h

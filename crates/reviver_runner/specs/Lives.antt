@@ -11,7 +11,7 @@ use Rattle.event_pipe.specs.Ends.{IsSender, IsTaker, sent}
 use Rattle.event_pipe.specs.Rule.{ended}
 use Rattle.child_engine.specs.Hosts.{Books, Told, fresh_source, fresh_sink, told_by, with_run}
 use Rattle.child_engine.specs.declared.host.Faults.{Faults}
-use Rattle.engine_revival.specs.declared.state.State.{State}
+use Rattle.engine_revival.specs.declared.state.RevivalState.{RevivalState}
 use Rattle.engine_revival.specs.declared.words.LifeState.TheVariants as life
 use Rattle.engine_revival.specs.Steps.{opening, may_begin, is_alive}
 use Rattle.engine_revival.specs.Script.{state_after, state_behind}
@@ -21,18 +21,18 @@ use Rattle.host_run.specs.Readers.{lacked_memory}
 use Rattle.sink_offers.specs.declared.offering.LoopEnd.{LoopEnd}
 use Rattle.sink_offers.specs.Streams.{Offered}
 use Rattle.sink_offers.specs.Took.{LogTook}
-use Rattle.reviver_runner.specs.declared.lives.Run.{Run}
-use Rattle.reviver_runner.specs.declared.lives.Tally.{Tally}
-use Rattle.reviver_runner.specs.declared.parts.Parts.{Parts}
-use Rattle.reviver_runner.specs.declared.turns.Next.{Next}
-use Rattle.reviver_runner.specs.declared.turns.Next.TheVariants as nexts
+use Rattle.reviver_runner.specs.declared.lives.LifeRun.{LifeRun}
+use Rattle.reviver_runner.specs.declared.lives.LivesTally.{LivesTally}
+use Rattle.reviver_runner.specs.declared.parts.ReviverParts.{ReviverParts}
+use Rattle.reviver_runner.specs.declared.turns.NextLife.{NextLife}
+use Rattle.reviver_runner.specs.declared.turns.NextLife.TheVariants as nexts
 use Rattle.reviver_runner.specs.Closing.{read_faults, write_faults, told_of_runs}
 use Rattle.life_runner.specs.Looped.{PlayedUp}
 use Rattle.life_runner.specs.Played.{event_child, lines_to_child, is_close, has_close, has_refusal, as_long, told_of, ends_in}
 use Rattle.life_runner.specs.Reading.{LinesOf}
 
 -- the ends of the channel, and room for the text of an event
-pub record AreReady (parts : Parts) : Type 0 where
+pub record AreReady (parts : ReviverParts) : Type 0 where
   pub room : EVENT_ROOM ≤ parts.text.room
   pub sender : IsSender parts.to
   pub engine : parts.to.peer ≡ peers.Engine
@@ -40,11 +40,11 @@ pub record AreReady (parts : Parts) : Type 0 where
   pub taker : IsTaker parts.from
 
 -- the first of so many lives goes on
-abbrev pub begins : ℕ → State → Type 0
+abbrev pub begins : ℕ → RevivalState → Type 0
 begins lives s = s ≡ opening lives
 
 -- A life goes on after so many have ended: it is one more, and one of those that may be begun.
-pub record Goes (s : State) (ended : ℕ) : Type 0 where
+pub record Goes (s : RevivalState) (ended : ℕ) : Type 0 where
   pub alive : is_alive s.life ≡ true
   pub begun : s.begun ≡ suc ended
   pub few : suc ended ≤ s.lives
@@ -56,7 +56,7 @@ pub record IsBegun (says : Option (List ℕ)) (tells : Bool) (source : Supplied)
   pub offered : Offered false failed (fresh_sink tells) sink text
 
 -- whether reading or writing failed in a life that has ended is what the runs' counts say
-pub record AreTallied {S K : Type 0} (source : S → Supplied) (sink : K → Received) (runs : List (Run S K)) (tally : Tally) : Type 0 where
+pub record AreTallied {S K : Type 0} (source : S → Supplied) (sink : K → Received) (runs : List (LifeRun S K)) (tally : LivesTally) : Type 0 where
   pub reads : Tells 0 (read_faults source runs) tally.engine_read
   pub writes : Tells 0 (write_faults sink runs) tally.engine_write
 
@@ -90,7 +90,7 @@ abbrev pub told_of_lives : List Life → List Told
 told_of_lives lives = map (λ l. told_by l.read l.written) lives
 
 -- the tally counts these lives
-pub record Tallies (lives : List Life) (tally : Tally) : Type 0 where
+pub record Tallies (lives : List Life) (tally : LivesTally) : Type 0 where
   pub reads : tally.engine_read ≡ list_any (λ l. failed_of l.end) lives
   pub writes : tally.engine_write ≡ list_any (λ l. l.broken) lives
   pub memory : tally.memory ≡ list_any (λ l. lacked_memory l.end) lives
@@ -110,14 +110,14 @@ abbrev pub to_next : Bool → ToLives → List ℕ → ToLives
 to_next true to text = record { ended = to.ended ++ to.present ∷ []; present = text }
 to_next false to text = record { ended = to.ended; present = to.present ++ text }
 
-abbrev pub to_lives : ToLives → State → List Event → ToLives
+abbrev pub to_lives : ToLives → RevivalState → List Event → ToLives
 to_lives to s [] = to
 to_lives to s (event ∷ events) = to_lives (to_next (is_close event) to (event_child s event)) (state_after s event) events
 
 -- SO FAR
 
 -- So many lives have ended since this state, and the next one, if there is one, was offered this text.
-pub record Lived (says : Option (List ℕ)) (tells : Bool) (s0 s : State) (sent taken : List Event) (lives : List Life) (text : List ℕ) (refused : Bool)
+pub record Lived (says : Option (List ℕ)) (tells : Bool) (s0 s : RevivalState) (sent taken : List Event) (lives : List Life) (text : List ℕ) (refused : Bool)
     (output output' log log' : Received) (failed failed' : LoopEnd) : Type 0 where
   pub events : List Event
   pub played : PlayedUp s0 s events output output' log log' failed failed'
@@ -132,8 +132,8 @@ abbrev pub none_failed : LoopEnd
 none_failed = record { output = false; engine = false; log = false }
 
 -- the same of the runs of the lives that have ended
-pub record HasLived {S K : Type 0} (source : S → Supplied) (sink : K → Received) (says : Option (List ℕ)) (tells : Bool) (s0 s : State) (sent taken : List Event)
-    (runs : List (Run S K)) (tally : Tally) (text : List ℕ) (refused : Bool)
+pub record HasLived {S K : Type 0} (source : S → Supplied) (sink : K → Received) (says : Option (List ℕ)) (tells : Bool) (s0 s : RevivalState) (sent taken : List Event)
+    (runs : List (LifeRun S K)) (tally : LivesTally) (text : List ℕ) (refused : Bool)
     (output output' log log' : Received) (failed failed' : LoopEnd) : Type 0 where
   pub lives : List Life
   pub told : told_of_runs source sink runs ≡ told_of_lives lives
@@ -141,8 +141,8 @@ pub record HasLived {S K : Type 0} (source : S → Supplied) (sink : K → Recei
   pub so_far : Lived says tells s0 s sent taken lives text refused output output' log log' failed failed'
 
 -- the same, if another life goes on
-pub record GoesOn {S K : Type 0} (source : S → Supplied) (sink : K → Received) (says : Option (List ℕ)) (tells : Bool) (s0 s : State) (sent taken : List Event)
-    (runs : List (Run S K)) (run : Run S K) (tally : Tally)
+pub record GoesOn {S K : Type 0} (source : S → Supplied) (sink : K → Received) (says : Option (List ℕ)) (tells : Bool) (s0 s : RevivalState) (sent taken : List Event)
+    (runs : List (LifeRun S K)) (run : LifeRun S K) (tally : LivesTally)
     (output output' log log' : Received) (failed failed' : LoopEnd) : Type 0 where
   pub text : List ℕ
   pub lived : HasLived source sink says tells s0 s sent taken runs tally text false output output' log log' failed failed'
@@ -151,39 +151,44 @@ pub record GoesOn {S K : Type 0} (source : S → Supplied) (sink : K → Receive
 -- FROM ONE LIFE TO THE NEXT
 
 -- Another life begins only if one may, and else orders may still come.
-abbrev pub Follows : {S K : Type 0} → State → State → Next S K → Type 0
+abbrev pub Follows : {S K : Type 0} → RevivalState → RevivalState → NextLife S K → Type 0
 Follows s s' (nexts.Life run) = (may_begin s ≡ true) × (s'.begun ≡ s.begun + 1) × (s'.lives ≡ s.lives) × (is_alive s'.life ≡ true)
 Follows s s' next = (s'.lives ≡ s.lives) × (s'.begun ≡ s.begun) × (s'.life ≡ life.Over)
 
 -- the mark that is logged for a life's end
-abbrev pub mark_of : {S K : Type 0} → Next S K → Event
+abbrev pub mark_of : {S K : Type 0} → NextLife S K → Event
 mark_of (nexts.Refused fault) = EngineEnd
 mark_of next = EngineLong
 
-abbrev pub is_refused : {S K : Type 0} → Next S K → Bool
+abbrev pub is_refused : {S K : Type 0} → NextLife S K → Bool
 is_refused (nexts.Refused fault) = true
 is_refused next = false
 
+-- the start of another life failed, other than by lack of memory
+abbrev pub is_failed_start : {S K : Type 0} → NextLife S K → Bool
+is_failed_start (nexts.Refused fault) = is_failed (Some fault)
+is_failed_start next = false
+
 -- how many lives follow
-abbrev pub lives_in : {S K : Type 0} → Next S K → ℕ
+abbrev pub lives_in : {S K : Type 0} → NextLife S K → ℕ
 lives_in (nexts.Life run) = 1
 lives_in next = 0
 
 -- the next life was offered this text, or there is none and no text
-abbrev pub IsNext : {S K : Type 0} → (S → Supplied) → (K → Received) → Option (List ℕ) → Bool → List ℕ → Next S K → Bool → Type 0
+abbrev pub IsNext : {S K : Type 0} → (S → Supplied) → (K → Received) → Option (List ℕ) → Bool → List ℕ → NextLife S K → Bool → Type 0
 IsNext source sink says tells text (nexts.Life run) failed = IsBegun says tells (source run.src) (sink run.snk) failed text
 IsNext source sink says tells text next failed = text ≡ []
 
 -- what follows of a life's end
-pub record Ended {S K : Type 0} (source : S → Supplied) (sink : K → Received) (says : Option (List ℕ)) (tells : Bool) (s s' : State) (next : Next S K)
+pub record Ended {S K : Type 0} (source : S → Supplied) (sink : K → Received) (says : Option (List ℕ)) (tells : Bool) (s s' : RevivalState) (next : NextLife S K)
     (output output' log log' : Received) (failed failed' : LoopEnd) : Type 0 where
   pub played : PlayedUp s s' (mark_of next ∷ []) output output' log log' failed failed'
   pub next_is : IsNext source sink says tells (event_child s (mark_of next)) next failed'.engine
   pub follows : Follows s s' next
 
 -- One life that went on in this state, on a run that was offered a text: it ended, and this follows.
-pub record LivesOn {S K : Type 0} (source : S → Supplied) (sink : K → Received) (says : Option (List ℕ)) (tells : Bool) (s s' : State) (sent sent' taken taken' : List Event)
-    (run : Run S K) (runs runs' : List (Run S K)) (tally tally' : Tally) (next : Next S K)
+pub record LivesOn {S K : Type 0} (source : S → Supplied) (sink : K → Received) (says : Option (List ℕ)) (tells : Bool) (s s' : RevivalState) (sent sent' taken taken' : List Event)
+    (run : LifeRun S K) (runs runs' : List (LifeRun S K)) (tally tally' : LivesTally) (next : NextLife S K)
     (output output' log log' : Received) (failed failed' : LoopEnd) : Type 0 where
   -- what the revival heard of it
   pub events : List Event
@@ -194,7 +199,7 @@ pub record LivesOn {S K : Type 0} (source : S → Supplied) (sink : K → Receiv
   pub got_are : map as_long (events ++ mark_of next ∷ []) ≡ told_of got
   pub ends : ends_in got ≡ 1
   -- its run
-  pub last : Run S K
+  pub last : LifeRun S K
   pub runs_are : runs' ≡ runs ++ last ∷ []
   pub lines : List Event
   pub end : ReadEnd
@@ -209,12 +214,12 @@ pub record LivesOn {S K : Type 0} (source : S → Supplied) (sink : K → Receiv
   pub next_is : IsNext source sink says tells (event_child (state_behind s events) (mark_of next)) next failed'.engine
 
 -- one more life has ended
-abbrev pub Continues : {S K : Type 0} → State → ℕ → Next S K → Type 0
+abbrev pub Continues : {S K : Type 0} → RevivalState → ℕ → NextLife S K → Type 0
 Continues s ended (nexts.Life run) = Goes s ended
 Continues s ended next = (s.begun ≡ ended) × (s.life ≡ life.Over)
 
 -- the host handed out a run for another life, or refused it, or was not asked
-abbrev pub Hands : {S K : Type 0} → Books → Books → Faults → Faults → Next S K → Type 0
+abbrev pub Hands : {S K : Type 0} → Books → Books → Faults → Faults → NextLife S K → Type 0
 Hands books books' counts counts' (nexts.Life run) = (books' ≡ with_run books) × (counts' ≡ counts)
 Hands books books' counts counts' nexts.Over = (books' ≡ books) × (counts' ≡ counts)
 Hands books books' counts counts' (nexts.Refused fault) =

@@ -15,15 +15,16 @@ use Rattle.child_engine.specs.declared.host.Faults.{Faults}
 use Rattle.child_engine.specs.declared.host.HostFault.{HostFault}
 use Rattle.engine_revival.specs.Script.{AllMayHappen, state_behind, revival_script}
 use Rattle.engine_revival.specs.Steps.{opening}
+use Rattle.engine_revival.specs.Talk.{IsAlwaysLawful}
 use Rattle.host_run.specs.Early.{no_failure}
 use Rattle.host_run.specs.Logs.{is_failed, fresh_log, closed_logs}
 use Rattle.host_run.specs.Readers.{lacked_memory}
 use Rattle.host_run.specs.Outside.{Outside, AreTold}
 use Rattle.host_run.specs.declared.failures.Failures.{Failures}
 use Rattle.sink_offers.specs.Took.{LogTook}
-use Rattle.reviver_runner.specs.declared.lives.Run.{Run}
-use Rattle.reviver_runner.specs.declared.parts.Parts.{Parts}
-use Rattle.reviver_runner.specs.declared.run.Runs.{Runs}
+use Rattle.reviver_runner.specs.declared.lives.LifeRun.{LifeRun}
+use Rattle.reviver_runner.specs.declared.parts.ReviverParts.{ReviverParts}
+use Rattle.reviver_runner.specs.declared.run.AllRuns.{AllRuns}
 use Rattle.reviver_runner.specs.Lives.{AreReady, Goes, IsBegun, Life, AreLives, life_events, told_of_lives, to_none, to_lives}
 use Rattle.life_runner.specs.Played.{lines_up, as_long, told_of, has_refusal}
 use Rattle.reviver_runner.specs.Recorded.{Recorded, IsWhole}
@@ -38,13 +39,13 @@ pub record HandsOut (lives ended : ℕ) (books books' : Books) (counts counts' :
   pub other_counts : counts' ≡ record counts { starts = counts'.starts }
 
 -- the run of the first life is there, and was not touched yet
-abbrev pub HasFirst : {S K : Type 0} → (S → Supplied) → (K → Received) → Option (List ℕ) → Bool → Option (Run S K) → Type 0
+abbrev pub HasFirst : {S K : Type 0} → (S → Supplied) → (K → Received) → Option (List ℕ) → Bool → Option (LifeRun S K) → Type 0
 HasFirst source sink says tells (Some run) = IsBegun says tells (source run.src) (sink run.snk) false []
 HasFirst source sink says tells None = ⊥
 
 -- The first of at most nine lives may go on, none has ended, nothing was sent or taken yet, and there is room for what all of
 -- them are waited for by.
-pub record MayRun {S K : Type 0} (source : S → Supplied) (sink : K → Received) (books : Books) (parts : Parts) (runs : Runs S K) (kids room : ℕ) : Type 0 where
+pub record MayRun {S K : Type 0} (source : S → Supplied) (sink : K → Received) (books : Books) (parts : ReviverParts) (runs : AllRuns S K) (kids room : ℕ) : Type 0 where
   pub words : 0 < length runs.words.items
   pub few : parts.revival.state.lives ≤ 9
   pub ready : AreReady parts
@@ -59,7 +60,7 @@ pub record MayRun {S K : Type 0} (source : S → Supplied) (sink : K → Receive
   pub out : books.runs_out ≡ 1
 
 -- the ends of the channel are those of before
-pub record KeepsEnds (old new : Parts) : Type 0 where
+pub record KeepsEnds (old new : ReviverParts) : Type 0 where
   pub ready : AreReady new
   pub sender : KeepsSender old.to new.to
   pub taker : KeepsTaker old.from new.from
@@ -76,6 +77,8 @@ pub record TellsRun (upper : ReadEnd) (lives : List Life) (failures : Failures) 
 -- without long lines; and of each life there are its lines, and a mark of its end.
 pub record Heard (lives : ℕ) (before after : Outside) (upper : ReadEnd) (runs : List Life) (events : List Event) : Type 0 where
   pub may : AllMayHappen (opening lives) events
+  -- and the talk that they bring about is lawful up to each of them
+  pub lawful : IsAlwaysLawful lives events
   pub arrived : List Event
   pub did_arrive : Arrived peers.Iface before.input after.input arrived upper
   pub orders : sent_by peers.Iface events ≡ told_of arrived

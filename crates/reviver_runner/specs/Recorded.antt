@@ -11,6 +11,7 @@ use Rattle.event_pipe.specs.Rule.{sent_by}
 use Rattle.child_engine.specs.Hosts.{Told, Books}
 use Rattle.engine_revival.specs.Script.{AllMayHappen, revival_script}
 use Rattle.engine_revival.specs.Steps.{opening}
+use Rattle.engine_revival.specs.Talk.{IsAlwaysLawful}
 use Rattle.host_run.specs.declared.failures.Failures.{Failures}
 use Rattle.host_run.specs.Outside.{Outside}
 use Rattle.host_run.specs.Telling.{LogHasFront}
@@ -62,6 +63,8 @@ pub record Recorded (number : ℕ) (lives : List Life) (events : List Event) (be
 pub record IsWhole (number : ℕ) (bytes : List ℕ) (before after : Outside) : Type 0 where
   pub events : List Event
   pub may : AllMayHappen (opening number) events
+  -- the talk that they bring about is lawful up to each of them
+  pub lawful : IsAlwaysLawful number events
   pub unrefused : has_refusal events ≡ false
   -- the log's bytes are their script
   pub log : after.books.logs ≡ Some (revival_script number events) ∷ []

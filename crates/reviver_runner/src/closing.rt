@@ -4,7 +4,7 @@ ghost use Rattle.host_run.specs.Logs.{log_count, logs_told};
 ghost use Rattle.sink_offers.specs.Streams.{log_state};
 ghost use Rattle.reviver_runner.specs.Closing.{ClosesAll, ClosesEverything, HasClosed, read_faults, write_faults, told_of_runs};
 
-use crate::lives::Run;
+use crate::lives::LifeRun;
 use child_engine::{Host, Started};
 use host_run::{close_log, either};
 use std::collections::VecDeque;
@@ -12,19 +12,21 @@ use std::collections::VecDeque;
 // Closes the runs in their order, and reports whether waiting for one failed.
 fn close_all<H: Host>(
     host: &mut H,
-    runs: VecDeque<Run<H::Src, H::Snk>>,
-    kids: VecDeque<H::Kid>,
+    runs: VecDeque<LifeRun<H::EngineSource, H::EngineSink>>,
+    kids: VecDeque<H::ChildProcess>,
 ) -> bool
 where
-    H::Src: Drop,
-    H::Snk: Drop,
-    H::Kid: Drop,
+    H::EngineSource: Drop,
+    H::EngineSink: Drop,
+    H::ChildProcess: Drop,
     requires kids { length kids.items ≡ length runs.items }
     requires out { length (H.books host.old).runs + length runs.items ≡ (H.books host.old).runs_out }
     ensures books { HasClosed (H.books host.old) (H.books host.new)
-        (told_of_runs H.Src.state H.Snk.state runs.items) }
+        (told_of_runs H.EngineSource.state H.EngineSink.state runs.items) }
     ensures counts { ClosesAll (H.faults host.old) (H.faults host.new)
-        (read_faults H.Src.state runs.items) (write_faults H.Snk.state runs.items) result }
+        (read_faults H.EngineSource.state runs.items)
+        (write_faults H.EngineSink.state runs.items) result }
+    ensures asked { H.asked host.new ≡ H.asked host.old }
 {
     let mut left = runs;
     let mut kids = kids;
@@ -33,7 +35,7 @@ where
         let Some(kid) = kids.pop_front() else {
             unreachable!()
         };
-        let Run { src, snk } = run;
+        let LifeRun { src, snk } = run;
         let waited = host.close(Started { src, snk, kid });
         failed = either(failed, waited.is_err());
     }
@@ -44,22 +46,23 @@ where
 /// a run failed.
 pub(crate) fn close_everything<H: Host>(
     host: &mut H,
-    runs: VecDeque<Run<H::Src, H::Snk>>,
-    kids: VecDeque<H::Kid>,
+    runs: VecDeque<LifeRun<H::EngineSource, H::EngineSink>>,
+    kids: VecDeque<H::ChildProcess>,
     log: Option<H::Log>,
 ) -> bool
 where
-    H::Src: Drop,
-    H::Snk: Drop,
-    H::Kid: Drop,
+    H::EngineSource: Drop,
+    H::EngineSink: Drop,
+    H::ChildProcess: Drop,
     requires kids { length kids.items ≡ length runs.items }
     requires out { length (H.books host.old).runs + length runs.items ≡ (H.books host.old).runs_out }
     requires logs { length (H.books host.old).logs + log_count log ≡ (H.books host.old).logs_out }
-    ensures { ClosesEverything (H.books host.old) (H.books host.new)
+    ensures closes { ClosesEverything (H.books host.old) (H.books host.new)
         (H.faults host.old) (H.faults host.new)
-        (told_of_runs H.Src.state H.Snk.state runs.items)
-        (read_faults H.Src.state runs.items) (write_faults H.Snk.state runs.items)
+        (told_of_runs H.EngineSource.state H.EngineSink.state runs.items)
+        (read_faults H.EngineSource.state runs.items) (write_faults H.EngineSink.state runs.items)
         (log_state H.Log.state log).faults (logs_told H.Log.state log) result }
+    ensures asked { H.asked host.new ≡ H.asked host.old }
 {
     let failed = close_all(host, runs, kids);
     close_log(host, log);

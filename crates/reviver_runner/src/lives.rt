@@ -8,27 +8,27 @@ use host_run::{has_failed, has_lacked_memory};
 
 /// The streams of an engine that was started, until it is closed.
 #[derive(Drop)]
-pub(crate) struct Run<S, K> {
+pub(crate) struct LifeRun<S, K> {
     pub src: S,
     pub snk: K,
 }
 
 /// What failed in the lives so far: reading or writing in one of them, or memory for a line.
 #[derive(Clone, Copy)]
-pub(crate) struct Tally {
+pub(crate) struct LivesTally {
     pub engine_read: bool,
     pub engine_write: bool,
     pub memory: bool,
 }
 
-impl Tally {
+impl LivesTally {
     /// Nothing failed.
-    pub(crate) fn none() -> Tally
+    pub(crate) fn none() -> LivesTally
         ensures read { result.engine_read ≡ false }
         ensures write { result.engine_write ≡ false }
         ensures memory { result.memory ≡ false }
     {
-        Tally {
+        LivesTally {
             engine_read: false,
             engine_write: false,
             memory: false,
@@ -36,12 +36,12 @@ impl Tally {
     }
 
     /// With one more life.
-    pub(crate) fn with(self, end: ReadEnd, write_failed: bool) -> Tally
+    pub(crate) fn with(self, end: ReadEnd, write_failed: bool) -> LivesTally
         ensures read { result.engine_read ≡ (self.engine_read || failed end) }
         ensures write { result.engine_write ≡ (self.engine_write || write_failed) }
         ensures memory { result.memory ≡ (self.memory || lacked_memory end) }
     {
-        Tally {
+        LivesTally {
             engine_read: self.engine_read || has_failed(end),
             engine_write: self.engine_write || write_failed,
             memory: self.memory || has_lacked_memory(end),

@@ -12,7 +12,7 @@ use std::alloc::Global;
 /// The revival, the room for the marks of an event, the ends of the channel but the interface's, and where the lives get their
 /// memory from.
 #[derive(Drop)]
-pub(crate) struct Parts {
+pub(crate) struct ReviverParts {
     pub alloc: Global,
     pub revival: Revival,
     pub text: Out,
@@ -22,13 +22,13 @@ pub(crate) struct Parts {
 
 /// The same, and the interface's end.
 #[derive(Drop)]
-pub(crate) struct Made {
-    pub parts: Parts,
+pub(crate) struct MadeParts {
+    pub parts: ReviverParts,
     pub iface: PipeSend,
 }
 
 /// Takes the memory of a run of so many lives.
-pub(crate) fn make_parts(alloc: Global, lives: u32) -> Result<Made, NoMemory>
+pub(crate) fn make_parts(alloc: Global, lives: u32) -> Result<MadeParts, NoMemory>
     ensures ready { IfOk result (λ made. AreReady made.parts) }
     ensures begins { IfOk result (λ made. begins lives made.parts.revival.state) }
     ensures iface { IfOk result (λ made. IsFreshSender made.iface peers.Iface) }
@@ -39,8 +39,8 @@ pub(crate) fn make_parts(alloc: Global, lives: u32) -> Result<Made, NoMemory>
     let revival = Revival::make(alloc, lives)?;
     let text = Out::make(alloc, EVENT_ROOM)?;
     let (iface, to, from) = Pipe::make(alloc)?;
-    Ok(Made {
-        parts: Parts {
+    Ok(MadeParts {
+        parts: ReviverParts {
             alloc,
             revival,
             text,

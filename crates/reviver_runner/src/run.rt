@@ -1,11 +1,13 @@
 // One run of all lives over a host.
-ghost use Rattle.std.specs.Prelude.{◌≡◌, ◌≤◌, ◌<◌, [], length, is_some, false, true};
+ghost use Rattle.std.specs.Prelude.{◌≡◌, ◌≤◌, ◌<◌, [], length, map, string_bytes, is_some, false, true};
 ghost use Rattle.std.specs.VecDeque.{deque_len, deque_capacity};
 ghost use Rattle.child_engine.specs.Hosts.{IsUnused, IsStarted};
 ghost use Rattle.engine_revival.specs.declared.words.LifeState.TheVariants as life;
 ghost use Rattle.event_pipe.specs.Arrivals.{Arrived};
 ghost use Rattle.event_pipe.specs.Ends.{IsFreshSender, KeepsSender, KeepsTaker, AreOne, sent, taken};
 ghost use Rattle.event_pipe.specs.declared.message.Peer.TheVariants as peers;
+ghost use Rattle.host_run.specs.Asked.{AsksFor, AsksMore, StartsEngines};
+ghost use Rattle.host_run.specs.Logs.{is_failed};
 ghost use Rattle.host_run.specs.Outside.{outside};
 ghost use Rattle.sink_offers.specs.Streams.{log_state};
 ghost use Rattle.reviver_runner.specs.Lives.{AreReady, AreTallied, Goes, IsBegun, HasLived, Tallies, begins, none_failed};
@@ -13,10 +15,10 @@ ghost use Rattle.reviver_runner.specs.Ran.{HandsOut, KeepsEnds, MayRun, Leaves};
 
 use crate::closing::close_everything;
 use crate::drain::drain;
-use crate::lives::{Run, Tally};
-use crate::parts::{Made, Parts};
-use crate::starting::{Ready, start};
-use crate::turns::{Next, life_turn};
+use crate::lives::{LifeRun, LivesTally};
+use crate::parts::{MadeParts, ReviverParts};
+use crate::starting::{ReadyLives, start};
+use crate::turns::{NextLife, life_turn};
 use child_engine::{Host, HostFault, LetGo};
 use event_pipe::{Pipe, PipeSend, ReadEnd, read_pipe};
 use host_run::{
@@ -33,7 +35,7 @@ use std::thread::{Threads, join_mut};
 // What the activity of the lives came to.
 #[derive(Clone, Copy)]
 struct LivesEnd {
-    tally: Tally,
+    tally: LivesTally,
     // Why a life that might have begun was not started.
     start: Option<HostFault>,
     done: LoopEnd,
@@ -41,10 +43,10 @@ struct LivesEnd {
 
 // The words that start an engine, the run of the first life, before it goes on, and the runs of those that have ended.
 #[derive(Drop)]
-pub(crate) struct Runs<S, K> {
+pub(crate) struct AllRuns<S, K> {
     pub words: Vec<String>,
-    pub first: Option<Run<S, K>>,
-    pub ended: VecDeque<Run<S, K>>,
+    pub first: Option<LifeRun<S, K>>,
+    pub ended: VecDeque<LifeRun<S, K>>,
 }
 
 // Runs the lives in turn, until none follows, and reports why not.
@@ -53,19 +55,19 @@ fn run_lives<O: Sink + Send, H: Host, R: Threads + Wait + Sync>(
     alloc: Global,
     words: &[String],
     host: &mut H,
-    first: Run<H::Src, H::Snk>,
-    runs: &mut VecDeque<Run<H::Src, H::Snk>>,
-    kids: &mut VecDeque<H::Kid>,
-    tally: &mut Tally,
-    parts: &mut Parts,
+    first: LifeRun<H::EngineSource, H::EngineSink>,
+    runs: &mut VecDeque<LifeRun<H::EngineSource, H::EngineSink>>,
+    kids: &mut VecDeque<H::ChildProcess>,
+    tally: &mut LivesTally,
+    parts: &mut ReviverParts,
     output: &mut O,
     log: &mut Option<H::Log>,
     failed: &mut LoopEnd,
 ) -> Option<HostFault>
 where
-    H::Src: Drop,
-    H::Snk: LetGo + Drop,
-    H::Kid: Drop,
+    H::EngineSource: Drop,
+    H::EngineSink: LetGo + Drop,
+    H::ChildProcess: Drop,
     requires words { 0 < length words.now }
     requires few { parts.old.revival.state.lives ≤ 9 }
     requires out { (H.books host.old).runs_out ≡ 1 }
@@ -78,17 +80,17 @@ where
     requires untaken { taken parts.old.from ≡ [] }
     requires goes { Goes parts.old.revival.state 0 }
     requires begun { IsBegun (H.books host.old).says (H.books host.old).tells
-        (H.Src.state first.src) (H.Snk.state first.snk) false [] }
+        (H.EngineSource.state first.src) (H.EngineSink.state first.snk) false [] }
     requires unfailed { failed.old ≡ none_failed }
-    requires tallied { AreTallied H.Src.state H.Snk.state runs.old.items tally.old }
+    requires tallied { AreTallied H.EngineSource.state H.EngineSink.state runs.old.items tally.old }
     requires tallies { Tallies [] tally.old }
     ensures keeps { KeepsEnds parts.old parts.new }
     ensures over { parts.new.revival.state.life ≡ life.Over }
     ensures begun { parts.new.revival.state.begun ≡ deque_len runs.new }
     ensures kids { deque_len kids.new ≡ deque_len runs.new }
     ensures kept { is_some log.new ≡ is_some log.old }
-    ensures tallied { AreTallied H.Src.state H.Snk.state runs.new.items tally.new }
-    ensures lived { HasLived H.Src.state H.Snk.state
+    ensures tallied { AreTallied H.EngineSource.state H.EngineSink.state runs.new.items tally.new }
+    ensures lived { HasLived H.EngineSource.state H.EngineSink.state
         (H.books host.old).says (H.books host.old).tells
         parts.old.revival.state parts.new.revival.state
         (sent parts.new.to) (taken parts.new.from)
@@ -98,15 +100,17 @@ where
         none_failed failed.new }
     ensures host { HandsOut parts.old.revival.state.lives (deque_len runs.new)
         (H.books host.old) (H.books host.new) (H.faults host.old) (H.faults host.new) result }
+    ensures asked { StartsEngines (map string_bytes words.now) (H.asked host.old)
+        (H.asked host.new) (H.books host.old) (H.books host.new) (is_failed result) }
 {
     let mut run = first;
     for _ in rt.forever() {
         match life_turn(
             rt, alloc, words, host, run, runs, kids, tally, parts, output, log, failed,
         ) {
-            Next::Life(next) => run = next,
-            Next::Over => return None,
-            Next::Refused(fault) => return Some(fault),
+            NextLife::Life(next) => run = next,
+            NextLife::Over => return None,
+            NextLife::Refused(fault) => return Some(fault),
         }
     }
     unreachable!()
@@ -116,17 +120,18 @@ where
 fn run_all<O: Sink + Send, H: Host, R: Threads + Wait + Sync>(
     rt: &R,
     host: &mut H,
-    runs: &mut Runs<H::Src, H::Snk>,
-    kids: &mut VecDeque<H::Kid>,
-    parts: &mut Parts,
+    runs: &mut AllRuns<H::EngineSource, H::EngineSink>,
+    kids: &mut VecDeque<H::ChildProcess>,
+    parts: &mut ReviverParts,
     output: &mut O,
     log: &mut Option<H::Log>,
 ) -> LivesEnd
 where
-    H::Src: Drop,
-    H::Snk: LetGo + Drop,
-    H::Kid: Drop,
-    requires may { MayRun H.Src.state H.Snk.state (H.books host.old) parts.old runs.old
+    H::EngineSource: Drop,
+    H::EngineSink: LetGo + Drop,
+    H::ChildProcess: Drop,
+    requires may { MayRun H.EngineSource.state H.EngineSink.state
+        (H.books host.old) parts.old runs.old
         (deque_len kids.old) (deque_capacity kids.old) }
     ensures ready { AreReady parts.new }
     ensures sender { KeepsSender parts.old.to parts.new.to }
@@ -135,8 +140,9 @@ where
     ensures begun { parts.new.revival.state.begun ≡ deque_len runs.new.ended }
     ensures kids { deque_len kids.new ≡ deque_len runs.new.ended }
     ensures kept { is_some log.new ≡ is_some log.old }
-    ensures tallied { AreTallied H.Src.state H.Snk.state runs.new.ended.items result.tally }
-    ensures lived { HasLived H.Src.state H.Snk.state
+    ensures tallied { AreTallied H.EngineSource.state H.EngineSink.state runs.new.ended.items
+        result.tally }
+    ensures lived { HasLived H.EngineSource.state H.EngineSink.state
         (H.books host.old).says (H.books host.old).tells
         parts.old.revival.state parts.new.revival.state
         (sent parts.new.to) (taken parts.new.from)
@@ -147,13 +153,15 @@ where
     ensures host { HandsOut parts.old.revival.state.lives (deque_len runs.new.ended)
         (H.books host.old) (H.books host.new) (H.faults host.old) (H.faults host.new)
         result.start }
+    ensures asked { StartsEngines (map string_bytes runs.old.words.items) (H.asked host.old)
+        (H.asked host.new) (H.books host.old) (H.books host.new) (is_failed result.start) }
 {
     let mut failed = LoopEnd {
         output: false,
         engine: false,
         log: false,
     };
-    let mut tally = Tally::none();
+    let mut tally = LivesTally::none();
     let Some(first) = runs.first.take() else {
         unreachable!()
     };
@@ -188,20 +196,21 @@ fn run_beside<I: Source + Send, O: Sink + Send, H: Host + Send, R: Threads + Wai
     rt: &R,
     alloc: Global,
     host: &mut H,
-    runs: &mut Runs<H::Src, H::Snk>,
-    kids: &mut VecDeque<H::Kid>,
-    parts: &mut Parts,
+    runs: &mut AllRuns<H::EngineSource, H::EngineSink>,
+    kids: &mut VecDeque<H::ChildProcess>,
+    parts: &mut ReviverParts,
     iface: &mut PipeSend,
     input: &mut I,
     output: &mut O,
     log: &mut Option<H::Log>,
 ) -> (ReadEnd, LivesEnd)
 where
-    H::Src: Drop,
-    H::Snk: LetGo + Drop,
-    H::Kid: Drop + Send,
+    H::EngineSource: Drop,
+    H::EngineSink: LetGo + Drop,
+    H::ChildProcess: Drop + Send,
     requires iface { IsFreshSender iface.old peers.Iface }
-    requires may { MayRun H.Src.state H.Snk.state (H.books host.old) parts.old runs.old
+    requires may { MayRun H.EngineSource.state H.EngineSink.state
+        (H.books host.old) parts.old runs.old
         (deque_len kids.old) (deque_capacity kids.old) }
     ensures iface { KeepsSender iface.old iface.new }
     ensures arrived { Arrived peers.Iface (I.state input.old) (I.state input.new)
@@ -213,8 +222,9 @@ where
     ensures begun { parts.new.revival.state.begun ≡ deque_len runs.new.ended }
     ensures kids { deque_len kids.new ≡ deque_len runs.new.ended }
     ensures kept { is_some log.new ≡ is_some log.old }
-    ensures tallied { AreTallied H.Src.state H.Snk.state runs.new.ended.items result.1.tally }
-    ensures lived { HasLived H.Src.state H.Snk.state
+    ensures tallied { AreTallied H.EngineSource.state H.EngineSink.state runs.new.ended.items
+        result.1.tally }
+    ensures lived { HasLived H.EngineSource.state H.EngineSink.state
         (H.books host.old).says (H.books host.old).tells
         parts.old.revival.state parts.new.revival.state
         (sent parts.new.to) (taken parts.new.from)
@@ -225,6 +235,9 @@ where
     ensures host { HandsOut parts.old.revival.state.lives (deque_len runs.new.ended)
         (H.books host.old) (H.books host.new) (H.faults host.old) (H.faults host.new)
         result.1.start }
+    ensures asked { StartsEngines (map string_bytes runs.old.words.items) (H.asked host.old)
+        (H.asked host.new) (H.books host.old) (H.books host.new)
+        (is_failed result.1.start) }
 {
     join_mut(
         rt,
@@ -232,7 +245,8 @@ where
             requires { IsFreshSender iface.now peers.Iface }
         { read_pipe(rt, alloc, input, iface) },
         &mut ||
-            requires { MayRun H.Src.state H.Snk.state (H.books host.now) parts.now runs.now
+            requires { MayRun H.EngineSource.state H.EngineSink.state
+                (H.books host.now) parts.now runs.now
                 (deque_len kids.now) (deque_capacity kids.now) }
         { run_all(rt, host, runs, kids, parts, output, log) },
     )
@@ -242,33 +256,35 @@ where
 fn run_started<I: Source + Send, O: Sink + Send, H: Host + Send, R: Threads + Wait + Sync>(
     rt: &R,
     alloc: Global,
-    ready: Ready<H::Src, H::Snk, H::Kid>,
+    ready: ReadyLives<H::EngineSource, H::EngineSink, H::ChildProcess>,
     log_name: &str,
     input: &mut I,
     output: &mut O,
     host: &mut H,
 ) -> Failures
 where
-    H::Src: Drop,
-    H::Snk: LetGo + Drop,
-    H::Kid: Drop + Send,
+    H::EngineSource: Drop,
+    H::EngineSink: LetGo + Drop,
+    H::ChildProcess: Drop + Send,
     requires iface { IsFreshSender ready.made.iface peers.Iface }
     requires one { AreOne ready.made.iface ready.made.parts.to ready.made.parts.from }
     requires begins { begins ready.made.parts.revival.state.lives ready.made.parts.revival.state }
-    requires may { MayRun H.Src.state H.Snk.state (H.books host.old)
+    requires may { MayRun H.EngineSource.state H.EngineSink.state (H.books host.old)
         ready.made.parts ready.runs (deque_len ready.kids) (deque_capacity ready.kids) }
     requires books { IsStarted (H.books host.old) }
-    ensures { Leaves ready.made.parts.revival.state.lives
+    ensures leaves { Leaves ready.made.parts.revival.state.lives
         (outside (I.state input.old) (O.state output.old) (H.faults host.old) (H.books host.old))
         (outside (I.state input.new) (O.state output.new) (H.faults host.new) (H.books host.new))
         result }
+    ensures asked { AsksMore (map string_bytes ready.runs.words.items) log_name.now
+        (H.asked host.old) (H.asked host.new) (H.books host.old) (H.books host.new) result }
 {
-    let Ready {
+    let ReadyLives {
         made,
         mut runs,
         mut kids,
     } = ready;
-    let Made {
+    let MadeParts {
         mut parts,
         mut iface,
     } = made;
@@ -276,7 +292,7 @@ where
     let (upper, lives) = run_beside(
         rt, alloc, host, &mut runs, &mut kids, &mut parts, &mut iface, input, output, &mut log,
     );
-    let Parts {
+    let ReviverParts {
         alloc: _,
         revival: _revival,
         text: _text,
@@ -284,7 +300,7 @@ where
         from,
     } = parts;
     Pipe::finish(iface, to, from);
-    let Runs {
+    let AllRuns {
         words: _,
         first: _,
         ended,
@@ -318,17 +334,19 @@ pub fn revive_run<I: Source + Send, O: Sink + Send, H: Host + Send, R: Threads +
     host: &mut H,
 ) -> Failures
 where
-    H::Src: Drop,
-    H::Snk: LetGo + Drop,
-    H::Kid: Drop + Send,
+    H::EngineSource: Drop,
+    H::EngineSink: LetGo + Drop,
+    H::ChildProcess: Drop + Send,
     requires words { 0 < length words.items }
     requires some { 1 ≤ lives }
     requires few { lives ≤ 9 }
     requires unused { IsUnused (H.books host.old) }
-    ensures { Leaves lives
+    ensures leaves { Leaves lives
         (outside (I.state input.old) (O.state output.old) (H.faults host.old) (H.books host.old))
         (outside (I.state input.new) (O.state output.new) (H.faults host.new) (H.books host.new))
         result }
+    ensures asked { AsksFor (map string_bytes words.items) log_name.now
+        (H.asked host.old) (H.asked host.new) (H.books host.new) result }
 {
     match start(rt, alloc, lives, words, host) {
         Ok(ready) => run_started(rt, alloc, ready, log_name, input, output, host),

@@ -1,16 +1,18 @@
 // The start of a run: its memory, and the first engine.
-ghost use Rattle.std.specs.Prelude.{◌≡◌, ◌≤◌, ◌<◌, [], length, IfOk, IfErr, OnOk, OnErr};
+ghost use Rattle.std.specs.Prelude.{◌≡◌, ◌≤◌, ◌<◌, [], length, map, string_bytes, IfOk, IfErr, OnOk, OnErr};
 ghost use Rattle.std.specs.VecDeque.{deque_len, deque_capacity};
+ghost use Rattle.child_engine.specs.Asked.{and_engines};
 ghost use Rattle.child_engine.specs.Hosts.{IsUnused, with_run};
 ghost use Rattle.event_pipe.specs.Ends.{IsFreshSender, AreOne, sent, taken};
 ghost use Rattle.event_pipe.specs.declared.message.Peer.TheVariants as peers;
+ghost use Rattle.host_run.specs.Asked.{engines_asked_by};
 ghost use Rattle.host_run.specs.Early.{AreEarly};
 ghost use Rattle.reviver_runner.specs.Lives.{AreReady, begins};
 ghost use Rattle.reviver_runner.specs.Ran.{MayRun};
 
-use crate::lives::Run;
-use crate::parts::{Made, make_parts};
-use crate::run::Runs;
+use crate::lives::LifeRun;
+use crate::parts::{MadeParts, make_parts};
+use crate::run::AllRuns;
 use child_engine::{Host, LetGo, Started};
 use host_run::{Failures, only_memory, start_engine};
 use line_io::NoMemory;
@@ -19,16 +21,16 @@ use std::collections::VecDeque;
 use std::thread::Threads;
 
 // What a run needs beside its host, and the engine that was started first.
-pub(crate) struct Ready<S, K, P> {
-    pub made: Made,
-    pub runs: Runs<S, K>,
+pub(crate) struct ReadyLives<S, K, P> {
+    pub made: MadeParts,
+    pub runs: AllRuns<S, K>,
     pub kids: VecDeque<P>,
 }
 
 // The room of all lives, before an engine is started.
-struct Room<S, K, P> {
-    made: Made,
-    ended: VecDeque<Run<S, K>>,
+struct LivesRoom<S, K, P> {
+    made: MadeParts,
+    ended: VecDeque<LifeRun<S, K>>,
     kids: VecDeque<P>,
 }
 
@@ -36,7 +38,7 @@ struct Room<S, K, P> {
 fn make_room<S: Drop, K: Drop, P: Drop>(
     alloc: Global,
     lives: u32,
-) -> Result<Room<S, K, P>, NoMemory>
+) -> Result<LivesRoom<S, K, P>, NoMemory>
     ensures iface { IfOk result (λ room. IsFreshSender room.made.iface peers.Iface) }
     ensures one { IfOk result (λ room. AreOne room.made.iface room.made.parts.to room.made.parts.from) }
     ensures ready { IfOk result (λ room. AreReady room.made.parts) }
@@ -51,7 +53,7 @@ fn make_room<S: Drop, K: Drop, P: Drop>(
     let ended = VecDeque::with_capacity(alloc, 9)?;
     let kids = VecDeque::with_capacity(alloc, 10)?;
     let made = make_parts(alloc, lives)?;
-    Ok(Room { made, ended, kids })
+    Ok(LivesRoom { made, ended, kids })
 }
 
 // Takes the memory of a run, and starts the first engine.
@@ -61,11 +63,11 @@ pub(crate) fn start<H: Host, R: Threads>(
     lives: u32,
     words: Vec<String>,
     host: &mut H,
-) -> Result<Ready<H::Src, H::Snk, H::Kid>, Failures>
+) -> Result<ReadyLives<H::EngineSource, H::EngineSink, H::ChildProcess>, Failures>
 where
-    H::Src: Drop,
-    H::Snk: LetGo + Drop,
-    H::Kid: Drop,
+    H::EngineSource: Drop,
+    H::EngineSink: LetGo + Drop,
+    H::ChildProcess: Drop,
     requires words { 0 < length words.items }
     requires some { 1 ≤ lives }
     requires few { lives ≤ 9 }
@@ -74,17 +76,21 @@ where
     ensures one { IfOk result (λ ready. AreOne ready.made.iface ready.made.parts.to ready.made.parts.from) }
     ensures begins { IfOk result (λ ready. begins lives ready.made.parts.revival.state) }
     ensures lives { IfOk result (λ ready. ready.made.parts.revival.state.lives ≡ lives) }
-    ensures may { IfOk result (λ ready. MayRun H.Src.state H.Snk.state (H.books host.new)
+    ensures may { IfOk result (λ ready. MayRun H.EngineSource.state H.EngineSink.state
+        (H.books host.new)
         ready.made.parts ready.runs (deque_len ready.kids) (deque_capacity ready.kids)) }
+    ensures words { IfOk result (λ ready. ready.runs.words ≡ words) }
     ensures books { OnOk result (H.books host.new ≡ with_run (H.books host.old)) }
     ensures faults { OnOk result (H.faults host.new ≡ H.faults host.old) }
     ensures unstarted { OnErr result (H.books host.new ≡ H.books host.old) }
+    ensures asked { H.asked host.new ≡ and_engines (engines_asked_by result)
+        (map string_bytes words.items) (H.asked host.old) }
     ensures early { IfErr result (AreEarly (H.faults host.old) (H.faults host.new)) }
 {
     let Ok(room) = make_room(alloc, lives) else {
         return Err(only_memory());
     };
-    let Room {
+    let LivesRoom {
         made,
         ended,
         mut kids,
@@ -93,10 +99,10 @@ where
         Ok(run) => {
             let Started { src, snk, kid } = run;
             kids.push_back_reserved(kid);
-            let first = Some(Run { src, snk });
-            Ok(Ready {
+            let first = Some(LifeRun { src, snk });
+            Ok(ReadyLives {
                 made,
-                runs: Runs {
+                runs: AllRuns {
                     words,
                     first,
                     ended,

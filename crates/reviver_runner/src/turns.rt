@@ -1,21 +1,22 @@
 // From one life to the next.
-ghost use Rattle.std.specs.Prelude.{◌≡◌, ℕ, ◌≤◌, ◌<◌, ◌+◌, List, length, is_some, true};
+ghost use Rattle.std.specs.Prelude.{◌≡◌, ℕ, ◌≤◌, ◌<◌, ◌+◌, List, length, map, string_bytes, is_some, true};
 ghost use Rattle.std.specs.VecDeque.{deque_len, deque_capacity};
 ghost use Rattle.line_io.specs.Event.{event_of, EngineLong};
 ghost use Rattle.engine_revival.specs.declared.script.TheConstants.{EVENT_ROOM};
 ghost use Rattle.engine_revival.specs.Calls as calls;
 ghost use Rattle.engine_revival.specs.Calls.{may, after, up_of, child_of};
+ghost use Rattle.host_run.specs.Asked.{StartsEngines};
 ghost use Rattle.script_lines.specs.StepText.{step_marks};
 ghost use Rattle.event_pipe.specs.Message.{is_good};
 ghost use Rattle.engine_revival.specs.Steps.{is_alive};
 ghost use Rattle.sink_offers.specs.Streams.{sinks, log_state, Offered};
 ghost use Rattle.life_runner.specs.Looped.{Offers};
 ghost use Rattle.event_pipe.specs.Ends.{sent, taken};
-ghost use Rattle.reviver_runner.specs.Lives.{AreReady, AreTallied, Goes, IsBegun, Ended, LivesOn, Continues, Hands, lives_in};
+ghost use Rattle.reviver_runner.specs.Lives.{AreReady, AreTallied, Goes, IsBegun, Ended, LivesOn, Continues, Hands, is_failed_start, lives_in};
 ghost use Rattle.reviver_runner.specs.Ran.{KeepsEnds};
 
-use crate::lives::{Run, Tally};
-use crate::parts::Parts;
+use crate::lives::{LifeRun, LivesTally};
+use crate::parts::ReviverParts;
 use child_engine::{Host, HostFault, LetGo, Started};
 use engine_revival::Revival;
 use life_runner::{offer_all, one_life};
@@ -27,8 +28,8 @@ use std::sync::Wait;
 use std::thread::Threads;
 
 /// What follows a life.
-pub(crate) enum Next<S, K> {
-    Life(Run<S, K>),
+pub(crate) enum NextLife<S, K> {
+    Life(LifeRun<S, K>),
     /// No other life may begin.
     Over,
     /// Another life might begin, but the host did not start it.
@@ -88,17 +89,18 @@ fn offer_over<O: Sink, L: Sink>(
 }
 
 // What follows of a life's end: another life, or none.
+#[tactic(auto, using(host_run::proofs::Asked::starts_none, host_run::proofs::Asked::starts_one, host_run::proofs::Asked::starts_failed))]
 fn after_life<O: Sink, H: Host>(
     alloc: Global,
     words: &[String],
     host: &mut H,
-    kids: &mut VecDeque<H::Kid>,
+    kids: &mut VecDeque<H::ChildProcess>,
     revival: &mut Revival,
     output: &mut O,
     log: &mut Option<H::Log>,
     failed: &mut LoopEnd,
     text: &mut Out,
-) -> Next<H::Src, H::Snk>
+) -> NextLife<H::EngineSource, H::EngineSink>
     requires alive { is_alive revival.old.state.life ≡ true }
     requires words { 0 < length words.now }
     requires few { (H.books host.old).runs_out < 10 }
@@ -108,7 +110,7 @@ fn after_life<O: Sink, H: Host>(
     ensures kids { deque_len kids.new ≡ deque_len kids.old + lives_in result }
     ensures room { text.new.room ≡ text.old.room }
     ensures kept { is_some log.new ≡ is_some log.old }
-    ensures ended { Ended H.Src.state H.Snk.state
+    ensures ended { Ended H.EngineSource.state H.EngineSink.state
         (H.books host.old).says (H.books host.old).tells
         revival.old.state revival.new.state result
         (O.state output.old) (O.state output.new)
@@ -116,10 +118,12 @@ fn after_life<O: Sink, H: Host>(
         failed.old failed.new }
     ensures host { Hands (H.books host.old) (H.books host.new)
         (H.faults host.old) (H.faults host.new) result }
+    ensures asked { StartsEngines (map string_bytes words.now) (H.asked host.old) (H.asked host.new)
+        (H.books host.old) (H.books host.new) (is_failed_start result) }
 {
     if !revival.ended() {
         *failed = offer_over(revival, &Event::EngineLong, output, log, *failed, text);
-        return Next::Over;
+        return NextLife::Over;
     }
     match host.start(alloc, words) {
         Ok(run) => {
@@ -130,11 +134,11 @@ fn after_life<O: Sink, H: Host>(
                 ..*failed
             };
             *failed = offer_begin(revival, &mut snk, output, log, fresh, text);
-            Next::Life(Run { src, snk })
+            NextLife::Life(LifeRun { src, snk })
         }
         Err(fault) => {
             *failed = offer_over(revival, &Event::EngineEnd, output, log, *failed, text);
-            Next::Refused(fault)
+            NextLife::Refused(fault)
         }
     }
 }
@@ -145,19 +149,19 @@ pub(crate) fn life_turn<O: Sink + Send, H: Host, R: Threads + Wait + Sync>(
     alloc: Global,
     words: &[String],
     host: &mut H,
-    run: Run<H::Src, H::Snk>,
-    runs: &mut VecDeque<Run<H::Src, H::Snk>>,
-    kids: &mut VecDeque<H::Kid>,
-    tally: &mut Tally,
-    parts: &mut Parts,
+    run: LifeRun<H::EngineSource, H::EngineSink>,
+    runs: &mut VecDeque<LifeRun<H::EngineSource, H::EngineSink>>,
+    kids: &mut VecDeque<H::ChildProcess>,
+    tally: &mut LivesTally,
+    parts: &mut ReviverParts,
     output: &mut O,
     log: &mut Option<H::Log>,
     failed: &mut LoopEnd,
-) -> Next<H::Src, H::Snk>
+) -> NextLife<H::EngineSource, H::EngineSink>
 where
-    H::Src: Drop,
-    H::Snk: LetGo + Drop,
-    H::Kid: Drop,
+    H::EngineSource: Drop,
+    H::EngineSink: LetGo + Drop,
+    H::ChildProcess: Drop,
     requires words { 0 < length words.now }
     requires few { (H.books host.old).runs_out < 10 }
     requires space { deque_len runs.old < deque_capacity runs.old }
@@ -173,10 +177,10 @@ where
     ensures kids { deque_len kids.new ≡ deque_len kids.old + lives_in result }
     ensures tallied { (text : List ℕ)
         → IsBegun (H.books host.old).says (H.books host.old).tells
-        (H.Src.state run.src) (H.Snk.state run.snk) failed.old.engine text
-        → AreTallied H.Src.state H.Snk.state runs.old.items tally.old
-        → AreTallied H.Src.state H.Snk.state runs.new.items tally.new }
-    ensures lived { LivesOn H.Src.state H.Snk.state
+        (H.EngineSource.state run.src) (H.EngineSink.state run.snk) failed.old.engine text
+        → AreTallied H.EngineSource.state H.EngineSink.state runs.old.items tally.old
+        → AreTallied H.EngineSource.state H.EngineSink.state runs.new.items tally.new }
+    ensures lived { LivesOn H.EngineSource.state H.EngineSink.state
         (H.books host.old).says (H.books host.old).tells
         parts.old.revival.state parts.new.revival.state
         (sent parts.old.to) (sent parts.new.to) (taken parts.old.from) (taken parts.new.from)
@@ -187,8 +191,10 @@ where
     ensures next { Continues parts.new.revival.state (deque_len runs.new) result }
     ensures host { Hands (H.books host.old) (H.books host.new)
         (H.faults host.old) (H.faults host.new) result }
+    ensures asked { StartsEngines (map string_bytes words.now) (H.asked host.old) (H.asked host.new)
+        (H.books host.old) (H.books host.new) (is_failed_start result) }
 {
-    let Run { mut src, mut snk } = run;
+    let LifeRun { mut src, mut snk } = run;
     let end = one_life(
         rt,
         alloc,
@@ -203,7 +209,7 @@ where
         &mut parts.text,
     );
     *tally = tally.with(end, failed.engine);
-    runs.push_back_reserved(Run { src, snk });
+    runs.push_back_reserved(LifeRun { src, snk });
     after_life(
         alloc,
         words,

@@ -63,13 +63,13 @@ impl<'a> Host for DyingHost<'a> {
     ghost use Rattle.child_engine.specs.Real.{untold_runs, untold_source, untold_sink};
     ghost use Rattle.reviver_tests.specs.Waiting.{books_with};
 
-    type Src = Waiting<'a>;
+    type EngineSource = Waiting<'a>;
 
-    type Snk = Telling<'a>;
+    type EngineSink = Telling<'a>;
 
     type Log = Telling<'a>;
 
-    type Kid = ();
+    type ChildProcess = ();
 
     ghost faults = { λ h. h.faults };
 

@@ -2,27 +2,27 @@
 use crate::program::words_of;
 use child_engine::{Fails, MemHost};
 use line_io::MemSink;
-use paced_host::{Due, PacedHost, PacedTexts};
+use paced_host::{DueText, PacedHost, PacedTexts};
 use reviver_app::revive_main;
 use reviver_runner::logs_are_whole;
 use std::sync::atomic::AtomicU64;
 use std::test::Fail;
 
 // What the interface says, once the log took so many lines.
-const IFACE: [Due; 4] = [
-    Due {
+const IFACE: [DueText; 4] = [
+    DueText {
         lines: 0,
         text: b"uci\n",
     },
-    Due {
+    DueText {
         lines: 4,
         text: b"position startpos\ngo infinite\n",
     },
-    Due {
+    DueText {
         lines: 14,
         text: b"stop\n",
     },
-    Due {
+    DueText {
         lines: 16,
         text: b"quit\n",
     },
@@ -56,7 +56,7 @@ const LOG: &[u8] = b"\
 fn a_whole_session_has_one_log(rt: HostRuntime) -> Result<(), Fail> {
     logs_are_whole();
     let alloc = rt.alloc();
-    let words = words_of(alloc, &["2", "r.log", "engine"])?;
+    let words = words_of(alloc, &["2", "r.log", "engine", "-x y"])?;
     let lines = AtomicU64::new(0);
     let host = MemHost::make(alloc, ENGINE, 100, 1_000, &Fails::default())?;
     let mut host = PacedHost::new(alloc, host, &lines, ENGINE_READS.as_slice());
@@ -74,5 +74,6 @@ fn a_whole_session_has_one_log(rt: HostRuntime) -> Result<(), Fail> {
     );
     assert_eq!(rt; status.code, 0);
     assert_eq!(rt; host.logged(), LOG);
+    assert!(rt; host.was_asked_for(2, &["engine", "-x y"], "r.log"));
     Ok(())
 }

@@ -1,7 +1,7 @@
 // The program over hosts in memory.
 use child_engine::SteadyHost;
 use line_io::{MemSink, MemSource};
-use reviver_app::{Request, read_words, refuse_for_memory, revive_main};
+use reviver_app::{ReviverRequest, read_words, refuse_for_memory, revive_main};
 use std::alloc::Global;
 use std::process::Abort;
 use std::sync::Wait;
@@ -54,7 +54,7 @@ fn expect_status(rt: &impl Abort, status: Option<u8>, code: u8) {
 }
 
 // Nine lives, no log, and an engine with one argument.
-fn expect_request(rt: &impl Abort, request: &Request) {
+fn expect_request(rt: &impl Abort, request: &ReviverRequest) {
     assert_eq!(rt; request.lives, 9);
     assert_eq!(rt; request.log_name.as_str(), "-");
     assert_eq!(rt; request.engine.len(), 2);

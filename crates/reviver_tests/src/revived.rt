@@ -1,7 +1,7 @@
 // An engine that dies in mid-search is started again.
 use crate::dying_host::DyingHost;
 use crate::program::words_of;
-use crate::talk::{ALONE, Due, IFACE, Telling, Waiting};
+use crate::talk::{ALONE, DueText, IFACE, Telling, Waiting};
 use line_io::MemSink;
 use reviver_app::revive_main;
 use std::alloc::Global;
@@ -46,7 +46,7 @@ fn ends_with<R: Threads + Wait + Sync>(
     rt: &R,
     alloc: Global,
     starts: u8,
-    iface: &'static [Due],
+    iface: &'static [DueText],
     code: u8,
     diagnostic: &[u8],
     log: &[u8],

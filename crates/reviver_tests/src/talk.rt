@@ -7,74 +7,74 @@ use std::sync::atomic::{AtomicU64, Ordering};
 
 /// A text that is given only once this many pieces were written. An empty one ends its source.
 #[derive(Clone, Copy)]
-pub struct Due {
+pub struct DueText {
     pieces: u64,
     text: &'static [u8],
 }
 
 /// The interface. Its `stop` comes once the second engine has ended.
-pub const IFACE: [Due; 4] = [
-    Due {
+pub const IFACE: [DueText; 4] = [
+    DueText {
         pieces: 0,
         text: b"uci\n",
     },
-    Due {
+    DueText {
         pieces: 2,
         text: b"setoption name Hash value 8\nisready\n",
     },
-    Due {
+    DueText {
         pieces: 4,
         text: b"position startpos\ngo infinite\n",
     },
-    Due {
+    DueText {
         pieces: 8,
         text: b"stop\n",
     },
 ];
 
 /// The interface whose `stop` comes once no second engine was started.
-pub const ALONE: [Due; 4] = [
-    Due {
+pub const ALONE: [DueText; 4] = [
+    DueText {
         pieces: 0,
         text: b"uci\n",
     },
-    Due {
+    DueText {
         pieces: 2,
         text: b"setoption name Hash value 8\nisready\n",
     },
-    Due {
+    DueText {
         pieces: 4,
         text: b"position startpos\ngo infinite\n",
     },
-    Due {
+    DueText {
         pieces: 6,
         text: b"stop\n",
     },
 ];
 
 /// The first engine. It ends once it took `go`.
-pub const FIRST: [Due; 3] = [
-    Due {
+pub const FIRST: [DueText; 3] = [
+    DueText {
         pieces: 1,
         text: b"uciok\n",
     },
-    Due {
+    DueText {
         pieces: 3,
         text: b"readyok\n",
     },
-    Due {
+    DueText {
         pieces: 5,
         text: b"",
     },
 ];
 
 /// The second engine. It ends once it took its `go`.
-pub const SECOND: [Due; 2] = [
-    Due {
+pub const SECOND: [DueText; 2] = [
+    DueText {
         pieces: 6,
         text: b"uciok\n",
     },
-    Due {
+    DueText {
         pieces: 7,
         text: b"",
     },
@@ -84,13 +84,13 @@ pub const SECOND: [Due; 2] = [
 #[derive(Drop)]
 pub struct Waiting<'a> {
     pieces: &'a AtomicU64,
-    texts: &'static [Due],
+    texts: &'static [DueText],
     at: usize,
     faults: u64,
 }
 
 impl<'a> Waiting<'a> {
-    pub fn new(pieces: &'a AtomicU64, texts: &'static [Due]) -> Waiting<'a>
+    pub fn new(pieces: &'a AtomicU64, texts: &'static [DueText]) -> Waiting<'a>
         ensures { result.faults ≡ 0 }
     {
         Waiting {

@@ -1,4 +1,4 @@
-use Rattle.std.proofs.Common.{◌≡◌, ◌++◌, ◌∷◌, [], length, List, ℕ, ap, refl, ◌∙◌, append_assoc}
+use Rattle.std.proofs.Common.{◌++◌, ◌∷◌, [], length, List, ℕ, ap, refl, ◌∙◌, append_assoc}
 use Rattle.line_io.specs.Out.{Text}
 use Rattle.engine_revival.proofs.Lines.{put_orders, put_within}
 use Rattle.engine_revival.proofs.order_list.put_line.Goals as goal

@@ -1,6 +1,6 @@
 use Rattle.std.proofs.Common.{◌≡◌, ◌≤◌, ◌+◌, ◌++◌, length}
 use Rattle.line_io.specs.Out.{with}
-use Rattle.uci_lines.specs.Orders.{order_of}
+use Rattle.engine_revival.specs.Orders.{order_of}
 use Rattle.engine_revival.specs.Lists.{staying_beside, batch_text}
 use Rattle.engine_revival.specs.Kept.{orders_at, AreIn}
 use Rattle.engine_revival.specs.declared.order_list.TheConstants.{LIST_ORDERS}

@@ -1,5 +1,5 @@
 use Rattle.std.proofs.Common.{◌++◌, ◌∷◌, [], refl, ◌∙◌, ap, sym, Ok}
-use Rattle.event_pipe.specs.declared.message.What.TheVariants as says
+use Rattle.event_pipe.specs.declared.message.MessageBody.TheVariants as says
 use Rattle.line_io.specs.declared.lines.Item.TheVariants as answers
 use Rattle.event_pipe.specs.Message.{sent_event}
 use Rattle.event_pipe.specs.Ends.{sent}

@@ -2,7 +2,7 @@ use Rattle.std.proofs.Common.{◌≡◌, refl, subst}
 use Rattle.command_endings.specs.Diagnostics.{code_of}
 use Rattle.command_endings.specs.Ran.{Ran}
 use Rattle.command_endings.specs.Streams.{Streams, streams}
-use Rattle.engine_revival.specs.declared.state.State.{State}
+use Rattle.engine_revival.specs.declared.state.RevivalState.{RevivalState}
 use Rattle.line_scribe.proofs.Outcomes.{outcome}
 use Rattle.line_scribe.specs.Scribed.{EndsBy}
 use Rattle.engine_revival.specs.Steps.{opening}
@@ -23,5 +23,5 @@ returns g c =
     let now : Streams = streams (g.I.Source.state c.run_scribe.new.input) (g.O.Sink.state c.run_scribe.new.output) (g.D.Sink.state c.run_scribe.new.diag) in
     let code = code_of c.run_scribe.result in
     let ran : Ran (λ e. EndsBy revives (opening c.args.lives) ((c.run_scribe.new.input ≡ c.args.input.now) × (c.run_scribe.new.output ≡ c.args.output.now)) e start now) start now code =
-    subst (λ (s : State). Ran (λ e. EndsBy revives s ((c.run_scribe.new.input ≡ c.args.input.now) × (c.run_scribe.new.output ≡ c.args.output.now)) e start now) start now code) c.in-Ok.ensures c.run_scribe.ensures in
+    subst (λ (s : RevivalState). Ran (λ e. EndsBy revives s ((c.run_scribe.new.input ≡ c.args.input.now) × (c.run_scribe.new.output ≡ c.args.output.now)) e start now) start now code) c.in-Ok.ensures c.run_scribe.ensures in
     revived_by c.args.lives _ start now code ran (outcome revives (opening c.args.lives) _ start now code ran)

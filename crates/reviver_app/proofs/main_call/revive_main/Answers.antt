@@ -11,13 +11,13 @@ pub returns-clause-answers : goal.returns-clause-answers
 returns-clause-answers g c =
     record {
       ending = c.end_of-ending.result;
-      ends = c.end_of-ending.ensures;
+      ends = c.end_of-ending.ensures.ends;
       code_is = c.code.ensures;
       diagnosed = c.tell.ensures;
     }
 
 pub returns-clause-status : goal.returns-clause-status
-returns-clause-status g c = causes.status_says _ _ _ _ _ _ c.code.ensures c.end_of-ending.ensures
+returns-clause-status g c = causes.status_says _ _ _ _ _ _ c.code.ensures c.end_of-ending.ensures.ends
 
 if_some : (P Q : List ℕ → Type 0) (o : Option (List ℕ)) → ((bytes : List ℕ) → P bytes → Q bytes) → IfSome o P → IfSome o Q
 if_some P Q None h x = tt
@@ -30,4 +30,4 @@ whole_by words before after f run e tells =
     (λ bytes w. record { lives = run.lives; given = run.given; whole = w }) (run.left.whole e tells)
 
 pub returns-clause-whole : goal.returns-clause-whole
-returns-clause-whole g c z tells = causes.fine _ _ _ _ _ c.end_of-ending.ensures (sym c.code.ensures ∙ z) (λ f run e. whole_by _ _ _ f run e tells)
+returns-clause-whole g c z tells = causes.fine _ _ _ _ _ c.end_of-ending.ensures.ends (sym c.code.ensures ∙ z) (λ f run e. whole_by _ _ _ f run e tells)

@@ -1,6 +1,6 @@
 use Rattle.std.proofs.Common.{◌∙◌, List, Bool, ◌||◌, refl, ap, sym, subst, arith}
 use Rattle.child_engine.specs.Hosts.{Books, RisesBy}
-use Rattle.reviver_runner.specs.declared.lives.Run.{Run}
+use Rattle.reviver_runner.specs.declared.lives.LifeRun.{LifeRun}
 use Rattle.reviver_runner.specs.Closing.{read_faults, write_faults}
 use Rattle.reviver_runner.proofs.CloseSteps.{closed_count, closed_told, all_closed, none_told, fewer_kids, no_kid}
 use Rattle.reviver_runner.proofs.CountSteps.{cause_more, rises_both, rises_none, none_left}
@@ -13,17 +13,18 @@ loop-run-preserved g c =
     let cause = c.close-waited.ensures.cause in
     let first = c.in-Some.ensures.items in
     record {
-      count = closed_count _ _ (g.H.Src.Source.state c.in-Some.run'.src) (g.H.Snk.Sink.state c.in-Some.run'.snk) _ _ _ books first was.count;
+      count = closed_count _ _ (g.H.EngineSource.Source.state c.in-Some.run'.src) (g.H.EngineSink.Sink.state c.in-Some.run'.snk) _ _ _ books first was.count;
       kids = fewer_kids _ _ _ _ _ _ was.kids c.in-Some-pop_front.ensures.items first;
-      told = closed_told g.H.Src.Source.state g.H.Snk.Sink.state _ _ _ _ c.in-Some.run' books first ∙ was.told;
+      told = closed_told g.H.EngineSource.Source.state g.H.EngineSink.Sink.state _ _ _ _ c.in-Some.run' books first ∙ was.told;
       out = ap (λ (b : Books). b.runs_out) books ∙ was.out;
       logs_out = ap (λ (b : Books). b.logs_out) books ∙ was.logs_out;
       books_logs = ap (λ (b : Books). b.logs) books ∙ was.books_logs;
       waits = cause_more _ _ _ _ _ c.close-waited.result was.waits cause.waits (c.either-failed.ensures ∙ ap (λ (b : Bool). c.loop-run.failed || b) c.is_err.ensures.value);
-      reads = λ n x. was.reads n (subst (λ (l : List (Run _ _)). RisesBy (read_faults g.H.Src.Source.state l) (g.H.Host.faults c.loop-run.host).reads n) (sym first) (rises_both _ _ _ _ _ cause.reads x));
-      writes = λ n x. was.writes n (subst (λ (l : List (Run _ _)). RisesBy (write_faults g.H.Snk.Sink.state l) (g.H.Host.faults c.loop-run.host).writes n) (sym first) (rises_both _ _ _ _ _ cause.writes x));
+      reads = λ n x. was.reads n (subst (λ (l : List (LifeRun _ _)). RisesBy (read_faults g.H.EngineSource.Source.state l) (g.H.Host.faults c.loop-run.host).reads n) (sym first) (rises_both _ _ _ _ _ cause.reads x));
+      writes = λ n x. was.writes n (subst (λ (l : List (LifeRun _ _)). RisesBy (write_faults g.H.EngineSink.Sink.state l) (g.H.Host.faults c.loop-run.host).writes n) (sym first) (rises_both _ _ _ _ _ cause.writes x));
       starts = cause.starts ∙ was.starts;
       logs = cause.logs ∙ was.logs;
+      asked = c.close-waited.ensures.asked ∙ was.asked;
     }
 
 pub returns-clause-counts : goal.returns-clause-counts
@@ -32,8 +33,8 @@ returns-clause-counts g c =
     let none = none_left _ (c.in_default.ensures.items ∙ c.in_default.ensures.rest) in
     record {
       waits = was.waits;
-      reads = was.reads _ (subst (λ (l : List (Run _ _)). RisesBy (read_faults g.H.Src.Source.state l) (g.H.Host.faults c.loop-run.host).reads (g.H.Host.faults c.loop-run.host).reads) (sym none) (rises_none _));
-      writes = was.writes _ (subst (λ (l : List (Run _ _)). RisesBy (write_faults g.H.Snk.Sink.state l) (g.H.Host.faults c.loop-run.host).writes (g.H.Host.faults c.loop-run.host).writes) (sym none) (rises_none _));
+      reads = was.reads _ (subst (λ (l : List (LifeRun _ _)). RisesBy (read_faults g.H.EngineSource.Source.state l) (g.H.Host.faults c.loop-run.host).reads (g.H.Host.faults c.loop-run.host).reads) (sym none) (rises_none _));
+      writes = was.writes _ (subst (λ (l : List (LifeRun _ _)). RisesBy (write_faults g.H.EngineSink.Sink.state l) (g.H.Host.faults c.loop-run.host).writes (g.H.Host.faults c.loop-run.host).writes) (sym none) (rises_none _));
       starts = was.starts;
       logs = was.logs;
     }
@@ -44,7 +45,7 @@ returns-clause-books g c =
     let none = none_left _ (c.in_default.ensures.items ∙ c.in_default.ensures.rest) in
     record {
       all = all_closed _ _ _ none was.count;
-      told_are = none_told g.H.Src.Source.state g.H.Snk.Sink.state _ _ _ none was.told;
+      told_are = none_told g.H.EngineSource.Source.state g.H.EngineSink.Sink.state _ _ _ none was.told;
       out = was.out;
       logs_out = was.logs_out;
       logs = was.books_logs;
@@ -66,4 +67,5 @@ loop-run-init g c = record {
   writes = λ n x. x;
   starts = refl;
   logs = refl;
+  asked = refl;
 }

@@ -1,7 +1,8 @@
 use Rattle.std.proofs.Common.{◌∙◌, ◌+◌, ap, refl, subst, sym}
+use Rattle.host_run.proofs.Asked.{starts_none, starts_both}
 use Rattle.reviver_runner.specs.Lives.{Goes}
 use Rattle.reviver_runner.proofs.LifeSteps.{goes_next, ends_over, ends_refused, lives_as, begun_as}
-use Rattle.reviver_runner.proofs.RunSteps.{hands_none, hands_refused, hands_as, next_as, one_more, keeps_both, keeps_same, goes_first, empty, few_as, more_kids, same_kids, room_for}
+use Rattle.reviver_runner.proofs.RunSteps.{hands_none, hands_refused, hands_as, starts_as, next_as, one_more, keeps_both, keeps_same, goes_first, empty, few_as, more_kids, same_kids, room_for}
 use Rattle.reviver_runner.proofs.run.run_lives.Goals as goal
 
 pub loop-init : goal.loop-init
@@ -12,6 +13,7 @@ loop-init g c =
       out = c.requires.out ∙ ap (λ n. n + 1) (sym c.requires.none);
       books = refl;
       counts = refl;
+      asked = starts_none _ _ _ _ _ refl refl;
       space = refl;
       kids = c.requires.kids ∙ ap (λ n. n + 1) (sym c.requires.none);
       kids_space = refl;
@@ -19,7 +21,7 @@ loop-init g c =
       goes = subst (λ n. Goes c.args.parts.now.revival.state n) (sym c.requires.none) c.requires.goes;
       kept = refl;
       tallied = c.requires.tallied;
-      going = goes_first g.H.Src.Source.state g.H.Snk.Sink.state _ _ _ _ _ _ _ _ _ _ _ c.requires.unsent c.requires.untaken none c.requires.tallies c.requires.begun c.requires.unfailed;
+      going = goes_first g.H.EngineSource.Source.state g.H.EngineSink.Sink.state _ _ _ _ _ _ _ _ _ _ _ c.requires.unsent c.requires.untaken none c.requires.tallies c.requires.begun c.requires.unfailed;
     }
 
 pub life_turn-requires-clause-kids : goal.life_turn-requires-clause-kids
@@ -36,6 +38,7 @@ loop-preserved g c =
       out = more.0;
       books = more.1;
       counts = hands.1 ∙ was.counts;
+      asked = starts_both _ _ _ _ _ _ _ _ was.asked (starts_as _ _ _ _ _ _ _ c.in-Life.is turn.asked);
       space = turn.space ∙ was.space;
       kids = more_kids _ _ _ _ _ c.in-Life.is turn.kids was.kids turn.more;
       kids_space = turn.kids_space ∙ was.kids_space;
@@ -43,7 +46,7 @@ loop-preserved g c =
       goes = next_as _ _ _ _ c.in-Life.is turn.next;
       kept = turn.kept ∙ was.kept;
       tallied = turn.tallied was.going.text (begun_as (g.H.Host.books c.args.host.now) (g.H.Host.books c.loop.host) _ _ _ _ _ was.books was.going.begun) was.tallied;
-      going = goes_next _ _ _ _ _ _ _ _ _ _ _ _ _ _ _ _ _ _ _ _ _ _ _ _ _ _ was.going (lives_as g.H.Src.Source.state g.H.Snk.Sink.state (g.H.Host.books c.args.host.now) (g.H.Host.books c.loop.host) _ _ _ _ _ _ _ _ _ _ _ _ _ _ _ _ _ _ _ was.books turn.lived) _ c.in-Life.is;
+      going = goes_next _ _ _ _ _ _ _ _ _ _ _ _ _ _ _ _ _ _ _ _ _ _ _ _ _ _ was.going (lives_as g.H.EngineSource.Source.state g.H.EngineSink.Sink.state (g.H.Host.books c.args.host.now) (g.H.Host.books c.loop.host) _ _ _ _ _ _ _ _ _ _ _ _ _ _ _ _ _ _ _ was.books turn.lived) _ c.in-Life.is;
     }
 
 pub returns-in-Over-clause-keeps : goal.returns-in-Over-clause-keeps
@@ -62,7 +65,7 @@ pub returns-in-Over-clause-tallied : goal.returns-in-Over-clause-tallied
 returns-in-Over-clause-tallied g c = c.life_turn.ensures.tallied c.loop.invariant.going.text (begun_as (g.H.Host.books c.args.host.now) (g.H.Host.books c.loop.host) _ _ _ _ _ c.loop.invariant.books c.loop.invariant.going.begun) c.loop.invariant.tallied
 
 pub returns-in-Over-clause-lived : goal.returns-in-Over-clause-lived
-returns-in-Over-clause-lived g c = ends_over _ _ _ _ _ _ _ _ _ _ _ _ _ _ _ _ _ _ _ _ _ _ _ _ _ _ c.loop.invariant.going (lives_as g.H.Src.Source.state g.H.Snk.Sink.state (g.H.Host.books c.args.host.now) (g.H.Host.books c.loop.host) _ _ _ _ _ _ _ _ _ _ _ _ _ _ _ _ _ _ _ c.loop.invariant.books c.life_turn.ensures.lived) c.in-Over.is
+returns-in-Over-clause-lived g c = ends_over _ _ _ _ _ _ _ _ _ _ _ _ _ _ _ _ _ _ _ _ _ _ _ _ _ _ c.loop.invariant.going (lives_as g.H.EngineSource.Source.state g.H.EngineSink.Sink.state (g.H.Host.books c.args.host.now) (g.H.Host.books c.loop.host) _ _ _ _ _ _ _ _ _ _ _ _ _ _ _ _ _ _ _ c.loop.invariant.books c.life_turn.ensures.lived) c.in-Over.is
 
 pub returns-in-Over-clause-host : goal.returns-in-Over-clause-host
 returns-in-Over-clause-host g c =
@@ -86,10 +89,16 @@ pub returns-in-Refused-clause-tallied : goal.returns-in-Refused-clause-tallied
 returns-in-Refused-clause-tallied g c = c.life_turn.ensures.tallied c.loop.invariant.going.text (begun_as (g.H.Host.books c.args.host.now) (g.H.Host.books c.loop.host) _ _ _ _ _ c.loop.invariant.books c.loop.invariant.going.begun) c.loop.invariant.tallied
 
 pub returns-in-Refused-clause-lived : goal.returns-in-Refused-clause-lived
-returns-in-Refused-clause-lived g c = ends_refused _ _ _ _ _ _ _ _ _ _ _ _ _ _ _ _ _ _ _ _ _ _ _ _ _ _ c.loop.invariant.going (lives_as g.H.Src.Source.state g.H.Snk.Sink.state (g.H.Host.books c.args.host.now) (g.H.Host.books c.loop.host) _ _ _ _ _ _ _ _ _ _ _ _ _ _ _ _ _ _ _ c.loop.invariant.books c.life_turn.ensures.lived) _ c.in-Refused.is
+returns-in-Refused-clause-lived g c = ends_refused _ _ _ _ _ _ _ _ _ _ _ _ _ _ _ _ _ _ _ _ _ _ _ _ _ _ c.loop.invariant.going (lives_as g.H.EngineSource.Source.state g.H.EngineSink.Sink.state (g.H.Host.books c.args.host.now) (g.H.Host.books c.loop.host) _ _ _ _ _ _ _ _ _ _ _ _ _ _ _ _ _ _ _ c.loop.invariant.books c.life_turn.ensures.lived) _ c.in-Refused.is
 
 pub returns-in-Refused-clause-host : goal.returns-in-Refused-clause-host
 returns-in-Refused-clause-host g c =
     let was = c.loop.invariant in
     let hands = hands_as (g.H.Host.books c.loop.host) (g.H.Host.books c.life_turn.new.host) (g.H.Host.faults c.loop.host) (g.H.Host.faults c.life_turn.new.host) _ _ c.in-Refused.is c.life_turn.ensures.host in
     hands_refused _ _ _ (g.H.Host.books c.args.host.now) (g.H.Host.books c.loop.host) (g.H.Host.books c.life_turn.new.host) (g.H.Host.faults c.args.host.now) (g.H.Host.faults c.loop.host) (g.H.Host.faults c.life_turn.new.host) _ hands.0 hands.1 hands.2 was.out c.life_turn.ensures.more was.books was.counts (few_as _ _ _ was.goes.few was.lives)
+
+pub returns-in-Over-clause-asked : goal.returns-in-Over-clause-asked
+returns-in-Over-clause-asked g c = starts_both _ _ _ _ _ _ _ _ c.loop.invariant.asked (starts_as _ _ _ _ _ _ _ c.in-Over.is c.life_turn.ensures.asked)
+
+pub returns-in-Refused-clause-asked : goal.returns-in-Refused-clause-asked
+returns-in-Refused-clause-asked g c = starts_both _ _ _ _ _ _ _ _ c.loop.invariant.asked (starts_as _ _ _ _ _ _ _ c.in-Refused.is c.life_turn.ensures.asked)

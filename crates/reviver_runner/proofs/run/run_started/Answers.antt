@@ -1,7 +1,9 @@
 use Rattle.std.proofs.Common.{◌∙◌, ap, refl, sym, subst, ◌||◌, Bool, ℕ, ◌≤◌}
+use Rattle.child_engine.specs.Hosts.{Books}
 use Rattle.host_run.specs.Logs.{closed_logs}
 use Rattle.host_run.proofs.Counts.{retold}
 use Rattle.host_run.proofs.Telling.{fresh_faults}
+use Rattle.host_run.proofs.Asked.{asked_logs, asks_more}
 use Rattle.host_run.proofs.Closes.{same_count, length_told, few_logs, told_as, log_opened, left_of, right_of}
 use Rattle.life_runner.proofs.Appends.{took}
 use Rattle.host_run.specs.declared.failures.Failures.{Failures}
@@ -23,12 +25,25 @@ pub close_everything-waiting_failed-requires-clause-logs : goal.close_everything
 close_everything-waiting_failed-requires-clause-logs g c = λ κs o.
     log_may _ _ _ _ _ _ _ _ _ _ c.requires.books c.open_log-log.ensures.books c.run_beside-upper.ensures.host (same_count c.open_log-log.result.log c.run_beside-upper.new.log c.run_beside-upper.ensures.kept)
 
-pub returns : goal.returns
-returns g c =
+pub returns-clause-asked : goal.returns-clause-asked
+returns-clause-asked g c =
+    let opened = c.open_log-log.ensures in
     let beside = c.run_beside-upper.ensures in
     let closed = c.close_everything-waiting_failed.ensures in
-    let source = g.H.Src.Source.state in
-    let sink = g.H.Snk.Sink.state in
+    asks_more _ _ _ _ _ _ _ _ _ _ _ _ _ opened.asked beside.asked closed.asked (ap (λ (b : Books). b.runs_out) opened.books)
+    (ap (λ (b : Books). b.runs_out) closed.closes.logged ∙ closed.closes.closed.out)
+    (asked_logs g.H.Log.Sink.state c.open_log-log.result.log c.run_beside-upper.new.log c.open_log-log.result.fault c.is_open_failure-2.result _ _ _
+    opened.some opened.none beside.kept (beside.lived.so_far.played.marks.count refl) c.is_open_failure-2.ensures c.either-3.ensures
+    (ap (λ (b : Books). b.logs_out) closed.closes.logged ∙ closed.closes.closed.logs_out ∙ ap (λ (b : Books). b.logs_out) beside.host.others
+    ∙ ap (λ (b : Books). b.logs_out) opened.books))
+    c.is_open_failure.ensures
+
+pub returns-clause-leaves : goal.returns-clause-leaves
+returns-clause-leaves g c =
+    let beside = c.run_beside-upper.ensures in
+    let closed = c.close_everything-waiting_failed.ensures.closes in
+    let source = g.H.EngineSource.Source.state in
+    let sink = g.H.EngineSink.Sink.state in
     let b0 = g.H.Host.books c.args.host.now in
     let b1 = g.H.Host.books c.open_log-log.new.host in
     let b4 = g.H.Host.books c.close_everything-waiting_failed.new.host in

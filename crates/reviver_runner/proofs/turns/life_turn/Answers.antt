@@ -13,12 +13,12 @@ returns-clause-lives g c =
 
 pub returns-clause-tallied : goal.returns-clause-tallied
 returns-clause-tallied g c text begun t =
-    tallied_more g.H.Src.Source.state g.H.Snk.Sink.state _ _ _ _ _ _ _ c.push_back_reserved.ensures.items (reads_told _ _ _ (ap (λ (x : Supplied). x.faults) begun.unread) c.one_life-end.ensures.read.read.count)
+    tallied_more g.H.EngineSource.Source.state g.H.EngineSink.Sink.state _ _ _ _ _ _ _ c.push_back_reserved.ensures.items (reads_told _ _ _ (ap (λ (x : Supplied). x.faults) begun.unread) c.one_life-end.ensures.read.read.count)
     ((offered_both _ _ _ _ _ _ _ _ begun.offered c.one_life-end.ensures.looped.played.offers.engine).count refl) c.with.ensures.read c.with.ensures.write t
 
 pub returns-clause-lived : goal.returns-clause-lived
 returns-clause-lived g c =
-    lives_on g.H.Src.Source.state g.H.Snk.Sink.state _ _ _ _ _ _ _ _ _ _ _ _ _ _ _ _ _ _ _ _ _ _ _ _ c.one_life-end.ensures.looped c.after_life.ensures.ended c.one_life-end.ensures.read
+    lives_on g.H.EngineSource.Source.state g.H.EngineSink.Sink.state _ _ _ _ _ _ _ _ _ _ _ _ _ _ _ _ _ _ _ _ _ _ _ _ c.one_life-end.ensures.looped c.after_life.ensures.ended c.one_life-end.ensures.read
     c.push_back_reserved.ensures.items refl refl c.with.ensures.read c.with.ensures.write c.with.ensures.memory
 
 pub returns-clause-next : goal.returns-clause-next

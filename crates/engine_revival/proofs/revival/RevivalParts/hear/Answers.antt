@@ -1,15 +1,14 @@
-use Rattle.std.proofs.Common.{[], ◌++◌, ◌≡◌, ◌≤◌, ◌+◌, length, List, ℕ, ap, sym, subst, ◌∙◌, arith, length-append}
+use Rattle.std.proofs.Common.{[], ◌++◌, ◌≡◌, ◌≤◌, length, ap, sym, subst, ◌∙◌, arith, length-append}
 use Rattle.line_io.specs.Out.{Text}
 use Rattle.engine_revival.specs.declared.revival.TheConstants.{UP_ROOM}
-use Rattle.engine_revival.specs.declared.state.TheConstants.{MOST_LINE}
 use Rattle.engine_revival.specs.Lists.{batch_text}
 use Rattle.engine_revival.specs.Dialogue.{said_in}
 use Rattle.engine_revival.specs.Rooms.{IsRoomy}
 use Rattle.engine_revival.specs.Steps.{answer_of, answer_text, given, settled_orders}
-use Rattle.engine_revival.specs.View.{View, Keeps}
+use Rattle.engine_revival.specs.View.{View}
 use Rattle.engine_revival.proofs.Rooms.{hearing_roomy, settled_roomy, given_short}
 use Rattle.engine_revival.proofs.Marks.{answer_short, call_marks, no_lines}
-use Rattle.engine_revival.proofs.revival.Parts.hear.Goals as goal
+use Rattle.engine_revival.proofs.revival.RevivalParts.hear.Goals as goal
 
 pub settle-requires-clause-roomy : goal.settle-requires-clause-roomy
 settle-requires-clause-roomy c =

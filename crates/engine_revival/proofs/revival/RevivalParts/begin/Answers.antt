@@ -1,14 +1,14 @@
-use Rattle.std.proofs.Common.{[], ◌++◌, ◌≡◌, ◌≤◌, ◌+◌, length, List, ℕ, ap, sym, subst, ◌∙◌, arith, length-append}
+use Rattle.std.proofs.Common.{◌++◌, ◌≡◌, ◌≤◌, ◌+◌, length, ap, sym, subst, ◌∙◌, arith, length-append}
 use Rattle.line_io.specs.Out.{Text}
 use Rattle.engine_revival.specs.declared.revival.TheConstants.{UP_ROOM}
 use Rattle.engine_revival.specs.declared.state.TheConstants.{MOST_LINE}
 use Rattle.engine_revival.specs.Lists.{batch_text}
 use Rattle.engine_revival.specs.Rooms.{IsRoomy}
 use Rattle.engine_revival.specs.Steps.{answer_of, answer_text, first_order, settled_orders}
-use Rattle.engine_revival.specs.View.{View, Keeps}
+use Rattle.engine_revival.specs.View.{View}
 use Rattle.engine_revival.proofs.Rooms.{beginning_roomy, settled_roomy}
 use Rattle.engine_revival.proofs.Marks.{answer_short, call_marks, first_lines}
-use Rattle.engine_revival.proofs.revival.Parts.begin.Goals as goal
+use Rattle.engine_revival.proofs.revival.RevivalParts.begin.Goals as goal
 
 pub settle-requires-clause-roomy : goal.settle-requires-clause-roomy
 settle-requires-clause-roomy c =

@@ -1,14 +1,14 @@
-use Rattle.std.proofs.Common.{[], ◌++◌, ◌≡◌, ◌≤◌, ◌+◌, length, List, ℕ, ap, sym, subst, ◌∙◌, arith, length-append}
+use Rattle.std.proofs.Common.{◌++◌, ◌≡◌, ◌≤◌, ◌+◌, length, ap, sym, subst, ◌∙◌, arith, length-append}
 use Rattle.line_io.specs.Out.{Text}
 use Rattle.engine_revival.specs.declared.revival.TheConstants.{UP_ROOM}
 use Rattle.engine_revival.specs.declared.state.TheConstants.{MOST_LINE}
 use Rattle.engine_revival.specs.Lists.{batch_text}
 use Rattle.engine_revival.specs.Rooms.{IsRoomy}
 use Rattle.engine_revival.specs.Steps.{answer_of, answer_text, at_once, settled_orders}
-use Rattle.engine_revival.specs.View.{View, Keeps}
+use Rattle.engine_revival.specs.View.{View}
 use Rattle.engine_revival.proofs.Rooms.{ordering_roomy, settled_roomy}
 use Rattle.engine_revival.proofs.Marks.{answer_short, call_marks, at_once_lines}
-use Rattle.engine_revival.proofs.revival.Parts.order.Goals as goal
+use Rattle.engine_revival.proofs.revival.RevivalParts.order.Goals as goal
 
 pub settle-requires-clause-roomy : goal.settle-requires-clause-roomy
 settle-requires-clause-roomy c =

@@ -1,0 +1,74 @@
+-- The talk that events bring about.
+use Rattle.std.proofs.Common.{◌≡◌, ℕ, List, [], ◌∷◌, ◌++◌, codes, Bool, true, false, not, refl, sym, ap, ◌∙◌, subst, if◌then◌else◌}
+use Rattle.line_io.specs.Event.{Event, Iface, IfaceEnd, Engine, EngineLong, EngineEnd}
+use Rattle.engine_revival.specs.declared.words.LifeState.{LifeState}
+use Rattle.engine_revival.specs.declared.words.LifeState.TheVariants as life
+use Rattle.engine_revival.specs.declared.state.RevivalState.{RevivalState}
+use Rattle.engine_revival.specs.Dialogue.{said_in}
+use Rattle.engine_revival.specs.Steps.{opening, ending, gives, is_alive, may_begin}
+use Rattle.engine_revival.specs.Calls.{Call, Order, Heard, Ended, Begin, Over, after, is_over, may, turned}
+use Rattle.engine_revival.specs.Script.{AllMayHappen, call_of, may_happen, state_after, state_behind}
+use Rattle.engine_revival.specs.Laws.{FitsUp, MayCome, state_of}
+use Rattle.engine_revival.specs.Talk.{IsAlwaysLawful, TalkIsLawful, calls_behind, calls_of, with_calls}
+use Rattle.engine_revival.proofs.Agrees.{answers_are_waited_for, given_is_waited_for, in_order}
+use Rattle.engine_revival.proofs.Presses.{presses_are_given}
+use Rattle.engine_revival.proofs.Sent.{awaited_is_given, lives_are_asked}
+use Rattle.engine_revival.proofs.Values.{given_searches}
+
+-- these calls may come, and lead here
+record Lead (lives : ℕ) (calls : List Call) (s : RevivalState) : Type 0 where
+  may_come : MayCome lives calls
+  state_is : state_of lives calls ≡ s
+
+one_more : (lives : ℕ) (calls : List Call) (s : RevivalState) (call : Call) → may s call ≡ true → Lead lives calls s → Lead lives (call ∷ calls) (after s call)
+one_more lives calls s call m h = record {
+  may_come = (h.may_come, ap (λ (x : RevivalState). may x call) h.state_is ∙ m);
+  state_is = ap (λ (x : RevivalState). after x call) h.state_is;
+}
+
+not_over : (l : LifeState) → is_alive l ≡ true → not (is_over l) ≡ true
+not_over life.Over h = cc
+not_over life.Ended h = cc
+not_over l h = refl
+
+turn : (w : Bool) (s : RevivalState) → may_begin s ≡ w → may (ending s) (if w then Begin else Over) ≡ true
+turn true s h = h
+turn false s h = refl
+
+event_leads : (lives : ℕ) (calls : List Call) (s : RevivalState) (e : Event) → may_happen s e ≡ true → Lead lives calls s → Lead lives (with_calls s e calls) (state_after s e)
+event_leads lives calls s (Iface line) m h = one_more lives calls s (Order line) m h
+event_leads lives calls s IfaceEnd m h = one_more lives calls s (Order (codes "quit")) m h
+event_leads lives calls s (Engine line) m h = one_more lives calls s (Heard line) m h
+event_leads lives calls s EngineLong m h =
+    one_more lives (Ended ∷ calls) (ending s) (call_of s EngineLong) (turn (may_begin s) s refl) (one_more lives calls s Ended m h)
+event_leads lives calls s EngineEnd m h = one_more lives calls s Over (not_over s.life m) h
+event_leads lives calls s e m h = absurd (cc)
+
+events_lead : (lives : ℕ) (calls : List Call) (s : RevivalState) (es : List Event) → AllMayHappen s es → Lead lives calls s → Lead lives (calls_behind s es calls) (state_behind s es)
+events_lead lives calls s [] m h = h
+events_lead lives calls s (e ∷ es) m h = events_lead lives (with_calls s e calls) (state_after s e) es m.1 (event_leads lives calls s e m.0 h)
+
+pub talk_is_lawful : TalkIsLawful
+talk_is_lawful lives es m =
+    let calls = calls_of lives es in
+    let s = state_behind (opening lives) es in
+    let h = events_lead lives [] (opening lives) es m (record { may_come = tt; state_is = refl }) in
+    record {
+      in_order = in_order lives calls h.may_come;
+      waited_for = λ line g. subst (λ (x : RevivalState). FitsUp (said_in line) x.upper) h.state_is
+          (given_is_waited_for lives calls line h.may_come (ap (λ (x : RevivalState). gives x (said_in line)) h.state_is ∙ g));
+      stands_in = λ call. answers_are_waited_for (turned s call);
+      given = λ line a. ap (λ (x : RevivalState). gives x (said_in line)) (sym h.state_is) ∙ awaited_is_given lives calls line h.may_come a;
+      asked = lives_are_asked lives calls h.may_come;
+      presses = λ call more order e. presses_are_given lives call more order;
+      searches = λ call more e d. given_searches lives call more (subst (λ (x : List Call). MayCome lives x) e h.may_come) d;
+    }
+
+-- UP TO EACH EVENT
+
+front_may : (s : RevivalState) (front rest : List Event) → AllMayHappen s (front ++ rest) → AllMayHappen s front
+front_may s [] rest m = tt
+front_may s (e ∷ es) rest m = (m.0, front_may (state_after s e) es rest m.1)
+
+pub always_lawful : (lives : ℕ) (events : List Event) → AllMayHappen (opening lives) events → IsAlwaysLawful lives events
+always_lawful lives events m front rest e = talk_is_lawful lives front (front_may (opening lives) front rest (subst (λ (x : List Event). AllMayHappen (opening lives) x) e m))

@@ -1,5 +1,0 @@
-use Rattle.engine_revival.proofs.Read.{read_spells}
-use Rattle.engine_revival.proofs.state.State.take_line.Goals as goal
-
-pub take-requires-clause-spells : goal.take-requires-clause-spells
-take-requires-clause-spells c = (read_spells c.args.line.now c.order_of.result c.in-Some.order c.requires.one_line c.order_of.ensures c.in-Some.is).1

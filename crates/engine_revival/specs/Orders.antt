@@ -1,0 +1,72 @@
+-- The orders of an interface, in any spelling (UCI, April 2006, "GUI to engine").
+use Rattle.std.specs.Prelude.{ℕ, List, [], ◌∷◌, map, codes, Bool, true, false, ◌&&◌, if◌then◌else◌}
+use Rattle.std.specs.Char.{to_ascii_lowercase}
+use Rattle.std.specs.Str.{bytes_eq}
+use Rattle.peer_words.specs.Tokens.{tokens}
+use Rattle.peer_words.specs.declared.kinds.GoKind.{GoKind}
+use Rattle.uci_lines.specs.Cuts.{is_word}
+use Rattle.engine_revival.specs.declared.orders.RevivalOrder.{RevivalOrder as CodeOrder}
+use Rattle.engine_revival.specs.declared.orders.RevivalOrder.TheVariants as orders
+
+-- A setting, a `position` and a `go` have their line, as it came. A setting to a value, and one without, as of a button, have the
+-- words of the option's name, in lower case.
+pub data RevivalOrder : Type 0 where
+  Uci : RevivalOrder
+  IsReady : RevivalOrder
+  NewGame : RevivalOrder
+  Stop : RevivalOrder
+  PonderHit : RevivalOrder
+  Quit : RevivalOrder
+  Value : (name : List (List ℕ)) (line : List ℕ) → RevivalOrder
+  Button : (name : List (List ℕ)) (line : List ℕ) → RevivalOrder
+  Position : (line : List ℕ) → RevivalOrder
+  Go : (kind : GoKind) (line : List ℕ) → RevivalOrder
+
+-- the text of an order, without its line feed
+unfoldable pub order_text : RevivalOrder → List ℕ
+order_text Uci = codes "uci"
+order_text IsReady = codes "isready"
+order_text NewGame = codes "ucinewgame"
+order_text Stop = codes "stop"
+order_text PonderHit = codes "ponderhit"
+order_text Quit = codes "quit"
+order_text (Value name line) = line
+order_text (Button name line) = line
+order_text (Position line) = line
+order_text (Go kind line) = line
+
+-- THE NAMES OF OPTIONS
+
+-- with ASCII letters in lower case
+abbrev pub folded : List ℕ → List ℕ
+folded word = map to_ascii_lowercase word
+
+-- the words before the first `value`
+abbrev pub words_before_value : List (List ℕ) → List (List ℕ)
+words_before_value [] = []
+words_before_value (t ∷ ts) = if is_word (codes "value") t then [] else folded t ∷ words_before_value ts
+
+-- the words of a name, which has one at least
+abbrev pub name_in : List (List ℕ) → List (List ℕ)
+name_in [] = []
+name_in (t ∷ ts) = folded t ∷ words_before_value ts
+
+-- Names are the same if their words are, case ignored.
+abbrev pub are_same_names : List (List ℕ) → List (List ℕ) → Bool
+are_same_names [] [] = true
+are_same_names (a ∷ more) (b ∷ others) = bytes_eq a b && are_same_names more others
+are_same_names a b = false
+
+-- WHAT A READ ORDER IS TO CONTRACTS
+
+abbrev pub order_of : CodeOrder → RevivalOrder
+order_of orders.Uci = Uci
+order_of orders.IsReady = IsReady
+order_of orders.NewGame = NewGame
+order_of orders.Stop = Stop
+order_of orders.PonderHit = PonderHit
+order_of orders.Quit = Quit
+order_of (orders.Value name line) = Value (name_in (tokens name.now)) line.now
+order_of (orders.Button name line) = Button (name_in (tokens name.now)) line.now
+order_of (orders.Position line) = Position line.now
+order_of (orders.Go kind line) = Go kind line.now

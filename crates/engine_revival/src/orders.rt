@@ -1,0 +1,128 @@
+// Orders as any interface spells them.
+ghost use Rattle.std.specs.Prelude.{◌≡◌, ◌∷◌, ◌<◌, [], length, codes, MatchOption, IfSome, None};
+ghost use Rattle.std.specs.Option.{option_map};
+ghost use Rattle.peer_words.specs.Tokens.{tokens};
+ghost use Rattle.uci_lines.specs.Orders.{order_of as own_order_of};
+ghost use Rattle.uci_lines.specs.OrderReading.{order_in as own_order_in};
+ghost use Rattle.uci_talk.specs.Kinds.{has_word};
+ghost use Rattle.uci_talk.specs.Lines.{line_of};
+ghost use Rattle.engine_revival.specs.Orders.{order_of};
+ghost use Rattle.engine_revival.specs.Asked.{order_in, position_asked, setting_asked, word_asked};
+
+use peer_words::{GoKind, next_token};
+use uci_lines::Order as OwnOrder;
+use uci_talk::{go_kind, spoken};
+
+/// An order to an engine. A setting, a `position` and a `go` have their line as it came.
+#[derive(Clone, Copy)]
+pub enum RevivalOrder<'a> {
+    Uci,
+    IsReady,
+    NewGame,
+    Stop,
+    PonderHit,
+    Quit,
+    /// A setting to a value, with what stands behind the word `name`.
+    Value { name: &'a [u8], line: &'a [u8] },
+    /// A setting without a value, as of a button.
+    Button { name: &'a [u8], line: &'a [u8] },
+    Position(&'a [u8]),
+    Go { kind: GoKind, line: &'a [u8] },
+}
+
+/// Whether `value` is among the tokens.
+fn has_value(text: &[u8]) -> bool
+    ensures { result ≡ has_word (codes "value") (tokens text.now) }
+{
+    let mut others = text;
+    while let Some((token, behind)) = next_token(others) {
+        if token == b"value".as_slice() {
+            return true;
+        }
+        others = behind;
+    }
+    false
+}
+
+fn read_setting<'a>(line: &'a [u8], behind: &'a [u8]) -> Option<RevivalOrder<'a>>
+    ensures { option_map order_of result ≡ setting_asked (tokens behind.now) line.now }
+{
+    let (word, name) = next_token(behind)?;
+    if word != b"name".as_slice() {
+        return None;
+    }
+    let (_, others) = next_token(name)?;
+    if has_value(others) {
+        Some(RevivalOrder::Value { name, line })
+    } else {
+        Some(RevivalOrder::Button { name, line })
+    }
+}
+
+fn read_word(line: &[u8]) -> Option<RevivalOrder<'_>>
+    ensures { option_map order_of result ≡ word_asked line.now }
+{
+    if line == b"uci".as_slice() {
+        Some(RevivalOrder::Uci)
+    } else if line == b"isready".as_slice() {
+        Some(RevivalOrder::IsReady)
+    } else if line == b"ucinewgame".as_slice() {
+        Some(RevivalOrder::NewGame)
+    } else if line == b"stop".as_slice() {
+        Some(RevivalOrder::Stop)
+    } else if line == b"ponderhit".as_slice() {
+        Some(RevivalOrder::PonderHit)
+    } else if line == b"quit".as_slice() {
+        Some(RevivalOrder::Quit)
+    } else {
+        None
+    }
+}
+
+// The order in the spelling that the bridge writes.
+fn own_order(line: &[u8]) -> Option<OwnOrder<'_>>
+    ensures { option_map own_order_of result ≡ own_order_in line.now }
+{
+    uci_lines::read_order(line).ok()
+}
+
+fn read_spoken(line: &[u8]) -> Option<RevivalOrder<'_>>
+    ensures { option_map order_of result ≡ position_asked None (line_of line.now) line.now }
+{
+    match spoken(line) {
+        Some(_) => Some(RevivalOrder::Position(line)),
+        None => None,
+    }
+}
+
+fn read_position(line: &[u8]) -> Option<RevivalOrder<'_>>
+    ensures { option_map order_of result
+        ≡ position_asked (own_order_in line.now) (line_of line.now) line.now }
+{
+    match own_order(line) {
+        Some(_) => Some(RevivalOrder::Position(line)),
+        None => read_spoken(line),
+    }
+}
+
+/// The order that a line is, which has no white space at its ends: a word alone; `setoption name`, a name, and perhaps
+/// `value` with what follows; a `position` in the spelling that the bridge writes, or one whose position and moves are
+/// legal; a `go`, whatever follows it.
+#[tactic(auto, unfolding(crate::specs::Asked::order_in))]
+pub fn read_order(line: &[u8]) -> Option<RevivalOrder<'_>>
+    ensures { option_map order_of result ≡ order_in line.now }
+{
+    let (word, others) = next_token(line)?;
+    if word == b"setoption".as_slice() {
+        read_setting(line, others)
+    } else if word == b"position".as_slice() {
+        read_position(line)
+    } else if word == b"go".as_slice() {
+        Some(RevivalOrder::Go {
+            kind: go_kind(line),
+            line,
+        })
+    } else {
+        read_word(line)
+    }
+}
