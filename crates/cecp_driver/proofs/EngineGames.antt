@@ -15,14 +15,14 @@ use Rattle.game_record.specs.Line.{is_standard}
 use Rattle.game_record.proofs.Sames.{same-law}
 use Rattle.game_record.proofs.Lines.{standard-law}
 use Rattle.san_text.specs.Writing.{same_kind}
-use Rattle.san_text.proofs.Alone.{promos-Decides}
-use Rattle.driver_talk.specs.declared.words.Clocks.{Clocks}
-use Rattle.driver_talk.specs.declared.words.Down.{Down}
-use Rattle.driver_talk.specs.declared.words.Down.TheVariants as downs
+use Rattle.san_text.proofs.Alone.{promotions-Decides}
+use Rattle.driver_talk.specs.declared.words.GoClocks.{GoClocks}
+use Rattle.driver_talk.specs.declared.words.ToEngine.{ToEngine}
+use Rattle.driver_talk.specs.declared.words.ToEngine.TheVariants as downs
 use Rattle.driver_lines.specs.Lines.{Line, SetBoard, Sd, Go, Analyze, lines_text}
 use Rattle.driver_lines.specs.Clocks.{clock_lines, control_lines, depth_lines}
 use Rattle.cecp_driver.specs.Same.{same_position, same_ply}
-use Rattle.cecp_driver.specs.SetUp.{Told, further, continued, played, start_lines, setup_lines, set_up, limited}
+use Rattle.cecp_driver.specs.SetUp.{ToldGame, further, continued, played, start_lines, setup_lines, set_up, limited}
 use Rattle.cecp_driver.specs.Deeds.{has_depth, hurry_lines, leave_lines, think_lines, play_lines, analyse_lines, down_lines, down_told}
 use Rattle.cecp_driver.specs.Keeps.{IsTold}
 use Rattle.cecp_driver.specs.EngineGame.{set_by, set_by_all, SearchesOn}
@@ -50,16 +50,16 @@ same_positions p q e =
     whole
 
 abbrev ply : ℕ → ℕ → Option Kind → Ply
-ply from to promo = record { from = from; to = to; promo = promo }
+ply from to promotion = record { from = from; to = to; promotion = promotion }
 
 same_plies : (a b : Ply) → same_ply a b ≡ true → a ≡ b
 same_plies a b e =
-    let squares : ((eqb a.from b.from) && (eqb a.to b.to)) ≡ true = left_true ((eqb a.from b.from) && (eqb a.to b.to)) (option_eq same_kind a.promo b.promo) e in
+    let squares : ((eqb a.from b.from) && (eqb a.to b.to)) ≡ true = left_true ((eqb a.from b.from) && (eqb a.to b.to)) (option_eq same_kind a.promotion b.promotion) e in
     let from : a.from ≡ b.from = (Decides-eqb a.from b.from).0 (left_true (eqb a.from b.from) (eqb a.to b.to) squares) in
     let to : a.to ≡ b.to = (Decides-eqb a.to b.to).0 (right_true (eqb a.from b.from) (eqb a.to b.to) squares) in
-    let promo : a.promo ≡ b.promo = promos-Decides a.promo b.promo (right_true ((eqb a.from b.from) && (eqb a.to b.to)) (option_eq same_kind a.promo b.promo) e) in
-    let whole : ply a.from a.to a.promo ≡ ply b.from b.to b.promo =
-    ap (λ (x : ℕ). ply x a.to a.promo) from ∙ ap (λ (x : ℕ). ply b.from x a.promo) to ∙ ap (λ (x : Option Kind). ply b.from b.to x) promo in
+    let promotion : a.promotion ≡ b.promotion = promotions-Decides a.promotion b.promotion (right_true ((eqb a.from b.from) && (eqb a.to b.to)) (option_eq same_kind a.promotion b.promotion) e) in
+    let whole : ply a.from a.to a.promotion ≡ ply b.from b.to b.promotion =
+    ap (λ (x : ℕ). ply x a.to a.promotion) from ∙ ap (λ (x : ℕ). ply b.from x a.promotion) to ∙ ap (λ (x : Option Kind). ply b.from b.to x) promotion in
     whole
 
 -- the further moves complete those that are known
@@ -120,12 +120,12 @@ start_quiet : (standard : Bool) (p : Position) → AreQuiet (cond standard [] (S
 start_quiet true p = tt
 start_quiet false p = (tt, tt)
 
-start_sets : (standard : Bool) (p : Position) → is_standard p ≡ standard → set_by_all (begun start_position) (cond standard [] (SetBoard p ∷ [])) ≡ begun p
+pub start_sets : (standard : Bool) (p : Position) → is_standard p ≡ standard → set_by_all (begun start_position) (cond standard [] (SetBoard p ∷ [])) ≡ begun p
 start_sets true p e = ap begun (sym ((standard-law p).0 e))
 start_sets false p e = refl
 
 -- the further moves lead from the engine's game to the ordered one
-abbrev IsRest : Game → Game → Option (List Ply) → Type 0
+abbrev pub IsRest : Game → Game → Option (List Ply) → Type 0
 IsRest eg g None = Unit {0}
 IsRest eg g (Some rest) = (eg.start ≡ g.start) × (g.moves ≡ eg.moves ++ rest)
 
@@ -134,7 +134,7 @@ setup_quiet (Some rest) has_usermove g = (tt, played_quiet has_usermove rest)
 setup_quiet None has_usermove g =
     (tt, (tt, (tt, quiet_then (start_lines g.start) (played has_usermove g.moves) (start_quiet (is_standard g.start) g.start) (played_quiet has_usermove g.moves))))
 
-setup_sets : (o : Option (List Ply)) (has_usermove : Bool) (eg g : Game) → IsRest eg g o → set_by_all eg (setup_lines o has_usermove g) ≡ g
+pub setup_sets : (o : Option (List Ply)) (has_usermove : Bool) (eg g : Game) → IsRest eg g o → set_by_all eg (setup_lines o has_usermove g) ≡ g
 setup_sets (Some rest) has_usermove eg g r =
     played_sets has_usermove rest eg
     ∙ ap (λ (x : Position). game x (eg.moves ++ rest)) r.0
@@ -144,30 +144,30 @@ setup_sets None has_usermove eg g r =
     ∙ ap (λ (x : Game). set_by_all x (played has_usermove g.moves)) (start_sets (is_standard g.start) g.start refl)
     ∙ played_sets has_usermove g.moves (begun g.start)
 
-rest_from : (told : Told) (eg g : Game) (o : Option (List Ply)) → eg ≡ told.game → same_position told.game.start g.start ≡ true → further told.game.moves g.moves ≡ o → IsRest eg g o
+rest_from : (told : ToldGame) (eg g : Game) (o : Option (List Ply)) → eg ≡ told.game → same_position told.game.start g.start ≡ true → further told.game.moves g.moves ≡ o → IsRest eg g o
 rest_from told eg g None k e f = tt
 rest_from told eg g (Some rest) k e f = (
   ap (λ (x : Game). x.start) k ∙ same_positions told.game.start g.start e,
   further_rest told.game.moves g.moves rest f ∙ ap (λ (x : Game). x.moves ++ rest) (sym k),
 )
 
-rest_by : (b : Bool) (told : Told) (eg g : Game) (deep : Bool) → (told.known ≡ true → eg ≡ told.game) → ((told.known && not (told.limited && not deep)) && same_position told.game.start g.start) ≡ b
+rest_by : (b : Bool) (told : ToldGame) (eg g : Game) (deep : Bool) → (told.known ≡ true → eg ≡ told.game) → ((told.known && not (told.limited && not deep)) && same_position told.game.start g.start) ≡ b
     → IsRest eg g (cond b (further told.game.moves g.moves) None)
 rest_by true told eg g deep k e =
     let known = left_true told.known (not (told.limited && not deep)) (left_true (told.known && not (told.limited && not deep)) (same_position told.game.start g.start) e) in
     rest_from told eg g (further told.game.moves g.moves) (k known) (right_true (told.known && not (told.limited && not deep)) (same_position told.game.start g.start) e) refl
 rest_by false told eg g deep k e = tt
 
-rest_of : (told : Told) (eg g : Game) (deep : Bool) → (told.known ≡ true → eg ≡ told.game) → IsRest eg g (continued told g deep)
+pub rest_of : (told : ToldGame) (eg g : Game) (deep : Bool) → (told.known ≡ true → eg ≡ told.game) → IsRest eg g (continued told g deep)
 rest_of told eg g deep k = rest_by ((told.known && not (told.limited && not deep)) && same_position told.game.start g.start) told eg g deep k refl
 
 -- CLOCKS, AND A SEARCH
 
-control_quiet : (side : Side) (c : Clocks) (o : Option ℕ) → AreQuiet (control_lines side c o)
+control_quiet : (side : Side) (c : GoClocks) (o : Option ℕ) → AreQuiet (control_lines side c o)
 control_quiet side c None = (tt, (tt, (tt, tt)))
 control_quiet side c (Some time) = (tt, tt)
 
-control_sets : (side : Side) (c : Clocks) (o : Option ℕ) (g : Game) → set_by_all g (control_lines side c o) ≡ g
+control_sets : (side : Side) (c : GoClocks) (o : Option ℕ) (g : Game) → set_by_all g (control_lines side c o) ≡ g
 control_sets side c None g = refl
 control_sets side c (Some time) g = refl
 
@@ -179,10 +179,10 @@ depth_sets : (b : Bool) (n : ℕ) (g : Game) → set_by_all g (cond b [] (Sd n �
 depth_sets true n g = refl
 depth_sets false n g = refl
 
-clocks_quiet : (side : Side) (c : Clocks) → AreQuiet (clock_lines side c)
+clocks_quiet : (side : Side) (c : GoClocks) → AreQuiet (clock_lines side c)
 clocks_quiet side c = quiet_then (control_lines side c c.movetime) (depth_lines c.depth) (control_quiet side c c.movetime) (depth_quiet (eqb c.depth 0) _)
 
-clocks_set : (side : Side) (c : Clocks) (g : Game) → set_by_all g (clock_lines side c) ≡ g
+clocks_set : (side : Side) (c : GoClocks) (g : Game) → set_by_all g (clock_lines side c) ≡ g
 clocks_set side c g =
     sets_then g (control_lines side c c.movetime) (depth_lines c.depth)
     ∙ ap (λ (x : Game). set_by_all x (depth_lines c.depth)) (control_sets side c c.movetime g)
@@ -196,13 +196,13 @@ hurry_sets : (g : Game) (hurried : Bool) → set_by_all g (hurry_lines hurried) 
 hurry_sets g true = refl
 hurry_sets g false = refl
 
-think_on : (o g on : Game) (c : Clocks) (hurried : Bool) → g ≡ o → SearchesOn o g (think_lines on c hurried)
+think_on : (o g on : Game) (c : GoClocks) (hurried : Bool) → g ≡ o → SearchesOn o g (think_lines on c hurried)
 think_on o g on c hurried e =
     let side = (now_of on).side in
     searches_then o g (clock_lines side c) (Go ∷ hurry_lines hurried) (clocks_quiet side c)
     (subst (λ (x : Game). SearchesOn o x (Go ∷ hurry_lines hurried)) (sym (clocks_set side c g)) (e, hurry_on o g hurried))
 
-think_sets : (g on : Game) (c : Clocks) (hurried : Bool) → set_by_all g (think_lines on c hurried) ≡ g
+think_sets : (g on : Game) (c : GoClocks) (hurried : Bool) → set_by_all g (think_lines on c hurried) ≡ g
 think_sets g on c hurried =
     let side = (now_of on).side in
     sets_then g (clock_lines side c) (Go ∷ hurry_lines hurried)
@@ -219,13 +219,13 @@ leave_sets g (Some n) = refl
 
 -- WHAT A DEED WRITES
 
-abbrev pub IsKnown : Told → Game → Type 0
+abbrev pub IsKnown : ToldGame → Game → Type 0
 IsKnown told eg = told.known ≡ true → eg ≡ told.game
 
-abbrev pub DeedOn : Game → Game → Told → Bool → Down → Type 0
+abbrev pub DeedOn : Game → Game → ToldGame → Bool → ToEngine → Type 0
 DeedOn g eg told has_usermove down = SearchesOn g eg (down_lines told g has_usermove down) × IsKnown (down_told g down told) (set_by_all eg (down_lines told g has_usermove down))
 
-pub deed_on : (g eg : Game) (told : Told) (has_usermove : Bool) (down : Down) → FitsTold g told down → IsKnown told eg → DeedOn g eg told has_usermove down
+pub deed_on : (g eg : Game) (told : ToldGame) (has_usermove : Bool) (down : ToEngine) → FitsTold g told down → IsKnown told eg → DeedOn g eg told has_usermove down
 deed_on g eg told has_usermove (downs.Resume c) f k = (think_on g eg g c false (k f.0 ∙ f.1), λ h. think_sets eg g c false ∙ k h)
 deed_on g eg told has_usermove (downs.Play c hurried) f k =
     let o = continued told g (has_depth c) in

@@ -10,27 +10,27 @@ use Rattle.chess_board.proofs.Legal.{legal-law}
 use Rattle.chess_board.proofs.Texts.{legal-written}
 use Rattle.chess_board.proofs.LegalMoves.{legal_is}
 use Rattle.game_record.specs.Game.{Game, now_of}
-use Rattle.driver_talk.specs.declared.words.Up.{Up}
-use Rattle.driver_talk.specs.declared.words.Up.TheVariants as ups
+use Rattle.driver_talk.specs.declared.words.ToIface.{ToIface}
+use Rattle.driver_talk.specs.declared.words.ToIface.TheVariants as ups
 use Rattle.driver_talk.specs.declared.talk.Reach.{Reach}
 use Rattle.driver_talk.specs.declared.talk.Reach.TheVariants as reaches
-use Rattle.driver_talk.specs.declared.talk.Call.{Call}
-use Rattle.driver_talk.specs.declared.talk.Call.TheVariants as calls
-use Rattle.driver_lines.specs.declared.words.Ordered.{Ordered}
-use Rattle.driver_lines.specs.declared.words.Ordered.TheVariants as orders
+use Rattle.driver_talk.specs.declared.talk.DriverCall.{DriverCall}
+use Rattle.driver_talk.specs.declared.talk.DriverCall.TheVariants as calls
+use Rattle.driver_lines.specs.declared.words.OrderWord.{OrderWord}
+use Rattle.driver_lines.specs.declared.words.OrderWord.TheVariants as orders
 use Rattle.driver_lines.specs.Says.{Says, Move as SaysMove, Over, Pong, Report, Feature}
 use Rattle.driver_lines.specs.Says as says
-use Rattle.driver_lines.specs.Moves.{if_legal, coordinates, Writes, Names, NamesNone, is_castling, IsAlone, ShownBy, IsShown, IsThought, IsFirstMove}
-use Rattle.cecp_driver.specs.declared.driver.Parts.{Parts}
+use Rattle.driver_lines.specs.Moves.{if_legal, coordinates, Writes, Names, NamesNone, IsShown, IsThought, IsFirstMove}
+use Rattle.cecp_driver.specs.declared.driver.DriverParts.{DriverParts}
 use Rattle.cecp_driver.specs.declared.told.TheConstants.{MOST_PLIES}
 use Rattle.cecp_driver.specs.Deeds.{CanSay}
 use Rattle.cecp_driver.specs.Driver.{is_usable, reach_of, IsAsked, IsHeard, thought_call}
 use Rattle.cecp_driver.proofs.Good.{SaysLegal, CallFits}
 
-officer : (p : Position) (m : Move) → legal p m ≡ true → IsOfficer m.promo
-officer p m e = legal-written p m ((legal-law p m.from.index m.to.index m.promo).0 e)
+pub officer : (p : Position) (m : Move) → legal p m ≡ true → IsOfficer m.promotion
+officer p m e = legal-written p m ((legal-law p m.from.index m.to.index m.promotion).0 e)
 
-pub can_say : (g : Game) (up : Up) → SaysLegal g up → CanSay up
+pub can_say : (g : Game) (up : ToIface) → SaysLegal g up → CanSay up
 can_say g ups.Nothing h = tt
 can_say g ups.Ready h = tt
 can_say g (ups.Best None) h = tt
@@ -50,17 +50,6 @@ if_legal_is : (p : Position) (m : Option Move) → AllLegal p (if_legal p m)
 if_legal_is p None = tt
 if_legal_is p (Some m) = if_step p m (legal p m) refl
 
-alone_legal : (p : Position) (text : List ℕ) (shown : Option Move) → IsAlone p text shown → AllLegal p shown
-alone_legal p text None h = tt
-alone_legal p text (Some m) h = legal_is p m h.0.0
-
-shown_by : (castling : Bool) (p : Position) (text : List ℕ) (shown : Option Move) → ShownBy castling p text shown → AllLegal p shown
-shown_by true p text shown h = alone_legal p text shown h
-shown_by false p text shown h = subst (AllLegal p) (sym h) (if_legal_is p (move_of text))
-
-shown_legal : (p : Position) (text : List ℕ) (shown : Option Move) → IsShown p text shown → AllLegal p shown
-shown_legal p text shown h = shown_by (is_castling text) p text shown h
-
 written_legal : (p : Position) (text : List ℕ) (m : Move) → Writes p text m → legal p m ≡ true
 written_legal p text m (inl alone) = legal_is p m alone.0.0
 written_legal p text m (inr long) = legal_is p m long.1.0.0
@@ -68,6 +57,10 @@ written_legal p text m (inr long) = legal_is p m long.1.0.0
 named_legal : (p : Position) (text : List ℕ) (m : Move) → Names p text m → legal p m ≡ true
 named_legal p text m (inl e) = subst (AllLegal p) e (if_legal_is p (move_of text))
 named_legal p text m (inr both) = written_legal p text m both.1
+
+shown_legal : (p : Position) (text : List ℕ) (shown : Option Move) → IsShown p text shown → AllLegal p shown
+shown_legal p text None h = tt
+shown_legal p text (Some m) h = named_legal p text m h
 
 thought_legal : (p : Position) (ts : List (List ℕ)) (best : Option Move) → IsThought p ts best → AllLegal p best
 thought_legal p [] best h = subst (AllLegal p) (sym h) tt
@@ -88,21 +81,21 @@ pub right_true : (a b : Bool) → a && b ≡ true → b ≡ true
 right_true true b e = e
 right_true false b e = absurd (cc)
 
-usable_short : (v : Parts) → is_usable v ≡ true → length v.game.moves ≤ MOST_PLIES
+usable_short : (v : DriverParts) → is_usable v ≡ true → length v.game.moves ≤ MOST_PLIES
 usable_short v e =
     let short : leb (length v.game.moves) MOST_PLIES ≡ true = right_true v.is_ordered (leb (length v.game.moves) MOST_PLIES) (left_true (v.is_ordered && leb (length v.game.moves) MOST_PLIES) (v.has.ping && v.has.setboard) e) in
     grind (arith, nat_tests)
 
-reach_by : (usable : Bool) (reach : Reach) (v : Parts) → is_usable v ≡ usable → (cond usable reach reaches.Nothing ≡ reaches.Nothing) ⊎ (length v.game.moves ≤ MOST_PLIES)
+reach_by : (usable : Bool) (reach : Reach) (v : DriverParts) → is_usable v ≡ usable → (cond usable reach reaches.Nothing ≡ reaches.Nothing) ⊎ (length v.game.moves ≤ MOST_PLIES)
 reach_by true reach v e = inr (usable_short v e)
 reach_by false reach v e = inl refl
 
-reach_fits : (v : Parts) (reach : Reach) → reach ≡ reach_of v → (reach ≡ reaches.Nothing) ⊎ (length v.game.moves ≤ MOST_PLIES)
+reach_fits : (v : DriverParts) (reach : Reach) → reach ≡ reach_of v → (reach ≡ reaches.Nothing) ⊎ (length v.game.moves ≤ MOST_PLIES)
 reach_fits v reach e = subst (λ (r : Reach). (r ≡ reaches.Nothing) ⊎ (length v.game.moves ≤ MOST_PLIES)) (sym e) (reach_by (is_usable v) (cond v.has.analyze reaches.Analyse reaches.Play) v refl)
 
 -- CALLS
 
-pub asked_fits : (v : Parts) (line : List ℕ) (o : Ordered) (c : Call) → IsAsked v line o c → CallFits v.game c
+pub asked_fits : (v : DriverParts) (line : List ℕ) (o : OrderWord) (c : DriverCall) → IsAsked v line o c → CallFits v.game c
 asked_fits v line orders.Go c e = subst (CallFits v.game) (sym e.1.1) (first_legal (now_of v.game) e.0.first e.1.0.first, reach_fits v e.0.reach e.1.0.reach)
 asked_fits v line o c e = subst (CallFits v.game) (sym e) tt
 
@@ -110,7 +103,7 @@ thought_fits : (g : Game) (depth : ℕ) (score : ℤ) (time nodes : ℕ) (best :
 thought_fits g depth score time nodes None h = tt
 thought_fits g depth score time nodes (Some m) h = h
 
-pub heard_fits : (v : Parts) (said : Says) (c : Call) → IsHeard v said c → CallFits v.game c
+pub heard_fits : (v : DriverParts) (said : Says) (c : DriverCall) → IsHeard v said c → CallFits v.game c
 heard_fits v (SaysMove text) c e = subst (CallFits v.game) (sym e.1.1) (shown_legal (now_of v.game) text e.0 e.1.0)
 heard_fits v Over c e = subst (CallFits v.game) (sym e) tt
 heard_fits v (Pong n) c e = subst (CallFits v.game) (sym e) tt

@@ -8,4 +8,16 @@ mod Pushing
 pub mod Scripts
 mod OwnMoves
 mod EngineGames
-mod EngineRuns
+pub mod EngineRuns
+mod Mute
+mod Starts
+mod Pinged
+mod Fed
+mod Names
+mod Called
+mod Sayable
+mod Busy
+mod Playing
+mod Quitting
+pub mod Sound
+pub mod OneRun

@@ -9,7 +9,7 @@ use Rattle.game_record.specs.Game.{Ply, Game, ply_of, plies_of, AreLegal}
 use Rattle.game_record.proofs.Lines.{officers}
 
 -- a game's moves have texts
-pub game_officers : (g : Game) (moves : List Move) → plies_of moves ≡ g.moves → AreLegal g.start g.moves → AllByRecursion (λ (m : Ply). IsOfficer m.promo) (plies_of moves)
+pub game_officers : (g : Game) (moves : List Move) → plies_of moves ≡ g.moves → AreLegal g.start g.moves → AllByRecursion (λ (m : Ply). IsOfficer m.promotion) (plies_of moves)
 game_officers g moves e legal = officers g.start moves (subst (AreLegal g.start) (sym e) legal)
 
 -- as many moves as plies

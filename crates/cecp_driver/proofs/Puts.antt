@@ -9,7 +9,7 @@ use Rattle.chess_board.specs.Play.{start_position}
 use Rattle.game_record.specs.Game.{Ply, Game}
 use Rattle.game_record.proofs.Lines.{standard_test}
 use Rattle.driver_lines.specs.Lines.{Line, New, Force, Post, SetBoard, line_text, lines_text}
-use Rattle.cecp_driver.specs.SetUp.{Told, continued, played, start_lines, setup_lines}
+use Rattle.cecp_driver.specs.SetUp.{ToldGame, continued, played, start_lines, setup_lines}
 
 pub two_lines : (o a b : Text) (x y : List ℕ) → a ≡ with o x → b ≡ with a y → b ≡ with o (x ++ (y ++ []))
 two_lines o a b x y e f = put_two o a b x y e f ∙ ap (λ (t : List ℕ). with o (x ++ t)) (sym (append-nil y))
@@ -38,7 +38,7 @@ new_setup o a b c d e s has_usermove g moves ea eb ec ed es ee em =
     ∙ ap (λ (t : List ℕ). with o (line_text New ++ (line_text Force ++ (line_text Post ++ t))))
     (sym (lines_append (start_lines s) (played has_usermove moves)) ∙ ap (λ (p : Position). lines_text (start_lines p ++ played has_usermove moves)) es ∙ ap (λ (ms : List Ply). lines_text (start_lines g.start ++ played has_usermove ms)) em)
 
-pub setup_then : (o a b : Text) (told : Told) (g : Game) (has_usermove deep deep' : Bool) (ls : List Line) → deep ≡ deep' → a ≡ with o (lines_text (setup_lines (continued told g deep) has_usermove g)) → b ≡ with a (lines_text ls)
+pub setup_then : (o a b : Text) (told : ToldGame) (g : Game) (has_usermove deep deep' : Bool) (ls : List Line) → deep ≡ deep' → a ≡ with o (lines_text (setup_lines (continued told g deep) has_usermove g)) → b ≡ with a (lines_text ls)
     → b ≡ with o (lines_text (setup_lines (continued told g deep') has_usermove g ++ ls))
 setup_then o a b told g has_usermove deep deep' ls e f h =
     put_two o a b _ (lines_text ls) (f ∙ ap (λ (x : Bool). with o (lines_text (setup_lines (continued told g x) has_usermove g))) e) h

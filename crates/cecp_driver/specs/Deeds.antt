@@ -3,33 +3,33 @@ use Rattle.std.specs.Prelude.{ℕ, ◌≤◌, ◌==◌, Bool, false, true, not, 
 use Rattle.chess_board.specs.declared.board.Move.{Move}
 use Rattle.chess_board.specs.Text.{IsOfficer}
 use Rattle.game_record.specs.Game.{Game, now_of, ply_of}
-use Rattle.driver_talk.specs.declared.words.Clocks.{Clocks}
-use Rattle.driver_talk.specs.declared.words.Up.{Up}
-use Rattle.driver_talk.specs.declared.words.Up.TheVariants as ups
-use Rattle.driver_talk.specs.declared.words.Down.{Down}
-use Rattle.driver_talk.specs.declared.words.Down.TheVariants as downs
-use Rattle.driver_talk.specs.declared.words.Board.{Board}
-use Rattle.driver_talk.specs.declared.words.Board.TheVariants as boards
+use Rattle.driver_talk.specs.declared.words.GoClocks.{GoClocks}
+use Rattle.driver_talk.specs.declared.words.ToIface.{ToIface}
+use Rattle.driver_talk.specs.declared.words.ToIface.TheVariants as ups
+use Rattle.driver_talk.specs.declared.words.ToEngine.{ToEngine}
+use Rattle.driver_talk.specs.declared.words.ToEngine.TheVariants as downs
+use Rattle.driver_talk.specs.declared.words.BoardChange.{BoardChange}
+use Rattle.driver_talk.specs.declared.words.BoardChange.TheVariants as boards
 use Rattle.driver_lines.specs.Lines.{Line, XBoard, Protover, Quit, Force, Go, Analyze, Hurry, Exit, Ping, best_text, info_text, ended}
 use Rattle.driver_lines.specs.Clocks.{clock_lines}
-use Rattle.cecp_driver.specs.SetUp.{Told, continued, setup_lines, set_up, limited, moved, lost}
+use Rattle.cecp_driver.specs.SetUp.{ToldGame, continued, setup_lines, set_up, limited, moved, lost}
 use Rattle.cecp_driver.specs.declared.told.TheConstants.{MOST_PLIES}
 
-abbrev pub has_depth : Clocks → Bool
+abbrev pub has_depth : GoClocks → Bool
 has_depth c = not (c.depth == 0)
 
 -- TO THE INTERFACE
 
-abbrev pub up_text : Up → List ℕ
+abbrev pub up_text : ToIface → List ℕ
 up_text ups.Nothing = []
 up_text ups.Ready = ended (codes "readyok")
 up_text (ups.Best best) = ended (best_text best)
 up_text (ups.Info thought) = ended (info_text thought)
 
 -- the moves have texts
-abbrev pub CanSay : Up → Type 0
-CanSay (ups.Best best) = IfSome best (λ m. IsOfficer m.promo)
-CanSay (ups.Info thought) = IsOfficer thought.best.promo
+abbrev pub CanSay : ToIface → Type 0
+CanSay (ups.Best best) = IfSome best (λ m. IsOfficer m.promotion)
+CanSay (ups.Info thought) = IsOfficer thought.best.promotion
 CanSay up = Unit {0}
 
 -- TO THE ENGINE
@@ -41,17 +41,17 @@ abbrev pub leave_lines : Option ℕ → List Line
 leave_lines None = []
 leave_lines (Some n) = Exit ∷ Ping n ∷ []
 
-abbrev pub think_lines : Game → Clocks → Bool → List Line
+abbrev pub think_lines : Game → GoClocks → Bool → List Line
 think_lines game clocks hurried = clock_lines (now_of game).side clocks ++ (Go ∷ hurry_lines hurried)
 
-abbrev pub play_lines : Told → Game → Bool → Clocks → Bool → List Line
+abbrev pub play_lines : ToldGame → Game → Bool → GoClocks → Bool → List Line
 play_lines told game has_usermove clocks hurried = setup_lines (continued told game (has_depth clocks)) has_usermove game ++ think_lines game clocks hurried
 
-abbrev pub analyse_lines : Told → Game → Bool → Clocks → Option ℕ → List Line
+abbrev pub analyse_lines : ToldGame → Game → Bool → GoClocks → Option ℕ → List Line
 analyse_lines told game has_usermove clocks ping = setup_lines (continued told game (has_depth clocks)) has_usermove game ++ (Analyze ∷ leave_lines ping)
 
 -- the lines that are written, by what the engine was given before, and the ordered game
-abbrev pub down_lines : Told → Game → Bool → Down → List Line
+abbrev pub down_lines : ToldGame → Game → Bool → ToEngine → List Line
 down_lines told game has_usermove downs.Nothing = []
 down_lines told game has_usermove downs.Greeting = XBoard ∷ Protover ∷ []
 down_lines told game has_usermove downs.Quit = Quit ∷ []
@@ -63,24 +63,24 @@ down_lines told game has_usermove (downs.Leave ping) = Exit ∷ Ping ping ∷ []
 down_lines told game has_usermove (downs.Retreat ping) = Force ∷ Ping ping ∷ []
 
 -- a game that is set up has no more moves than are searched
-abbrev pub FitsDown : Game → Down → Type 0
+abbrev pub FitsDown : Game → ToEngine → Type 0
 FitsDown game (downs.Play clocks hurried) = length game.moves ≤ MOST_PLIES
 FitsDown game (downs.Analyse clocks ping) = length game.moves ≤ MOST_PLIES
 FitsDown game down = Unit {0}
 
 -- what the engine was given then
-abbrev pub down_told : Game → Down → Told → Told
+abbrev pub down_told : Game → ToEngine → ToldGame → ToldGame
 down_told game (downs.Play clocks hurried) told = limited (set_up told game (has_depth clocks)) (has_depth clocks)
 down_told game (downs.Resume clocks) told = limited told (has_depth clocks)
 down_told game (downs.Analyse clocks ping) told = set_up told game (has_depth clocks)
 down_told game down told = told
 
-abbrev pub board_told : Board → Told → Told
+abbrev pub board_told : BoardChange → ToldGame → ToldGame
 board_told boards.Same told = told
 board_told (boards.Moved m) told = moved told (ply_of m)
 board_told boards.Lost told = lost told
 
 -- there is room for the engine's move
-abbrev pub CanPush : Board → Told → Type 0
+abbrev pub CanPush : BoardChange → ToldGame → Type 0
 CanPush (boards.Moved m) told = length told.game.moves ≤ MOST_PLIES
 CanPush board told = Unit {0}

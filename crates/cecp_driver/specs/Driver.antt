@@ -8,18 +8,18 @@ use Rattle.chess_board.specs.Play.{start_position}
 use Rattle.game_record.specs.Game.{Game, begun, now_of, ply_of}
 use Rattle.uci_talk.specs.Kinds.{kind_asked}
 use Rattle.driver_talk.specs.declared.words.Thought.{Thought}
-use Rattle.driver_talk.specs.declared.talk.Stage.{Stage}
-use Rattle.driver_talk.specs.declared.talk.Stage.TheVariants as stages
-use Rattle.driver_talk.specs.declared.talk.Talk.{Talk}
-use Rattle.driver_talk.specs.declared.talk.Turn.{Turn}
+use Rattle.driver_talk.specs.declared.talk.DriverStage.{DriverStage}
+use Rattle.driver_talk.specs.declared.talk.DriverStage.TheVariants as stages
+use Rattle.driver_talk.specs.declared.talk.DriverTalk.{DriverTalk}
+use Rattle.driver_talk.specs.declared.talk.DriverTurn.{DriverTurn}
 use Rattle.driver_talk.specs.declared.talk.Reach.{Reach}
 use Rattle.driver_talk.specs.declared.talk.Reach.TheVariants as reaches
-use Rattle.driver_talk.specs.declared.talk.Wanted.{Wanted}
-use Rattle.driver_talk.specs.declared.talk.Call.{Call}
-use Rattle.driver_talk.specs.declared.talk.Call.TheVariants as calls
+use Rattle.driver_talk.specs.declared.talk.WantedSearch.{WantedSearch}
+use Rattle.driver_talk.specs.declared.talk.DriverCall.{DriverCall}
+use Rattle.driver_talk.specs.declared.talk.DriverCall.TheVariants as calls
 use Rattle.driver_talk.specs.Talk.{first_talk, turn_of, is_free}
-use Rattle.driver_lines.specs.declared.words.Ordered.{Ordered}
-use Rattle.driver_lines.specs.declared.words.Ordered.TheVariants as orders
+use Rattle.driver_lines.specs.declared.words.OrderWord.{OrderWord}
+use Rattle.driver_lines.specs.declared.words.OrderWord.TheVariants as orders
 use Rattle.driver_lines.specs.Words.{ordered_in as order_in}
 use Rattle.driver_lines.specs.Clocks.{clocks_in}
 use Rattle.driver_lines.specs.Says.{Says, Move as SaysMove, Over, Pong, Report, Feature, says_in}
@@ -27,22 +27,22 @@ use Rattle.driver_lines.specs.Says as says
 use Rattle.driver_lines.specs.Parts.{parts}
 use Rattle.driver_lines.specs.Moves.{IsFirstMove, IsShown, IsThought}
 use Rattle.driver_lines.specs.Lines.{lines_text}
-use Rattle.cecp_driver.specs.declared.features.Has.{Has}
-use Rattle.cecp_driver.specs.declared.driver.Parts.{Parts}
+use Rattle.cecp_driver.specs.declared.features.HasFeatures.{HasFeatures}
+use Rattle.cecp_driver.specs.declared.driver.DriverParts.{DriverParts}
 use Rattle.cecp_driver.specs.declared.driver.TheConstants.{LINE_LIMIT, UP_ROOM, DOWN_ROOM}
 use Rattle.cecp_driver.specs.declared.told.TheConstants.{MOST_PLIES}
 use Rattle.cecp_driver.specs.declared.deeds.TheConstants.{STEP}
-use Rattle.cecp_driver.specs.SetUp.{Told, none_told}
+use Rattle.cecp_driver.specs.SetUp.{ToldGame, none_told}
 use Rattle.cecp_driver.specs.Features.{has_all, name_all, answers, greetings}
 use Rattle.cecp_driver.specs.Ordered.{ordered_in}
 use Rattle.cecp_driver.specs.Deeds.{up_text, CanSay, down_lines, FitsDown, down_told, board_told, CanPush}
 
 -- nothing was given yet
-abbrev pub cleared : Parts → Parts
+abbrev pub cleared : DriverParts → DriverParts
 cleared v = record { talk = v.talk; has = v.has; name = v.name; is_ordered = v.is_ordered; game = v.game; told = v.told; up = empty v.up.room; down = empty v.down.room }
 
 -- A turn: its lines are given, and what the engine was given is kept.
-abbrev pub taken : Parts → Turn → Parts
+abbrev pub taken : DriverParts → DriverTurn → DriverParts
 taken v r = record {
   talk = r.talk;
   has = v.has;
@@ -54,53 +54,53 @@ taken v r = record {
   down = with v.down (lines_text (down_lines v.told v.game v.has.usermove r.deed.down));
 }
 
-abbrev pub acted : Parts → Call → Parts
+abbrev pub acted : DriverParts → DriverCall → DriverParts
 acted v call = taken v (turn_of v.talk call)
 
 -- the lines of a turn can be written
-pub record CanTake (v : Parts) (r : Turn) : Type 0 where
+pub record CanTake (v : DriverParts) (r : DriverTurn) : Type 0 where
   pub say : CanSay r.deed.up
   pub fits : FitsDown v.game r.deed.down
   pub push : CanPush r.deed.board (down_told v.game r.deed.down v.told)
   pub up : length v.up.text + 160 ≤ v.up.room
   pub down : length v.down.text + STEP ≤ v.down.room
 
-abbrev pub CanAct : Parts → Call → Type 0
+abbrev pub CanAct : DriverParts → DriverCall → Type 0
 CanAct v call = CanTake v (turn_of v.talk call)
 
 -- ORDERS
 
 -- A position is ordered, of a game that is not too long, and the engine has the features.
-abbrev pub is_usable : Parts → Bool
+abbrev pub is_usable : DriverParts → Bool
 is_usable v = (v.is_ordered && nat_le (length v.game.moves) MOST_PLIES) && (v.has.ping && v.has.setboard)
 
-abbrev pub reach_of : Parts → Reach
+abbrev pub reach_of : DriverParts → Reach
 reach_of v = if is_usable v then (if v.has.analyze then reaches.Analyse else reaches.Play) else reaches.Nothing
 
 -- what a `go` asks for
-pub record Wants (v : Parts) (line : List ℕ) (w : Wanted) : Type 0 where
+pub record Wants (v : DriverParts) (line : List ℕ) (w : WantedSearch) : Type 0 where
   pub kind : w.kind ≡ kind_asked line
   pub clocks : w.clocks ≡ clocks_in line
   pub first : IsFirstMove (now_of v.game) w.first
   pub reach : w.reach ≡ reach_of v
 
 -- a `position`, if no search is open
-abbrev pub placed : Parts → List ℕ → Parts
+abbrev pub placed : DriverParts → List ℕ → DriverParts
 placed v line =
     if is_free v.talk
     then record { talk = v.talk; has = v.has; name = v.name; is_ordered = is_some (ordered_in line); game = unwrap_or (ordered_in line) (begun start_position); told = v.told; up = v.up; down = v.down }
     else v
 
-abbrev pub placed_if : Ordered → Parts → List ℕ → Parts
+abbrev pub placed_if : OrderWord → DriverParts → List ℕ → DriverParts
 placed_if orders.Position v line = placed v line
 placed_if ordered v line = v
 
 -- what an order asks for, besides a position
-abbrev pub IsAsked : Parts → List ℕ → Ordered → Call → Type 0
+abbrev pub IsAsked : DriverParts → List ℕ → OrderWord → DriverCall → Type 0
 IsAsked v line orders.Quit call = call ≡ calls.Quit
 IsAsked v line orders.Uci call = call ≡ calls.Uci
 IsAsked v line orders.IsReady call = call ≡ calls.IsReady
-IsAsked v line orders.Go call = (w : Wanted) × (Wants v line w × (call ≡ calls.Go w))
+IsAsked v line orders.Go call = (w : WantedSearch) × (Wants v line w × (call ≡ calls.Go w))
 IsAsked v line orders.Stop call = call ≡ calls.Stop
 IsAsked v line orders.PonderHit call = call ≡ calls.PonderHit
 IsAsked v line orders.Position call = call ≡ calls.Other
@@ -108,12 +108,12 @@ IsAsked v line orders.Other call = call ≡ calls.Other
 
 -- WHAT THE ENGINE SAYS
 
-abbrev pub thought_call : ℕ → ℤ → ℕ → ℕ → Option Move → Call
+abbrev pub thought_call : ℕ → ℤ → ℕ → ℕ → Option Move → DriverCall
 thought_call depth score time nodes None = calls.Other
 thought_call depth score time nodes (Some best) = calls.Thought (record { depth = depth; score = score; time = time; nodes = nodes; best = best })
 
 -- what the engine says, besides its features: its moves are those of the ordered position
-abbrev pub IsHeard : Parts → Says → Call → Type 0
+abbrev pub IsHeard : DriverParts → Says → DriverCall → Type 0
 IsHeard v (SaysMove text) call = (shown : Option Move) × (IsShown (now_of v.game) text shown × (call ≡ calls.Moved shown))
 IsHeard v Over call = call ≡ calls.Resigned
 IsHeard v (Pong n) call = call ≡ calls.Pong n
@@ -121,7 +121,7 @@ IsHeard v (Report depth score time nodes moves) call = (best : Option Move) × (
 IsHeard v (Feature text) call = call ≡ calls.Other
 IsHeard v says.Other call = call ≡ calls.Other
 
-abbrev pub features_at : Stage → Parts → List ℕ → Parts
+abbrev pub features_at : DriverStage → DriverParts → List ℕ → DriverParts
 features_at stages.Over v text = v
 features_at stage v text = record {
   talk = v.talk;
@@ -135,15 +135,15 @@ features_at stage v text = record {
 }
 
 -- the features of a line, before `quit`
-abbrev pub featured : Parts → List ℕ → Parts
+abbrev pub featured : DriverParts → List ℕ → DriverParts
 featured v text = features_at v.talk.stage v text
 
 -- CALLS
 
-abbrev pub no_features : Has
+abbrev pub no_features : HasFeatures
 no_features = record { ping = false; setboard = false; usermove = false; analyze = false; done = false }
 
-abbrev pub opening : Parts
+abbrev pub opening : DriverParts
 opening = record {
   talk = first_talk;
   has = no_features;
@@ -155,13 +155,13 @@ opening = record {
   down = empty DOWN_ROOM;
 }
 
-pub record OrdersBy (ordered : Ordered) (line : List ℕ) (v v' : Parts) : Type 0 where
-  pub call : Call
+pub record OrdersBy (ordered : OrderWord) (line : List ℕ) (v v' : DriverParts) : Type 0 where
+  pub call : DriverCall
   pub asked : IsAsked (placed_if ordered (cleared v) line) line ordered call
   pub after : v' ≡ acted (placed_if ordered (cleared v) line) call
 
 -- what comes of an order
-abbrev pub Orders : List ℕ → Parts → Parts → Type 0
+abbrev pub Orders : List ℕ → DriverParts → DriverParts → Type 0
 Orders line v v' = OrdersBy (order_in (first_token line)) line v v'
 
 -- all but features
@@ -169,14 +169,14 @@ abbrev pub IsPlain : Says → Type 0
 IsPlain (Feature text) = ⊥
 IsPlain said = Unit {0}
 
-abbrev pub HeardBy : Says → Parts → Parts → Type 0
+abbrev pub HeardBy : Says → DriverParts → DriverParts → Type 0
 HeardBy (Feature text) v v' = v' ≡ featured v text
-HeardBy said v v' = (call : Call) × (IsHeard v said call × (v' ≡ acted v call))
+HeardBy said v v' = (call : DriverCall) × (IsHeard v said call × (v' ≡ acted v call))
 
 -- what comes of a line of the engine
-abbrev pub Hears : List ℕ → Parts → Parts → Type 0
+abbrev pub Hears : List ℕ → DriverParts → DriverParts → Type 0
 Hears line v v' = HeardBy (says_in line) (cleared v) v'
 
 -- what comes of the end of the engine
-abbrev pub Ends : Parts → Parts → Type 0
+abbrev pub Ends : DriverParts → DriverParts → Type 0
 Ends v v' = v' ≡ acted (cleared v) calls.Ended

@@ -1,9 +1,9 @@
 -- What the features of the engine change, and what is written to both sides for them.
 use Rattle.std.specs.Prelude.{ℕ, Bool, ◌&&◌, ◌||◌, not, if◌then◌else◌, List, [], ◌∷◌, ◌++◌, ◌+◌, length, codes, Option, Some, None}
 use Rattle.std.specs.Str.{bytes_eq}
-use Rattle.driver_lines.specs.Parts.{Feature, Cut}
+use Rattle.driver_lines.specs.Parts.{Feature, CutFeature}
 use Rattle.driver_lines.specs.Lines.{Line, Accepted, Rejected, named}
-use Rattle.cecp_driver.specs.declared.features.Has.{Has}
+use Rattle.cecp_driver.specs.declared.features.HasFeatures.{HasFeatures}
 use Rattle.line_io.specs.Lines.{line_feed}
 
 abbrev pub has_word : List ℕ → Feature → Bool
@@ -25,7 +25,7 @@ answers [] = []
 answers (f ∷ fs) = answer_line f ∷ answers fs
 
 -- a feature that came once stays
-abbrev pub has_after : Has → Feature → Has
+abbrev pub has_after : HasFeatures → Feature → HasFeatures
 has_after h f = record {
   ping = h.ping || is_on (codes "ping") f;
   setboard = h.setboard || is_on (codes "setboard") f;
@@ -38,7 +38,7 @@ has_after h f = record {
 abbrev pub name_after : List ℕ → Feature → List ℕ
 name_after name f = if has_word (codes "myname") f then f.value else name
 
-abbrev pub has_all : Has → List Feature → Has
+abbrev pub has_all : HasFeatures → List Feature → HasFeatures
 has_all h [] = h
 has_all h (f ∷ fs) = has_all (has_after h f) fs
 
@@ -47,14 +47,14 @@ name_all name [] = name
 name_all name (f ∷ fs) = name_all (name_after name f) fs
 
 -- the first `done=1`
-abbrev pub greets : Has → Feature → Bool
+abbrev pub greets : HasFeatures → Feature → Bool
 greets h f = not h.done && is_on (codes "done") f
 
 -- then the interface gets the name and `uciok`
-abbrev pub greeting : Has → List ℕ → Feature → List ℕ
+abbrev pub greeting : HasFeatures → List ℕ → Feature → List ℕ
 greeting h name f = if greets h f then (codes "id name " ++ named name ++ line_feed ∷ []) ++ (codes "uciok" ++ line_feed ∷ []) else []
 
-abbrev pub greetings : Has → List ℕ → List Feature → List ℕ
+abbrev pub greetings : HasFeatures → List ℕ → List Feature → List ℕ
 greetings h name [] = []
 greetings h name (f ∷ fs) = greeting h name f ++ greetings (has_after h f) (name_after name f) fs
 
@@ -63,5 +63,5 @@ abbrev pub weight_by : Option Feature → List ℕ → ℕ
 weight_by None rest = length rest
 weight_by (Some f) rest = length f.name + length rest + 1
 
-abbrev pub weight : Cut → ℕ
+abbrev pub weight : CutFeature → ℕ
 weight c = weight_by c.part c.rest

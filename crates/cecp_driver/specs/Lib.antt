@@ -6,5 +6,8 @@ pub mod Deeds
 pub mod Driver
 pub mod Keeps
 pub mod Lending
+pub mod Said
 pub mod Script
 pub mod EngineGame
+pub mod Busy
+pub mod Runs

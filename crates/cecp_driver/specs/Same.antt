@@ -11,4 +11,4 @@ abbrev pub same_position : Position → Position → Bool
 same_position p q = is_same p q && ((p.half == q.half) && (p.full == q.full))
 
 abbrev pub same_ply : Ply → Ply → Bool
-same_ply a b = ((a.from == b.from) && (a.to == b.to)) && option_eq same_kind a.promo b.promo
+same_ply a b = ((a.from == b.from) && (a.to == b.to)) && option_eq same_kind a.promotion b.promotion

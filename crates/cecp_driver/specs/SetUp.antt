@@ -8,12 +8,12 @@ use Rattle.driver_lines.specs.Lines.{Line, New, Force, Post, SetBoard, Played}
 use Rattle.cecp_driver.specs.Same.{same_position, same_ply}
 
 -- Whether the engine's game is known, whether it has a depth limit, and the game that it was given last.
-pub record Told : Type 0 where
+pub record ToldGame : Type 0 where
   pub known : Bool
   pub limited : Bool
   pub game : Game
 
-abbrev pub none_told : Told
+abbrev pub none_told : ToldGame
 none_told = record { known = false; limited = false; game = begun start_position }
 
 -- the moves behind those that are known, if the others begin with these
@@ -24,7 +24,7 @@ further (k ∷ ks) (m ∷ moves) = if same_ply k m then further ks moves else No
 
 -- The moves by which a game goes on from the one that is known. A depth limit that the search does not have can only
 -- be taken away by a new game.
-abbrev pub continued : Told → Game → Bool → Option (List Ply)
+abbrev pub continued : ToldGame → Game → Bool → Option (List Ply)
 continued told game has_depth =
     if (told.known && not (told.limited && not has_depth)) && same_position told.game.start game.start
     then further told.game.moves game.moves
@@ -43,15 +43,15 @@ setup_lines (Some moves) has_usermove game = Force ∷ played has_usermove moves
 setup_lines None has_usermove game = New ∷ Force ∷ Post ∷ (start_lines game.start ++ played has_usermove game.moves)
 
 -- after a set-up
-abbrev pub set_up : Told → Game → Bool → Told
+abbrev pub set_up : ToldGame → Game → Bool → ToldGame
 set_up told game has_depth = record { known = true; limited = is_some (continued told game has_depth) && told.limited; game = game }
 
-abbrev pub limited : Told → Bool → Told
+abbrev pub limited : ToldGame → Bool → ToldGame
 limited told has_depth = record { known = told.known; limited = told.limited || has_depth; game = told.game }
 
 -- after a legal move of the engine
-abbrev pub moved : Told → Ply → Told
+abbrev pub moved : ToldGame → Ply → ToldGame
 moved told m = record { known = told.known; limited = told.limited; game = with_ply told.game m }
 
-abbrev pub lost : Told → Told
+abbrev pub lost : ToldGame → ToldGame
 lost told = record { known = false; limited = told.limited; game = told.game }

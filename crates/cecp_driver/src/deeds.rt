@@ -8,32 +8,32 @@ ghost use Rattle.cecp_driver.specs.Deeds.{has_depth, up_text, CanSay, down_lines
 ghost use Rattle.cecp_driver.specs.declared.told.TheConstants.{SETUP, MOST_PLIES};
 ghost use Rattle.cecp_driver.specs.declared.deeds.TheConstants.{STEP};
 
-use crate::told::Told;
+use crate::told::ToldGame;
 use driver_lines::{write_best, write_clocks, write_info, write_numbered, write_word};
-use driver_talk::{Board, Clocks, Down, Up};
+use driver_talk::{BoardChange, GoClocks, ToEngine, ToIface};
 use game_record::Game;
 use line_io::Out;
 
 /// The most bytes of a step, besides the answers to features.
 pub(crate) const STEP: usize = 90_500;
 
-fn has_depth(clocks: &Clocks) -> bool
+fn has_depth(clocks: &GoClocks) -> bool
     ensures { result ≡ has_depth clocks.now }
 {
     clocks.depth != 0
 }
 
 /// Writes what is given up.
-pub(crate) fn write_up(up: Up, out: &mut Out)
+pub(crate) fn write_up(up: ToIface, out: &mut Out)
     requires say { CanSay up }
     requires room { length out.old.text + 160 ≤ out.old.room }
     ensures { out.new ≡ with out.old (up_text up) }
 {
     match up {
-        Up::Nothing => {}
-        Up::Ready => write_word(b"readyok", out),
-        Up::Best(best) => write_best(best, out),
-        Up::Info(thought) => write_info(&thought, out),
+        ToIface::Nothing => {}
+        ToIface::Ready => write_word(b"readyok", out),
+        ToIface::Best(best) => write_best(best, out),
+        ToIface::Info(thought) => write_info(&thought, out),
     }
 }
 
@@ -81,7 +81,7 @@ fn write_greeting(out: &mut Out)
 }
 
 /// Has the engine think.
-fn write_think(clocks: &Clocks, hurried: bool, told: &mut Told, game: &Game, out: &mut Out)
+fn write_think(clocks: &GoClocks, hurried: bool, told: &mut ToldGame, game: &Game, out: &mut Out)
     requires room { length out.old.text + 210 ≤ out.old.room }
     ensures text { out.new ≡ with out.old (lines_text (think_lines game.now clocks.now hurried)) }
     ensures told { told.new ≡ limited told.old (has_depth clocks.now) }
@@ -94,9 +94,9 @@ fn write_think(clocks: &Clocks, hurried: bool, told: &mut Told, game: &Game, out
 
 /// The position is set up, and the engine is to think.
 fn write_play(
-    clocks: &Clocks,
+    clocks: &GoClocks,
     hurried: bool,
-    told: &mut Told,
+    told: &mut ToldGame,
     game: &Game,
     has_usermove: bool,
     out: &mut Out,
@@ -114,9 +114,9 @@ fn write_play(
 
 /// The position is set up, and the engine is to analyse.
 fn write_analyse(
-    clocks: &Clocks,
+    clocks: &GoClocks,
     ping: Option<u32>,
-    told: &mut Told,
+    told: &mut ToldGame,
     game: &Game,
     has_usermove: bool,
     out: &mut Out,
@@ -134,8 +134,8 @@ fn write_analyse(
 
 /// Writes what is written to the engine.
 pub(crate) fn write_down(
-    down: Down,
-    told: &mut Told,
+    down: ToEngine,
+    told: &mut ToldGame,
     game: &Game,
     has_usermove: bool,
     out: &mut Out,
@@ -147,31 +147,31 @@ pub(crate) fn write_down(
     ensures told { told.new ≡ down_told game.now down told.old }
 {
     match down {
-        Down::Nothing => {}
-        Down::Greeting => write_greeting(out),
-        Down::Quit => write_word(b"quit", out),
-        Down::Play { clocks, hurried } => {
+        ToEngine::Nothing => {}
+        ToEngine::Greeting => write_greeting(out),
+        ToEngine::Quit => write_word(b"quit", out),
+        ToEngine::Play { clocks, hurried } => {
             write_play(&clocks, hurried, told, game, has_usermove, out)
         }
-        Down::Resume { clocks } => write_think(&clocks, false, told, game, out),
-        Down::Analyse { clocks, ping } => {
+        ToEngine::Resume { clocks } => write_think(&clocks, false, told, game, out),
+        ToEngine::Analyse { clocks, ping } => {
             write_analyse(&clocks, ping, told, game, has_usermove, out)
         }
-        Down::Hurry => write_hurry(true, out),
-        Down::Leave { ping } => write_leave(Some(ping), out),
-        Down::Retreat { ping } => write_retreat(ping, out),
+        ToEngine::Hurry => write_hurry(true, out),
+        ToEngine::Leave { ping } => write_leave(Some(ping), out),
+        ToEngine::Retreat { ping } => write_retreat(ping, out),
     }
 }
 
 /// What is known of the engine's game then.
-pub(crate) fn note_board(board: Board, told: &mut Told)
+pub(crate) fn note_board(board: BoardChange, told: &mut ToldGame)
     requires { CanPush board told.old }
     ensures { told.new ≡ board_told board told.old }
 {
     match board {
-        Board::Same => {}
-        Board::Moved(m) => told.push(m),
-        Board::Lost => told.lose(),
+        BoardChange::Same => {}
+        BoardChange::Moved(m) => told.push(m),
+        BoardChange::Lost => told.lose(),
     }
 }
 

@@ -9,13 +9,14 @@ ghost use Rattle.cecp_driver.specs.Driver.{cleared, taken, acted, opening, CanTa
 ghost use Rattle.cecp_driver.specs.declared.driver.TheConstants.{LINE_LIMIT, UP_ROOM, DOWN_ROOM};
 
 use crate::deeds::{note_board, write_down, write_up};
-use crate::features::{Has, hear_features};
+use crate::features::{HasFeatures, hear_features};
 use crate::ordered::take_position;
-use crate::told::{MOST_PLIES, Told};
+use crate::told::{MOST_PLIES, ToldGame};
 use driver_lines::{
-    Ordered, Said, first_move, read_clocks, read_ordered, read_said, shown_move, thought_move,
+    EngineSaid, OrderWord, first_move, read_clocks, read_ordered, read_said, shown_move,
+    thought_move,
 };
-use driver_talk::{Call, Reach, Stage, Talk, Thought, Turn, Wanted};
+use driver_talk::{DriverCall, DriverStage, DriverTalk, DriverTurn, Reach, Thought, WantedSearch};
 use game_record::Game;
 use line_io::{NoMemory, Out, PEER_LINE, SCRIPT_LINE};
 use std::alloc::Global;
@@ -33,20 +34,20 @@ pub const DOWN_ROOM: usize = 3 * SCRIPT_LINE;
 
 // The parts of a driver.
 #[derive(Drop)]
-pub(crate) struct Parts {
-    talk: Talk,
-    has: Has,
+pub(crate) struct DriverParts {
+    talk: DriverTalk,
+    has: HasFeatures,
     /// What the engine calls itself.
     name: Out,
     is_ordered: bool,
     /// The ordered game, a new one if none is ordered.
     game: Game,
-    told: Told,
+    told: ToldGame,
     up: Out,
     down: Out,
 }
 
-impl Parts {
+impl DriverParts {
     fn clear(&mut self)
         ensures { self.new ≡ cleared self.old }
     {
@@ -55,7 +56,7 @@ impl Parts {
     }
 
     // Gives the lines of a turn.
-    fn take(&mut self, turn: Turn)
+    fn take(&mut self, turn: DriverTurn)
         requires { CanTake self.old turn }
         ensures { self.new ≡ taken self.old turn }
     {
@@ -73,7 +74,7 @@ impl Parts {
     }
 
     // What comes of a call.
-    fn act(&mut self, call: Call)
+    fn act(&mut self, call: DriverCall)
         requires { CanAct self.old call }
         ensures { self.new ≡ acted self.old call }
     {
@@ -96,10 +97,10 @@ impl Parts {
     }
 
     // What a `go` asks for.
-    fn wanted(&self, line: &[u8]) -> Wanted
+    fn wanted(&self, line: &[u8]) -> WantedSearch
         ensures { Wants self.now line.now result }
     {
-        Wanted {
+        WantedSearch {
             kind: go_kind(line),
             clocks: read_clocks(line),
             first: first_move(self.game.now()),
@@ -117,52 +118,52 @@ impl Parts {
     }
 
     // What an order asks for, besides a position.
-    fn asked(&self, ordered: Ordered, line: &[u8]) -> Call
+    fn asked(&self, ordered: OrderWord, line: &[u8]) -> DriverCall
         ensures { IsAsked self.now line.now ordered result }
     {
         match ordered {
-            Ordered::Quit => Call::Quit,
-            Ordered::Uci => Call::Uci,
-            Ordered::IsReady => Call::IsReady,
-            Ordered::Go => Call::Go(self.wanted(line)),
-            Ordered::Stop => Call::Stop,
-            Ordered::PonderHit => Call::PonderHit,
-            Ordered::Position | Ordered::Other => Call::Other,
+            OrderWord::Quit => DriverCall::Quit,
+            OrderWord::Uci => DriverCall::Uci,
+            OrderWord::IsReady => DriverCall::IsReady,
+            OrderWord::Go => DriverCall::Go(self.wanted(line)),
+            OrderWord::Stop => DriverCall::Stop,
+            OrderWord::PonderHit => DriverCall::PonderHit,
+            OrderWord::Position | OrderWord::Other => DriverCall::Other,
         }
     }
 
     // What the engine says of a move.
-    fn thought(&self, depth: u64, score: i64, time: u64, nodes: u64, moves: &[u8]) -> Call
+    fn thought(&self, depth: u64, score: i64, time: u64, nodes: u64, moves: &[u8]) -> DriverCall
         ensures { IsHeard self.now (Report depth score time nodes (tokens moves.now)) result }
     {
         match thought_move(self.game.now(), moves) {
-            Some(best) => Call::Thought(Thought {
+            Some(best) => DriverCall::Thought(Thought {
                 depth,
                 score,
                 time,
                 nodes,
                 best,
             }),
-            None => Call::Other,
+            None => DriverCall::Other,
         }
     }
 
     // What a line of the engine says, besides features.
-    fn said(&self, said: &Said) -> Call
+    fn said(&self, said: &EngineSaid) -> DriverCall
         ensures { IsHeard self.now (engine_message_of said.now) result }
     {
         match said {
-            Said::Move(text) => Call::Moved(shown_move(self.game.now(), text)),
-            Said::Over => Call::Resigned,
-            Said::Pong(n) => Call::Pong(*n),
-            Said::Report {
+            EngineSaid::Move(text) => DriverCall::Moved(shown_move(self.game.now(), text)),
+            EngineSaid::Over => DriverCall::Resigned,
+            EngineSaid::Pong(n) => DriverCall::Pong(*n),
+            EngineSaid::Report {
                 depth,
                 score,
                 time,
                 nodes,
                 moves,
             } => self.thought(*depth, *score, *time, *nodes, moves),
-            Said::Feature(_) | Said::Other => Call::Other,
+            EngineSaid::Feature(_) | EngineSaid::Other => DriverCall::Other,
         }
     }
 
@@ -173,21 +174,21 @@ impl Parts {
         requires down { length self.old.down.text + 6 * length text.now ≤ self.old.down.room }
         ensures { self.new ≡ featured self.old text.now }
     {
-        if matches!(self.talk.stage, Stage::Over) {
+        if matches!(self.talk.stage, DriverStage::Over) {
             return;
         }
         self.has = hear_features(text, self.has, &mut self.name, &mut self.up, &mut self.down);
     }
 }
 
-impl Parts {
+impl DriverParts {
     ghost use Rattle.cecp_driver.specs.Driver.{Orders, Hears, Ends, placed_if};
     ghost use Rattle.cecp_driver.specs.Keeps.{Keeps};
 
-    fn place_if(&mut self, ordered: Ordered, line: &[u8])
+    fn place_if(&mut self, ordered: OrderWord, line: &[u8])
         ensures { self.new ≡ placed_if ordered self.old line.now }
     {
-        if let Ordered::Position = ordered {
+        if let OrderWord::Position = ordered {
             self.place(line);
         }
     }
@@ -205,7 +206,7 @@ impl Parts {
     }
 
     // Takes what the engine says, besides features.
-    fn hear_plain(&mut self, said: &Said)
+    fn hear_plain(&mut self, said: &EngineSaid)
         requires keeps { Keeps self.old }
         requires up { length self.old.up.text ≡ 0 }
         requires down { length self.old.down.text ≡ 0 }
@@ -237,19 +238,19 @@ impl Parts {
         ensures keeps { Keeps self.new }
     {
         self.clear();
-        self.act(Call::Ended);
+        self.act(DriverCall::Ended);
     }
 }
 
 /// The features that a line of the engine has, if it is such a line.
-fn feature_text<'a>(said: &Said<'a>) -> Option<&'a [u8]>
+fn feature_text<'a>(said: &EngineSaid<'a>) -> Option<&'a [u8]>
     ensures { MatchOption result (IsPlain (engine_message_of said.now))
         (λ text. engine_message_of said.now ≡ Feature text.now) }
 {
     match said {
-        Said::Feature(text) => Some(text),
-        Said::Move(_) | Said::Over | Said::Pong(_) | Said::Other => None,
-        Said::Report {
+        EngineSaid::Feature(text) => Some(text),
+        EngineSaid::Move(_) | EngineSaid::Over | EngineSaid::Pong(_) | EngineSaid::Other => None,
+        EngineSaid::Report {
             depth: _,
             score: _,
             time: _,
@@ -262,14 +263,14 @@ fn feature_text<'a>(said: &Said<'a>) -> Option<&'a [u8]>
 /// A driver between a UCI interface and a CECP engine.
 #[derive(Drop)]
 pub struct Driver {
-    parts: Parts,
+    parts: DriverParts,
 }
 
 impl Model for Driver {
-    ghost use Rattle.cecp_driver.specs.declared.driver.Parts.{Parts};
+    ghost use Rattle.cecp_driver.specs.declared.driver.DriverParts.{DriverParts};
     ghost use Rattle.cecp_driver.specs.Keeps.{Keeps};
 
-    ghost Value = { Parts };
+    ghost Value = { DriverParts };
 
     ghost view = { λ d. d.parts };
 
@@ -278,17 +279,17 @@ impl Model for Driver {
 
 /// What a call gave: whole lines for the interface, and for the engine.
 #[derive(Clone, Copy)]
-pub struct Both<'a> {
+pub struct DriverStep<'a> {
     pub up: &'a [u8],
     pub child: &'a [u8],
 }
 
-fn make_parts(alloc: Global) -> Result<Parts, NoMemory>
+fn make_parts(alloc: Global) -> Result<DriverParts, NoMemory>
     ensures { IfOk result (λ parts. parts ≡ opening) }
 {
-    Ok(Parts {
-        talk: Talk::new(),
-        has: Has {
+    Ok(DriverParts {
+        talk: DriverTalk::new(),
+        has: HasFeatures {
             ping: false,
             setboard: false,
             usermove: false,
@@ -298,7 +299,7 @@ fn make_parts(alloc: Global) -> Result<Parts, NoMemory>
         name: Out::make(alloc, LINE_LIMIT)?,
         is_ordered: false,
         game: Game::make(alloc)?,
-        told: Told::make(alloc)?,
+        told: ToldGame::make(alloc)?,
         up: Out::make(alloc, UP_ROOM)?,
         down: Out::make(alloc, DOWN_ROOM)?,
     })
@@ -317,7 +318,7 @@ impl Driver {
     }
 
     /// Takes an order of the interface: a line of at most 65,536 bytes, without its line feed.
-    pub fn order<'a>(&'a mut self, line: &[u8]) -> Both<'a>
+    pub fn order<'a>(&'a mut self, line: &[u8]) -> DriverStep<'a>
         ensures* orders { sem 𝓛 (OrdersOn self.entry line.now result) }
         ensures fits { Fits result }
     {
@@ -326,7 +327,7 @@ impl Driver {
     }
 
     /// Takes a line of the engine, of at most 65,536 bytes, without its line feed.
-    pub fn heard<'a>(&'a mut self, line: &[u8]) -> Both<'a>
+    pub fn heard<'a>(&'a mut self, line: &[u8]) -> DriverStep<'a>
         requires { length line.now ≤ LINE_LIMIT }
         ensures* hears { sem 𝓛 (HearsOn self.entry line.now result) }
         ensures fits { Fits result }
@@ -336,7 +337,7 @@ impl Driver {
     }
 
     /// Takes the end of the engine.
-    pub fn ended(&mut self) -> Both<'_>
+    pub fn ended(&mut self) -> DriverStep<'_>
         ensures* ends { sem 𝓛 (EndsOn self.entry result) }
         ensures fits { Fits result }
     {
@@ -370,11 +371,11 @@ impl Driver {
     }
 
     /// What the last call gave.
-    pub fn lines(&self) -> Both<'_>
+    pub fn lines(&self) -> DriverStep<'_>
         ensures gives { Gives self.now result }
         ensures fits { Fits result }
     {
-        Both {
+        DriverStep {
             up: self.parts.up.bytes(),
             child: self.parts.down.bytes(),
         }

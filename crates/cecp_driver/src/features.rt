@@ -5,12 +5,12 @@ ghost use Rattle.driver_lines.specs.Parts.{feature_of, parts, cut_seen, onto, Is
 ghost use Rattle.driver_lines.specs.Lines.{lines_text};
 ghost use Rattle.cecp_driver.specs.Features.{has_word, is_on, rejects, answer_line, has_after, name_after, greeting, has_all, name_all, answers, greetings, weight};
 
-use driver_lines::{Cut, Part, next_cut, write_answer, write_id, write_word};
+use driver_lines::{CutFeature, NamedFeature, next_cut, write_answer, write_id, write_word};
 use line_io::Out;
 
 /// The features that the engine has said it has, and that it has said all.
 #[derive(Clone, Copy, Debug, PartialEq, Eq)]
-pub(crate) struct Has {
+pub(crate) struct HasFeatures {
     pub ping: bool,
     pub setboard: bool,
     pub usermove: bool,
@@ -18,20 +18,20 @@ pub(crate) struct Has {
     pub done: bool,
 }
 
-fn is_on(part: &Part, name: &[u8]) -> bool
+fn is_on(part: &NamedFeature, name: &[u8]) -> bool
     ensures { result ≡ is_on name.now (feature_of part.now) }
 {
     part.name == name && part.value == b"1".as_slice()
 }
 
-fn has_word(part: &Part, name: &[u8]) -> bool
+fn has_word(part: &NamedFeature, name: &[u8]) -> bool
     ensures { result ≡ has_word name.now (feature_of part.now) }
 {
     part.name == name
 }
 
 /// Whether a feature is rejected: `san=1`, and what a driver has no use for.
-fn rejects(part: &Part) -> bool
+fn rejects(part: &NamedFeature) -> bool
     ensures { result ≡ rejects (feature_of part.now) }
 {
     is_on(part, b"san")
@@ -41,10 +41,10 @@ fn rejects(part: &Part) -> bool
         || has_word(part, b"egt")
 }
 
-fn has_after(has: Has, part: &Part) -> Has
+fn has_after(has: HasFeatures, part: &NamedFeature) -> HasFeatures
     ensures { result ≡ has_after has (feature_of part.now) }
 {
-    Has {
+    HasFeatures {
         ping: has.ping || is_on(part, b"ping"),
         setboard: has.setboard || is_on(part, b"setboard"),
         usermove: has.usermove || is_on(part, b"usermove"),
@@ -54,7 +54,7 @@ fn has_after(has: Has, part: &Part) -> Has
 }
 
 /// Answers a feature.
-fn answer(part: &Part, down: &mut Out)
+fn answer(part: &NamedFeature, down: &mut Out)
     requires room { length down.old.text + length (feature_of part.now).name + 10 ≤ down.old.room }
     ensures text { down.new ≡ with down.old (lines_text (answer_line (feature_of part.now) ∷ [])) }
     ensures short { length down.new.text
@@ -64,7 +64,7 @@ fn answer(part: &Part, down: &mut Out)
 }
 
 /// Keeps the engine's name.
-fn keep_name(part: &Part, name: &mut Out)
+fn keep_name(part: &NamedFeature, name: &mut Out)
     requires room { length (feature_of part.now).value ≤ name.old.room }
     ensures text { name.new.text ≡ name_after name.old.text (feature_of part.now) }
     ensures room { name.new.room ≡ name.old.room }
@@ -76,7 +76,7 @@ fn keep_name(part: &Part, name: &mut Out)
 }
 
 /// Writes the engine's name and `uciok` to the interface, if the engine has sent all its features.
-fn greet(has: Has, part: &Part, name: &[u8], up: &mut Out)
+fn greet(has: HasFeatures, part: &NamedFeature, name: &[u8], up: &mut Out)
     requires room { has.done ≡ false → length up.old.text + length name.now + 30 ≤ up.old.room }
     ensures text { up.new ≡ with up.old (greeting has name.now (feature_of part.now)) }
     ensures silent { (has_after has (feature_of part.now)).done ≡ false → up.new ≡ up.old }
@@ -91,7 +91,13 @@ fn greet(has: Has, part: &Part, name: &[u8], up: &mut Out)
 }
 
 /// What a feature changes, and what is written to both sides for it.
-fn hear_part(has: Has, part: &Part, name: &mut Out, up: &mut Out, down: &mut Out) -> Has
+fn hear_part(
+    has: HasFeatures,
+    part: &NamedFeature,
+    name: &mut Out,
+    up: &mut Out,
+    down: &mut Out,
+) -> HasFeatures
     requires value { length (feature_of part.now).value ≤ name.old.room }
     requires up { has.done ≡ false → length up.old.text + name.old.room + 30 ≤ up.old.room }
     requires down { length down.old.text + length (feature_of part.now).name + 10 ≤ down.old.room }
@@ -111,7 +117,13 @@ fn hear_part(has: Has, part: &Part, name: &mut Out, up: &mut Out, down: &mut Out
 }
 
 /// The same for what was cut off the front of a text.
-fn hear_cut(has: Has, cut: &Cut, name: &mut Out, up: &mut Out, down: &mut Out) -> Has
+fn hear_cut(
+    has: HasFeatures,
+    cut: &CutFeature,
+    name: &mut Out,
+    up: &mut Out,
+    down: &mut Out,
+) -> HasFeatures
     requires named { IsNamed (cut_seen cut.now) }
     requires value { IfSome (cut_seen cut.now).part (λ f. length f.value ≤ name.old.room) }
     requires up { has.done ≡ false → length up.old.text + name.old.room + 30 ≤ up.old.room }
@@ -137,11 +149,11 @@ fn hear_cut(has: Has, cut: &Cut, name: &mut Out, up: &mut Out, down: &mut Out) -
 /// What the features of a line change, and what is written to both sides for them.
 pub(crate) fn hear_features(
     text: &[u8],
-    before: Has,
+    before: HasFeatures,
     name: &mut Out,
     up: &mut Out,
     down: &mut Out,
-) -> Has
+) -> HasFeatures
     requires name { length text.now ≤ name.old.room }
     requires up { length up.old.text + name.old.room + 30 ≤ up.old.room }
     requires down { length down.old.text + 6 * length text.now ≤ down.old.room }

@@ -14,8 +14,8 @@ pub(crate) fn further_moves<'a>(known: &[Move], moves: &'a [Move]) -> Option<&'a
     ensures value { option_map (λ r. plies_of r.now) result
         ≡ further (plies_of known.now) (plies_of moves.now) }
     ensures few { IfSome result (λ r. length r.now ≤ length moves.now) }
-    ensures officers { AllByRecursion (λ m. IsOfficer m.promo) (plies_of moves.now)
-        → IfSome result (λ r. AllByRecursion (λ m. IsOfficer m.promo) (plies_of r.now)) }
+    ensures officers { AllByRecursion (λ m. IsOfficer m.promotion) (plies_of moves.now)
+        → IfSome result (λ r. AllByRecursion (λ m. IsOfficer m.promotion) (plies_of r.now)) }
 {
     let mut left = known;
     let mut rest = moves;

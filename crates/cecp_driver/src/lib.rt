@@ -15,6 +15,6 @@ mod same;
 mod script;
 mod told;
 
-pub use driver::{Both, DOWN_ROOM, Driver, LINE_LIMIT, UP_ROOM};
-pub use laws::searches_are_on_the_ordered_game;
+pub use driver::{DOWN_ROOM, Driver, DriverStep, LINE_LIMIT, UP_ROOM};
+pub use laws::{runs_are_sound, scripts_are_one, searches_are_on_the_ordered_game};
 pub use script::{EVENT_ROOM, put_marks};

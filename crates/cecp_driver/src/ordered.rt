@@ -1,42 +1,27 @@
 // The position that the interface orders.
-ghost use Rattle.std.specs.Prelude.{◌≡◌, Some, None, is_some, OnOk, true};
+ghost use Rattle.std.specs.Prelude.{◌≡◌, Some, None, is_some};
 ghost use Rattle.std.specs.Bool.{OnTrue, OnFalse};
 ghost use Rattle.std.specs.Option.{unwrap_or};
 ghost use Rattle.peer_words.specs.Tokens.{tokens};
-ghost use Rattle.chess_board.specs.Place.{legal};
 ghost use Rattle.chess_board.specs.Play.{start_position};
 ghost use Rattle.chess_board.specs.Spelling.{move_of};
-ghost use Rattle.game_record.specs.Game.{begun, now_of};
-ghost use Rattle.cecp_driver.specs.Ordered.{may_push, push_one, pushed, ordered_in};
+ghost use Rattle.game_record.specs.Game.{begun};
+ghost use Rattle.cecp_driver.specs.Ordered.{push_one, pushed, ordered_in};
 
-use chess_board::{Move, Position, read_move};
-use game_record::{Game, MOST_PLIES};
+use chess_board::{Position, read_move};
+use game_record::Game;
 use peer_words::next_token;
 use uci_talk::spoken;
-
-fn is_legal(at: &Position, m: Move) -> bool
-    ensures { result ≡ legal at.now m }
-{
-    at.legal(m)
-}
-
-fn may_push(game: &Game, m: Move) -> bool
-    ensures { result ≡ may_push game.now m }
-{
-    is_legal(game.now(), m) && (game.plies() as usize) < MOST_PLIES
-}
 
 /// Plays the move that a text names. False if it may not be played.
 fn push_text(text: &[u8], game: &mut Game) -> bool
     ensures played { OnTrue result (push_one game.old (move_of text.now) ≡ Some game.new) }
     ensures not { OnFalse result (push_one game.old (move_of text.now) ≡ None) }
 {
+    game.facts();
     match read_move(text) {
-        Some(m) if may_push(game, m) => {
-            let _ = game.push(m);
-            true
-        }
-        _ => false,
+        Some(m) => game.try_play(m).is_ok(),
+        None => false,
     }
 }
 

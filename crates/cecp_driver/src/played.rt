@@ -13,7 +13,7 @@ use line_io::Out;
 
 /// Writes each move.
 pub(crate) fn write_played(moves: &[Move], has_usermove: bool, out: &mut Out)
-    requires officers { AllByRecursion (λ m. IsOfficer m.promo) (plies_of moves.now) }
+    requires officers { AllByRecursion (λ m. IsOfficer m.promotion) (plies_of moves.now) }
     requires room { length out.old.text + 15 * length moves.now ≤ out.old.room }
     ensures text { out.new ≡ with out.old (lines_text (played has_usermove (plies_of moves.now))) }
     ensures short { length out.new.text ≤ length out.old.text + 15 * length moves.now }

@@ -23,5 +23,5 @@ pub(crate) fn is_same_position(a: &Position, b: &Position) -> bool
 pub(crate) fn is_same_move(a: Move, b: Move) -> bool
     ensures { result ≡ same_ply (ply_of a) (ply_of b) }
 {
-    (a.from.index == b.from.index && a.to.index == b.to.index) && a.promo == b.promo
+    (a.from.index == b.from.index && a.to.index == b.to.index) && a.promotion == b.promotion
 }

@@ -3,7 +3,7 @@ ghost use Rattle.std.specs.Prelude.{◌≡◌, ◌+◌, ◌≤◌, length, true}
 ghost use Rattle.line_io.specs.Event.{event_of};
 ghost use Rattle.line_io.specs.Out.{with};
 ghost use Rattle.script_lines.specs.StepText.{step_marks};
-ghost use Rattle.cecp_driver.specs.Script.{IsShort, Takes, given_marks, may_come};
+ghost use Rattle.cecp_driver.specs.Script.{IsLine, Takes, given_marks, may_come};
 ghost use Rattle.cecp_driver.specs.declared.driver.TheConstants.{UP_ROOM, DOWN_ROOM};
 ghost use Rattle.cecp_driver.specs.declared.script.TheConstants.{EVENT_ROOM};
 
@@ -17,7 +17,7 @@ pub const EVENT_ROOM: usize = STEP_ROOM;
 /// Puts the mark of an event, and those of the lines that were given for it: `X` before those to the interface, `U`
 /// before those to the engine.
 pub fn put_marks(event: &Event, up: &[u8], child: &[u8], text: &mut Out)
-    requires short { IsShort (event_of event.now) }
+    requires line { IsLine (event_of event.now) }
     requires up { length up.now ≤ UP_ROOM }
     requires child { length child.now ≤ DOWN_ROOM }
     requires room { length text.old.text + EVENT_ROOM ≤ text.old.room }
@@ -42,7 +42,7 @@ impl Driver {
     /// Takes an event: a line of the interface is an order, and its end is `quit`. `lines` says what was given for it.
     pub fn take(&mut self, event: &Event)
         requires may { may_come self.old (event_of event.now) ≡ true }
-        requires short { IsShort (event_of event.now) }
+        requires line { IsLine (event_of event.now) }
         ensures { Takes (event_of event.now) self.old self.new }
     {
         match event {
@@ -56,7 +56,7 @@ impl Driver {
     /// Takes an event, and puts its mark and those of the lines that are given for it.
     pub fn play(&mut self, event: &Event, text: &mut Out)
         requires may { may_come self.old (event_of event.now) ≡ true }
-        requires short { IsShort (event_of event.now) }
+        requires line { IsLine (event_of event.now) }
         requires room { length text.old.text + EVENT_ROOM ≤ text.old.room }
         ensures takes { Takes (event_of event.now) self.old self.new }
         ensures put { text.new ≡ with text.old (given_marks (event_of event.now) self.new) }

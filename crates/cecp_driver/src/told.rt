@@ -32,17 +32,17 @@ pub(crate) const SETUP: usize = 90_200;
 
 /// What the engine was given: a game, and perhaps a depth limit.
 #[derive(Drop)]
-pub(crate) struct Told {
+pub(crate) struct ToldGame {
     is_known: bool,
     is_limited: bool,
     start: Position,
     moves: Vec<Move>,
 }
 
-impl Model for Told {
+impl Model for ToldGame {
     ghost use Rattle.std.specs.Prelude.{◌≤◌, vec_capacity};
     ghost use Rattle.game_record.specs.Game.{Game as AnyGame, plies_of};
-    ghost use Rattle.cecp_driver.specs.SetUp.{Told as Seen};
+    ghost use Rattle.cecp_driver.specs.SetUp.{ToldGame as Seen};
     ghost use Rattle.cecp_driver.specs.declared.told.TheConstants.{MOST_TOLD};
 
     ghost Value = { Seen };
@@ -83,7 +83,7 @@ fn write_start(start: &Position, out: &mut Out)
 fn write_setup(further: Option<&[Move]>, game: &Game, has_usermove: bool, out: &mut Out)
     requires few { length game.now.moves ≤ MOST_PLIES }
     requires further { IfSome further (λ r. (length r.now ≤ MOST_PLIES)
-        × AllByRecursion (λ m. IsOfficer m.promo) (plies_of r.now)) }
+        × AllByRecursion (λ m. IsOfficer m.promotion) (plies_of r.now)) }
     requires room { length out.old.text + SETUP ≤ out.old.room }
     ensures text { out.new
         ≡ with out.old (lines_text (setup_lines
@@ -105,13 +105,13 @@ fn write_setup(further: Option<&[Move]>, game: &Game, has_usermove: bool, out: &
     }
 }
 
-impl Told {
+impl ToldGame {
     /// Nothing was written yet.
-    pub(crate) fn make(alloc: Global) -> Result<Told, NoMemory>
+    pub(crate) fn make(alloc: Global) -> Result<ToldGame, NoMemory>
         ensures { IfOk result (λ told. told ≡ none_told) }
     {
         let moves = Vec::with_capacity(alloc, MOST_TOLD)?;
-        Ok(Told {
+        Ok(ToldGame {
             is_known: false,
             is_limited: false,
             start: Position::start(),
@@ -124,7 +124,7 @@ impl Told {
         ensures value { option_map (λ r. plies_of r.now) result
             ≡ continued self.now game.now has_depth }
         ensures few { IfSome result (λ r. length r.now ≤ length game.now.moves) }
-        ensures officers { IfSome result (λ r. AllByRecursion (λ m. IsOfficer m.promo)
+        ensures officers { IfSome result (λ r. AllByRecursion (λ m. IsOfficer m.promotion)
             (plies_of r.now)) }
     {
         if self.is_known

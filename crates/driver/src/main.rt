@@ -4,7 +4,7 @@
 use child_engine::{EngineInput, RealHost};
 use driver_app::{drive_main, refuse_for_memory};
 use line_io::{ReadAdapter, WriteAdapter};
-use program_edges::{ClosedStreams, WORDS_ROOM, words_of};
+use program_edges::{ClosedStreams, NO_MEMORY, WORDS_ROOM, words_of};
 use program_texts::{About, answer_about};
 use std::process::{ChildStdin, ExitCode};
 
@@ -19,10 +19,12 @@ LOG is made anew by each run. driver(1) says more.
 };
 
 fn main(rt: HostRuntime) -> ExitCode {
-    let closed = ClosedStreams::fill(&rt);
-    let mut input = ReadAdapter::new(closed.input(rt.stdin()));
-    let mut output = WriteAdapter::new(closed.output(rt.stdout()));
-    let mut diag = WriteAdapter::new(closed.diag(rt.stderr()));
+    let Some(closed) = ClosedStreams::fill(&rt) else {
+        return ExitCode::from(NO_MEMORY);
+    };
+    let mut input = closed.input(ReadAdapter::new(rt.stdin()));
+    let mut output = closed.output(WriteAdapter::new(rt.stdout()));
+    let mut diag = closed.diag(WriteAdapter::new(rt.stderr()));
     let mut host = RealHost::<_, EngineInput<ChildStdin>>::new(&rt, closed.has_own_diag(&rt));
     let status = match words_of(&rt, rt.alloc(), WORDS_ROOM) {
         Ok(words) => match answer_about(rt.alloc(), words.as_slice(), &ABOUT, &mut output) {

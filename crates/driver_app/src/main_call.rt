@@ -2,9 +2,10 @@
 ghost use Rattle.std.specs.Prelude.{◌≡◌, true, IfSome};
 ghost use Rattle.child_engine.specs.Hosts.{IsUnused};
 ghost use Rattle.host_run.specs.Endings.{code_of, diagnostic};
+ghost use Rattle.host_run.specs.Asked.{AsksByWords};
 ghost use Rattle.host_run.specs.Outside.{outside};
 ghost use Rattle.host_run.specs.Program.{Answers, Ends, IsToldTo, StatusSays};
-ghost use Rattle.host_run.specs.declared.ending.Ending.TheVariants as endings;
+ghost use Rattle.host_run.specs.declared.ending.ProgramEnding.TheVariants as endings;
 ghost use Rattle.program_words.specs.Words.{AreTaken, bytes_of};
 ghost use Rattle.driver_runner.specs.Driven.{Leaves};
 ghost use Rattle.driver_runner.specs.Recorded.{IsWhole};
@@ -12,7 +13,7 @@ ghost use Rattle.driver_app.specs.Program.{program};
 
 use child_engine::Host;
 use driver_runner::drive_run;
-use host_run::{Ending, tell};
+use host_run::{ProgramEnding, tell};
 use line_io::{Sink, Source, Status};
 use program_words::read_words;
 use std::alloc::Global;
@@ -27,17 +28,20 @@ fn end_of<I: Source + Send, O: Sink + Send, H: Host, R: Threads + Wait + Sync>(
     input: &mut I,
     output: &mut O,
     host: &mut H,
-) -> Ending
+) -> ProgramEnding
     requires { IsUnused (H.books host.old) }
-    ensures { Ends (AreTaken (bytes_of words.now)) (Leaves
+    ensures ends { Ends (AreTaken (bytes_of words.now)) (Leaves
         (outside (I.state input.old) (O.state output.old) (H.faults host.old) (H.books host.old))
         (outside (I.state input.new) (O.state output.new) (H.faults host.new) (H.books host.new)))
         (outside (I.state input.old) (O.state output.old) (H.faults host.old) (H.books host.old))
         (outside (I.state input.new) (O.state output.new) (H.faults host.new) (H.books host.new))
         result }
+    ensures asked { AsksByWords (bytes_of words.now)
+        (H.asked host.old) (H.asked host.new)
+        (H.faults host.old) (H.faults host.new) (H.books host.new) }
 {
     match read_words(alloc, words) {
-        Ok(request) => Ending::of(drive_run(
+        Ok(request) => ProgramEnding::of(drive_run(
             rt,
             alloc,
             request.log_name.as_str(),
@@ -46,7 +50,7 @@ fn end_of<I: Source + Send, O: Sink + Send, H: Host, R: Threads + Wait + Sync>(
             output,
             host,
         )),
-        Err(refusal) => Ending::from(refusal),
+        Err(refusal) => ProgramEnding::from(refusal),
     }
 }
 
@@ -56,9 +60,9 @@ pub fn refuse_for_memory<D: Sink>(diag: &mut D) -> Status
     ensures told { IsToldTo (D.state diag.old) (D.state diag.new)
         (diagnostic program endings.NoMemory) }
 {
-    tell(b"driver", Ending::NoMemory, diag);
+    tell(b"driver", ProgramEnding::NoMemory, diag);
     Status {
-        code: Ending::NoMemory.code(),
+        code: ProgramEnding::NoMemory.code(),
     }
 }
 
@@ -90,6 +94,9 @@ pub fn drive_main<I: Source + Send, O: Sink + Send, H: Host, D: Sink, R: Threads
         → IfSome (H.books host.old).says (λ bytes. IsWhole bytes
         (outside (I.state input.old) (O.state output.old) (H.faults host.old) (H.books host.old))
         (outside (I.state input.new) (O.state output.new) (H.faults host.new) (H.books host.new))) }
+    ensures asked { AsksByWords (bytes_of words.now)
+        (H.asked host.old) (H.asked host.new)
+        (H.faults host.old) (H.faults host.new) (H.books host.new) }
     ensures unstarted { result.code ≡ 8
         → (I.state input.new ≡ I.state input.old) × (O.state output.new ≡ O.state output.old) }
 {

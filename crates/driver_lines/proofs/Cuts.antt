@@ -4,7 +4,7 @@ use Rattle.std.specs.List.{before_first, after_first, position_or_len}
 use Rattle.std.proofs.lemmas.List.{length-drop, length-take}
 use Rattle.std.proofs.lemmas.Bool.Decides.{nat_tests}
 use Rattle.peer_words.specs.Tokens.{is_white, trim_left, token_end}
-use Rattle.driver_lines.specs.Parts.{Feature, Cut, ends_name, is_quote, found, value_cut, skipped, cut_by, cut_of, onto, parts_from, parts_within, parts, FitsIn, IsNamed}
+use Rattle.driver_lines.specs.Parts.{Feature, CutFeature, ends_name, is_quote, found, value_cut, skipped, cut_by, cut_of, onto, parts_from, parts_within, parts, FitsIn, IsNamed}
 use Rattle.peer_words.proofs.Lengths.{trim_left_length}
 
 drop_short : (n : ℕ) (xs : List ℕ) → length (drop n xs) ≤ length xs
@@ -87,7 +87,7 @@ named_within [] after behind = tt
 named_within (c ∷ cs) [] behind = tt
 named_within (c ∷ cs) (b ∷ bs) behind = named_by (eqb b 61) c cs bs behind
 
-pub cut_named : (front : List ℕ) (cut : Cut) → cut ≡ cut_of front (drop 1 front) → IsNamed cut
+pub cut_named : (front : List ℕ) (cut : CutFeature) → cut ≡ cut_of front (drop 1 front) → IsNamed cut
 cut_named front cut f = rw f (named_within (before_first ends_name front) (drop (position_or_len ends_name front) front) (drop 1 front))
 
 -- more cuts than bytes change nothing
@@ -125,14 +125,14 @@ pub front_none : (text front : List ℕ) → front ≡ trim_left text → eqb (l
 front_none text [] e h = parts_none text (sym e)
 front_none text (b ∷ bs) e h = absurd (grind (arith, nat_tests))
 
-pub front_parts : (text front : List ℕ) (cut : Cut) → front ≡ trim_left text → eqb (length front) 0 ≡ false → cut ≡ cut_of front (drop 1 front) → parts text ≡ onto cut.part (parts cut.rest)
+pub front_parts : (text front : List ℕ) (cut : CutFeature) → front ≡ trim_left text → eqb (length front) 0 ≡ false → cut ≡ cut_of front (drop 1 front) → parts text ≡ onto cut.part (parts cut.rest)
 front_parts text [] cut e h f = absurd (cc)
 front_parts text (b ∷ bs) cut e h f = rw f (parts_some text b bs (sym e))
 
-pub front_shorter : (text front : List ℕ) (cut : Cut) → front ≡ trim_left text → eqb (length front) 0 ≡ false → cut ≡ cut_of front (drop 1 front) → length cut.rest < length text
+pub front_shorter : (text front : List ℕ) (cut : CutFeature) → front ≡ trim_left text → eqb (length front) 0 ≡ false → cut ≡ cut_of front (drop 1 front) → length cut.rest < length text
 front_shorter text [] cut e h f = absurd (cc)
 front_shorter text (b ∷ bs) cut e h f = rw f (cut_shorter text b bs (sym e))
 
-pub front_fits : (text front : List ℕ) (cut : Cut) → front ≡ trim_left text → eqb (length front) 0 ≡ false → cut ≡ cut_of front (drop 1 front) → FitsIn text cut
+pub front_fits : (text front : List ℕ) (cut : CutFeature) → front ≡ trim_left text → eqb (length front) 0 ≡ false → cut ≡ cut_of front (drop 1 front) → FitsIn text cut
 front_fits text [] cut e h f = absurd (cc)
 front_fits text (b ∷ bs) cut e h f = rw f (cut_fits text b bs (sym e))

@@ -2,8 +2,8 @@
 use Rattle.std.proofs.Common.{◌≡◌, ℕ, ℤ, ◌≤◌, List, [], ◌∷◌, length, Option, Some, None, refl, sym, subst}
 use Rattle.peer_words.specs.Tokens.{tokens, first_token, rest}
 use Rattle.peer_words.proofs.Lengths.{rest_length}
-use Rattle.driver_lines.specs.declared.said.Word.{Word}
-use Rattle.driver_lines.specs.declared.said.Word.TheVariants as words
+use Rattle.driver_lines.specs.declared.said.EngineWord.{EngineWord}
+use Rattle.driver_lines.specs.declared.said.EngineWord.TheVariants as words
 use Rattle.driver_lines.specs.Numbers.{next_number}
 use Rattle.driver_lines.specs.Says.{Says, Move, Over, Pong, Report, Feature, says_in, says_by, word_named, report_in, report_by, report_second, report_third, report_fourth, pong_by, pong_in, or_other}
 use Rattle.driver_lines.specs.Says as says
@@ -41,7 +41,7 @@ pong_feature : (o : Option ℕ) (text : List ℕ) → pong_by o ≡ Feature text
 pong_feature None text e = absurd (cc)
 pong_feature (Some n) text e = absurd (cc)
 
-by_word : (w : Word) (line text : List ℕ) → says_by w line ≡ Feature text → rest line ≡ text
+by_word : (w : EngineWord) (line text : List ℕ) → says_by w line ≡ Feature text → rest line ≡ text
 by_word words.Move line text e = absurd (cc)
 by_word words.Over line text e = absurd (cc)
 by_word words.Pong line text e = absurd (pong_feature (pong_in (tokens (rest line))) text e)

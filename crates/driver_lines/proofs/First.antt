@@ -20,11 +20,11 @@ some_first p first rest are = ((are.each first).0 (0, omega arith, refl), λ m l
 
 -- the same, as a call that lists the moves knows it
 
-pub none_in : (p : Position) (items slice : List Move) → slice ≡ items → length slice < 1 → ((m : Move) → Contains items m ↔ IsLegal p m.from.index m.to.index m.promo) → IsFirstMove p None
+pub none_in : (p : Position) (items slice : List Move) → slice ≡ items → length slice < 1 → ((m : Move) → Contains items m ↔ IsLegal p m.from.index m.to.index m.promotion) → IsFirstMove p None
 none_in p items slice e few each = λ m legal. let found = (each m).1 legal in let same = ap length e in absurd (omega (arith, found.1, same))
 
 pub some_in : (p : Position) (items slice : List Move) (first : Move) → slice ≡ items → 1 ≤ length slice → first ≡ get_or slice 0 first
-    → ((m : Move) → Contains items m ↔ IsLegal p m.from.index m.to.index m.promo) → AllPairs ComesBefore items → IsFirstMove p (Some first)
+    → ((m : Move) → Contains items m ↔ IsLegal p m.from.index m.to.index m.promotion) → AllPairs ComesBefore items → IsFirstMove p (Some first)
 some_in p [] slice first e some is each ordered = let same = ap length e in absurd (omega (arith, same))
 some_in p (f ∷ rest) slice first e some is each ordered =
     let at : first ≡ f = is ∙ ap (λ (ms : List Move). get_or ms 0 first) e in

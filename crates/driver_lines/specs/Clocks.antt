@@ -6,9 +6,9 @@ use Rattle.peer_words.specs.Tokens.{tokens}
 use Rattle.peer_words.specs.Numbers.{signed}
 use Rattle.chess_board.specs.declared.board.Side.{Side}
 use Rattle.chess_board.specs.declared.board.Side.TheVariants.{White, Black}
-use Rattle.driver_talk.specs.declared.words.Clocks.{Clocks}
-use Rattle.driver_lines.specs.declared.clocks.Field.{Field}
-use Rattle.driver_lines.specs.declared.clocks.Field.TheVariants as fields
+use Rattle.driver_talk.specs.declared.words.GoClocks.{GoClocks}
+use Rattle.driver_lines.specs.declared.clocks.GoField.{GoField}
+use Rattle.driver_lines.specs.declared.clocks.GoField.TheVariants as fields
 use Rattle.driver_lines.specs.declared.clocks.TheConstants.{LONGEST, MOST_MOVES, MOST_SECONDS, MOST_PLIES}
 use Rattle.driver_lines.specs.Numbers.{natural}
 use Rattle.driver_lines.specs.Lines.{Line, St, Level, Time, Otim, Sd}
@@ -16,7 +16,7 @@ use Rattle.peer_words.specs.declared.numbers.TheConstants.{SECOND}
 
 -- READING
 
-abbrev pub field_named : List ℕ → Field
+abbrev pub field_named : List ℕ → GoField
 field_named t =
     if bytes_eq t (codes "wtime") then fields.WhiteTime
     else (if bytes_eq t (codes "btime") then fields.BlackTime
@@ -32,7 +32,7 @@ abbrev pub first_number : List (List ℕ) → Option ℕ
 first_number [] = None
 first_number (t ∷ ts) = option_map natural (signed t)
 
-abbrev pub set : Field → Clocks → ℕ → Clocks
+abbrev pub set : GoField → GoClocks → ℕ → GoClocks
 set fields.WhiteTime c n = record { wtime = n; btime = c.btime; winc = c.winc; binc = c.binc; movetime = c.movetime; movestogo = c.movestogo; depth = c.depth }
 set fields.BlackTime c n = record { wtime = c.wtime; btime = n; winc = c.winc; binc = c.binc; movetime = c.movetime; movestogo = c.movestogo; depth = c.depth }
 set fields.WhiteIncrement c n = record { wtime = c.wtime; btime = c.btime; winc = n; binc = c.binc; movetime = c.movetime; movestogo = c.movestogo; depth = c.depth }
@@ -42,24 +42,24 @@ set fields.MovesToGo c n = record { wtime = c.wtime; btime = c.btime; winc = c.w
 set fields.Depth c n = record { wtime = c.wtime; btime = c.btime; winc = c.winc; binc = c.binc; movetime = c.movetime; movestogo = c.movestogo; depth = n }
 set fields.Other c n = c
 
-abbrev pub set_if : Field → Clocks → Option ℕ → Clocks
+abbrev pub set_if : GoField → GoClocks → Option ℕ → GoClocks
 set_if field c None = c
 set_if field c (Some n) = set field c n
 
 -- a word and the tokens behind it
-abbrev pub hear : Field → Clocks → List (List ℕ) → Clocks
+abbrev pub hear : GoField → GoClocks → List (List ℕ) → GoClocks
 hear field c ts = set_if field c (first_number ts)
 
-abbrev pub clocks_from : Clocks → List (List ℕ) → Clocks
+abbrev pub clocks_from : GoClocks → List (List ℕ) → GoClocks
 clocks_from c [] = c
 clocks_from c (t ∷ ts) = clocks_from (hear (field_named t) c ts) ts
 
 -- the longest times, without increments and limits
-abbrev pub no_clocks : Clocks
+abbrev pub no_clocks : GoClocks
 no_clocks = record { wtime = LONGEST; btime = LONGEST; winc = 0; binc = 0; movetime = None; movestogo = 0; depth = 0 }
 
 -- the last number behind each word counts
-unfoldable pub clocks_in : List ℕ → Clocks
+unfoldable pub clocks_in : List ℕ → GoClocks
 clocks_in line = clocks_from no_clocks (tokens line)
 
 -- WRITING
@@ -70,23 +70,23 @@ capped time = min time LONGEST
 abbrev pub seconds_up : ℕ → ℕ
 seconds_up time = if time % SECOND == 0 then time / SECOND else time / SECOND + 1
 
-abbrev pub mine : Side → Clocks → ℕ
+abbrev pub mine : Side → GoClocks → ℕ
 mine White c = c.wtime
 mine Black c = c.btime
 
-abbrev pub theirs : Side → Clocks → ℕ
+abbrev pub theirs : Side → GoClocks → ℕ
 theirs White c = c.btime
 theirs Black c = c.wtime
 
-abbrev pub increment : Side → Clocks → ℕ
+abbrev pub increment : Side → GoClocks → ℕ
 increment White c = c.winc
 increment Black c = c.binc
 
-abbrev pub level_line : Side → Clocks → Line
+abbrev pub level_line : Side → GoClocks → Line
 level_line side c = Level (min c.movestogo MOST_MOVES) (capped (mine side c) / SECOND) (min (increment side c / SECOND) MOST_SECONDS)
 
 -- the time of the move alone, or the clocks
-abbrev pub control_lines : Side → Clocks → Option ℕ → List Line
+abbrev pub control_lines : Side → GoClocks → Option ℕ → List Line
 control_lines side c (Some time) = St (min (seconds_up time) MOST_SECONDS) ∷ []
 control_lines side c None = level_line side c ∷ Time (capped (mine side c) / 10) ∷ Otim (capped (theirs side c) / 10) ∷ []
 
@@ -94,5 +94,5 @@ abbrev pub depth_lines : ℕ → List Line
 depth_lines depth = if depth == 0 then [] else Sd (min depth MOST_PLIES) ∷ []
 
 -- the lines that set the clocks of an engine that plays a side
-abbrev pub clock_lines : Side → Clocks → List Line
+abbrev pub clock_lines : Side → GoClocks → List Line
 clock_lines side c = control_lines side c c.movetime ++ depth_lines c.depth

@@ -1,12 +1,11 @@
 -- The moves that a CECP engine names in a position.
-use Rattle.std.specs.Prelude.{ℕ, ◌≡◌, ◌⊎◌, List, [], ◌∷◌, Bool, true, false, ◌||◌, if◌then◌else◌, Option, Some, None}
+use Rattle.std.specs.Prelude.{ℕ, ◌≡◌, ◌⊎◌, List, [], ◌∷◌, if◌then◌else◌, Option, Some, None, MatchOption}
 use Rattle.chess_board.specs.declared.board.Move.{Move}
 use Rattle.chess_board.specs.Position.{Position}
 use Rattle.chess_board.specs.Place.{legal}
 use Rattle.chess_board.specs.Laws.{IsLegal}
 use Rattle.chess_board.specs.Spelling.{move_of}
 use Rattle.chess_board.specs.Text.{ComesBefore}
-use Rattle.san_text.specs.Spelling.{is_short, is_long}
 use Rattle.san_text.specs.Fit.{FitsAlone}
 use Rattle.san_text.specs.LongForm.{IsLongRead}
 
@@ -36,22 +35,9 @@ Names p text m = (coordinates p text ≡ Some m) ⊎ ((coordinates p text ≡ No
 abbrev pub NamesNone : Position → List ℕ → Type 0
 NamesNone p text = (coordinates p text ≡ None) × WritesNone p text
 
--- `O-O`, `0-0`, `O-O-O`, `0-0-0`
-abbrev pub is_castling : List ℕ → Bool
-is_castling text = is_short text || is_long text
-
--- the one legal move that fits a text, if there is one
-abbrev pub IsAlone : Position → List ℕ → Option Move → Type 0
-IsAlone p text None = (m : Move) → FitsAlone p text m → ⊥
-IsAlone p text (Some m) = FitsAlone p text m
-
-abbrev pub ShownBy : Bool → Position → List ℕ → Option Move → Type 0
-ShownBy true p text shown = IsAlone p text shown
-ShownBy false p text shown = shown ≡ coordinates p text
-
--- the legal move behind `move`: castling in a spelling of its own, or a move by its squares
+-- what a token of the engine is read as: the legal move that it names, or none if it names none
 abbrev pub IsShown : Position → List ℕ → Option Move → Type 0
-IsShown p text shown = ShownBy (is_castling text) p text shown
+IsShown p text shown = MatchOption shown (NamesNone p text) (Names p text)
 
 -- the first token that names a legal move, and that move
 abbrev pub IsThought : Position → List (List ℕ) → Option Move → Type 0
@@ -60,7 +46,7 @@ IsThought p (t ∷ ts) best = ((m : Move) × (Names p t m × (best ≡ Some m)))
 
 -- the first legal move in the order of the texts
 abbrev pub IsFirstMove : Position → Option Move → Type 0
-IsFirstMove p None = (m : Move) → IsLegal p m.from.index m.to.index m.promo → ⊥
+IsFirstMove p None = (m : Move) → IsLegal p m.from.index m.to.index m.promotion → ⊥
 IsFirstMove p (Some first) =
-    IsLegal p first.from.index first.to.index first.promo
-    × ((m : Move) → IsLegal p m.from.index m.to.index m.promo → (m ≡ first) ⊎ ComesBefore first m)
+    IsLegal p first.from.index first.to.index first.promotion
+    × ((m : Move) → IsLegal p m.from.index m.to.index m.promotion → (m ≡ first) ⊎ ComesBefore first m)

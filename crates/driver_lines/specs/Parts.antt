@@ -3,8 +3,8 @@ use Rattle.std.specs.Prelude.{ℕ, zero, suc, ◌+◌, ◌<◌, ◌≤◌, List,
 use Rattle.std.specs.List.{before_first, after_first, position_or_len}
 use Rattle.std.specs.Option.{option_map}
 use Rattle.peer_words.specs.Tokens.{is_white, trim_left, token_end}
-use Rattle.driver_lines.specs.declared.feature.Part.{Part}
-use Rattle.driver_lines.specs.declared.feature.Cut as code
+use Rattle.driver_lines.specs.declared.feature.NamedFeature.{NamedFeature}
+use Rattle.driver_lines.specs.declared.feature.CutFeature as code
 use Rattle.peer_words.specs.Bytes.{equals, quote}
 
 -- `NAME=VALUE`, the value without its quotes
@@ -12,19 +12,19 @@ pub record Feature : Type 0 where
   pub name : List ℕ
   pub value : List ℕ
 
-abbrev pub feature_of : Part → Feature
+abbrev pub feature_of : NamedFeature → Feature
 feature_of p = record { name = p.name.now; value = p.value.now }
 
 -- a feature, or something else that is ignored; and what follows
-pub record Cut : Type 0 where
+pub record CutFeature : Type 0 where
   pub part : Option Feature
   pub rest : List ℕ
 
-abbrev pub features_of : Option Part → Option Feature
+abbrev pub features_of : Option NamedFeature → Option Feature
 features_of None = None
 features_of (Some p) = Some (feature_of p)
 
-abbrev pub cut_seen : code.Cut → Cut
+abbrev pub cut_seen : code.CutFeature → CutFeature
 cut_seen c = record { part = features_of c.part; rest = c.rest.now }
 
 -- a name has no white space, no `=` and no quote
@@ -34,11 +34,11 @@ ends_name b = (is_white b || b == equals) || b == quote
 abbrev pub is_quote : ℕ → Bool
 is_quote b = b == quote
 
-abbrev pub found : List ℕ → List ℕ → List ℕ → Cut
+abbrev pub found : List ℕ → List ℕ → List ℕ → CutFeature
 found name value rest = record { part = Some (record { name = name; value = value }); rest = rest }
 
 -- A value in quotes goes up to the next quote, another up to the next white space.
-abbrev pub value_cut : List ℕ → List ℕ → Cut
+abbrev pub value_cut : List ℕ → List ℕ → CutFeature
 value_cut name [] = found name [] []
 value_cut name (b ∷ bs) =
     if b == quote
@@ -46,16 +46,16 @@ value_cut name (b ∷ bs) =
     else found name (before_first is_white (b ∷ bs)) (drop (token_end (b ∷ bs)) (b ∷ bs))
 
 -- ignored up to the next white space
-abbrev pub skipped : List ℕ → Cut
+abbrev pub skipped : List ℕ → CutFeature
 skipped text = record { part = None; rest = drop (token_end text) text }
 
 -- by the name and what follows it, with what stands behind the first byte
-abbrev pub cut_by : List ℕ → List ℕ → List ℕ → Cut
+abbrev pub cut_by : List ℕ → List ℕ → List ℕ → CutFeature
 cut_by [] after behind = skipped behind
 cut_by (c ∷ cs) [] behind = skipped behind
 cut_by (c ∷ cs) (b ∷ bs) behind = if b == equals then value_cut (c ∷ cs) bs else skipped behind
 
-abbrev pub cut_of : List ℕ → List ℕ → Cut
+abbrev pub cut_of : List ℕ → List ℕ → CutFeature
 cut_of text behind = cut_by (before_first ends_name text) (drop (position_or_len ends_name text) text) behind
 
 abbrev pub onto : Option Feature → List Feature → List Feature
@@ -76,9 +76,9 @@ unfoldable pub parts : List ℕ → List Feature
 parts text = parts_within (length text) text
 
 -- a feature has a name
-abbrev pub IsNamed : Cut → Type 0
+abbrev pub IsNamed : CutFeature → Type 0
 IsNamed c = IfSome c.part (λ f. 0 < length f.name)
 
 -- what a feature and the rest leave of a text
-abbrev pub FitsIn : List ℕ → Cut → Type 0
+abbrev pub FitsIn : List ℕ → CutFeature → Type 0
 FitsIn text c = IfSome c.part (λ f. length f.name + length f.value + length c.rest + 1 ≤ length text)

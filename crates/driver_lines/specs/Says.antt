@@ -3,10 +3,10 @@ use Rattle.std.specs.Prelude.{ℕ, ℤ, List, [], ◌∷◌, codes, Bool, ◌||�
 use Rattle.std.specs.Str.{bytes_eq}
 use Rattle.peer_words.specs.Tokens.{tokens, first_token, rest}
 use Rattle.peer_words.specs.Numbers.{number}
-use Rattle.driver_lines.specs.declared.said.Said.{Said}
-use Rattle.driver_lines.specs.declared.said.Said.TheVariants as said
-use Rattle.driver_lines.specs.declared.said.Word.{Word}
-use Rattle.driver_lines.specs.declared.said.Word.TheVariants as words
+use Rattle.driver_lines.specs.declared.said.EngineSaid.{EngineSaid}
+use Rattle.driver_lines.specs.declared.said.EngineSaid.TheVariants as said
+use Rattle.driver_lines.specs.declared.said.EngineWord.{EngineWord}
+use Rattle.driver_lines.specs.declared.said.EngineWord.TheVariants as words
 use Rattle.driver_lines.specs.Numbers.{next_number, natural, clamped, ten_times}
 
 -- the same, whatever memory the texts lie in
@@ -18,7 +18,7 @@ pub data Says : Type 0 where
   Feature : (text : List ℕ) → Says
   Report : (depth : ℕ) (score : ℤ) (time nodes : ℕ) (moves : List (List ℕ)) → Says
 
-abbrev pub engine_message_of : Said → Says
+abbrev pub engine_message_of : EngineSaid → Says
 engine_message_of said.Other = Other
 engine_message_of (said.Move text) = Move text.now
 engine_message_of said.Over = Over
@@ -30,7 +30,7 @@ engine_message_of (said.Report depth score time nodes moves) = Report depth scor
 abbrev pub is_over : List ℕ → Bool
 is_over word = ((bytes_eq word (codes "resign") || bytes_eq word (codes "1-0")) || bytes_eq word (codes "0-1")) || bytes_eq word (codes "1/2-1/2")
 
-abbrev pub word_named : List ℕ → Word
+abbrev pub word_named : List ℕ → EngineWord
 word_named word =
     if bytes_eq word (codes "move") then words.Move
     else (if is_over word then words.Over
@@ -70,7 +70,7 @@ abbrev pub pong_by : Option ℕ → Says
 pong_by None = Other
 pong_by (Some n) = Pong n
 
-abbrev pub says_by : Word → List ℕ → Says
+abbrev pub says_by : EngineWord → List ℕ → Says
 says_by words.Move line = Move (first_token (rest line))
 says_by words.Over line = Over
 says_by words.Pong line = pong_by (pong_in (tokens (rest line)))

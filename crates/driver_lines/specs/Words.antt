@@ -1,10 +1,10 @@
 -- The orders of the interface, by their first token.
 use Rattle.std.specs.Prelude.{ℕ, List, codes, Bool, if◌then◌else◌}
 use Rattle.std.specs.Str.{bytes_eq}
-use Rattle.driver_lines.specs.declared.words.Ordered.{Ordered}
-use Rattle.driver_lines.specs.declared.words.Ordered.TheVariants.{Quit, Uci, IsReady, Position, Go, Stop, PonderHit, Other}
+use Rattle.driver_lines.specs.declared.words.OrderWord.{OrderWord}
+use Rattle.driver_lines.specs.declared.words.OrderWord.TheVariants.{Quit, Uci, IsReady, Position, Go, Stop, PonderHit, Other}
 
-abbrev pub ordered_in : List ℕ → Ordered
+abbrev pub ordered_in : List ℕ → OrderWord
 ordered_in word =
     if bytes_eq word (codes "quit") then Quit
     else (if bytes_eq word (codes "uci") then Uci

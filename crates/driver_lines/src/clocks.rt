@@ -12,7 +12,7 @@ ghost use Rattle.peer_words.specs.declared.numbers.TheConstants.{SECOND};
 use crate::down::{put_count, write_numbered};
 use crate::numbers::natural;
 use chess_board::Side;
-use driver_talk::Clocks;
+use driver_talk::GoClocks;
 use line_io::Out;
 use peer_words::{SECOND, next_token, read_signed};
 
@@ -28,7 +28,7 @@ const MOST_PLIES: u64 = 999_999_999;
 
 /// The words of a `go` order with numbers behind them.
 #[derive(Clone, Copy)]
-pub(crate) enum Field {
+pub(crate) enum GoField {
     WhiteTime,
     BlackTime,
     WhiteIncrement,
@@ -39,25 +39,25 @@ pub(crate) enum Field {
     Other,
 }
 
-fn field_named(word: &[u8]) -> Field
+fn field_named(word: &[u8]) -> GoField
     ensures { result ≡ field_named word.now }
 {
     if word == b"wtime".as_slice() {
-        Field::WhiteTime
+        GoField::WhiteTime
     } else if word == b"btime".as_slice() {
-        Field::BlackTime
+        GoField::BlackTime
     } else if word == b"winc".as_slice() {
-        Field::WhiteIncrement
+        GoField::WhiteIncrement
     } else if word == b"binc".as_slice() {
-        Field::BlackIncrement
+        GoField::BlackIncrement
     } else if word == b"movetime".as_slice() {
-        Field::MoveTime
+        GoField::MoveTime
     } else if word == b"movestogo".as_slice() {
-        Field::MovesToGo
+        GoField::MovesToGo
     } else if word == b"depth".as_slice() {
-        Field::Depth
+        GoField::Depth
     } else {
-        Field::Other
+        GoField::Other
     }
 }
 
@@ -69,37 +69,37 @@ fn first_number(text: &[u8]) -> Option<u64>
 }
 
 /// What was read before, and the number behind a word.
-fn hear(field: Field, clocks: Clocks, text: &[u8]) -> Clocks
+fn hear(field: GoField, clocks: GoClocks, text: &[u8]) -> GoClocks
     ensures { result ≡ hear field clocks (tokens text.now) }
 {
     let Some(n) = first_number(text) else {
         return clocks;
     };
     match field {
-        Field::WhiteTime => Clocks { wtime: n, ..clocks },
-        Field::BlackTime => Clocks { btime: n, ..clocks },
-        Field::WhiteIncrement => Clocks { winc: n, ..clocks },
-        Field::BlackIncrement => Clocks { binc: n, ..clocks },
-        Field::MoveTime => Clocks {
+        GoField::WhiteTime => GoClocks { wtime: n, ..clocks },
+        GoField::BlackTime => GoClocks { btime: n, ..clocks },
+        GoField::WhiteIncrement => GoClocks { winc: n, ..clocks },
+        GoField::BlackIncrement => GoClocks { binc: n, ..clocks },
+        GoField::MoveTime => GoClocks {
             movetime: Some(n),
             ..clocks
         },
-        Field::MovesToGo => Clocks {
+        GoField::MovesToGo => GoClocks {
             movestogo: n,
             ..clocks
         },
-        Field::Depth => Clocks { depth: n, ..clocks },
-        Field::Other => clocks,
+        GoField::Depth => GoClocks { depth: n, ..clocks },
+        GoField::Other => clocks,
     }
 }
 
 /// The numbers of a `go` order (UCI, "go"): the last one behind each word counts, and a negative one is 0. Other
 /// tokens are ignored.
 #[tactic(auto, unfolding(crate::specs::Clocks::clocks_in))]
-pub fn read_clocks(line: &[u8]) -> Clocks
+pub fn read_clocks(line: &[u8]) -> GoClocks
     ensures { result ≡ clocks_in line.now }
 {
-    let mut clocks = Clocks {
+    let mut clocks = GoClocks {
         wtime: LONGEST,
         btime: LONGEST,
         winc: 0,
@@ -160,7 +160,7 @@ fn write_level(moves: u64, seconds: u64, increment: u64, out: &mut Out)
     out.put(b"\n");
 }
 
-fn mine(side: Side, clocks: &Clocks) -> u64
+fn mine(side: Side, clocks: &GoClocks) -> u64
     ensures { result ≡ mine side clocks.now }
 {
     match side {
@@ -169,7 +169,7 @@ fn mine(side: Side, clocks: &Clocks) -> u64
     }
 }
 
-fn theirs(side: Side, clocks: &Clocks) -> u64
+fn theirs(side: Side, clocks: &GoClocks) -> u64
     ensures { result ≡ theirs side clocks.now }
 {
     match side {
@@ -178,7 +178,7 @@ fn theirs(side: Side, clocks: &Clocks) -> u64
     }
 }
 
-fn increment(side: Side, clocks: &Clocks) -> u64
+fn increment(side: Side, clocks: &GoClocks) -> u64
     ensures { result ≡ increment side clocks.now }
 {
     match side {
@@ -217,7 +217,7 @@ fn put_times(moves: u64, own: u64, other: u64, increment: u64, out: &mut Out)
 }
 
 /// The clocks of the mover and of the other player, in hundredths of a second.
-fn write_times(side: Side, clocks: &Clocks, out: &mut Out)
+fn write_times(side: Side, clocks: &GoClocks, out: &mut Out)
     requires room { length out.old.text + 124 ≤ out.old.room }
     ensures text { out.new ≡ with out.old (lines_text (control_lines side clocks.now None)) }
     ensures short { length out.new.text ≤ length out.old.text + 124 }
@@ -233,7 +233,7 @@ fn write_times(side: Side, clocks: &Clocks, out: &mut Out)
 
 ghost use Rattle.std.specs.Prelude.{None};
 
-fn write_control(side: Side, clocks: &Clocks, out: &mut Out)
+fn write_control(side: Side, clocks: &GoClocks, out: &mut Out)
     requires room { length out.old.text + 160 ≤ out.old.room }
     ensures text { out.new
         ≡ with out.old (lines_text (control_lines side clocks.now clocks.now.movetime)) }
@@ -256,7 +256,7 @@ fn write_depth(depth: u64, out: &mut Out)
 }
 
 /// Writes the lines that set the clocks of an engine that plays a side.
-pub fn write_clocks(side: Side, clocks: &Clocks, out: &mut Out)
+pub fn write_clocks(side: Side, clocks: &GoClocks, out: &mut Out)
     requires room { length out.old.text + 200 ≤ out.old.room }
     ensures text { out.new ≡ with out.old (lines_text (clock_lines side clocks.now)) }
     ensures short { length out.new.text ≤ length out.old.text + 200 }

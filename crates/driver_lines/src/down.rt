@@ -54,7 +54,7 @@ pub(crate) fn put_line(word: &[u8], text: &[u8], out: &mut Out)
 
 /// Writes a move, behind `usermove` or alone.
 pub fn write_moved(m: Move, has_usermove: bool, out: &mut Out)
-    requires officer { IsOfficer m.promo }
+    requires officer { IsOfficer m.promotion }
     requires room { length out.old.text + 15 ≤ out.old.room }
     ensures text { out.new ≡ with out.old (move_text has_usermove (text_of m) ++ line_feed ∷ []) }
     ensures short { length out.new.text ≤ length out.old.text + 15 }

@@ -9,15 +9,15 @@ use peer_words::{is_white, split_at_white, trim_start};
 
 /// A feature: `NAME=VALUE`. The value has its quotes no more (CECP version 2, "feature").
 #[derive(Clone, Copy)]
-pub struct Part<'a> {
+pub struct NamedFeature<'a> {
     pub name: &'a [u8],
     pub value: &'a [u8],
 }
 
 /// What stands at the front of a text: a feature, or something else that is ignored; and what follows.
 #[derive(Clone, Copy)]
-pub struct Cut<'a> {
-    pub part: Option<Part<'a>>,
+pub struct CutFeature<'a> {
+    pub part: Option<NamedFeature<'a>>,
     pub rest: &'a [u8],
 }
 
@@ -62,29 +62,29 @@ fn split_quote(text: &[u8]) -> (&[u8], &[u8])
 }
 
 /// The feature of this name, whose value the text begins with.
-fn cut_value<'a>(name: &'a [u8], text: &'a [u8]) -> Cut<'a>
+fn cut_value<'a>(name: &'a [u8], text: &'a [u8]) -> CutFeature<'a>
     ensures { cut_seen result ≡ value_cut name.now text.now }
 {
     let (value, rest) = match text {
         [b'"', inner @ ..] => split_quote(inner),
         _ => split_at_white(text),
     };
-    Cut {
-        part: Some(Part { name, value }),
+    CutFeature {
+        part: Some(NamedFeature { name, value }),
         rest,
     }
 }
 
 /// Skips the bytes up to the next white space.
-fn skip(text: &[u8]) -> Cut<'_>
+fn skip(text: &[u8]) -> CutFeature<'_>
     ensures { cut_seen result ≡ skipped text.now }
 {
     let (_, rest) = split_at_white(text);
-    Cut { part: None, rest }
+    CutFeature { part: None, rest }
 }
 
 /// What stands at the front of a text that begins with no white space.
-fn cut_front(text: &[u8]) -> Cut<'_>
+fn cut_front(text: &[u8]) -> CutFeature<'_>
     requires { 0 < length text.now }
     ensures { cut_seen result ≡ cut_of text.now (drop 1 text.now) }
 {
@@ -97,7 +97,7 @@ fn cut_front(text: &[u8]) -> Cut<'_>
 }
 
 /// What stands at the front of a text, and what follows. None if the text is blank.
-pub fn next_cut(text: &[u8]) -> Option<Cut<'_>>
+pub fn next_cut(text: &[u8]) -> Option<CutFeature<'_>>
     ensures parts { MatchOption result
         (parts text.now ≡ [])
         (λ c. parts text.now ≡ onto (cut_seen c).part (parts c.rest.now)) }

@@ -14,8 +14,8 @@ mod words;
 
 pub use clocks::{read_clocks, write_clocks};
 pub use down::{write_answer, write_moved, write_numbered, write_word};
-pub use feature::{Cut, Part, next_cut};
+pub use feature::{CutFeature, NamedFeature, next_cut};
 pub use moves::{first_move, shown_move, thought_move};
-pub use said::{Said, read_said};
+pub use said::{EngineSaid, read_said};
 pub use up::{write_best, write_id, write_info};
-pub use words::{Ordered, read_ordered};
+pub use words::{OrderWord, read_ordered};

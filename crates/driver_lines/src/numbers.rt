@@ -4,14 +4,14 @@ ghost use Rattle.std.specs.Option.{option_map};
 ghost use Rattle.peer_words.specs.Tokens.{tokens};
 ghost use Rattle.driver_lines.specs.Numbers.{plus_signed, next_number, natural, clamped, ten_times};
 
-use peer_words::{next_token, read_signed};
+use peer_words::{next_token, read_count, read_signed};
 
-/// Perhaps one plus, then perhaps a minus and 1 to 18 digits.
+/// Perhaps a plus or a minus, then 1 to 18 digits.
 fn read_plus_signed(text: &[u8]) -> Option<i64>
     ensures { result ≡ plus_signed text.now }
 {
     match text {
-        [b'+', others @ ..] => read_signed(others),
+        [b'+', digits @ ..] => Some(read_count(digits)? as i64),
         _ => read_signed(text),
     }
 }

@@ -9,7 +9,7 @@ use peer_words::{next_token, read_number, split_token};
 
 /// What a line of the engine says (CECP version 2, "Commands from the engine to xboard").
 #[derive(Clone, Copy)]
-pub enum Said<'a> {
+pub enum EngineSaid<'a> {
     /// A line that says nothing to a driver.
     Other,
     /// `move`, and the text behind it, empty if there is none.
@@ -31,7 +31,7 @@ pub enum Said<'a> {
 
 /// The words that a line of the engine may begin with.
 #[derive(Clone, Copy)]
-enum Word {
+enum EngineWord {
     Move,
     Over,
     Pong,
@@ -48,30 +48,30 @@ fn is_over(word: &[u8]) -> bool
         || word == b"1/2-1/2".as_slice()
 }
 
-fn word_named(word: &[u8]) -> Word
+fn word_named(word: &[u8]) -> EngineWord
     ensures { result ≡ word_named word.now }
 {
     if word == b"move".as_slice() {
-        Word::Move
+        EngineWord::Move
     } else if is_over(word) {
-        Word::Over
+        EngineWord::Over
     } else if word == b"pong".as_slice() {
-        Word::Pong
+        EngineWord::Pong
     } else if word == b"feature".as_slice() {
-        Word::Feature
+        EngineWord::Feature
     } else {
-        Word::Other
+        EngineWord::Other
     }
 }
 
-fn read_report(line: &[u8]) -> Option<Said<'_>>
+fn read_report(line: &[u8]) -> Option<EngineSaid<'_>>
     ensures { option_map engine_message_of result ≡ report_in (tokens line.now) }
 {
     let (depth, others) = next_number(line)?;
     let (score, others) = next_number(others)?;
     let (time, others) = next_number(others)?;
     let (nodes, moves) = next_number(others)?;
-    Some(Said::Report {
+    Some(EngineSaid::Report {
         depth: natural(depth),
         score: clamped(score),
         time: ten_times(natural(time)),
@@ -97,21 +97,21 @@ fn second(rest: &[u8]) -> &[u8]
 
 /// What a line of the engine says, by its first token; a thinking line, by its first four.
 #[tactic(auto, unfolding(crate::specs::Says::says_in))]
-pub fn read_said(line: &[u8]) -> Said<'_>
+pub fn read_said(line: &[u8]) -> EngineSaid<'_>
     ensures { engine_message_of result ≡ says_in line.now }
 {
     let (word, rest) = split_token(line);
     match word_named(word) {
-        Word::Move => Said::Move(second(rest)),
-        Word::Over => Said::Over,
-        Word::Pong => match read_pong(rest) {
-            Some(n) => Said::Pong(n),
-            None => Said::Other,
+        EngineWord::Move => EngineSaid::Move(second(rest)),
+        EngineWord::Over => EngineSaid::Over,
+        EngineWord::Pong => match read_pong(rest) {
+            Some(n) => EngineSaid::Pong(n),
+            None => EngineSaid::Other,
         },
-        Word::Feature => Said::Feature(rest),
-        Word::Other => match read_report(line) {
+        EngineWord::Feature => EngineSaid::Feature(rest),
+        EngineWord::Other => match read_report(line) {
             Some(report) => report,
-            None => Said::Other,
+            None => EngineSaid::Other,
         },
     }
 }

@@ -23,7 +23,7 @@ fn put_signed(n: i64, out: &mut Out)
 
 /// Writes `bestmove`, with `0000` if there is no move.
 pub fn write_best(best: Option<Move>, out: &mut Out)
-    requires officer { IfSome best (λ m. IsOfficer m.promo) }
+    requires officer { IfSome best (λ m. IsOfficer m.promotion) }
     requires room { length out.old.text + 15 ≤ out.old.room }
     ensures text { out.new ≡ with out.old (best_text best ++ line_feed ∷ []) }
     ensures short { length out.new.text ≤ length out.old.text + 15 }
@@ -88,7 +88,7 @@ fn put_figures(thought: &Thought, out: &mut Out)
 
 /// Writes `info`.
 pub fn write_info(thought: &Thought, out: &mut Out)
-    requires officer { IsOfficer thought.now.best.promo }
+    requires officer { IsOfficer thought.now.best.promotion }
     requires room { length out.old.text + 160 ≤ out.old.room }
     ensures text { out.new ≡ with out.old (info_text thought.now ++ line_feed ∷ []) }
     ensures short { length out.new.text ≤ length out.old.text + 160 }

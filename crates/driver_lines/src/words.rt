@@ -7,7 +7,7 @@ use peer_words::split_token;
 
 /// An order by its first token (UCI, "GUI to engine").
 #[derive(Clone, Copy)]
-pub enum Ordered {
+pub enum OrderWord {
     Quit,
     Uci,
     IsReady,
@@ -20,25 +20,25 @@ pub enum Ordered {
 }
 
 /// Which order a line is.
-pub fn read_ordered(line: &[u8]) -> Ordered
+pub fn read_ordered(line: &[u8]) -> OrderWord
     ensures { result ≡ ordered_in (first_token line.now) }
 {
     let (word, _) = split_token(line);
     if word == b"quit".as_slice() {
-        Ordered::Quit
+        OrderWord::Quit
     } else if word == b"uci".as_slice() {
-        Ordered::Uci
+        OrderWord::Uci
     } else if word == b"isready".as_slice() {
-        Ordered::IsReady
+        OrderWord::IsReady
     } else if word == b"position".as_slice() {
-        Ordered::Position
+        OrderWord::Position
     } else if word == b"go".as_slice() {
-        Ordered::Go
+        OrderWord::Go
     } else if word == b"stop".as_slice() {
-        Ordered::Stop
+        OrderWord::Stop
     } else if word == b"ponderhit".as_slice() {
-        Ordered::PonderHit
+        OrderWord::PonderHit
     } else {
-        Ordered::Other
+        OrderWord::Other
     }
 }

@@ -6,9 +6,10 @@ use Rattle.event_pipe.specs.declared.message.Peer.{Peer}
 use Rattle.event_pipe.specs.declared.message.Peer.TheVariants as peers
 use Rattle.event_pipe.specs.Rule.{of, ended}
 use Rattle.event_pipe.proofs.Roles.{more_ended}
-use Rattle.cecp_driver.specs.declared.driver.Parts.{Parts}
+use Rattle.cecp_driver.specs.declared.driver.DriverParts.{DriverParts}
 use Rattle.cecp_driver.specs.Driver.{opening}
 use Rattle.cecp_driver.specs.Script.{Takes, Goes, may_come, last_of, given_marks, script_text}
+use Rattle.cecp_driver.proofs.Sound.{runs_are_sound}
 use Rattle.cecp_driver.proofs.Scripts.{goes_more, last_more, text_more, up_more, down_more}
 use Rattle.mediator.specs.Turns.{received, is_own, loss}
 use Rattle.mediator.specs.Meaning.{Allows, Opens, Steps, turn_of}
@@ -17,13 +18,13 @@ use Rattle.driver_runner.specs.Drives.{drives}
 use Rattle.driver_runner.proofs.Told.{gone_next, may_is}
 
 -- the loop's own events may not come
-not_own : (v : Parts) (e : Event) → may_come v e ≡ true → is_own e ≡ false
+not_own : (v : DriverParts) (e : Event) → may_come v e ≡ true → is_own e ≡ false
 not_own v Open h = cc
 not_own v IfaceLost h = cc
 not_own v EngineLost h = cc
 not_own v e h = refl
 
-never_lost : (v : Parts) (p : Peer) → may_come v (loss p) ≡ true → ⊥
+never_lost : (v : DriverParts) (p : Peer) → may_come v (loss p) ≡ true → ⊥
 never_lost v peers.Iface h = cc
 never_lost v peers.Engine h = cc
 
@@ -43,10 +44,13 @@ steps old new e held held' t put =
       put = put;
       goes = λ d0 turns x.
           let more : received turns ++ e ∷ [] ≡ received (turn_of drives e new (given_marks e new.driver) ∷ turns) = ap (λ b. received turns ++ cond b [] (e ∷ [])) (sym own) in
-          let takes : Takes e (last_of opening x.states) new.driver = subst (λ (v : Parts). Takes e v new.driver) x.now t in
+          let takes : Takes e (last_of opening x.states) new.driver = subst (λ (v : DriverParts). Takes e v new.driver) x.now t in
+          let run : Goes opening (received (turn_of drives e new (given_marks e new.driver) ∷ turns)) (x.states ++ new.driver ∷ []) =
+          subst (λ (es : List Event). Goes opening es (x.states ++ new.driver ∷ [])) more (goes_more opening (received turns) x.states e new.driver x.goes takes) in
           record {
             states = x.states ++ new.driver ∷ [];
-            goes = subst (λ (es : List Event). Goes opening es (x.states ++ new.driver ∷ [])) more (goes_more opening (received turns) x.states e new.driver x.goes takes);
+            goes = run;
+            sound = runs_are_sound (received (turn_of drives e new (given_marks e new.driver) ∷ turns)) (x.states ++ new.driver ∷ []) run;
             now = sym (last_more opening x.states new.driver);
             gone = gone_next e old.driver new.driver t.comes ∙ ap (λ b. b || ended (of 2 (e ∷ []))) x.gone ∙ sym (more_ended 2 (received turns) (e ∷ [])) ∙ ap (λ (es : List Event). ended (of 2 es)) more;
             up = ap (λ (l : List ℕ). l ++ new.driver.up.text) x.up ∙ sym (up_more x.states new.driver);
@@ -65,10 +69,11 @@ opens old new held held' fresh same e =
       did = record {
         states = [];
         goes = tt;
+        sound = runs_are_sound [] [] tt;
         now = v;
-        gone = ap (λ (p : Parts). p.talk.gone) v;
-        up = ap (λ (p : Parts). p.up.text) v;
-        down = ap (λ (p : Parts). p.down.text) v;
+        gone = ap (λ (p : DriverParts). p.talk.gone) v;
+        up = ap (λ (p : DriverParts). p.up.text) v;
+        down = ap (λ (p : DriverParts). p.down.text) v;
         log = refl;
       };
     }

@@ -46,6 +46,7 @@ module _ (d : Driving) (before after : Outside) (failures : Failures) (x : Media
         events = received l.turns;
         states = l.did.states;
         goes = l.did.goes;
+        sound = l.did.sound;
         log = w.log;
         engine = of_told peers.Engine (received l.turns) x.ran.later l.received_is ∙ ap without_long w.engine;
         iface = record { arrived = sent_by peers.Iface x.ran.later; did_arrive = w.iface; are = of_told peers.Iface (received l.turns) x.ran.later l.received_is };

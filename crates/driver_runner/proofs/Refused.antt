@@ -4,7 +4,7 @@ use Rattle.line_io.specs.Event.{Event, Open, Iface, IfaceLong, IfaceEnd, IfaceLo
 use Rattle.event_pipe.specs.Message.{is_end}
 use Rattle.event_pipe.specs.declared.message.Peer.TheVariants as peers
 use Rattle.event_pipe.specs.Rule.{sent_by, ended}
-use Rattle.cecp_driver.specs.declared.driver.Parts.{Parts}
+use Rattle.cecp_driver.specs.declared.driver.DriverParts.{DriverParts}
 use Rattle.cecp_driver.specs.Script.{Goes, script_text}
 use Rattle.host_run.proofs.Logs.{one_log, none_longer}
 use Rattle.driver_runner.specs.Laws.{HasNoEmptyLog, HasNoLongerLog}
@@ -27,7 +27,7 @@ some_byte : {P : Type 0} (byte : ℕ) (bytes : List ℕ) → byte ∷ bytes ≡ 
 some_byte byte bytes e = cc
 
 -- the mark of an event that comes
-some_mark : (v : Parts) (events : List Event) (states : List Parts) → Goes v events states → script_text events states ≡ [] → events ≡ []
+some_mark : (v : DriverParts) (events : List Event) (states : List DriverParts) → Goes v events states → script_text events states ≡ [] → events ≡ []
 some_mark v [] states g e = refl
 some_mark v (event ∷ events) [] g e = absurd g
 some_mark v (Iface line ∷ events) (w ∷ states) g e = some_byte _ _ e

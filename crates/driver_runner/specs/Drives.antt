@@ -3,8 +3,9 @@ use Rattle.std.specs.Prelude.{◌≡◌, ℕ, List, false}
 use Rattle.event_pipe.specs.declared.message.Peer.{Peer}
 use Rattle.event_pipe.specs.declared.message.Peer.TheVariants as peers
 use Rattle.event_pipe.specs.Rule.{sent_by, ended}
-use Rattle.cecp_driver.specs.declared.driver.Parts.{Parts}
+use Rattle.cecp_driver.specs.declared.driver.DriverParts.{DriverParts}
 use Rattle.cecp_driver.specs.Driver.{opening}
+use Rattle.cecp_driver.specs.Runs.{IsSound}
 use Rattle.cecp_driver.specs.Script.{Goes, may_come, last_of, script_text, lines_up, lines_down}
 use Rattle.driver_runner.specs.Told.{is_told}
 use Rattle.mediator.specs.Turns.{Turn, given, logged, texts, received}
@@ -13,8 +14,10 @@ use Rattle.driver_runner.specs.declared.driving.Driving.{Driving}
 
 -- a new driver took the events of these turns, which gave what it gave
 pub record Drove (d0 : Driving) (turns : List Turn) (d : Driving) : Type 0 where
-  pub states : List Parts
+  pub states : List DriverParts
   pub goes : Goes opening (received turns) states
+  -- what every run of a driver gives: legal moves, one `bestmove` for a `go`, searches of the ordered games
+  pub sound : IsSound (received turns) states
   pub now : d.driver ≡ last_of opening states
   -- the driver knows that the engine has ended
   pub gone : d.driver.talk.gone ≡ ended (sent_by peers.Engine (received turns))

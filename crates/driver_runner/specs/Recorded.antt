@@ -10,8 +10,9 @@ use Rattle.event_pipe.specs.declared.reader.ReadEnd.{ReadEnd}
 use Rattle.event_pipe.specs.declared.reader.ReadEnd.TheVariants as read_ends
 use Rattle.event_pipe.specs.Rule.{sent_by}
 use Rattle.event_pipe.specs.Arrivals.{Arrived, arrivals, line_limit}
-use Rattle.cecp_driver.specs.declared.driver.Parts.{Parts}
+use Rattle.cecp_driver.specs.declared.driver.DriverParts.{DriverParts}
 use Rattle.cecp_driver.specs.Driver.{opening}
+use Rattle.cecp_driver.specs.Runs.{IsSound}
 use Rattle.cecp_driver.specs.Script.{Goes, script_text, lines_up, lines_down}
 use Rattle.child_engine.specs.Hosts.{Books}
 use Rattle.host_run.specs.declared.failures.Failures.{Failures}
@@ -27,7 +28,7 @@ pub record ComeFrom (p : Peer) (before after : Supplied) (events : List Event) (
 
 -- What the books say of a run in which a new driver took these events, and was this after each, if the host tells its
 -- bytes: the log is their script, and the engine took the driver's lines. This arrived of the engine.
-abbrev pub Recorded : List Event → List Parts → List Event → Books → Books → Failures → Type 0
+abbrev pub Recorded : List Event → List DriverParts → List Event → Books → Books → Failures → Type 0
 Recorded events states arrived before after failures =
     RecordedAs (script_text events states) (lines_down states) arrived before after failures
 
@@ -35,8 +36,9 @@ Recorded events states arrived before after failures =
 -- both sides' bytes.
 pub record IsWhole (bytes : List ℕ) (before after : Outside) : Type 0 where
   pub events : List Event
-  pub states : List Parts
+  pub states : List DriverParts
   pub goes : Goes opening events states
+  pub sound : IsSound events states
   -- the log's bytes are the script of the events
   pub log : after.books.logs ≡ Some (script_text events states) ∷ []
   -- which are those of the bytes that both sides gave, except long lines: the engine all that it says

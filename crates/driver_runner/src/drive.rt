@@ -1,6 +1,7 @@
 // One run of the driver over a host.
-ghost use Rattle.std.specs.Prelude.{◌<◌, length};
+ghost use Rattle.std.specs.Prelude.{◌<◌, length, map, string_bytes};
 ghost use Rattle.child_engine.specs.Hosts.{IsUnused};
+ghost use Rattle.host_run.specs.Asked.{AsksFor};
 ghost use Rattle.host_run.specs.Outside.{outside};
 ghost use Rattle.driver_runner.specs.Driven.{Leaves};
 
@@ -27,10 +28,12 @@ pub fn drive_run<I: Source + Send, O: Sink + Send, H: Host, R: Threads + Wait + 
 ) -> Failures
     requires words { 0 < length words.now }
     requires unused { IsUnused (H.books host.old) }
-    ensures { Leaves
+    ensures leaves { Leaves
         (outside (I.state input.old) (O.state output.old) (H.faults host.old) (H.books host.old))
         (outside (I.state input.new) (O.state output.new) (H.faults host.new) (H.books host.new))
         result }
+    ensures asked { AsksFor (map string_bytes words.now) log_name.now
+        (H.asked host.old) (H.asked host.new) (H.books host.new) result }
 {
     match Driver::make(alloc) {
         Ok(driver) => run_mediator(

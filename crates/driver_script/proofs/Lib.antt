@@ -1,2 +1,4 @@
+mod Spelled
+mod Again
 mod Reading
 mod Statuses

@@ -1,13 +1,13 @@
 -- What the status of a run says.
-use Rattle.std.proofs.Common.{◌≡◌, ◌⊎◌, inl, inr, ℕ, List, length, take, Some, refl, sym, ap, subst, ◌∙◌}
+use Rattle.std.proofs.Common.{◌≡◌, ◌⊎◌, inl, inr, ℕ, List, length, refl, sym, ap, subst, ◌∙◌}
 use Rattle.std.proofs.Math.Seq.{take-length}
 use Rattle.std.specs.Io.KnownBytes.{Appends}
 use Rattle.line_io.specs.Lines.{Piece, items}
-use Rattle.line_io.specs.Runs.{whole}
 use Rattle.line_io.specs.Source.{Received, Supplied}
 use Rattle.command_endings.specs.declared.ending.Ending.{Ending}
 use Rattle.command_endings.specs.declared.ending.Ending.TheVariants as endings
 use Rattle.command_endings.specs.Diagnostics.{code_of, tail_of}
+use Rattle.command_endings.proofs.Readings.{all_of, first_of}
 use Rattle.command_endings.specs.Ran.{Ran}
 use Rattle.command_endings.specs.Streams.{Streams}
 use Rattle.command_endings.specs.Told.{Told}
@@ -15,10 +15,12 @@ use Rattle.line_scribe.specs.Putting.{IsOfLine}
 use Rattle.line_scribe.specs.Scribed.{EndsBy, IsText, WroteAll, WroteFront, WroteWhole}
 use Rattle.line_scribe.proofs.Outcomes.{outcome}
 use Rattle.line_scribe.specs.Outcomes.{LineReported, Outcome, WroteLast}
-use Rattle.cecp_driver.specs.declared.driver.Parts.{Parts}
+use Rattle.cecp_driver.specs.declared.driver.DriverParts.{DriverParts}
 use Rattle.cecp_driver.specs.Driver.{opening}
-use Rattle.driver_script.specs.Scripts.{IsDriven, IsFault, Says, drives}
-use Rattle.driver_script.specs.Driven.{AllDriven, Driven, FaultReported, FrontDriven, WholeDriven}
+use Rattle.cecp_driver.proofs.OneRun.{one_script}
+use Rattle.driver_script.specs.Scripts.{IsDriven, IsFault, Says, drives, events_of}
+use Rattle.driver_script.specs.Driven.{AllDriven, Completes, Driven, FaultReported, FrontDriven, PlaysAll, WholeDriven}
+use Rattle.driver_script.proofs.Again.{no_fault, script_again}
 
 -- WHY IT ENDED
 
@@ -48,7 +50,7 @@ any_said lines ending text s = inl s
 
 -- WHAT THE STATUS SAYS
 
-module _ (U : Type 0) (v0 : Parts) (first : v0 ≡ opening) (start now : Streams) (code : ℕ) where
+module _ (U : Type 0) (v0 : DriverParts) (first : v0 ≡ opening) (start now : Streams) (code : ℕ) where
   all_driven : WroteAll drives v0 start now → AllDriven start now
   all_driven w = record { got = w.got; reads = w.reads; all_read = w.all; text = w.text; driven = w.says first; written = w.written }
 
@@ -92,6 +94,22 @@ module _ (U : Type 0) (v0 : Parts) (first : v0 ≡ opening) (start now : Streams
   completed (inr (inl r)) = inr (inl (reported_code code r, reported code r))
   completed (inr (inr m)) = inr (inr m)
 
+  complete : Outcome drives v0 U start now code → Completes start now code
+  complete o x e l s = completed (o.complete x e l s)
+
+  plays_all : Outcome drives v0 U start now code → PlaysAll start now code
+  plays_all o x text e l d s = of (complete o x e l s) where
+    of : ((code ≡ 0) × AllDriven start now) ⊎ ((code ≡ 2) × FaultReported start now) ⊎ (code ≡ 3) → ((code ≡ 0) × Appends start.output.taken now.output.taken text) ⊎ (code ≡ 3)
+    of (inl p) =
+        let same = all_of start.input.left p.1.got x p.1.all_read e in
+        let there : IsDriven (items 131072 p.1.got) text = subst (λ (t : List ℕ). IsDriven (items 131072 t) text) same d in
+        let one = one_script (events_of (items 131072 p.1.got)) p.1.text text p.1.driven.script there.script in
+        inl (p.0, subst (λ (t : List ℕ). Appends start.output.taken now.output.taken t) one p.1.written)
+    of (inr (inl r)) =
+        let f = first_of start.input.left r.1.lines x r.1.read.of_left e in
+        absurd (no_fault r.1.lines f.0 (items 131072 x) r.1.fault r.1.text text f.1 r.1.is_fault d)
+    of (inr (inr z)) = inr z
+
   pub driven : Ran (λ e. EndsBy drives opening U e start now) start now code → Outcome drives v0 U start now code → Driven U start now code
   driven ran o = record {
     ended = ran;
@@ -102,7 +120,9 @@ module _ (U : Type 0) (v0 : Parts) (first : v0 ≡ opening) (start now : Streams
     reading_failed = λ z. let d = o.reading z in (d.0, reading d.1);
     writing_failed = λ z. let d = o.writing z in (d.0, broken d.1);
     too_long = λ z. too_long (o.too_long z);
-    complete = λ x e l s. completed (o.complete x e l s);
+    complete = complete o;
+    plays_all = plays_all o;
+    again = λ events text script e l s. plays_all o text text e l (script_again events text script) s;
   }
 
 -- WANT OF MEMORY

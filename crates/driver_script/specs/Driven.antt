@@ -2,6 +2,7 @@
 use Rattle.std.specs.Prelude.{◌≡◌, ◌⊎◌, ℕ, ◌^◌, ◌≤◌, ◌<◌, List, length, take, Some}
 use Rattle.std.specs.Io.KnownBytes.{Appends}
 use Rattle.line_io.specs.Causes.{Rose}
+use Rattle.line_io.specs.Event.{Event}
 use Rattle.line_io.specs.Lines.{Piece, items}
 use Rattle.line_io.specs.Runs.{whole}
 use Rattle.command_endings.specs.declared.ending.Ending.{Ending}
@@ -11,6 +12,7 @@ use Rattle.command_endings.specs.Reads.{Got, IsAll, AreFirst, AreRead}
 use Rattle.command_endings.specs.Streams.{Streams, AreSame, IsSteady}
 use Rattle.line_scribe.specs.Scribed.{EndsBy}
 use Rattle.cecp_driver.specs.Driver.{opening}
+use Rattle.cecp_driver.specs.Runs.{IsScript}
 use Rattle.driver_script.specs.Scripts.{IsDriven, IsFault, drives}
 use Rattle.line_io.specs.declared.limits.TheConstants.{SCRIPT_LINE}
 
@@ -60,6 +62,21 @@ Completes before after code =
     (x : List ℕ) → before.input.left ≡ Some x → length x < 2 ^ 32 → IsSteady before after
     → ((code ≡ 0) × AllDriven before after) ⊎ ((code ≡ 2) × FaultReported before after) ⊎ (code ≡ 3)
 
+-- An input whose lines have no fault, and whose script is this, is driven to its end, and the script is written; or there was no
+-- memory.
+abbrev pub PlaysAll : Streams → Streams → ℕ → Type 0
+PlaysAll before after code =
+    (x text : List ℕ) → before.input.left ≡ Some x → length x < 2 ^ 32
+    → IsDriven (items SCRIPT_LINE x) text → IsSteady before after
+    → ((code ≡ 0) × Appends before.output.taken after.output.taken text) ⊎ (code ≡ 3)
+
+-- A script is written again for itself: the lines that were written are ignored.
+abbrev pub DrivesAgain : Streams → Streams → ℕ → Type 0
+DrivesAgain before after code =
+    (events : List Event) (text : List ℕ) → IsScript events text
+    → before.input.left ≡ Some text → length text < 2 ^ 32 → IsSteady before after
+    → ((code ≡ 0) × Appends before.output.taken after.output.taken text) ⊎ (code ≡ 3)
+
 -- `Untouched` says that the input and the output are just as they were.
 pub record Driven (Untouched : Type 0) (before after : Streams) (code : ℕ) : Type 0 where
   -- The status, the diagnostic and the counts are those of one ending.
@@ -74,3 +91,5 @@ pub record Driven (Untouched : Type 0) (before after : Streams) (code : ℕ) : T
   pub too_long : code ≡ 6 → WholeDriven (2 ^ 32) before after
   -- which status comes
   pub complete : Completes before after code
+  pub plays_all : PlaysAll before after code
+  pub again : DrivesAgain before after code

@@ -8,10 +8,10 @@ use Rattle.script_lines.specs.Marks.{Mark, Happens, mark_of}
 use Rattle.command_endings.specs.declared.ending.Ending.{Ending}
 use Rattle.command_endings.specs.declared.ending.Ending.TheVariants as endings
 use Rattle.line_scribe.specs.Putting.{Putting}
-use Rattle.cecp_driver.specs.declared.driver.Parts.{Parts}
+use Rattle.cecp_driver.specs.declared.driver.DriverParts.{DriverParts}
 use Rattle.cecp_driver.specs.Driver.{opening}
-use Rattle.cecp_driver.specs.Script.{IsScript, Takes, given_marks, last_of, may_come}
-use Rattle.driver_script.specs.declared.scribe.Drive.{Drive}
+use Rattle.cecp_driver.specs.Script.{Takes, given_marks, last_of, may_come}
+use Rattle.cecp_driver.specs.Runs.{IsScript}
 
 -- the mark of a line
 abbrev pub mark_in : Piece → Option Mark
@@ -33,11 +33,11 @@ pub record IsDriven (lines : List Piece) (text : List ℕ) : Type 0 where
   pub script : IsScript (events_of lines) text
 
 -- the driver after these lines
-abbrev pub now_of : {lines : List Piece} {text : List ℕ} → IsDriven lines text → Parts
+abbrev pub now_of : {lines : List Piece} {text : List ℕ} → IsDriven lines text → DriverParts
 now_of driven = last_of opening driven.script.after
 
 -- why the line with this number is a fault: it has no mark, or its event may not come
-abbrev pub IsWrong : Parts → Piece → ℕ → Ending → Type 0
+abbrev pub IsWrong : DriverParts → Piece → ℕ → Ending → Type 0
 IsWrong v line number (endings.NoMark n) = (n ≡ number) × (mark_in line ≡ None)
 IsWrong v line number (endings.MayNotCome n) =
     (n ≡ number) × ((event : Event) × ((mark_in line ≡ Some (Happens event)) × (may_come v event ≡ false)))
@@ -54,13 +54,13 @@ pub record IsFault (lines : List Piece) (fault : Ending) (text : List ℕ) : Typ
 -- AS A SCRIBE
 
 -- The event was taken and its marks were put, or it may not come and nothing was put.
-abbrev pub Tries : ℕ → Event → Option Ending → Parts → Parts → Text → Text → Type 0
+abbrev pub Tries : ℕ → Event → Option Ending → DriverParts → DriverParts → Text → Text → Type 0
 Tries number event None v v' held held' = Takes event v v' × (held' ≡ with held (given_marks event v'))
 Tries number event (Some ending) v v' held held' =
     (ending ≡ endings.MayNotCome number) × ((may_come v event ≡ false) × (held' ≡ held))
 
 -- the driver is so after these lines
-pub record Stands (lines : List Piece) (v : Parts) (text : List ℕ) : Type 0 where
+pub record Stands (lines : List Piece) (v : DriverParts) (text : List ℕ) : Type 0 where
   pub driven : IsDriven lines text
   pub now : v ≡ now_of driven
 
@@ -74,7 +74,7 @@ Says lines (endings.Unlawful n) text = ⊥
 Says lines ending text = IsDriven lines text
 
 -- what a driver that was made puts for the lines of a script
-abbrev pub drives : Putting Parts
+abbrev pub drives : Putting DriverParts
 drives = record {
   put = λ v0 lines v text. v0 ≡ opening → Stands lines v text;
   says = λ v0 lines ending text. v0 ≡ opening → Says lines ending text;

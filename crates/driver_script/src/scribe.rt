@@ -3,7 +3,7 @@ ghost use Rattle.std.specs.Prelude.{◌≡◌, ◌+◌, ◌≤◌, length, IfOk,
 ghost use Rattle.line_io.specs.Event.{event_of};
 ghost use Rattle.line_scribe.specs.Putting.{IsOfLine};
 ghost use Rattle.cecp_driver.specs.Driver.{opening};
-ghost use Rattle.cecp_driver.specs.Script.{IsShort};
+ghost use Rattle.cecp_driver.specs.Script.{IsLine};
 ghost use Rattle.driver_script.specs.Scripts.{Tries};
 ghost use Rattle.command_endings.specs.declared.limits.TheConstants.{LINE_ROOM};
 
@@ -22,9 +22,9 @@ pub struct Drive {
 }
 
 impl Model for Drive {
-    ghost use Rattle.cecp_driver.specs.declared.driver.Parts.{Parts};
+    ghost use Rattle.cecp_driver.specs.declared.driver.DriverParts.{DriverParts};
 
-    ghost Value = { Parts };
+    ghost Value = { DriverParts };
 
     ghost view = { λ d. d.driver };
 }
@@ -40,7 +40,7 @@ impl Drive {
 
     // Takes an event if it may come, and puts the marks of it.
     fn try_event(&mut self, number: u64, event: &Event, text: &mut Out) -> Option<Ending>
-        requires short { IsShort (event_of event.now) }
+        requires line { IsLine (event_of event.now) }
         requires room { length text.old.text + LINE_ROOM ≤ text.old.room }
         ensures of_line { IfSome result (λ ending. IsOfLine ending) }
         ensures tries { Tries number (event_of event.now) result

@@ -1,8 +1,13 @@
 // Sessions, call by call: what each gives up to the interface, and to the engine.
+ghost use Rattle.std.specs.Prelude.{◌≡◌, false};
+ghost use Rattle.line_io.specs.Event.{has_feed};
+
 use crate::expected::expect_bytes;
 use cecp_driver::{
-    Both, Driver, EVENT_ROOM, LINE_LIMIT, put_marks, searches_are_on_the_ordered_game,
+    Driver, DriverStep, EVENT_ROOM, LINE_LIMIT, put_marks, runs_are_sound, scripts_are_one,
+    searches_are_on_the_ordered_game,
 };
+use driver_wire::{engines_hear_the_ordered, lines_are_cecp};
 use line_io::{Event, Out};
 use std::test::Fail;
 
@@ -10,7 +15,7 @@ use std::test::Fail;
 /// the interface, and to the engine.
 type Row = (&'static str, &'static str, &'static str);
 
-fn gives(both: Both, up: &str, child: &str) -> bool {
+fn gives(both: DriverStep, up: &str, child: &str) -> bool {
     both.up == up.as_bytes() && both.child == child.as_bytes()
 }
 
@@ -130,7 +135,9 @@ fn moves_of_thinking_lines_are_read(rt: HostRuntime) -> Result<(), Fail> {
     Ok(())
 }
 
-fn plays_line(driver: &mut Driver, line: &'static [u8], text: &mut Out) -> bool {
+fn plays_line(driver: &mut Driver, line: &'static [u8], text: &mut Out) -> bool
+    requires line { has_feed line.now ≡ false }
+{
     let event = Event::Iface(line);
     if line.len() > LINE_LIMIT || !driver.may_come(&event) || text.spare() < EVENT_ROOM {
         return false;
@@ -160,6 +167,10 @@ fn events_are_played(rt: HostRuntime) -> Result<(), Fail> {
     assert!(rt; plays_line(&mut driver, b"isready", &mut text));
     expect_bytes(&rt, driver.lines().up, b"readyok\n");
     searches_are_on_the_ordered_game();
+    runs_are_sound();
+    scripts_are_one();
+    lines_are_cecp();
+    engines_hear_the_ordered();
     Ok(())
 }
 

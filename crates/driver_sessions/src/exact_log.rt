@@ -5,21 +5,21 @@ use child_engine::{Fails, MemHost};
 use driver_app::drive_main;
 use driver_runner::logs_are_whole;
 use line_io::MemSink;
-use paced_host::{Due, PacedHost, PacedTexts};
+use paced_host::{DueText, PacedHost, PacedTexts};
 use std::sync::atomic::AtomicU64;
 use std::test::Fail;
 
 // What the interface says, once the log took so many lines.
-const IFACE: [Due; 3] = [
-    Due {
+const IFACE: [DueText; 3] = [
+    DueText {
         lines: 0,
         text: b"uci\n",
     },
-    Due {
+    DueText {
         lines: 12,
         text: b"position startpos moves e2e4\ngo movetime 1500\n",
     },
-    Due {
+    DueText {
         lines: 22,
         text: b"quit\n",
     },
@@ -65,7 +65,7 @@ const LOG: &[u8] = b"\
 fn a_whole_session_has_one_log(rt: HostRuntime) -> Result<(), Fail> {
     logs_are_whole();
     let alloc = rt.alloc();
-    let words = words_of(alloc, &[b"d.log", b"engine"])?;
+    let words = words_of(alloc, &[b"d.log", b"engine", b"-x y"])?;
     let lines = AtomicU64::new(0);
     let host = MemHost::make(alloc, ENGINE, FEATURES, 10_000, &Fails::default())?;
     let mut host = PacedHost::new(alloc, host, &lines, ENGINE_READS.as_slice());
@@ -83,5 +83,6 @@ fn a_whole_session_has_one_log(rt: HostRuntime) -> Result<(), Fail> {
     );
     expect_code(&rt, status.code, 0);
     expect_bytes(&rt, host.logged(), LOG);
+    assert!(rt; host.was_asked_for(1, &["engine", "-x y"], "d.log"));
     Ok(())
 }

@@ -4,10 +4,10 @@ ghost use Rattle.event_pipe.specs.Ends.{IsSender, IsFreshTaker, sent};
 ghost use Rattle.driver_sessions.specs.Ready.{IsReady};
 
 use crate::expected::expect_bytes;
-use crate::ready::{Ready, make_ready};
+use crate::ready::{ReadyDriver, make_ready};
 use event_pipe::{Pipe, PipeSend, PipeTake, ReadEnd, read_pipe};
 use line_io::{MemSink, MemSource};
-use mediator::{Channel, Handed, RunEnd, mediate, run_pipes};
+use mediator::{Channel, HandedStreams, RunEnd, mediate, run_pipes};
 use sink_offers::LoopEnd;
 use std::alloc::Global;
 use std::process::Abort;
@@ -82,11 +82,11 @@ fn read_lines<R: Wait>(
 }
 
 // Has the driver take what is in the channel.
-fn drive_all<R: Wait>(rt: &R, ready: Ready, taker: PipeTake, sinks: &mut Sinks) -> LoopEnd
+fn drive_all<R: Wait>(rt: &R, ready: ReadyDriver, taker: PipeTake, sinks: &mut Sinks) -> LoopEnd
     requires ready { IsReady ready.driving ready.text }
     requires taker { IsFreshTaker taker }
 {
-    let Ready {
+    let ReadyDriver {
         mut driving,
         mut text,
     } = ready;
@@ -150,7 +150,7 @@ fn run_both<R: Threads + Wait + Sync>(
     source: MemSource,
     sinks: Sinks,
 ) -> Result<RunEnd, Fail> {
-    let Ready {
+    let ReadyDriver {
         mut driving,
         mut text,
     } = make_ready(alloc)?;
@@ -165,7 +165,7 @@ fn run_both<R: Threads + Wait + Sync>(
         engine,
         log,
     } = sinks;
-    let mut handed = Handed {
+    let mut handed = HandedStreams {
         source,
         engine,
         log,

@@ -5,7 +5,7 @@ use crate::expected::{expect_bytes, expect_code};
 use child_engine::{Fails, Host, MemHost, SteadyHost};
 use driver_app::{drive_main, refuse_for_memory};
 use line_io::{MemSink, MemSource};
-use program_words::{EngineRequest, Refusal, read_words};
+use program_words::{EngineRequest, WordsRefusal, read_words};
 use std::alloc::Global;
 use std::process::Abort;
 use std::sync::Wait;
@@ -18,13 +18,13 @@ const INPUT: &[u8] = b"uci\nisready\nquit\n";
 
 /// What a run answered and wrote.
 #[derive(Drop)]
-struct Told {
+struct RunResult {
     code: u8,
     output: MemSink,
     diag: MemSink,
 }
 
-impl Told {
+impl RunResult {
     // Whether nothing was written but this diagnostic.
     fn is_only(&self, code: u8, diag: &[u8]) -> bool {
         self.code == code && self.output.taken().is_empty() && self.diag.taken() == diag
@@ -45,7 +45,7 @@ fn run_over<H: Host, R: Threads + Wait + Sync>(
     alloc: Global,
     words: &[&[u8]],
     host: &mut H,
-) -> Result<Told, Fail>
+) -> Result<RunResult, Fail>
     requires { IsUnused (H.books host.old) }
 {
     let words = words_of(alloc, words)?;
@@ -61,7 +61,7 @@ fn run_over<H: Host, R: Threads + Wait + Sync>(
         host,
         &mut diag,
     );
-    Ok(Told {
+    Ok(RunResult {
         code: status.code,
         output,
         diag,
@@ -86,7 +86,7 @@ fn run_steady<R: Threads + Wait + Sync>(
     rt: &R,
     alloc: Global,
     words: &[&[u8]],
-) -> Result<Told, Fail> {
+) -> Result<RunResult, Fail> {
     let mut host = SteadyHost::make(alloc, ENGINE, 5)?;
     run_over(rt, alloc, words, &mut host)
 }
@@ -96,7 +96,7 @@ fn are_refused(alloc: Global, words: &[&[u8]]) -> Result<bool, Fail> {
     let words = words_of(alloc, words)?;
     match read_words(alloc, words.as_slice()) {
         Ok(_) => Ok(false),
-        Err(refusal) => Ok(refusal == Refusal::Usage),
+        Err(refusal) => Ok(refusal == WordsRefusal::Usage),
     }
 }
 
@@ -145,7 +145,7 @@ fn run_failing<R: Threads + Wait + Sync>(
     rt: &R,
     alloc: Global,
     fails: &Fails,
-) -> Result<Told, Fail> {
+) -> Result<RunResult, Fail> {
     let mut host = MemHost::make(alloc, ENGINE, 5, 1_000, fails)?;
     run_over(rt, alloc, &[b"d.log", b"engine"], &mut host)
 }

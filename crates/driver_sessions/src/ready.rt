@@ -10,18 +10,18 @@ use std::alloc::Global;
 
 /// The driver, and the room for what is put into the log for a turn.
 #[derive(Drop)]
-pub struct Ready {
+pub struct ReadyDriver {
     pub driving: Driving,
     pub text: Out,
 }
 
 /// Takes the memory of a run.
-pub fn make_ready(alloc: Global) -> Result<Ready, NoMemory>
+pub fn make_ready(alloc: Global) -> Result<ReadyDriver, NoMemory>
     ensures { IfOk result (λ ready. IsReady ready.driving ready.text) }
 {
     let driver = Driver::make(alloc)?;
     let text = Out::make(alloc, TURN_ROOM)?;
-    Ok(Ready {
+    Ok(ReadyDriver {
         driving: Driving { driver },
         text,
     })

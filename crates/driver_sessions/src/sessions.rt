@@ -1,7 +1,7 @@
 // Whole sessions of the program: the interface and the engine wait for one another, so a program
 // that reads one of them to its end before the other never ends.
 use crate::program::words_of;
-use crate::talk::{ANALYSING_ENGINE, ANALYST, Due, PLAYER, PLAYING_ENGINE, Telling, Waiting};
+use crate::talk::{ANALYSING_ENGINE, ANALYST, DueText, PLAYER, PLAYING_ENGINE, Telling, Waiting};
 use crate::talking_host::TalkingHost;
 use driver_app::drive_main;
 use line_io::MemSink;
@@ -78,8 +78,8 @@ const ANALYSED: &[u8] = b"\
 fn logs<R: Threads + Wait + Sync>(
     rt: &R,
     alloc: Global,
-    iface: &'static [Due],
-    engine: &'static [Due],
+    iface: &'static [DueText],
+    engine: &'static [DueText],
     log: &[u8],
 ) -> Result<bool, Fail> {
     let written = AtomicU64::new(0);

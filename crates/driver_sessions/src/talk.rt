@@ -6,7 +6,7 @@ use std::sync::atomic::{AtomicU64, Ordering};
 
 /// A text that is given only once so many pieces were written to the interface and the engine.
 #[derive(Clone, Copy)]
-pub struct Due {
+pub struct DueText {
     written: u64,
     text: &'static [u8],
 }
@@ -14,76 +14,76 @@ pub struct Due {
 const FEATURES: &[u8] = b"feature ping=1 setboard=1 usermove=1 analyze=1 myname=\"Old\" done=1\n";
 
 /// An interface that has the engine move twice, and quits.
-pub const PLAYER: [Due; 4] = [
-    Due {
+pub const PLAYER: [DueText; 4] = [
+    DueText {
         written: 0,
         text: b"uci\n",
     },
-    Due {
+    DueText {
         written: 3,
         text: b"position startpos moves e2e4\ngo movetime 1500\n",
     },
-    Due {
+    DueText {
         written: 5,
         text: b"position startpos moves e2e4 e7e5 g1f3\ngo movetime 1500\n",
     },
-    Due {
+    DueText {
         written: 6,
         text: b"quit\n",
     },
 ];
 
 /// Its engine. It has features once it was asked for them, and ends after `quit`.
-pub const PLAYING_ENGINE: [Due; 3] = [
-    Due {
+pub const PLAYING_ENGINE: [DueText; 3] = [
+    DueText {
         written: 1,
         text: FEATURES,
     },
-    Due {
+    DueText {
         written: 4,
         text: b"move e7e5\n",
     },
-    Due {
+    DueText {
         written: 7,
         text: b"",
     },
 ];
 
 /// An interface that has a position analysed, and ends.
-pub const ANALYST: [Due; 4] = [
-    Due {
+pub const ANALYST: [DueText; 4] = [
+    DueText {
         written: 0,
         text: b"uci\n",
     },
-    Due {
+    DueText {
         written: 3,
         text: b"position startpos\ngo infinite\n",
     },
-    Due {
+    DueText {
         written: 5,
         text: b"stop\n",
     },
-    Due {
+    DueText {
         written: 7,
         text: b"",
     },
 ];
 
 /// Its engine, which ends after `quit`.
-pub const ANALYSING_ENGINE: [Due; 4] = [
-    Due {
+pub const ANALYSING_ENGINE: [DueText; 4] = [
+    DueText {
         written: 1,
         text: FEATURES,
     },
-    Due {
+    DueText {
         written: 4,
         text: b"9 25 100 5000 e4 e5\n",
     },
-    Due {
+    DueText {
         written: 6,
         text: b"pong 1\n",
     },
-    Due {
+    DueText {
         written: 8,
         text: b"",
     },
@@ -93,13 +93,13 @@ pub const ANALYSING_ENGINE: [Due; 4] = [
 #[derive(Drop)]
 pub struct Waiting<'a> {
     written: &'a AtomicU64,
-    texts: &'static [Due],
+    texts: &'static [DueText],
     at: usize,
     faults: u64,
 }
 
 impl<'a> Waiting<'a> {
-    pub fn new(written: &'a AtomicU64, texts: &'static [Due]) -> Waiting<'a>
+    pub fn new(written: &'a AtomicU64, texts: &'static [DueText]) -> Waiting<'a>
         ensures { result.faults ≡ 0 }
     {
         Waiting {

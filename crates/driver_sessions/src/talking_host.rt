@@ -3,7 +3,7 @@ ghost use Rattle.std.specs.Prelude.{◌≡◌, IfOk, None, false};
 ghost use Rattle.child_engine.specs.Hosts.{RisesBy, unused};
 ghost use Rattle.driver_sessions.specs.Talking.{books_with};
 
-use crate::talk::{Due, Telling, Waiting};
+use crate::talk::{DueText, Telling, Waiting};
 use child_engine::{Faults, Host, HostFault, Started};
 use line_io::{Failed, MemSink, NoMemory, Sink};
 use std::alloc::Global;
@@ -30,7 +30,7 @@ impl Sink for Log {
 #[derive(Drop)]
 pub struct TalkingHost<'a> {
     written: &'a AtomicU64,
-    engine: &'static [Due],
+    engine: &'static [DueText],
     logged: Vec<u8>,
     faults: Faults,
     runs_out: u8,
@@ -44,7 +44,7 @@ impl<'a> TalkingHost<'a> {
     pub fn make(
         alloc: Global,
         written: &'a AtomicU64,
-        engine: &'static [Due],
+        engine: &'static [DueText],
     ) -> Result<TalkingHost<'a>, NoMemory>
         ensures { IfOk result (λ h.
             books_with h.runs_out h.logs_out h.runs_closed h.logs_closed ≡ unused None false) }
@@ -84,13 +84,13 @@ impl<'a> Host for TalkingHost<'a> {
     ghost use Rattle.child_engine.specs.Real.{untold_runs, untold_source, untold_sink};
     ghost use Rattle.driver_sessions.specs.Talking.{books_with};
 
-    type Src = Waiting<'a>;
+    type EngineSource = Waiting<'a>;
 
-    type Snk = Telling<'a>;
+    type EngineSink = Telling<'a>;
 
     type Log = Log;
 
-    type Kid = ();
+    type ChildProcess = ();
 
     ghost faults = { λ h. h.faults };
 

@@ -1,11 +1,14 @@
 // Searches, call by call.
 use chess_board::{Move, Square};
-use driver_talk::{Board, Call, Clocks, Deed, Down, Reach, Talk, Up, Wanted};
+use driver_talk::{
+    BoardChange, DriverCall, DriverDeed, DriverTalk, GoClocks, Reach, ToEngine, ToIface,
+    WantedSearch,
+};
 use peer_words::GoKind;
 use std::process::Abort;
 use std::test::Fail;
 
-const CLOCKS: Clocks = Clocks {
+const CLOCKS: GoClocks = GoClocks {
     wtime: 1000,
     btime: 1000,
     winc: 0,
@@ -20,12 +23,12 @@ fn some_move() -> Move {
     Move {
         from: Square { index: 0 },
         to: Square { index: 1 },
-        promo: None,
+        promotion: None,
     }
 }
 
-fn wanted(kind: GoKind) -> Call {
-    Call::Go(Wanted {
+fn wanted(kind: GoKind) -> DriverCall {
+    DriverCall::Go(WantedSearch {
         kind,
         clocks: CLOCKS,
         first: Some(some_move()),
@@ -33,65 +36,80 @@ fn wanted(kind: GoKind) -> Call {
     })
 }
 
-fn same(up: Up, down: Down) -> Deed {
-    Deed {
+fn same(up: ToIface, down: ToEngine) -> DriverDeed {
+    DriverDeed {
         up,
         down,
-        board: Board::Same,
+        board: BoardChange::Same,
     }
 }
 
-fn expect_deed(rt: &impl Abort, found: Deed, wanted: Deed) {
+fn expect_deed(rt: &impl Abort, found: DriverDeed, wanted: DriverDeed) {
     assert!(rt; found == wanted);
 }
 
-fn expect_up(rt: &impl Abort, found: Up, wanted: Up) {
+fn expect_up(rt: &impl Abort, found: ToIface, wanted: ToIface) {
     assert!(rt; found == wanted);
 }
 
-fn expect_down(rt: &impl Abort, found: Down, wanted: Down) {
+fn expect_down(rt: &impl Abort, found: ToEngine, wanted: ToEngine) {
     assert!(rt; found == wanted);
 }
 
 #[test]
 fn a_pondered_search_is_played(rt: HostRuntime) -> Result<(), Fail> {
-    let talk = Talk::new();
-    let turn = talk.step(Call::Uci);
-    expect_deed(&rt, turn.deed, same(Up::Nothing, Down::Greeting));
+    let talk = DriverTalk::new();
+    let turn = talk.step(DriverCall::Uci);
+    expect_deed(&rt, turn.deed, same(ToIface::Nothing, ToEngine::Greeting));
     assert!(rt; turn.talk.is_free());
     let turn = turn.talk.step(wanted(GoKind::Ponder));
     let clocks = CLOCKS;
     expect_deed(
         &rt,
         turn.deed,
-        same(Up::Nothing, Down::Analyse { clocks, ping: None }),
+        same(ToIface::Nothing, ToEngine::Analyse { clocks, ping: None }),
     );
-    let turn = turn.talk.step(Call::PonderHit);
-    expect_deed(&rt, turn.deed, same(Up::Nothing, Down::Leave { ping: 1 }));
-    let turn = turn.talk.step(Call::Moved(Some(some_move())));
-    expect_deed(&rt, turn.deed, same(Up::Nothing, Down::Nothing));
-    let turn = turn.talk.step(Call::Pong(1));
-    expect_deed(&rt, turn.deed, same(Up::Nothing, Down::Resume { clocks }));
-    let turn = turn.talk.step(Call::Moved(Some(some_move())));
-    expect_up(&rt, turn.deed.up, Up::Best(Some(some_move())));
+    let turn = turn.talk.step(DriverCall::PonderHit);
+    expect_deed(
+        &rt,
+        turn.deed,
+        same(ToIface::Nothing, ToEngine::Leave { ping: 1 }),
+    );
+    let turn = turn.talk.step(DriverCall::Moved(Some(some_move())));
+    expect_deed(&rt, turn.deed, same(ToIface::Nothing, ToEngine::Nothing));
+    let turn = turn.talk.step(DriverCall::Pong(1));
+    expect_deed(
+        &rt,
+        turn.deed,
+        same(ToIface::Nothing, ToEngine::Resume { clocks }),
+    );
+    let turn = turn.talk.step(DriverCall::Moved(Some(some_move())));
+    expect_up(&rt, turn.deed.up, ToIface::Best(Some(some_move())));
     assert!(rt; turn.talk.is_free());
     Ok(())
 }
 
 #[test]
 fn a_resignation_holds_back_the_next_search(rt: HostRuntime) -> Result<(), Fail> {
-    let talk = Talk::new().step(Call::Uci).talk;
-    let turn = talk.step(wanted(GoKind::Move)).talk.step(Call::Resigned);
-    expect_up(&rt, turn.deed.up, Up::Best(None));
-    expect_down(&rt, turn.deed.down, Down::Retreat { ping: 1 });
+    let talk = DriverTalk::new().step(DriverCall::Uci).talk;
+    let turn = talk
+        .step(wanted(GoKind::Move))
+        .talk
+        .step(DriverCall::Resigned);
+    expect_up(&rt, turn.deed.up, ToIface::Best(None));
+    expect_down(&rt, turn.deed.down, ToEngine::Retreat { ping: 1 });
     let turn = turn.talk.step(wanted(GoKind::Move));
-    expect_deed(&rt, turn.deed, same(Up::Nothing, Down::Nothing));
-    let turn = turn.talk.step(Call::Stop).talk.step(Call::Pong(1));
+    expect_deed(&rt, turn.deed, same(ToIface::Nothing, ToEngine::Nothing));
+    let turn = turn
+        .talk
+        .step(DriverCall::Stop)
+        .talk
+        .step(DriverCall::Pong(1));
     let clocks = CLOCKS;
     expect_down(
         &rt,
         turn.deed.down,
-        Down::Play {
+        ToEngine::Play {
             clocks,
             hurried: true,
         },

@@ -1,4 +1,4 @@
-mod Counts
-mod Busy
-mod Silent
+pub mod Counts
+pub mod Busy
+pub mod Silent
 mod Pings

@@ -4,34 +4,34 @@ use Rattle.std.specs.Option.{option_or}
 use Rattle.chess_board.specs.declared.board.Move.{Move}
 use Rattle.peer_words.specs.declared.kinds.GoKind.{GoKind}
 use Rattle.peer_words.specs.declared.kinds.GoKind.TheVariants as kinds
-use Rattle.driver_talk.specs.declared.words.Search.{Search}
-use Rattle.driver_talk.specs.declared.words.Up.{Up}
-use Rattle.driver_talk.specs.declared.words.Up.TheVariants as ups
-use Rattle.driver_talk.specs.declared.words.Down.{Down}
-use Rattle.driver_talk.specs.declared.words.Down.TheVariants as downs
-use Rattle.driver_talk.specs.declared.words.Deed.{Deed}
-use Rattle.driver_talk.specs.declared.talk.Talk.{Talk}
+use Rattle.driver_talk.specs.declared.words.OpenSearch.{OpenSearch}
+use Rattle.driver_talk.specs.declared.words.ToIface.{ToIface}
+use Rattle.driver_talk.specs.declared.words.ToIface.TheVariants as ups
+use Rattle.driver_talk.specs.declared.words.ToEngine.{ToEngine}
+use Rattle.driver_talk.specs.declared.words.ToEngine.TheVariants as downs
+use Rattle.driver_talk.specs.declared.words.DriverDeed.{DriverDeed}
+use Rattle.driver_talk.specs.declared.talk.DriverTalk.{DriverTalk}
 use Rattle.driver_talk.specs.declared.talk.Reach.TheVariants as reaches
-use Rattle.driver_talk.specs.declared.talk.Call.{Call}
-use Rattle.driver_talk.specs.declared.talk.Call.TheVariants as calls
+use Rattle.driver_talk.specs.declared.talk.DriverCall.{DriverCall}
+use Rattle.driver_talk.specs.declared.talk.DriverCall.TheVariants as calls
 use Rattle.driver_talk.specs.Talk.{first_talk, turn_of, quiet, is_free, is_thinking, open_search, is_open_stage}
 
 -- the talk after these calls
-abbrev pub run : List Call → Talk
+abbrev pub run : List DriverCall → DriverTalk
 run [] = first_talk
 run (c ∷ cs) = (turn_of (run cs) c).talk
 
 -- what comes of a call after these
-abbrev pub deed_after : List Call → Call → Deed
+abbrev pub deed_after : List DriverCall → DriverCall → DriverDeed
 deed_after cs c = (turn_of (run cs) c).deed
 
 -- COUNTS
 
-abbrev pub is_accepted : Talk → Call → Bool
+abbrev pub is_accepted : DriverTalk → DriverCall → Bool
 is_accepted t (calls.Go wanted) = is_free t
 is_accepted t c = false
 
-abbrev pub is_answer : Up → Bool
+abbrev pub is_answer : ToIface → Bool
 is_answer (ups.Best shown) = true
 is_answer up = false
 
@@ -39,47 +39,47 @@ abbrev pub one_if : Bool → ℕ
 one_if b = if b then 1 else 0
 
 -- how many `go` were accepted
-abbrev pub gos : List Call → ℕ
+abbrev pub gos : List DriverCall → ℕ
 gos [] = 0
 gos (c ∷ cs) = one_if (is_accepted (run cs) c) + gos cs
 
 -- how many `bestmove` were given
-abbrev pub answers : List Call → ℕ
+abbrev pub answers : List DriverCall → ℕ
 answers [] = 0
 answers (c ∷ cs) = one_if (is_answer (deed_after cs c).up) + answers cs
 
-abbrev pub open_count : Option Search → ℕ
+abbrev pub open_count : Option OpenSearch → ℕ
 open_count None = 0
 open_count (Some s) = 1
 
 -- Each accepted `go` has its one `bestmove`, except the one that is open. This holds after each call, so no
 -- `bestmove` comes before its `go`, and none twice.
 abbrev pub AnsweredOnce : Type 0
-AnsweredOnce = (cs : List Call) → gos cs ≡ answers cs + open_count (run cs).search
+AnsweredOnce = (cs : List DriverCall) → gos cs ≡ answers cs + open_count (run cs).search
 
 -- WHAT AN OPEN SEARCH DOES
 
-abbrev pub tells_to_think : Down → Bool
+abbrev pub tells_to_think : ToEngine → Bool
 tells_to_think (downs.Play clocks hurried) = true
 tells_to_think (downs.Resume clocks) = true
 tells_to_think down = false
 
 -- The engine was set to think since the last `bestmove`.
-abbrev pub thinking : List Call → Bool
+abbrev pub thinking : List DriverCall → Bool
 thinking [] = false
 thinking (c ∷ cs) = if is_answer (deed_after cs c).up then false else tells_to_think (deed_after cs c).down || thinking cs
 
-abbrev pub is_open : Option Search → Bool
+abbrev pub is_open : Option OpenSearch → Bool
 is_open None = false
 is_open (Some s) = true
 
 -- a `stop` that reaches an open search
-abbrev pub is_stop : Talk → Call → Bool
+abbrev pub is_stop : DriverTalk → DriverCall → Bool
 is_stop t calls.Stop = is_open_stage t.stage && is_open t.search
 is_stop t c = false
 
 -- a `stop` came since the last `go` that was accepted
-abbrev pub stopped : List Call → Bool
+abbrev pub stopped : List DriverCall → Bool
 stopped [] = false
 stopped (c ∷ cs) = if is_accepted (run cs) c then false else is_stop (run cs) c || stopped cs
 
@@ -90,20 +90,20 @@ is_move kinds.Analyse = false
 
 -- An open search is one whose engine was set to think, an analysis that was not stopped, or one that waits for
 -- the answer to a ping.
-abbrev pub IsBusy : List Call → Search → Type 0
+abbrev pub IsBusy : List DriverCall → OpenSearch → Type 0
 IsBusy cs s = (thinking cs ≡ true) ⊎ (((is_move s.kind ≡ false) × (stopped cs ≡ false)) ⊎ IsSome (run cs).awaited)
 
 abbrev pub OpenIsBusy : Type 0
-OpenIsBusy = (cs : List Call) (s : Search) → (run cs).search ≡ Some s → IsBusy cs s
+OpenIsBusy = (cs : List DriverCall) (s : OpenSearch) → (run cs).search ≡ Some s → IsBusy cs s
 
 -- WHEN NOTHING IS GIVEN
 
 -- A `move`, a resignation or a result outside of thinking gives and changes nothing.
 abbrev pub MovesAreIgnored : Type 0
-MovesAreIgnored = (t : Talk) (shown : Option Move) → is_thinking t ≡ false → (turn_of t (calls.Moved shown) ≡ quiet t) × (turn_of t calls.Resigned ≡ quiet t)
+MovesAreIgnored = (t : DriverTalk) (shown : Option Move) → is_thinking t ≡ false → (turn_of t (calls.Moved shown) ≡ quiet t) × (turn_of t calls.Resigned ≡ quiet t)
 
 -- why there is no move: no position can be searched, the engine's move is illegal, it gave up, or it ended
-abbrev pub HasNoMove : Talk → Call → Type 0
+abbrev pub HasNoMove : DriverTalk → DriverCall → Type 0
 HasNoMove t (calls.Go w) = (is_free t ≡ true) × ((w.first ≡ None) ⊎ ((t.gone ≡ true) ⊎ (w.reach ≡ reaches.Nothing)))
 HasNoMove t (calls.Moved None) = is_thinking t ≡ true
 HasNoMove t calls.Resigned = is_thinking t ≡ true
@@ -112,36 +112,36 @@ HasNoMove t c = ⊥
 
 -- `bestmove 0000` comes only so.
 abbrev pub NoMoveHasCause : Type 0
-NoMoveHasCause = (t : Talk) (c : Call) → (turn_of t c).deed.up ≡ ups.Best None → HasNoMove t c
+NoMoveHasCause = (t : DriverTalk) (c : DriverCall) → (turn_of t c).deed.up ≡ ups.Best None → HasNoMove t c
 
 -- PINGS
 
 -- the number of the ping that is written
-abbrev pub written_ping : Down → Option ℕ
+abbrev pub written_ping : ToEngine → Option ℕ
 written_ping (downs.Analyse clocks ping) = ping
 written_ping (downs.Leave ping) = Some ping
 written_ping (downs.Retreat ping) = Some ping
 written_ping down = None
 
 -- the last ping that was written
-abbrev pub last_ping : List Call → Option ℕ
+abbrev pub last_ping : List DriverCall → Option ℕ
 last_ping [] = None
 last_ping (c ∷ cs) = option_or (written_ping (deed_after cs c).down) (last_ping cs)
 
 -- A ping that is awaited was written, and none behind it.
 abbrev pub AwaitedWasWritten : Type 0
-AwaitedWasWritten = (cs : List Call) (n : ℕ) → (run cs).awaited ≡ Some n → last_ping cs ≡ Some n
+AwaitedWasWritten = (cs : List DriverCall) (n : ℕ) → (run cs).awaited ≡ Some n → last_ping cs ≡ Some n
 
-abbrev pub begins_search : Down → Bool
+abbrev pub begins_search : ToEngine → Bool
 begins_search (downs.Analyse clocks ping) = true
 begins_search down = tells_to_think down
 
 -- no ping is awaited, or this call is its pong
-abbrev pub IsAnswered : Option ℕ → Call → Type 0
+abbrev pub IsAnswered : Option ℕ → DriverCall → Type 0
 IsAnswered None c = Unit {0}
 IsAnswered (Some ping) (calls.Pong n) = ping ≡ n
 IsAnswered (Some ping) c = ⊥
 
 -- The engine is set to think or to analyse only if no ping is awaited, or by the pong.
 abbrev pub PongsComeFirst : Type 0
-PongsComeFirst = (t : Talk) (c : Call) → begins_search (turn_of t c).deed.down ≡ true → IsAnswered t.awaited c
+PongsComeFirst = (t : DriverTalk) (c : DriverCall) → begins_search (turn_of t c).deed.down ≡ true → IsAnswered t.awaited c

@@ -13,5 +13,7 @@ pub use laws::{
     open_searches_are_busy, searches_are_answered_once, searches_wait_for_pongs,
     when_nothing_is_given,
 };
-pub use talk::{Call, Reach, Stage, Talk, Turn, Wanted};
-pub use words::{Board, Clocks, Deed, Down, Next, Phase, Search, Thought, Up};
+pub use talk::{DriverCall, DriverStage, DriverTalk, DriverTurn, Reach, WantedSearch};
+pub use words::{
+    AfterAnalysis, BoardChange, DriverDeed, GoClocks, OpenSearch, Phase, Thought, ToEngine, ToIface,
+};

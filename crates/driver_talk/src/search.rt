@@ -3,16 +3,18 @@ ghost use Rattle.std.specs.Prelude.{◌≡◌};
 ghost use Rattle.driver_talk.specs.Talk.{begun, opened, played, after_begin, left, after_stop, stopped, after_hit, hit};
 ghost use Rattle.driver_talk.specs.Talk.{after_moved, after_resigned, after_pong, resumed, after_thought, is_awaited};
 
-use crate::talk::{Reach, Stage, Talk, Turn, Wanted, give, quiet};
-use crate::words::{Board, Clocks, Deed, Down, Next, Phase, Search, Thought, Up};
+use crate::talk::{DriverStage, DriverTalk, DriverTurn, Reach, WantedSearch, give, quiet};
+use crate::words::{
+    AfterAnalysis, BoardChange, DriverDeed, GoClocks, OpenSearch, Phase, Thought, ToEngine, ToIface,
+};
 use chess_board::Move;
 use peer_words::GoKind;
 
 /// The search that a `go` opens, with the best move so far.
-fn begun(wanted: Wanted, kept: Move, phase: Phase) -> Search
+fn begun(wanted: WantedSearch, kept: Move, phase: Phase) -> OpenSearch
     ensures { result ≡ begun wanted kept phase }
 {
-    Search {
+    OpenSearch {
         kind: wanted.kind,
         clocks: wanted.clocks,
         kept,
@@ -20,16 +22,16 @@ fn begun(wanted: Wanted, kept: Move, phase: Phase) -> Search
     }
 }
 
-impl Talk {
+impl DriverTalk {
     /// The engine is set to think, once no `ping` is awaited.
-    fn played(self, search: Search, clocks: Clocks) -> Turn
+    fn played(self, search: OpenSearch, clocks: GoClocks) -> DriverTurn
         ensures { result ≡ played self search clocks }
     {
         match self.awaited {
             None => give(
                 self.at_phase(search, Phase::Thinks { hurried: false }),
-                Up::Nothing,
-                Down::Play {
+                ToIface::Nothing,
+                ToEngine::Play {
                     clocks,
                     hurried: false,
                 },
@@ -39,24 +41,24 @@ impl Talk {
     }
 
     /// The engine is set to analyse, once no `ping` is awaited.
-    fn opened(self, search: Search, clocks: Clocks) -> Turn
+    fn opened(self, search: OpenSearch, clocks: GoClocks) -> DriverTurn
         ensures { result ≡ opened self search clocks }
     {
         match self.awaited {
             None => give(
                 self.at_phase(search, Phase::Analyses),
-                Up::Nothing,
-                Down::Analyse { clocks, ping: None },
+                ToIface::Nothing,
+                ToEngine::Analyse { clocks, ping: None },
             ),
             Some(_) => quiet(self.at_phase(search, Phase::WaitsToAnalyse(None))),
         }
     }
 
     /// A `go` that is accepted.
-    pub(crate) fn begin(self, wanted: Wanted) -> Turn
+    pub(crate) fn begin(self, wanted: WantedSearch) -> DriverTurn
         ensures { result ≡ after_begin self wanted }
     {
-        let none = give(self, Up::Best(None), Down::Nothing);
+        let none = give(self, ToIface::Best(None), ToEngine::Nothing);
         let Some(kept) = wanted.first else {
             return none;
         };
@@ -73,40 +75,47 @@ impl Talk {
     }
 
     /// The engine is to leave analysis.
-    fn left(self, search: Search, next: Next) -> Turn
+    fn left(self, search: OpenSearch, next: AfterAnalysis) -> DriverTurn
         ensures { result ≡ left self search next }
     {
         let talk = self.pinged();
         give(
             talk.at_phase(search, Phase::Leaves(next)),
-            Up::Nothing,
-            Down::Leave { ping: talk.pings },
+            ToIface::Nothing,
+            ToEngine::Leave { ping: talk.pings },
         )
     }
 
-    fn stopped(self, search: Search) -> Turn
+    fn stopped(self, search: OpenSearch) -> DriverTurn
         ensures { result ≡ stopped self search search.phase }
     {
         match search.phase {
             Phase::Thinks { hurried: false } => give(
                 self.at_phase(search, Phase::Thinks { hurried: true }),
-                Up::Nothing,
-                Down::Hurry,
+                ToIface::Nothing,
+                ToEngine::Hurry,
             ),
-            Phase::Analyses => self.left(search, Next::Answer),
-            Phase::Rests => give(self.closed(), Up::Best(Some(search.kept)), Down::Nothing),
-            Phase::Leaves(Next::Play) => quiet(self.at_phase(search, Phase::Leaves(Next::Answer))),
+            Phase::Analyses => self.left(search, AfterAnalysis::Answer),
+            Phase::Rests => give(
+                self.closed(),
+                ToIface::Best(Some(search.kept)),
+                ToEngine::Nothing,
+            ),
+            Phase::Leaves(AfterAnalysis::Play) => quiet(self.at_phase(
+                search,
+                Phase::Leaves(AfterAnalysis::Answer),
+            )),
             Phase::WaitsToThink { hurried: false } => {
                 quiet(self.at_phase(search, Phase::WaitsToThink { hurried: true }))
             }
-            Phase::WaitsToAnalyse(None) | Phase::WaitsToAnalyse(Some(Next::Play)) => {
-                quiet(self.at_phase(search, Phase::WaitsToAnalyse(Some(Next::Answer))))
+            Phase::WaitsToAnalyse(None) | Phase::WaitsToAnalyse(Some(AfterAnalysis::Play)) => {
+                quiet(self.at_phase(search, Phase::WaitsToAnalyse(Some(AfterAnalysis::Answer))))
             }
             _ => quiet(self),
         }
     }
 
-    pub(crate) fn stop(self) -> Turn
+    pub(crate) fn stop(self) -> DriverTurn
         ensures { result ≡ after_stop self }
     {
         match self.open_search() {
@@ -115,20 +124,20 @@ impl Talk {
         }
     }
 
-    fn hit(self, search: Search) -> Turn
+    fn hit(self, search: OpenSearch) -> DriverTurn
         ensures { result ≡ hit self search search.phase }
     {
         match search.phase {
-            Phase::Analyses => self.left(search, Next::Play),
+            Phase::Analyses => self.left(search, AfterAnalysis::Play),
             Phase::Rests => self.played(search, search.clocks),
             Phase::WaitsToAnalyse(None) => {
-                quiet(self.at_phase(search, Phase::WaitsToAnalyse(Some(Next::Play))))
+                quiet(self.at_phase(search, Phase::WaitsToAnalyse(Some(AfterAnalysis::Play))))
             }
             _ => quiet(self),
         }
     }
 
-    pub(crate) fn ponder_hit(self) -> Turn
+    pub(crate) fn ponder_hit(self) -> DriverTurn
         ensures { result ≡ after_hit self }
     {
         match self.open_search() {
@@ -141,22 +150,22 @@ impl Talk {
     }
 
     /// The engine says `move`.
-    pub(crate) fn moved(self, shown: Option<Move>) -> Turn
+    pub(crate) fn moved(self, shown: Option<Move>) -> DriverTurn
         ensures { result ≡ after_moved self shown }
     {
         match self.open_search() {
             Some(
-                Search {
+                OpenSearch {
                     kind: _,
                     clocks: _,
                     kept: _,
                     phase: Phase::Thinks { hurried: _ },
                 },
-            ) => Turn {
+            ) => DriverTurn {
                 talk: self.closed(),
-                deed: Deed {
-                    up: Up::Best(shown),
-                    down: Down::Nothing,
+                deed: DriverDeed {
+                    up: ToIface::Best(shown),
+                    down: ToEngine::Nothing,
                     board: board_of(shown),
                 },
             },
@@ -165,12 +174,12 @@ impl Talk {
     }
 
     /// The engine resigns or claims a result.
-    pub(crate) fn resigned(self) -> Turn
+    pub(crate) fn resigned(self) -> DriverTurn
         ensures { result ≡ after_resigned self }
     {
         match self.open_search() {
             Some(
-                Search {
+                OpenSearch {
                     kind: _,
                     clocks: _,
                     kept: _,
@@ -178,12 +187,12 @@ impl Talk {
                 },
             ) => {
                 let talk = self.closed().pinged();
-                Turn {
+                DriverTurn {
                     talk,
-                    deed: Deed {
-                        up: Up::Best(None),
-                        down: Down::Retreat { ping: talk.pings },
-                        board: Board::Lost,
+                    deed: DriverDeed {
+                        up: ToIface::Best(None),
+                        down: ToEngine::Retreat { ping: talk.pings },
+                        board: BoardChange::Lost,
                     },
                 }
             }
@@ -192,35 +201,39 @@ impl Talk {
     }
 
     /// What a search does once the `ping` is answered.
-    fn resumed(self, search: Search) -> Turn
+    fn resumed(self, search: OpenSearch) -> DriverTurn
         ensures { result ≡ resumed self search search.phase }
     {
         let clocks = search.clocks;
         match search.phase {
-            Phase::Leaves(Next::Answer) => {
-                give(self.closed(), Up::Best(Some(search.kept)), Down::Nothing)
+            Phase::Leaves(AfterAnalysis::Answer) => {
+                give(
+                    self.closed(),
+                    ToIface::Best(Some(search.kept)),
+                    ToEngine::Nothing,
+                )
             }
-            Phase::Leaves(Next::Play) => give(
+            Phase::Leaves(AfterAnalysis::Play) => give(
                 self.at_phase(search, Phase::Thinks { hurried: false }),
-                Up::Nothing,
-                Down::Resume { clocks },
+                ToIface::Nothing,
+                ToEngine::Resume { clocks },
             ),
             Phase::WaitsToThink { hurried } => give(
                 self.at_phase(search, Phase::Thinks { hurried }),
-                Up::Nothing,
-                Down::Play { clocks, hurried },
+                ToIface::Nothing,
+                ToEngine::Play { clocks, hurried },
             ),
             Phase::WaitsToAnalyse(None) => give(
                 self.at_phase(search, Phase::Analyses),
-                Up::Nothing,
-                Down::Analyse { clocks, ping: None },
+                ToIface::Nothing,
+                ToEngine::Analyse { clocks, ping: None },
             ),
             Phase::WaitsToAnalyse(Some(next)) => {
                 let talk = self.pinged();
                 give(
                     talk.at_phase(search, Phase::Leaves(next)),
-                    Up::Nothing,
-                    Down::Analyse {
+                    ToIface::Nothing,
+                    ToEngine::Analyse {
                         clocks,
                         ping: Some(talk.pings),
                     },
@@ -239,14 +252,14 @@ impl Talk {
         }
     }
 
-    pub(crate) fn pong(self, n: u32) -> Turn
+    pub(crate) fn pong(self, n: u32) -> DriverTurn
         ensures { result ≡ after_pong self n }
     {
-        let is_open = matches!(self.stage, Stage::Open);
+        let is_open = matches!(self.stage, DriverStage::Open);
         if !(is_open && self.is_awaited(n)) {
             return quiet(self);
         }
-        let talk = Talk {
+        let talk = DriverTalk {
             awaited: None,
             ..self
         };
@@ -256,24 +269,24 @@ impl Talk {
         }
     }
 
-    fn kept(self, search: Search, thought: Thought) -> Turn
+    fn kept(self, search: OpenSearch, thought: Thought) -> DriverTurn
         ensures { result ≡ kept self search search.phase thought }
     {
-        let better = Search {
+        let better = OpenSearch {
             kept: thought.best,
             ..search
         };
         match search.phase {
             Phase::Thinks { hurried: _ } | Phase::Analyses | Phase::Rests => give(
                 self.at_phase(better, search.phase),
-                Up::Info(thought),
-                Down::Nothing,
+                ToIface::Info(thought),
+                ToEngine::Nothing,
             ),
             _ => quiet(self),
         }
     }
 
-    pub(crate) fn thought(self, thought: Thought) -> Turn
+    pub(crate) fn thought(self, thought: Thought) -> DriverTurn
         ensures { result ≡ after_thought self thought }
     {
         match self.open_search() {
@@ -284,12 +297,12 @@ impl Talk {
 }
 
 /// What a move that the engine said does to its game.
-fn board_of(shown: Option<Move>) -> Board
+fn board_of(shown: Option<Move>) -> BoardChange
     ensures { result ≡ board_of shown }
 {
     match shown {
-        Some(m) => Board::Moved(m),
-        None => Board::Lost,
+        Some(m) => BoardChange::Moved(m),
+        None => BoardChange::Lost,
     }
 }
 

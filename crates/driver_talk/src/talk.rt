@@ -3,7 +3,9 @@ ghost use Rattle.std.specs.Prelude.{◌≡◌, ◌<◌, ◌≤◌};
 ghost use Rattle.driver_talk.specs.Talk.{first_talk, next_ping, pinged, quiet, give, open_search, at_phase, closed};
 ghost use Rattle.driver_talk.specs.Talk.{after_quit, after_uci, after_ready, after_go, after_ended, turn_of};
 
-use crate::words::{Board, Clocks, Deed, Down, Phase, Search, Thought, Up};
+use crate::words::{
+    BoardChange, DriverDeed, GoClocks, OpenSearch, Phase, Thought, ToEngine, ToIface,
+};
 use chess_board::Move;
 use peer_words::GoKind;
 
@@ -12,7 +14,7 @@ pub(crate) const LAST_PING: u32 = 999_999_999;
 
 /// What the interface has ordered so far.
 #[derive(Clone, Copy)]
-pub enum Stage {
+pub enum DriverStage {
     /// No `uci` yet.
     Fresh,
     Open,
@@ -22,15 +24,15 @@ pub enum Stage {
 
 /// The talk with both peers.
 #[derive(Clone, Copy)]
-pub struct Talk {
-    pub stage: Stage,
+pub struct DriverTalk {
+    pub stage: DriverStage,
     /// The engine ended.
     pub gone: bool,
     /// The `ping` that was not answered.
     pub awaited: Option<u32>,
     /// The number of the last `ping`, 0 before the first.
     pub pings: u32,
-    pub search: Option<Search>,
+    pub search: Option<OpenSearch>,
 }
 
 /// What may be asked of the engine for a `go`.
@@ -45,9 +47,9 @@ pub enum Reach {
 
 /// What a `go` asks for.
 #[derive(Clone, Copy)]
-pub struct Wanted {
+pub struct WantedSearch {
     pub kind: GoKind,
-    pub clocks: Clocks,
+    pub clocks: GoClocks,
     /// The first legal move of the ordered position.
     pub first: Option<Move>,
     pub reach: Reach,
@@ -55,13 +57,13 @@ pub struct Wanted {
 
 /// What happens.
 #[derive(Clone, Copy)]
-pub enum Call {
+pub enum DriverCall {
     /// An order, or a line of the engine, that changes nothing.
     Other,
     Quit,
     Uci,
     IsReady,
-    Go(Wanted),
+    Go(WantedSearch),
     Stop,
     PonderHit,
     /// The engine says `move`, with a legal move or not.
@@ -76,28 +78,28 @@ pub enum Call {
 
 /// The talk after a call, and what comes of it.
 #[derive(Clone, Copy)]
-pub struct Turn {
-    pub talk: Talk,
-    pub deed: Deed,
+pub struct DriverTurn {
+    pub talk: DriverTalk,
+    pub deed: DriverDeed,
 }
 
 /// A turn that gives nothing.
-pub(crate) fn quiet(talk: Talk) -> Turn
+pub(crate) fn quiet(talk: DriverTalk) -> DriverTurn
     ensures { result ≡ quiet talk }
 {
-    give(talk, Up::Nothing, Down::Nothing)
+    give(talk, ToIface::Nothing, ToEngine::Nothing)
 }
 
 /// A turn that leaves what is known of the engine's game.
-pub(crate) fn give(talk: Talk, up: Up, down: Down) -> Turn
+pub(crate) fn give(talk: DriverTalk, up: ToIface, down: ToEngine) -> DriverTurn
     ensures { result ≡ give talk up down }
 {
-    Turn {
+    DriverTurn {
         talk,
-        deed: Deed {
+        deed: DriverDeed {
             up,
             down,
-            board: Board::Same,
+            board: BoardChange::Same,
         },
     }
 }
@@ -109,13 +111,13 @@ fn next_ping(last: u32) -> u32
     if last < LAST_PING { last + 1 } else { 1 }
 }
 
-impl Talk {
+impl DriverTalk {
     /// Nothing was ordered and heard.
-    pub fn new() -> Talk
+    pub fn new() -> DriverTalk
         ensures { result ≡ first_talk }
     {
-        Talk {
-            stage: Stage::Fresh,
+        DriverTalk {
+            stage: DriverStage::Fresh,
             gone: false,
             awaited: None,
             pings: 0,
@@ -124,127 +126,131 @@ impl Talk {
     }
 
     /// The search that is open, while orders are accepted.
-    pub(crate) fn open_search(self) -> Option<Search>
+    pub(crate) fn open_search(self) -> Option<OpenSearch>
         ensures { result ≡ open_search self }
     {
         match self.stage {
-            Stage::Open => self.search,
+            DriverStage::Open => self.search,
             _ => None,
         }
     }
 
-    pub(crate) fn at_phase(self, search: Search, phase: Phase) -> Talk
+    pub(crate) fn at_phase(self, search: OpenSearch, phase: Phase) -> DriverTalk
         ensures { result ≡ at_phase self search phase }
     {
-        Talk {
-            search: Some(Search { phase, ..search }),
+        DriverTalk {
+            search: Some(OpenSearch { phase, ..search }),
             ..self
         }
     }
 
-    pub(crate) fn closed(self) -> Talk
+    pub(crate) fn closed(self) -> DriverTalk
         ensures { result ≡ closed self }
     {
-        Talk {
+        DriverTalk {
             search: None,
             ..self
         }
     }
 
     /// A `ping` more, which is awaited.
-    pub(crate) fn pinged(self) -> Talk
+    pub(crate) fn pinged(self) -> DriverTalk
         ensures { result ≡ pinged self }
     {
         let ping = next_ping(self.pings);
-        Talk {
+        DriverTalk {
             awaited: Some(ping),
             pings: ping,
             ..self
         }
     }
 
-    fn quit(self) -> Turn
+    fn quit(self) -> DriverTurn
         ensures { result ≡ after_quit self }
     {
         match self.stage {
-            Stage::Over => quiet(self),
+            DriverStage::Over => quiet(self),
             _ => {
-                let talk = Talk {
-                    stage: Stage::Over,
-                    ..self
-                };
-                let down = if self.gone { Down::Nothing } else { Down::Quit };
-                give(talk, Up::Nothing, down)
-            }
-        }
-    }
-
-    fn uci(self) -> Turn
-        ensures { result ≡ after_uci self }
-    {
-        match self.stage {
-            Stage::Fresh => {
-                let talk = Talk {
-                    stage: Stage::Open,
+                let talk = DriverTalk {
+                    stage: DriverStage::Over,
                     ..self
                 };
                 let down = if self.gone {
-                    Down::Nothing
+                    ToEngine::Nothing
                 } else {
-                    Down::Greeting
+                    ToEngine::Quit
                 };
-                give(talk, Up::Nothing, down)
+                give(talk, ToIface::Nothing, down)
+            }
+        }
+    }
+
+    fn uci(self) -> DriverTurn
+        ensures { result ≡ after_uci self }
+    {
+        match self.stage {
+            DriverStage::Fresh => {
+                let talk = DriverTalk {
+                    stage: DriverStage::Open,
+                    ..self
+                };
+                let down = if self.gone {
+                    ToEngine::Nothing
+                } else {
+                    ToEngine::Greeting
+                };
+                give(talk, ToIface::Nothing, down)
             }
             _ => quiet(self),
         }
     }
 
-    fn is_ready(self) -> Turn
+    fn is_ready(self) -> DriverTurn
         ensures { result ≡ after_ready self }
     {
         match self.stage {
-            Stage::Open => give(self, Up::Ready, Down::Nothing),
+            DriverStage::Open => give(self, ToIface::Ready, ToEngine::Nothing),
             _ => quiet(self),
         }
     }
 
-    fn go(self, wanted: Wanted) -> Turn
+    fn go(self, wanted: WantedSearch) -> DriverTurn
         ensures { result ≡ after_go self wanted }
     {
         match (self.stage, self.search) {
-            (Stage::Open, None) => self.begin(wanted),
+            (DriverStage::Open, None) => self.begin(wanted),
             _ => quiet(self),
         }
     }
 
-    fn ended(self) -> Turn
+    fn ended(self) -> DriverTurn
         ensures { result ≡ after_ended self }
     {
-        let talk = Talk { gone: true, ..self };
+        let talk = DriverTalk { gone: true, ..self };
         match self.open_search() {
-            Some(_) => give(talk.closed(), Up::Best(None), Down::Nothing),
+            Some(_) => give(talk.closed(), ToIface::Best(None), ToEngine::Nothing),
             None => quiet(talk),
         }
     }
 
     /// What comes of a call.
     #[tactic(auto, unfolding(crate::specs::Talk::turn_of))]
-    pub fn step(self, call: Call) -> Turn
+    pub fn step(self, call: DriverCall) -> DriverTurn
         ensures { result ≡ turn_of self call }
     {
         match call {
-            Call::Other => quiet(self),
-            Call::Quit => self.quit(),
-            Call::Uci => self.uci(),
-            Call::IsReady => self.is_ready(),
-            Call::Go(wanted) => self.go(wanted),
-            Call::Stop => self.stop(),
-            Call::PonderHit => self.ponder_hit(),
-            Call::Moved(shown) => self.moved(shown),
-            Call::Resigned => self.resigned(),
-            Call::Pong(n) => self.pong(n),
-            Call::Thought(thought) => self.thought(thought),
-            Call::Ended => self.ended(),
+            DriverCall::Other => quiet(self),
+            DriverCall::Quit => self.quit(),
+            DriverCall::Uci => self.uci(),
+            DriverCall::IsReady => self.is_ready(),
+            DriverCall::Go(wanted) => self.go(wanted),
+            DriverCall::Stop => self.stop(),
+            DriverCall::PonderHit => self.ponder_hit(),
+            DriverCall::Moved(shown) => self.moved(shown),
+            DriverCall::Resigned => self.resigned(),
+            DriverCall::Pong(n) => self.pong(n),
+            DriverCall::Thought(thought) => self.thought(thought),
+            DriverCall::Ended => self.ended(),
         }
     }
 
@@ -252,7 +258,7 @@ impl Talk {
     pub fn is_free(self) -> bool
         ensures { result ≡ is_free self }
     {
-        matches!((self.stage, self.search), (Stage::Open, None))
+        matches!((self.stage, self.search), (DriverStage::Open, None))
     }
 }
 

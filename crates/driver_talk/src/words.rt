@@ -5,7 +5,7 @@ use peer_words::GoKind;
 
 /// What a `go` order says of time and depth (UCI, "go"). Times are in milliseconds.
 #[derive(Clone, Copy, PartialEq, Eq)]
-pub struct Clocks {
+pub struct GoClocks {
     pub wtime: u64,
     pub btime: u64,
     pub winc: u64,
@@ -31,7 +31,7 @@ pub struct Thought {
 
 /// What follows once an engine that left analysis has answered the `ping` behind `exit`.
 #[derive(Clone, Copy)]
-pub enum Next {
+pub enum AfterAnalysis {
     /// The search is answered.
     Answer,
     /// The engine is set to think on its move.
@@ -48,19 +48,19 @@ pub enum Phase {
     /// An analysis of which the engine, which cannot analyse, knows nothing.
     Rests,
     /// The engine is to leave analysis, and to answer a `ping` then.
-    Leaves(Next),
+    Leaves(AfterAnalysis),
     /// The engine is set to think, and perhaps to hurry, once it has answered an earlier `ping`.
     WaitsToThink { hurried: bool },
     /// The engine is set to analyse once it has answered an earlier `ping`, and perhaps to leave at once.
-    WaitsToAnalyse(Option<Next>),
+    WaitsToAnalyse(Option<AfterAnalysis>),
 }
 
 /// An open search: a `go` that was not answered.
 #[derive(Clone, Copy)]
-pub struct Search {
+pub struct OpenSearch {
     /// What its `go` asked for.
     pub kind: GoKind,
-    pub clocks: Clocks,
+    pub clocks: GoClocks,
     /// The best move so far: the first legal one, until the engine reports another.
     pub kept: Move,
     pub phase: Phase,
@@ -68,7 +68,7 @@ pub struct Search {
 
 /// What is given up to the interface.
 #[derive(Clone, Copy, PartialEq, Eq)]
-pub enum Up {
+pub enum ToIface {
     Nothing,
     /// `readyok`
     Ready,
@@ -80,19 +80,19 @@ pub enum Up {
 
 /// What is written to the engine.
 #[derive(Clone, Copy, PartialEq, Eq)]
-pub enum Down {
+pub enum ToEngine {
     Nothing,
     /// `xboard`, `protover 2`
     Greeting,
     /// `quit`
     Quit,
     /// The position is set up, the clocks are set, and the engine is set to think, and perhaps to hurry.
-    Play { clocks: Clocks, hurried: bool },
+    Play { clocks: GoClocks, hurried: bool },
     /// The clocks are set, and the engine is set to think.
-    Resume { clocks: Clocks },
+    Resume { clocks: GoClocks },
     /// The position is set up for this search, and the engine is set to analyse; and perhaps to leave, with the
     /// `ping` of this number.
-    Analyse { clocks: Clocks, ping: Option<u32> },
+    Analyse { clocks: GoClocks, ping: Option<u32> },
     /// `?`
     Hurry,
     /// `exit`, and the `ping` of this number.
@@ -103,7 +103,7 @@ pub enum Down {
 
 /// What becomes of the game that is known of the engine, besides what is set up.
 #[derive(Clone, Copy, PartialEq, Eq)]
-pub enum Board {
+pub enum BoardChange {
     Same,
     /// The engine played a move.
     Moved(Move),
@@ -113,8 +113,8 @@ pub enum Board {
 
 /// What comes of a call.
 #[derive(Clone, Copy, PartialEq, Eq)]
-pub struct Deed {
-    pub up: Up,
-    pub down: Down,
-    pub board: Board,
+pub struct DriverDeed {
+    pub up: ToIface,
+    pub down: ToEngine,
+    pub board: BoardChange,
 }

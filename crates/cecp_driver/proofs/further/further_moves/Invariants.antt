@@ -10,7 +10,7 @@ abbrev pub invariant-loop-left : goal.invariant-loop-left
 invariant-loop-left l = record {
   same : further (plies_of l.left) (plies_of l.rest) ≡ further (plies_of l.fn.known) (plies_of l.fn.moves);
   few : length l.rest ≤ length l.fn.moves;
-  officers : AllByRecursion (λ m. IsOfficer m.promo) (plies_of l.fn.moves) → AllByRecursion (λ m. IsOfficer m.promo) (plies_of l.rest);
+  officers : AllByRecursion (λ m. IsOfficer m.promotion) (plies_of l.fn.moves) → AllByRecursion (λ m. IsOfficer m.promotion) (plies_of l.rest);
 }
 
 abbrev pub decreases-loop-left : goal.decreases-loop-left

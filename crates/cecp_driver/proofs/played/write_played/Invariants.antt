@@ -11,7 +11,7 @@ abbrev pub invariant-loop-rest : goal.invariant-loop-rest
 invariant-loop-rest l = record {
   text : l.out.text ++ lines_text (played l.fn.has_usermove (plies_of l.rest)) ≡ l.initial.out.text ++ lines_text (played l.fn.has_usermove (plies_of l.fn.moves));
   room : l.out.room ≡ l.initial.out.room;
-  officers : AllByRecursion (λ m. IsOfficer m.promo) (plies_of l.rest);
+  officers : AllByRecursion (λ m. IsOfficer m.promotion) (plies_of l.rest);
   fits : length l.out.text + 15 * length l.rest ≤ length l.initial.out.text + 15 * length l.fn.moves;
 }
 

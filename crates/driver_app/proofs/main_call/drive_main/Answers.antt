@@ -6,17 +6,17 @@ pub returns-clause-answers : goal.returns-clause-answers
 returns-clause-answers g c =
     record {
       ending = c.end_of-ending.result;
-      ends = c.end_of-ending.ensures;
+      ends = c.end_of-ending.ensures.ends;
       code_is = c.code.ensures;
       diagnosed = c.tell.ensures;
     }
 
 pub returns-clause-status : goal.returns-clause-status
-returns-clause-status g c = causes.status_says _ _ _ _ _ _ c.code.ensures c.end_of-ending.ensures
+returns-clause-status g c = causes.status_says _ _ _ _ _ _ c.code.ensures c.end_of-ending.ensures.ends
 
 pub returns-clause-whole : goal.returns-clause-whole
-returns-clause-whole g c z tells = causes.fine _ _ _ _ _ c.end_of-ending.ensures (sym c.code.ensures ∙ z) (λ f left e. left.whole e tells)
+returns-clause-whole g c z tells = causes.fine _ _ _ _ _ c.end_of-ending.ensures.ends (sym c.code.ensures ∙ z) (λ f left e. left.whole e tells)
 
 pub returns-clause-unstarted : goal.returns-clause-unstarted
 returns-clause-unstarted g c z =
-    causes.unstarted _ _ _ _ _ c.end_of-ending.ensures (sym c.code.ensures ∙ z) (λ f left e. left.nothing (left.unstarted e))
+    causes.unstarted _ _ _ _ _ c.end_of-ending.ensures.ends (sym c.code.ensures ∙ z) (λ f left e. left.nothing (left.unstarted e))

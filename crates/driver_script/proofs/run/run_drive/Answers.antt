@@ -4,7 +4,7 @@ use Rattle.command_endings.specs.Ran.{Ran}
 use Rattle.command_endings.specs.Streams.{Streams, streams}
 use Rattle.line_scribe.proofs.Outcomes.{outcome}
 use Rattle.line_scribe.specs.Scribed.{EndsBy}
-use Rattle.cecp_driver.specs.declared.driver.Parts.{Parts}
+use Rattle.cecp_driver.specs.declared.driver.DriverParts.{DriverParts}
 use Rattle.cecp_driver.specs.Driver.{opening}
 use Rattle.driver_script.specs.Scripts.{drives}
 use Rattle.driver_script.proofs.Reading.{begins}
@@ -23,5 +23,5 @@ returns g c =
     let now : Streams = streams (g.I.Source.state c.run_scribe.new.input) (g.O.Sink.state c.run_scribe.new.output) (g.D.Sink.state c.run_scribe.new.diag) in
     let code = code_of c.run_scribe.result in
     let ran : Ran (λ e. EndsBy drives opening ((c.run_scribe.new.input ≡ c.args.input.now) × (c.run_scribe.new.output ≡ c.args.output.now)) e start now) start now code =
-    subst (λ (v : Parts). Ran (λ e. EndsBy drives v ((c.run_scribe.new.input ≡ c.args.input.now) × (c.run_scribe.new.output ≡ c.args.output.now)) e start now) start now code) c.in-Ok.ensures c.run_scribe.ensures in
+    subst (λ (v : DriverParts). Ran (λ e. EndsBy drives v ((c.run_scribe.new.input ≡ c.args.input.now) × (c.run_scribe.new.output ≡ c.args.output.now)) e start now) start now code) c.in-Ok.ensures c.run_scribe.ensures in
     driven _ opening refl start now code ran (outcome drives opening _ start now code ran)

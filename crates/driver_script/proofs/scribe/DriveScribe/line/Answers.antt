@@ -1,14 +1,14 @@
-use Rattle.std.proofs.Common.{Ok, ◌≡◌, ◌∙◌, Option, Some, is_some, refl, sym, ap}
+use Rattle.std.proofs.Common.{Ok, ◌≡◌, ◌∙◌, Option, Some, is_some, sym, ap}
 use Rattle.line_io.specs.Event.{event_of}
 use Rattle.line_io.specs.Lines.{Whole}
 use Rattle.script_lines.specs.Marks.{Mark, Happens, ToIface, ToEngine, mark_of, marked}
 use Rattle.driver_script.specs.Scripts.{event_in}
-use Rattle.driver_script.proofs.Reading.{puts_event, puts_passed, puts_unmarked, spelled_short}
+use Rattle.driver_script.proofs.Reading.{puts_event, puts_passed, puts_unmarked, spelled_line}
 use Rattle.driver_script.proofs.scribe.DriveScribe.line.Goals as goal
 
-pub try_event-requires-clause-short : goal.try_event-requires-clause-short
-try_event-requires-clause-short c =
-    spelled_short c.args.line.now c.read_mark.result c.in-Ok-Event.event (c.in-Ok-Event.is ∙ ap (λ x. Ok x) c.in-Ok-Event.field-0-is) c.read_mark.ensures.spelled
+pub try_event-requires-clause-line : goal.try_event-requires-clause-line
+try_event-requires-clause-line c =
+    spelled_line c.args.line.now c.read_mark.result c.in-Ok-Event.event (c.in-Ok-Event.is ∙ ap (λ x. Ok x) c.in-Ok-Event.field-0-is) c.read_mark.ensures.spelled
 
 pub returns-in-Ok-Event-clause-puts : goal.returns-in-Ok-Event-clause-puts
 returns-in-Ok-Event-clause-puts c =

@@ -1,0 +1,34 @@
+-- What can be said in a line to the engine.
+use Rattle.std.specs.Prelude.{◌≡◌, ℕ, ◌<◌, ◌≤◌, ◌*◌, ◌^◌, List, length, true, false}
+use Rattle.chess_board.specs.declared.board.Move.{Move}
+use Rattle.chess_board.specs.Play.{IsPosition}
+use Rattle.chess_board.specs.Text.{IsOfficer}
+use Rattle.game_record.specs.Game.{Ply, ply_of}
+use Rattle.line_io.specs.Event.{has_feed}
+use Rattle.peer_words.specs.Tokens.{is_token}
+use Rattle.driver_lines.specs.Lines.{Line, SetBoard, Played, St, Level, Time, Otim, Sd, Ping, Accepted, Rejected}
+use Rattle.cecp_driver.specs.declared.driver.TheConstants.{LINE_LIMIT}
+
+-- a move of squares and officers
+abbrev pub IsMove : Ply → Type 0
+IsMove m = (move : Move) × ((ply_of move ≡ m) × IsOfficer move.promotion)
+
+-- a name in a line: it has neither white space nor a line feed
+pub record IsName (name : List ℕ) : Type 0 where
+  pub token : is_token name ≡ true
+  pub one_line : has_feed name ≡ false
+  pub short : length name ≤ LINE_LIMIT
+
+-- a position, a move, numbers of so many digits, a name
+abbrev pub CanBeSaid : Line → Type 0
+CanBeSaid (SetBoard p) = IsPosition p
+CanBeSaid (Played has_usermove m) = IsMove m
+CanBeSaid (St seconds) = seconds < 10 ^ 6
+CanBeSaid (Level moves seconds increment) = (moves < 10 ^ 4) × (seconds < 60 * 10 ^ 4) × (increment < 10 ^ 6)
+CanBeSaid (Time centis) = centis < 10 ^ 9
+CanBeSaid (Otim centis) = centis < 10 ^ 9
+CanBeSaid (Sd plies) = plies < 10 ^ 9
+CanBeSaid (Ping n) = n < 10 ^ 9
+CanBeSaid (Accepted name) = IsName name
+CanBeSaid (Rejected name) = IsName name
+CanBeSaid line = Unit {0}

@@ -1,5 +1,0 @@
-use Rattle.chess_board.proofs.LegalMoves.{legal_test}
-use Rattle.driver_lines.proofs.moves.is_legal.Goals as goal
-
-pub returns : goal.returns
-returns c = legal_test c.args.at.now c.args.m c.legal.result c.legal.ensures

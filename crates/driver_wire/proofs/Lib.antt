@@ -1,0 +1,4 @@
+mod Fed
+mod Spelled
+mod Held
+mod Heard
