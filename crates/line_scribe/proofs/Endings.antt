@@ -1,8 +1,8 @@
 -- How a run over lines ends.
-use Rattle.std.proofs.Common.{◌≡◌, ◌≢◌, ◌⊎◌, inl, inr, ℕ, ◌≤◌, List, [], ◌++◌, length, refl, sym, ap, subst, ◌∙◌, arith, append-nil}
+use Rattle.std.proofs.Common.{◌≡◌, ◌≢◌, inl, inr, ℕ, ◌≤◌, List, [], ◌++◌, length, Option, None, Some, sym, ap, subst, ◌∙◌, arith, append-nil}
 use Rattle.std.specs.Io.KnownBytes.{Appends}
 use Rattle.line_io.specs.Causes.{Rose}
-use Rattle.line_io.specs.Lines.{Piece, Reads}
+use Rattle.line_io.specs.Lines.{Piece, Reads, items}
 use Rattle.line_io.specs.Out.{Text}
 use Rattle.line_io.specs.Runs.{whole}
 use Rattle.line_io.specs.Source.{Received, Supplied}
@@ -15,7 +15,7 @@ use Rattle.command_endings.specs.Reads.{AreFirst, AreRead, IsAll}
 use Rattle.command_endings.specs.Streams.{Streams, streams}
 use Rattle.command_endings.proofs.Readings.{ended_all, ended_read, read_front, stopped_read, whole_read}
 use Rattle.line_scribe.specs.Putting.{Putting, IsOfLine}
-use Rattle.line_scribe.specs.Scribed.{Scribed, EndsBy, WroteTo, WroteWhole}
+use Rattle.line_scribe.specs.Scribed.{AreAll, EndsRightly, HasReason, IsText, Scribed, EndsBy, WroteTo, WroteWhole}
 use Rattle.line_scribe.specs.Writing.{Broke, Finished, Left, Said, writes}
 
 to_line : {S : Type 0} (means : Putting S) (s0 : S) (start now : Streams) (e : Ending) → IsOfLine e → WroteTo means s0 e start now → Scribed means s0 e start now
@@ -26,17 +26,44 @@ to_line means s0 start now (endings.Differs n) i r = r
 to_line means s0 start now (endings.Unlawful n) i r = r
 to_line means s0 start now e i r = absurd i
 
-stopped_cut : {S : Type 0} (means : Putting S) (s0 : S) (answer : Ending) (pieces : List Piece) (start now : Streams) → answer ≡ endings.WritingFailed → AreRead start now pieces → Broke means s0 pieces start.output now.output
-    → Scribed means s0 answer start now
-stopped_cut means s0 answer pieces start now e r b = subst (λ (x : Ending). Scribed means s0 x start now) (sym e) (record {
+-- lines that are no more than the first are all, where none follow
+rightly_by : {S : Type 0} (means : Putting S) (s0 : S) (Why : Ending → Type 0) (left : Option (List ℕ)) (pieces lines more : List Piece) (text : List ℕ) → pieces ≡ lines ++ more
+    → ((e : Ending) → Why e → EndsRightly left pieces e) → (i : IsText means s0 lines text) → HasReason (λ e. Why e × (more ≡ [])) i → HasReason (EndsRightly left lines) i
+rightly_by means s0 Why left pieces lines more text e f (inl p) w = tt
+rightly_by means s0 Why left pieces lines more text e f (inr p) w =
+    subst (λ (ls : List Piece). EndsRightly left ls p.0) (e ∙ ap (λ (ls : List Piece). lines ++ ls) w.1 ∙ append-nil lines) (f p.0 w.0)
+
+stopped_cut : {S : Type 0} (means : Putting S) (s0 : S) (Why : Ending → Type 0) (answer : Ending) (pieces : List Piece) (start now : Streams) → ((e : Ending) → Why e → EndsRightly start.input.left pieces e)
+    → answer ≡ endings.WritingFailed → AreRead start now pieces → Broke means s0 Why pieces start.output now.output → Scribed means s0 answer start now
+stopped_cut means s0 Why answer pieces start now f e r b = subst (λ (x : Ending). Scribed means s0 x start now) (sym e) (record {
   lines = b.lines;
   read = read_front start now pieces b.lines b.more b.first r;
   text = b.text;
   is_text = b.is_text;
+  reason = rightly_by means s0 Why start.input.left pieces b.lines b.more b.text b.first f b.is_text b.reason;
   some = b.some;
   front = b.front;
   written = b.appended;
 })
+
+-- WHY NO MORE LINES WERE TAKEN
+
+pub all_items : (left : Option (List ℕ)) (got : List ℕ) (lines : List Piece) → lines ≡ items 131072 got → IsAll left got → AreAll left lines
+all_items None got lines e a = tt
+all_items (Some x) got lines e a = ap (items 131072) a ∙ sym e
+
+rightly_done : (left : Option (List ℕ)) (lines : List Piece) → AreAll left lines → (e : Ending) → e ≡ endings.Done → EndsRightly left lines e
+rightly_done left lines a e same = subst (EndsRightly left lines) (sym same) a
+
+rightly_failed : (left : Option (List ℕ)) (lines : List Piece) (e : Ending) → e ≡ endings.ReadingFailed → EndsRightly left lines e
+rightly_failed left lines e same = subst (EndsRightly left lines) (sym same) tt
+
+rightly_long : (left : Option (List ℕ)) (lines : List Piece) (e : Ending) → e ≡ endings.TooLong → EndsRightly left lines e
+rightly_long left lines e same = subst (EndsRightly left lines) (sym same) tt
+
+rightly_line : (left : Option (List ℕ)) (lines : List Piece) (e : Ending) → IsOfLine e → EndsRightly left lines e
+rightly_line left lines endings.Done i = absurd i
+rightly_line left lines e i = tt
 
 said_all : {S : Type 0} (means : Putting S) (s0 : S) (lines : List Piece) (ending : Ending) (before after : Received) → (d : Said means s0 lines ending [] before after) → Appends before.taken after.taken d.text
 said_all means s0 lines ending before after d = subst (Appends before.taken after.taken) (sym (append-nil d.written) ∙ d.all) d.appended
@@ -55,7 +82,9 @@ module _ {W S O : Type 0} (scribe : W → S) (text : W → Text) (means : Puttin
   Ends pieces ending answer = Finished means s0 pieces ending answer (see old.output) output
 
   pub go_ended : (answer : Ending) (t : Taken (writes scribe text means see) 131072 ends.Ended old new) → Ends t.pieces endings.Done answer → Scribed means s0 answer start now
-  go_ended answer t (inr b) = stopped_cut means s0 answer t.pieces start now b.0 (ended_read (writes scribe text means see) old new (see old.output) output diag diag_now t) b.1
+  go_ended answer t (inr b) =
+      let all = ended_all (writes scribe text means see) old new (see old.output) output diag diag_now t in
+      stopped_cut means s0 (λ e. e ≡ endings.Done) answer t.pieces start now (rightly_done old.input.left t.pieces (all_items old.input.left t.given t.pieces t.ends.all all)) b.0 (ended_read (writes scribe text means see) old new (see old.output) output diag diag_now t) b.1
   go_ended answer t (inl d) = subst (λ (x : Ending). Scribed means s0 x start now) (sym d.0) (record {
     got = t.given;
     reads = record { given = t.gave.given; left = t.gave.left };
@@ -82,16 +111,19 @@ module _ {W S O : Type 0} (scribe : W → S) (text : W → Text) (means : Puttin
   }
 
   pub go_failed : (answer : Ending) (t : Taken (writes scribe text means see) 131072 ends.ReadFailed old new) → Ends t.pieces endings.ReadingFailed answer → Scribed means s0 answer start now
-  go_failed answer t (inr b) = stopped_cut means s0 answer t.pieces start now b.0 (read_of t.given t.pieces t.gave t.ends.all) b.1
+  go_failed answer t (inr b) =
+      stopped_cut means s0 (λ e. e ≡ endings.ReadingFailed) answer t.pieces start now (rightly_failed old.input.left t.pieces) b.0 (read_of t.given t.pieces t.gave t.ends.all) b.1
   go_failed answer t (inl d) = subst (λ (x : Ending). Scribed means s0 x start now) (sym d.0) (whole_written endings.ReadingFailed 0 t.given t.pieces t.gave t.ends.all (omega arith) d.1)
 
   pub go_endless : (answer : Ending) (t : Taken (writes scribe text means see) 131072 ends.Endless old new) → Ends t.pieces endings.TooLong answer → Scribed means s0 answer start now
-  go_endless answer t (inr b) = stopped_cut means s0 answer t.pieces start now b.0 (read_of t.given t.pieces t.gave t.ends.all) b.1
+  go_endless answer t (inr b) =
+      stopped_cut means s0 (λ e. e ≡ endings.TooLong) answer t.pieces start now (rightly_long old.input.left t.pieces) b.0 (read_of t.given t.pieces t.gave t.ends.all) b.1
   go_endless answer t (inl d) = subst (λ (x : Ending). Scribed means s0 x start now) (sym d.0) (whole_written endings.TooLong 4294967296 t.given t.pieces t.gave t.ends.all t.ends.many d.1)
 
   -- no more lines were taken
   pub go_left : (ending answer : Ending) (t : Taken (writes scribe text means see) 131072 (ends.Stopped ending) old new) → Left means s0 t.pieces ending answer (see old.output) output → Scribed means s0 answer start now
-  go_left ending answer t (inr b) = stopped_cut means s0 answer t.pieces start now b.0 (stopped_read (writes scribe text means see) old new (see old.output) output diag diag_now ending t) b.1
+  go_left ending answer t (inr b) =
+      stopped_cut means s0 IsOfLine answer t.pieces start now (rightly_line old.input.left t.pieces) b.0 (stopped_read (writes scribe text means see) old new (see old.output) output diag diag_now ending t) b.1
   go_left ending answer t (inl d) = subst (λ (x : Ending). Scribed means s0 x start now) (sym d.0) (to_line means s0 start now ending d.1 (record {
     lines = t.pieces;
     read = stopped_read (writes scribe text means see) old new (see old.output) output diag diag_now ending t;

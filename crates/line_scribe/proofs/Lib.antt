@@ -1,3 +1,4 @@
 mod Scribing
 mod Endings
 pub mod Outcomes
+pub mod Fronts

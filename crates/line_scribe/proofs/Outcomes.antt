@@ -1,7 +1,6 @@
 -- What the status of a run says.
-use Rattle.std.proofs.Common.{◌≡◌, ◌≢◌, ◌⊎◌, inl, inr, ℕ, ◌^◌, ◌<◌, List, [], ◌++◌, length, Some, refl, sym, ap, subst, ◌∙◌, arith}
+use Rattle.std.proofs.Common.{◌≡◌, ◌≢◌, ◌⊎◌, inl, inr, ℕ, ◌^◌, ◌<◌, List, length, Some, refl, sym, ap, subst, ◌∙◌, arith}
 use Rattle.std.specs.Io.KnownBytes.{Appends}
-use Rattle.line_io.specs.Causes.{Rose}
 use Rattle.line_io.specs.Lines.{items}
 use Rattle.line_io.specs.Runs.{whole}
 use Rattle.line_io.specs.Source.{Received, Supplied}
@@ -9,13 +8,13 @@ use Rattle.command_endings.specs.declared.ending.Ending.{Ending}
 use Rattle.command_endings.specs.declared.ending.Ending.TheVariants as endings
 use Rattle.command_endings.specs.Diagnostics.{code_of, diagnostic, tail_of}
 use Rattle.command_endings.specs.Ran.{Ran, WritingBroke}
-use Rattle.command_endings.specs.Reads.{AreFirst, AreRead, IsAll}
 use Rattle.command_endings.specs.Streams.{Streams, AreSame, IsSteady}
 use Rattle.command_endings.specs.Told.{Told}
 use Rattle.command_endings.proofs.Readings.{few_got, items_read, whole_lines_read}
 use Rattle.line_scribe.specs.Putting.{Putting, IsOfLine}
-use Rattle.line_scribe.specs.Scribed.{EndsBy, Scribed, WroteAll, WroteFront, WroteTo, WroteWhole}
+use Rattle.line_scribe.specs.Scribed.{EndsBy, EndsRightly, WroteAll, WroteFront, WroteTo, WroteWhole}
 use Rattle.line_scribe.specs.Outcomes.{LineReported, Outcome, WroteLast}
+use Rattle.line_scribe.proofs.Endings.{all_items}
 
 -- WHICH ENDING HAS A STATUS
 
@@ -89,21 +88,21 @@ module _ {S : Type 0} (means : Putting S) (s0 : S) (U : Type 0) (start now : Str
   abbrev Part : Type 0
   Part = U ⊎ WroteFront means s0 start now ⊎ WroteLast means s0 start now
 
-  to_last : (e : Ending) → WroteTo means s0 e start now → Part
-  to_last e w = inr (inr (record { ending = e; lines = w.lines; read = w.read; text = w.text; says = w.says; written = w.written }))
+  to_last : (e : Ending) (w : WroteTo means s0 e start now) → EndsRightly start.input.left w.lines e → Part
+  to_last e w f = inr (inr (record { ending = e; lines = w.lines; read = w.read; reason = f; text = w.text; says = w.says; written = w.written }))
 
-  whole_last : (e : Ending) (least : ℕ) → WroteWhole means s0 e least start now → Part
-  whole_last e least w = inr (inr (record { ending = e; lines = whole 131072 w.got; read = whole_lines_read start now w.got w.reads; text = w.text; says = w.says; written = w.written }))
+  whole_last : (e : Ending) (least : ℕ) (w : WroteWhole means s0 e least start now) → EndsRightly start.input.left (whole 131072 w.got) e → Part
+  whole_last e least w f = inr (inr (record { ending = e; lines = whole 131072 w.got; read = whole_lines_read start now w.got w.reads; reason = f; text = w.text; says = w.says; written = w.written }))
 
   part_of : (e : Ending) → By e → Part
   part_of endings.NoMemory x = inl x
   part_of endings.WritingFailed x = inr (inl x)
-  part_of endings.Done x = inr (inr (record { ending = endings.Done; lines = items 131072 x.got; read = items_read start now x.got x.reads x.all; text = x.text; says = x.says; written = x.written }))
+  part_of endings.Done x = inr (inr (record { ending = endings.Done; lines = items 131072 x.got; read = items_read start now x.got x.reads x.all; reason = all_items start.input.left x.got (items 131072 x.got) refl x.all; text = x.text; says = x.says; written = x.written }))
   part_of endings.Usage x = absurd x
   part_of (endings.NoPosition f) x = absurd x
-  part_of endings.ReadingFailed x = whole_last endings.ReadingFailed 0 x
-  part_of endings.TooLong x = whole_last endings.TooLong 4294967296 x
-  part_of e x = to_last e x
+  part_of endings.ReadingFailed x = whole_last endings.ReadingFailed 0 x tt
+  part_of endings.TooLong x = whole_last endings.TooLong 4294967296 x tt
+  part_of e x = to_last e x tt
 
   abbrev Completed : Type 0
   Completed = ((code ≡ 0) × WroteAll means s0 start now) ⊎ LineReported means s0 start now code ⊎ (code ≡ 3)

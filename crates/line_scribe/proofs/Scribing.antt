@@ -1,5 +1,5 @@
 -- Lines that a scribe takes.
-use Rattle.std.proofs.Common.{◌≡◌, ◌⊎◌, inl, inr, ℕ, ◌+◌, ◌<◌, ◌≤◌, List, [], ◌∷◌, ◌++◌, length, take, Bool, true, false, Option, Some, None, IfSome, Result, OnOk, OnErr, Ok, Err, refl, sym, ap, subst, ◌∙◌, arith, append_assoc, append-nil, length-append}
+use Rattle.std.proofs.Common.{◌≡◌, inl, inr, ℕ, ◌+◌, ◌<◌, List, [], ◌∷◌, ◌++◌, length, take, true, false, Option, Some, None, IfSome, Result, OnOk, OnErr, Ok, Err, refl, sym, ap, subst, ◌∙◌, arith, append_assoc, append-nil, length-append}
 use Rattle.std.proofs.Math.Seq.{take-append-add}
 use Rattle.std.proofs.KnownBytes.{Appends-nil, Appends-trans}
 use Rattle.std.specs.Io.KnownBytes.{Appends}
@@ -12,7 +12,7 @@ use Rattle.line_io.specs.Takers.{Then}
 use Rattle.command_endings.specs.declared.ending.Ending.{Ending}
 use Rattle.command_endings.specs.declared.ending.Ending.TheVariants as endings
 use Rattle.line_scribe.specs.Putting.{Putting, Puts, Closes, IsOfLine}
-use Rattle.line_scribe.specs.Scribed.{IsText}
+use Rattle.line_scribe.specs.Scribed.{HasReason, IsText}
 use Rattle.line_scribe.specs.Writing.{Moved, Cut, Stood, Said, Broke, Came, Halted, Finished, Left, MayTake, is_cut, writes}
 
 pub on_err : {T E : Type 0} (r : Result T E) (P : Type 0) → OnErr r P → is_err r ≡ true → P
@@ -54,14 +54,15 @@ module _ {S : Type 0} (means : Putting S) where
   }
 
   -- a front of the text was written
-  broke_text : (s0 : S) (lines more : List Piece) (text held written : List ℕ) (before mid after : Received) → IsText means s0 lines text → Appends before.taken mid.taken written → written ++ held ≡ text
-      → mid.faults ≡ before.faults → Cut held mid after → Broke means s0 (lines ++ more) before after
-  broke_text s0 lines more text held written before mid after i a e f c = record {
+  broke_text : (s0 : S) (Why : Ending → Type 0) (lines more : List Piece) (text held written : List ℕ) (before mid after : Received) (i : IsText means s0 lines text) → HasReason (λ e. Why e × (more ≡ [])) i
+      → Appends before.taken mid.taken written → written ++ held ≡ text → mid.faults ≡ before.faults → Cut held mid after → Broke means s0 Why (lines ++ more) before after
+  broke_text s0 Why lines more text held written before mid after i w a e f c = record {
     lines = lines;
     more = more;
     first = refl;
     text = text;
     is_text = i;
+    reason = w;
     some = subst (λ (l : List ℕ). 0 < length l) e (some_behind written held c.some);
     front = length written + c.part.0;
     appended = subst (Appends before.taken after.taken) (sym (take-append-add written held c.part.0) ∙ ap (take (length written + c.part.0)) e)
@@ -69,19 +70,42 @@ module _ {S : Type 0} (means : Putting S) where
     failure = rose_from before.faults mid.faults after.faults f c.failure;
   }
 
-  broke_all : (s0 : S) (lines : List Piece) (text held written : List ℕ) (before mid after : Received) → IsText means s0 lines text → Appends before.taken mid.taken written → written ++ held ≡ text
-      → mid.faults ≡ before.faults → Cut held mid after → Broke means s0 lines before after
-  broke_all s0 lines text held written before mid after i a e f c =
-      subst (λ (ls : List Piece). Broke means s0 ls before after) (append-nil lines) (broke_text s0 lines [] text held written before mid after i a e f c)
+  broke_all : (s0 : S) (Why : Ending → Type 0) (lines : List Piece) (text held written : List ℕ) (before mid after : Received) (i : IsText means s0 lines text) → HasReason (λ e. Why e × (◌≡◌ {A = List Piece} [] [])) i
+      → Appends before.taken mid.taken written → written ++ held ≡ text → mid.faults ≡ before.faults → Cut held mid after → Broke means s0 Why lines before after
+  broke_all s0 Why lines text held written before mid after i w a e f c =
+      subst (λ (ls : List Piece). Broke means s0 Why ls before after) (append-nil lines) (broke_text s0 Why lines [] text held written before mid after i w a e f c)
 
-  pub stood_cut : (s0 : S) (lines more : List Piece) (s : S) (held : Text) (before mid after : Received) → Stood means s0 lines s held before mid → Cut held.text mid after → Broke means s0 (lines ++ more) before after
-  stood_cut s0 lines more s held before mid after t c = broke_text s0 lines more t.text held.text t.written before mid after (inl (s, t.put)) t.appended t.all t.no_failure c
+  pub stood_cut : (s0 : S) (Why : Ending → Type 0) (lines more : List Piece) (s : S) (held : Text) (before mid after : Received) → Stood means s0 lines s held before mid → Cut held.text mid after
+      → Broke means s0 Why (lines ++ more) before after
+  stood_cut s0 Why lines more s held before mid after t c = broke_text s0 Why lines more t.text held.text t.written before mid after (inl (s, t.put)) tt t.appended t.all t.no_failure c
 
-  pub stood_cut_all : (s0 : S) (lines : List Piece) (s : S) (held : Text) (before mid after : Received) → Stood means s0 lines s held before mid → Cut held.text mid after → Broke means s0 lines before after
-  stood_cut_all s0 lines s held before mid after t c = broke_all s0 lines t.text held.text t.written before mid after (inl (s, t.put)) t.appended t.all t.no_failure c
+  pub stood_cut_all : (s0 : S) (Why : Ending → Type 0) (lines : List Piece) (s : S) (held : Text) (before mid after : Received) → Stood means s0 lines s held before mid → Cut held.text mid after
+      → Broke means s0 Why lines before after
+  stood_cut_all s0 Why lines s held before mid after t c = broke_all s0 Why lines t.text held.text t.written before mid after (inl (s, t.put)) tt t.appended t.all t.no_failure c
 
-  pub said_cut : (s0 : S) (lines : List Piece) (ending : Ending) (held : List ℕ) (before mid after : Received) → Said means s0 lines ending held before mid → Cut held mid after → Broke means s0 lines before after
-  said_cut s0 lines ending held before mid after t c = broke_all s0 lines t.text held t.written before mid after (inr (ending, t.says)) t.appended t.all t.no_failure c
+  pub said_cut : (s0 : S) (lines : List Piece) (ending : Ending) (held : List ℕ) (before mid after : Received) → Said means s0 lines ending held before mid → Cut held mid after
+      → Broke means s0 (λ e. e ≡ ending) lines before after
+  said_cut s0 lines ending held before mid after t c = broke_all s0 (λ e. e ≡ ending) lines t.text held t.written before mid after (inr (ending, t.says)) (refl, refl) t.appended t.all t.no_failure c
+
+  -- for a reason that is also such a one
+  reason_why : (s0 : S) (Why Why' : Ending → Type 0) (more lines : List Piece) (text : List ℕ) → ((e : Ending) → Why e → Why' e) → (i : IsText means s0 lines text)
+      → HasReason (λ e. Why e × (more ≡ [])) i → HasReason (λ e. Why' e × (more ≡ [])) i
+  reason_why s0 Why Why' more lines text f (inl p) w = tt
+  reason_why s0 Why Why' more lines text f (inr p) w = (f p.0 w.0, w.1)
+
+  broke_why : (s0 : S) (Why Why' : Ending → Type 0) (lines : List Piece) (before after : Received) → ((e : Ending) → Why e → Why' e) → Broke means s0 Why lines before after → Broke means s0 Why' lines before after
+  broke_why s0 Why Why' lines before after f b = record {
+    lines = b.lines;
+    more = b.more;
+    first = b.first;
+    text = b.text;
+    is_text = b.is_text;
+    reason = reason_why s0 Why Why' b.more b.lines b.text f b.is_text b.reason;
+    some = b.some;
+    front = b.front;
+    appended = b.appended;
+    failure = b.failure;
+  }
 
   -- all that was held was written
   pub said_moved : (s0 : S) (lines : List Piece) (ending : Ending) (held held' : Text) (before mid after : Received) → Said means s0 lines ending held.text before mid → Moved held held' mid after → held'.text ≡ []
@@ -154,7 +178,7 @@ module _ {S : Type 0} (means : Putting S) where
 
   left_by : (s0 : S) (lines : List Piece) (ending answer : Ending) (before later : Received) → IsOfLine ending → Finished means s0 lines ending answer before later → Left means s0 lines ending answer before later
   left_by s0 lines ending answer before later i (inl d) = inl (d.0, i, d.1)
-  left_by s0 lines ending answer before later i (inr b) = inr b
+  left_by s0 lines ending answer before later i (inr b) = inr (b.0, broke_why s0 (λ e. e ≡ ending) IsOfLine lines before later (λ e same. subst IsOfLine (sym same) i) b.1)
 
   pub left_written : (s0 : S) (lines : List Piece) (ending answer : Ending) (held : List ℕ) (before after later : Received) → is_cut ending ≡ false → Halted means s0 ending lines held before after
       → (Said means s0 lines ending held before after → Finished means s0 lines ending answer before later) → Left means s0 lines ending answer before later

@@ -10,7 +10,7 @@ use Rattle.command_endings.specs.Ran.{WritingBroke}
 use Rattle.command_endings.specs.Reads.{AreRead}
 use Rattle.command_endings.specs.Streams.{Streams, AreSame, IsSteady}
 use Rattle.line_scribe.specs.Putting.{Putting, IsOfLine}
-use Rattle.line_scribe.specs.Scribed.{WroteAll, WroteFront, WroteTo, WroteWhole}
+use Rattle.line_scribe.specs.Scribed.{EndsRightly, WroteAll, WroteFront, WroteTo, WroteWhole}
 
 -- A line was the reason to end, and that was reported.
 pub record LineReported {S : Type 0} (means : Putting S) (s0 : S) (before after : Streams) (code : ℕ) : Type 0 where
@@ -25,6 +25,7 @@ pub record WroteLast {S : Type 0} (means : Putting S) (s0 : S) (before after : S
   pub ending : Ending
   pub lines : List Piece
   pub read : AreRead before after lines
+  pub reason : EndsRightly before.input.left lines ending
   pub text : List ℕ
   pub says : means.says s0 lines ending text
   pub written : Appends before.output.taken after.output.taken text

@@ -1,5 +1,6 @@
 -- What a scribe has written of an input.
-use Rattle.std.specs.Prelude.{◌≡◌, ◌⊎◌, ℕ, ◌^◌, ◌≤◌, ◌<◌, List, length, take}
+use mathlib.Core.Logic.{inl, inr}
+use Rattle.std.specs.Prelude.{◌≡◌, ◌⊎◌, ⊤, ℕ, ◌^◌, ◌≤◌, ◌<◌, List, length, take, Option, IfSome}
 use Rattle.std.specs.Io.KnownBytes.{Appends}
 use Rattle.line_io.specs.Lines.{Piece, items}
 use Rattle.line_io.specs.Runs.{whole}
@@ -41,12 +42,27 @@ pub record WroteTo {S : Type 0} (means : Putting S) (s0 : S) (ending : Ending) (
 abbrev pub IsText : {S : Type 0} → Putting S → S → List Piece → List ℕ → Type 0
 IsText {S} means s0 lines text = ((s : S) × means.put s0 lines s text) ⊎ ((ending : Ending) × means.says s0 lines ending text)
 
+-- the lines are all that the input had left, if it tells
+abbrev pub AreAll : Option (List ℕ) → List Piece → Type 0
+AreAll left lines = IfSome left (λ x. items SCRIPT_LINE x ≡ lines)
+
+-- Behind these lines the input ended only if they are all of it.
+abbrev pub EndsRightly : Option (List ℕ) → List Piece → Ending → Type 0
+EndsRightly left lines endings.Done = AreAll left lines
+EndsRightly left lines ending = ⊤
+
+-- if no more lines are taken, that is for such a reason
+abbrev pub HasReason : {P : Type 0} → {Q : Ending → Type 0} → (Ending → Type 0) → P ⊎ ((ending : Ending) × Q ending) → Type 0
+HasReason Why (inl p) = ⊤
+HasReason Why (inr p) = Why p.0
+
 -- A front of the text of the first lines was written.
 pub record WroteFront {S : Type 0} (means : Putting S) (s0 : S) (start now : Streams) : Type 0 where
   pub lines : List Piece
   pub read : AreRead start now lines
   pub text : List ℕ
   pub is_text : IsText means s0 lines text
+  pub reason : HasReason (EndsRightly start.input.left lines) is_text
   pub some : 0 < length text
   pub front : ℕ
   pub written : Appends start.output.taken now.output.taken (take front text)

@@ -9,7 +9,7 @@ use Rattle.line_io.specs.Takers.{Meaning}
 use Rattle.command_endings.specs.declared.ending.Ending.{Ending}
 use Rattle.command_endings.specs.declared.ending.Ending.TheVariants as endings
 use Rattle.line_scribe.specs.Putting.{Putting, IsOfLine}
-use Rattle.line_scribe.specs.Scribed.{IsText}
+use Rattle.line_scribe.specs.Scribed.{HasReason, IsText}
 use Rattle.command_endings.specs.declared.limits.TheConstants.{TEXT_ROOM}
 
 -- A front of what was held was written, and the rest is held.
@@ -49,13 +49,15 @@ pub record Said {S : Type 0} (means : Putting S) (s0 : S) (lines : List Piece) (
   pub all : written ++ held ≡ text
   pub no_failure : after.faults ≡ before.faults
 
--- A write failed, and the output got a front of the text of the first of these lines.
-pub record Broke {S : Type 0} (means : Putting S) (s0 : S) (pieces : List Piece) (before after : Received) : Type 0 where
+-- A write failed, and the output got a front of the text of the first of these lines, or of all of them with what is put
+-- last for such a reason.
+pub record Broke {S : Type 0} (means : Putting S) (s0 : S) (Why : Ending → Type 0) (pieces : List Piece) (before after : Received) : Type 0 where
   pub lines : List Piece
   pub more : List Piece
   pub first : pieces ≡ lines ++ more
   pub text : List ℕ
   pub is_text : IsText means s0 lines text
+  pub reason : HasReason (λ e. Why e × (more ≡ [])) is_text
   pub some : 0 < length text
   pub front : ℕ
   pub appended : Appends before.taken after.taken (take front text)
@@ -64,20 +66,20 @@ pub record Broke {S : Type 0} (means : Putting S) (s0 : S) (pieces : List Piece)
 -- a line, or a write that failed, ended it
 abbrev pub Halted : {S : Type 0} → Putting S → S → Ending → List Piece → List ℕ → Received → Received → Type 0
 Halted means s0 ending lines held before after =
-    ((ending ≡ endings.WritingFailed) × Broke means s0 lines before after)
+    ((ending ≡ endings.WritingFailed) × Broke means s0 IsOfLine lines before after)
     ⊎ (IsOfLine ending × Said means s0 lines ending held before after)
 
 -- all was written and this is the ending, or a write failed
 abbrev pub Finished : {S : Type 0} → Putting S → S → List Piece → Ending → Ending → Received → Received → Type 0
 Finished means s0 lines ending answer before after =
     ((answer ≡ ending) × Said means s0 lines ending [] before after)
-    ⊎ ((answer ≡ endings.WritingFailed) × Broke means s0 lines before after)
+    ⊎ ((answer ≡ endings.WritingFailed) × Broke means s0 (λ e. e ≡ ending) lines before after)
 
 -- if a line ended it
 abbrev pub Left : {S : Type 0} → Putting S → S → List Piece → Ending → Ending → Received → Received → Type 0
 Left means s0 lines ending answer before after =
     ((answer ≡ ending) × IsOfLine ending × Said means s0 lines ending [] before after)
-    ⊎ ((answer ≡ endings.WritingFailed) × Broke means s0 lines before after)
+    ⊎ ((answer ≡ endings.WritingFailed) × Broke means s0 IsOfLine lines before after)
 
 -- after these lines, or if the last of them ended it
 abbrev pub Came : {S : Type 0} → Putting S → S → List Piece → Option Ending → S → Text → Received → Received → Type 0

@@ -18,19 +18,19 @@ use std::alloc::Global;
 
 // The memory of a run: for the lines, for the text, and for a diagnostic.
 #[derive(Drop)]
-struct Room {
+struct ScribeRoom {
     lines: Lines,
     text: Out,
     told: Out,
 }
 
-impl Room {
-    fn make(alloc: Global) -> Result<Room, NoMemory>
+impl ScribeRoom {
+    fn make(alloc: Global) -> Result<ScribeRoom, NoMemory>
         ensures lines { IfOk result (λ room. room.lines ≡ unread SCRIPT_LINE) }
         ensures text { IfOk result (λ room. room.text ≡ empty TEXT_ROOM) }
         ensures told { IfOk result (λ room. room.told ≡ empty DIAGNOSTIC_ROOM) }
     {
-        Ok(Room {
+        Ok(ScribeRoom {
             lines: Lines::make(alloc, SCRIPT_LINE)?,
             text: Out::make(alloc, TEXT_ROOM)?,
             told: Out::make(alloc, DIAGNOSTIC_ROOM)?,
@@ -83,7 +83,7 @@ pub fn run_scribe<I: Source, O: Sink, D: Sink, S: Scribe + Drop>(
         (streams (I.state input.old) (O.state output.old) (D.state diag.old))
         (streams (I.state input.new) (O.state output.new) (D.state diag.new)) (code_of result) }
 {
-    let Ok(mut room) = Room::make(alloc) else {
+    let Ok(mut room) = ScribeRoom::make(alloc) else {
         return tell_short(Ending::NoMemory, diag);
     };
     let mut writer = Writer {

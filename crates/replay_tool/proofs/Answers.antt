@@ -65,7 +65,6 @@ module _ (o : Settings) (unread kept : Type 0) (start now : Streams) where
   much_of m = let r = m.replays in record {
     replayed = record { got = r.got; reads = r.reads; first = r.first; faultless = r.fine; script = written_of (whole 131072 r.got) r.scripted };
     least = r.least_is;
-    still_open = m.still_open;
   }
 
   front_of : CutShort o start now → FrontWritten o start now

@@ -6,9 +6,9 @@ use Rattle.policy_rules.specs.declared.settings.Settings.{Settings}
 use Rattle.command_endings.specs.declared.ending.Ending.{Ending}
 use Rattle.command_endings.specs.declared.ending.Ending.TheVariants as endings
 use Rattle.command_endings.specs.Streams.{Streams, with_input}
-use Rattle.script_player.specs.declared.stage.Stage.{Stage}
-use Rattle.script_player.specs.declared.stage.Stage.TheVariants as stages
-use Rattle.adapter_core.specs.Parts.{Parts}
+use Rattle.script_player.specs.declared.stage.ScriptStage.{ScriptStage}
+use Rattle.script_player.specs.declared.stage.ScriptStage.TheVariants as stages
+use Rattle.adapter_core.specs.Parts.{CoreParts}
 use Rattle.command_endings.proofs.Readings.{ended_all, stopped_read}
 use Rattle.replay_tool.specs.declared.check.Checker.{Checker}
 use Rattle.replay_tool.specs.Check.{Finds}
@@ -42,7 +42,7 @@ module _ {O : Type 0} (old new : Place Checker O) (o : Settings) (unread : IsUnr
     audit_failed t = at_whole o new.taker t.pieces (t.ends.took o unread) start now t.given (record { given = t.gave.given; left = t.gave.left }) t.ends.all
 
     pub audit_endless : (t : Taken checks 131072 ends.Endless old new) → Finds o endings.TooLong start now
-    audit_endless t = at_many o new.taker t.pieces (t.ends.took o unread) start now t.given (record { given = t.gave.given; left = t.gave.left }) t.ends.all t.ends.many t.ends.still_open
+    audit_endless t = at_many o new.taker t.pieces (t.ends.took o unread) start now t.given (record { given = t.gave.given; left = t.gave.left }) t.ends.all t.ends.many
 
 -- the end of the input is no failure of reading
 end_other : (due : List ℕ) (n : ℕ) (answer : Ending) → answer ≡ ending_at due n → answer ≡ endings.ReadingFailed → ⊥
@@ -51,7 +51,7 @@ end_other due n answer e h = by (length due == 0) (sym e ∙ h) where
   by true h = cc
   by false h = cc
 
-pub ends_other : (core : Parts) (stage : Stage) (due : List ℕ) (n : ℕ) (answer : Ending) → EndsAt core stage due n answer → answer ≡ endings.ReadingFailed → ⊥
+pub ends_other : (core : CoreParts) (stage : ScriptStage) (due : List ℕ) (n : ℕ) (answer : Ending) → EndsAt core stage due n answer → answer ≡ endings.ReadingFailed → ⊥
 ends_other core stages.Start due n answer e h = end_other e.lines n answer e.ending h
 ends_other core stages.Plain due n answer e h = end_other due n answer e h
 ends_other core (stages.Told k) due n answer e h = end_other due n answer e h

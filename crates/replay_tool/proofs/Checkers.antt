@@ -3,7 +3,6 @@ use Rattle.std.proofs.Common.{◌≡◌, ◌⊎◌, inl, inr, ℕ, ◌+◌, ◌^
 use Rattle.line_io.specs.Event.{Event, Open}
 use Rattle.line_io.specs.Lines.{Piece, Whole, TooLong, parts, items}
 use Rattle.line_io.specs.Runs.{Runs, whole}
-use Rattle.line_io.specs.Taken.{IsOpenStill}
 use Rattle.line_io.specs.Takers.{Then}
 use Rattle.script_lines.specs.Header.{header_of, header_text}
 use Rattle.script_lines.specs.StepLine.{step_line}
@@ -11,15 +10,15 @@ use Rattle.script_lines.proofs.KindLemmas.{step_fed}
 use Rattle.script_lines.proofs.Scripts.{parts_line}
 use Rattle.policy_rules.specs.declared.settings.Settings.{Settings}
 use Rattle.adapter_core.specs.Trace.{iface_text, engine_text}
-use Rattle.adapter_core.specs.Parts.{Parts as AnyParts}
+use Rattle.adapter_core.specs.Parts.{CoreParts as AnyParts}
 use Rattle.adapter_core.specs.Stands.{Stands}
 use Rattle.session_script.specs.Script.{written_text, events_in}
 use Rattle.session_script.proofs.Lines.{written_lines, event_lines}
 use Rattle.session_script.proofs.Scripts.{some_opened}
 use Rattle.command_endings.specs.declared.ending.Ending.{Ending}
 use Rattle.command_endings.specs.declared.ending.Ending.TheVariants as endings
-use Rattle.script_player.specs.declared.stage.Stage.{Stage}
-use Rattle.script_player.specs.declared.stage.Stage.TheVariants as stages
+use Rattle.script_player.specs.declared.stage.ScriptStage.{ScriptStage}
+use Rattle.script_player.specs.declared.stage.ScriptStage.TheVariants as stages
 use Rattle.replay_tool.specs.declared.check.Checker.{Checker}
 use Rattle.replay_tool.specs.Check.{lines_by, AreScript, BeginScript, ScriptBy, BeginBy, Parts, ByLine, AtEnd, BeginsWhole, BeginsMuch, Finds, kind_in}
 use Rattle.script_player.specs.Versions.{Version, First, Second, version_by, version_in, HasNone}
@@ -44,7 +43,7 @@ some_lines : (v : Version) (l : Piece) (ls : List Piece) → IsSomeIn v (l ∷ l
 some_lines First l ls = tt
 some_lines (Second s) l ls = omega arith
 
-standing_begins : (o : Settings) (v : Version) (core : AnyParts) (stage : Stage) (due : List ℕ) (before : List Piece) → Standing o v core stage due before → IsSomeIn v before → BeginBy o v before
+standing_begins : (o : Settings) (v : Version) (core : AnyParts) (stage : ScriptStage) (due : List ℕ) (before : List Piece) → Standing o v core stage due before → IsSomeIn v before → BeginBy o v before
 standing_begins o First core stages.Plain due before st some = shows_begin o First core stages.Plain due before st some st.at
 standing_begins o (Second s) core (stages.Told n) due before st some = shows_begin o (Second s) core (stages.Told n) due before st some st.at.0
 standing_begins o (Second s) core (stages.Numbered n) due before st some =
@@ -52,15 +51,15 @@ standing_begins o (Second s) core (stages.Numbered n) due before st some =
     (ap (λ k. lines_by (Second s) st.trace ++ Whole (step_line k) ∷ []) (sym st.at.number_is) ∙ st.at.same)
 standing_begins o v core stage due before st some = absurd st.at
 
-standing_ends : (o : Settings) (v : Version) (core : AnyParts) (stage : Stage) (due : List ℕ) (before : List Piece) → Standing o v core stage due before → IsSomeIn v before
+standing_ends : (o : Settings) (v : Version) (core : AnyParts) (stage : ScriptStage) (due : List ℕ) (before : List Piece) → Standing o v core stage due before → IsSomeIn v before
     → (n : ℕ) (answer : Ending) → EndsAt core stage due n answer → Ended o v before n answer
 standing_ends o First core stages.Plain due before st some n answer e = shows_end o First core stages.Plain due before st some st.at n answer e
 standing_ends o (Second s) core (stages.Told k) due before st some n answer e = shows_end o (Second s) core (stages.Told k) due before st some st.at.0 n answer e
 standing_ends o (Second s) core (stages.Numbered k) due before st some n answer e = inr (e, no_whole o s st.proper st.trace st.lawful st.opened k before st.at.same)
 standing_ends o v core stage due before st some n answer e = absurd st.at
 
-standing_takes : (o : Settings) (v : Version) (core : AnyParts) (stage : Stage) (due : List ℕ) (before : List Piece) → Standing o v core stage due before → IsSomeIn v before
-    → (line : List ℕ) (number : ℕ) (answer : Option Ending) (core' : AnyParts) (stage' : Stage) (due' : List ℕ) → TakesLater core stage due number line answer core' stage' due'
+standing_takes : (o : Settings) (v : Version) (core : AnyParts) (stage : ScriptStage) (due : List ℕ) (before : List Piece) → Standing o v core stage due before → IsSomeIn v before
+    → (line : List ℕ) (number : ℕ) (answer : Option Ending) (core' : AnyParts) (stage' : ScriptStage) (due' : List ℕ) → TakesLater core stage due number line answer core' stage' due'
     → Taken o v before (Whole line) number answer core' stage' due'
 standing_takes o First core stages.Plain due before st some line number answer core' stage' due' k = taken_plain o core due before st line number core' stage' due' answer k.ending k.follows
 standing_takes o (Second s) core (stages.Told n) due before st some line number answer core' stage' due' k = taken_told o s core n due before st some line number core' stage' due' answer k.ending k.follows
@@ -68,8 +67,8 @@ standing_takes o (Second s) core (stages.Numbered n) due before st some line num
 standing_takes o v core stage due before st some line number answer core' stage' due' k = absurd st.at
 
 -- no session stands before its first line
-started : (o : Settings) (v : Version) (core : AnyParts) (stage : Stage) (due : List ℕ) (before : List Piece) → Standing o v core stage due before
-    → (line : List ℕ) (number : ℕ) (answer : Option Ending) (core' : AnyParts) (stage' : Stage) (due' : List ℕ) → TakesAny core stage due number line answer core' stage' due'
+started : (o : Settings) (v : Version) (core : AnyParts) (stage : ScriptStage) (due : List ℕ) (before : List Piece) → Standing o v core stage due before
+    → (line : List ℕ) (number : ℕ) (answer : Option Ending) (core' : AnyParts) (stage' : ScriptStage) (due' : List ℕ) → TakesAny core stage due number line answer core' stage' due'
     → TakesLater core stage due number line answer core' stage' due'
 started o v core stages.Plain due before st line number answer core' stage' due' k = k
 started o v core stages.Headed due before st line number answer core' stage' due' k = k
@@ -124,7 +123,7 @@ opens_numbered o s core due line h f =
 
 -- A LINE MORE
 
-begin_of : (o : Settings) (core : AnyParts) (stage : Stage) (due : List ℕ) (lines : List Piece) → Placed o core stage due lines → BeginScript o lines
+begin_of : (o : Settings) (core : AnyParts) (stage : ScriptStage) (due : List ℕ) (lines : List Piece) → Placed o core stage due lines → BeginScript o lines
 begin_of o core stage due [] p = record { trace = []; lawful = tt; later = []; goes_on = refl }
 begin_of o core stage due (l ∷ ls) p = standing_begins o (version_in (l ∷ ls)) core stage due (l ∷ ls) p (some_lines (version_in (l ∷ ls)) l ls)
 
@@ -149,23 +148,23 @@ module _ (o : Settings) (checker : Checker) (before : List Piece) (w : Walked o 
     abbrev parts_at : (BeginScript o more → ⊥) → (start now : Streams) → AreRead start now more → Parts o number start now
     parts_at never start now read = record { before = before; line = p; read = read; number_is = number_is; begins = begin; differs = never }
 
-    abbrev checker_with : AnyParts → Stage → List ℕ → Checker
+    abbrev checker_with : AnyParts → ScriptStage → List ℕ → Checker
     checker_with core stage due = record { core = core; stage = stage; due = due; number = number }
 
     -- the lines with this one stand
-    goes_to : (core : AnyParts) (stage : Stage) (due : List ℕ) → MayTake core stage → Placed o core stage due more → Walked o (checker_with core stage due) more
+    goes_to : (core : AnyParts) (stage : ScriptStage) (due : List ℕ) → MayTake core stage → Placed o core stage due more → Walked o (checker_with core stage due) more
     goes_to core stage due may placed = record {
       number = let z : number ≡ length more = omega (arith, length-append before (p ∷ []), number_is) in z;
       placed = placed;
       may = may;
     }
 
-    place_more : (ls : List Piece) (core : AnyParts) (stage : Stage) (due : List ℕ) → Standing o (version_in (ls ++ p ∷ [])) core stage due (ls ++ p ∷ []) → Placed o core stage due (ls ++ p ∷ [])
+    place_more : (ls : List Piece) (core : AnyParts) (stage : ScriptStage) (due : List ℕ) → Standing o (version_in (ls ++ p ∷ [])) core stage due (ls ++ p ∷ []) → Placed o core stage due (ls ++ p ∷ [])
     place_more [] core stage due st = st
     place_more (l ∷ ls) core stage due st = st
 
     -- what the line came to, where it does not tell another version
-    on_taken : version_in more ≡ version_in before → (answer : Option Ending) (core : AnyParts) (stage : Stage) (due : List ℕ) → MayTake core stage → Taken o (version_in before) before p number answer core stage due
+    on_taken : version_in more ≡ version_in before → (answer : Option Ending) (core : AnyParts) (stage : ScriptStage) (due : List ℕ) → MayTake core stage → Taken o (version_in before) before p number answer core stage due
         → Examined o more answer (checker_with core stage due)
     on_taken v answer core stage due may (Goes e st) =
         subst (λ (x : Option Ending). Examined o more x (checker_with core stage due)) (sym e)
@@ -202,7 +201,7 @@ module _ (o : Settings) (checker : Checker) (before : List Piece) (w : Walked o 
       none_long : (v : Version) → BeginBy o v more → ⊥
       none_long v b = never _ before b.later (b.goes_on ∙ append_assoc before (p ∷ []) b.later ∙ ap (λ (x : Piece). before ++ x ∷ b.later) e)
 
-    module _ (line : List ℕ) (line_is : p ≡ Whole line) (answer : Option Ending) (core : AnyParts) (stage : Stage) (due : List ℕ) (may : MayTake core stage) where
+    module _ (line : List ℕ) (line_is : p ≡ Whole line) (answer : Option Ending) (core : AnyParts) (stage : ScriptStage) (due : List ℕ) (may : MayTake core stage) where
       abbrev Came : Type 0
       Came = Examined o more answer (checker_with core stage due)
 
@@ -219,12 +218,12 @@ module _ (o : Settings) (checker : Checker) (before : List Piece) (w : Walked o 
           let opened = opens_numbered o s core due line is x.0 in
           let placed : Placed o core (stages.Told 0) due (Whole line ∷ []) = subst (λ (v : Version). Standing o v core (stages.Told 0) due (Whole line ∷ [])) (sym (ap version_by is)) opened in
           subst (λ (a : Option Ending). Examined o more a (checker_with core stage due)) (sym x.2)
-          (goes_to core stage due may (subst (λ (y : Stage). Placed o core y due more) (sym x.1) (subst (λ (ls : List Piece). Placed o core (stages.Told 0) due ls) (sym (more_is h)) placed)))
+          (goes_to core stage due may (subst (λ (y : ScriptStage). Placed o core y due more) (sym x.1) (subst (λ (ls : List Piece). Placed o core (stages.Told 0) due ls) (sym (more_is h)) placed)))
 
       pub on_line : TakesAny checker.core checker.stage checker.due number line answer core stage due → Came
       on_line k = by before refl w.placed where
         by : (ls : List Piece) → before ≡ ls → Placed o checker.core checker.stage checker.due ls → Came
-        by [] h placed = on_first h (header_of line) refl placed.0 (subst (λ (x : Stage). TakesAny checker.core x checker.due number line answer core stage due) placed.1 k)
+        by [] h placed = on_first h (header_of line) refl placed.0 (subst (λ (x : ScriptStage). TakesAny checker.core x checker.due number line answer core stage due) placed.1 k)
         by (l ∷ ls) h st =
             let v = version_in (l ∷ ls) in
             let later = started o v checker.core checker.stage checker.due (l ∷ ls) st line number answer core stage due k in
@@ -236,7 +235,7 @@ module _ (o : Settings) (checker : Checker) (before : List Piece) (w : Walked o 
   -- THE END
 
   ended_of : (lines : List Piece) → Placed o checker.core checker.stage checker.due lines → (n : ℕ) (answer : Ending) → EndsAt checker.core checker.stage checker.due n answer → Ended o (version_in lines) lines n answer
-  ended_of [] p n answer e = opened (subst (λ (x : Stage). EndsAt checker.core x checker.due n answer) p.1 e) where
+  ended_of [] p n answer e = opened (subst (λ (x : ScriptStage). EndsAt checker.core x checker.due n answer) p.1 e) where
     opened : OpensAtEnd checker.core n answer → Ended o First [] n answer
     opened x = shows_end o First x.core stages.Plain x.lines [] (opens_plain o checker.core x.core x.lines p.0 x.opens) tt ((opens_plain o checker.core x.core x.lines p.0 x.opens).at) n answer x.ending
   ended_of (l ∷ ls) p n answer e = standing_ends o (version_in (l ∷ ls)) checker.core checker.stage checker.due (l ∷ ls) p (some_lines (version_in (l ∷ ls)) l ls) n answer e
@@ -271,17 +270,9 @@ module _ (o : Settings) (checker : Checker) (before : List Piece) (w : Walked o 
     }
 
     -- and the input is too long
-    pub at_many : before ≡ whole 131072 got → 2 ^ 32 ≤ length got → IsOpenStill 131072 got before → BeginsMuch o start now
+    pub at_many : before ≡ whole 131072 got → 2 ^ 32 ≤ length got → BeginsMuch o start now
     unfolding at_whole
-    at_many same many still =
-        record {
-          begins = at_whole same;
-          least = many;
-          held = still.held;
-          calls = still.calls;
-          runs = subst (λ (ls : List Piece). Runs 131072 still.held got ls still.calls) same still.runs;
-          waits = still.waits;
-        }
+    at_many same many = record { begins = at_whole same; least = many }
 
 -- before the first line
 pub first_walk : (o : Settings) (checker : Checker) → IsUnread o checker → Walked o checker []

@@ -10,7 +10,7 @@ use Rattle.script_lines.proofs.Numerals.{step_again, number_below}
 use Rattle.policy_rules.specs.declared.settings.Settings.{Settings}
 use Rattle.adapter_core.specs.Ends.{may, is_over}
 use Rattle.adapter_core.specs.Trace.{Step, Lawful, state}
-use Rattle.adapter_core.specs.Parts.{Parts}
+use Rattle.adapter_core.specs.Parts.{CoreParts}
 use Rattle.desk_rules.specs.Fits.{IsSound}
 use Rattle.adapter_core.specs.Stands.{Stands, step_by}
 use Rattle.adapter_core.proofs.Unique.{unique}
@@ -242,10 +242,10 @@ module _ (o s : Settings) (proper : IsProperIn (Second s)) (t : List Step) (l : 
         omega arith
 
   -- where an event may come they begin a script
-  pub begin_number : (core : Parts) → Stands s core t → is_over core.ends ≡ false → (lines : List Piece) → lines_by (Second s) t ++ Whole (number_line (length t)) ∷ [] ≡ lines → BeginBy o (Second s) lines
+  pub begin_number : (core : CoreParts) → Stands s core t → is_over core.ends ≡ false → (lines : List Piece) → lines_by (Second s) t ++ Whole (number_line (length t)) ∷ [] ≡ lines → BeginBy o (Second s) lines
   begin_number core st over lines e =
-      let m = some_may core.ends (ap (λ (w : Parts). w.ends.opened) st.0 ∙ op) over in
-      let sound = subst (λ (w : Parts). IsSound w.desk) (sym st.0) ((lasts s t l).sound) in
+      let m = some_may core.ends (ap (λ (w : CoreParts). w.ends.opened) st.0 ∙ op) over in
+      let sound = subst (λ (w : CoreParts). IsSound w.desk) (sym st.0) ((lasts s t l).sound) in
       let x = extended s core t m.0 m.1 sound l st in
       let step = step_by core m.0 in
       let ls = longer_lines o (Second s) proper (step ∷ []) t x.0 l in

@@ -13,10 +13,10 @@ use Rattle.session_script.specs.Script.{events, event_told}
 use Rattle.session_script.proofs.Numbered.{header_quiet}
 use Rattle.session_script.proofs.Scripts.{later_events, events_later}
 use Rattle.command_endings.specs.declared.ending.Ending.TheVariants as endings
-use Rattle.script_player.specs.declared.stage.Stage.{Stage}
-use Rattle.script_player.specs.declared.stage.Stage.TheVariants as stages
+use Rattle.script_player.specs.declared.stage.ScriptStage.{ScriptStage}
+use Rattle.script_player.specs.declared.stage.ScriptStage.TheVariants as stages
 use Rattle.replay_tool.specs.Check.{lines_by, BeginBy, BeginScript, AwaitBy, AwaitEvent, kind_in, kind_under}
-use Rattle.script_player.specs.Versions.{Kind, Tells, Writes, Numbers, HasNone, kind_by, kind_of, Version, First, Second, version_by, version_in, behind_header, header_lines, settings_by, Place, Said, Comes, Passes, Starts, HasNoMark, IsOutOfStep, Cannot, kind_says, line_says, place_said, place_over, stage_told, fault_said, or_later, first_fault, opened, beginning, fault_by, script_fault}
+use Rattle.script_player.specs.Versions.{LineKind, Tells, Writes, Numbers, HasNone, kind_by, kind_of, Version, First, Second, version_by, version_in, behind_header, header_lines, settings_by, Place, LineSaid, Comes, Passes, Starts, HasNoMark, IsOutOfStep, Cannot, kind_says, line_says, place_said, place_over, stage_told, fault_said, or_later, first_fault, opened, beginning, fault_by, script_fault}
 use Rattle.replay_tool.specs.Replayed.{IsProperIn}
 use Rattle.script_player.proofs.VersionLines.{no_earlier, version_stays, behind_more}
 use Rattle.replay_tool.proofs.ProperHeaders.{header_spells}
@@ -72,7 +72,7 @@ module _ (o : Settings) (before : List Piece) (line : Piece) (later : List Piece
       (f.0, (f.1.0, (no_earlier (fault_said f.1.0 (line_says (place_over (beginning v) (behind_header v before)) line)) _ f.1.1).0))
 
 -- in version 1 the stage stays
-plain_stays : (s : Said) (place : Place) → place.stage ≡ stages.Plain → ((n : ℕ) → s ≡ Starts n → ⊥) → (place_said place s).stage ≡ stages.Plain
+plain_stays : (s : LineSaid) (place : Place) → place.stage ≡ stages.Plain → ((n : ℕ) → s ≡ Starts n → ⊥) → (place_said place s).stage ≡ stages.Plain
 plain_stays (Comes e) place h never = ap stage_told h
 plain_stays (Starts n) place h never = absurd (never n refl)
 plain_stays Passes place h never = h
@@ -80,9 +80,9 @@ plain_stays HasNoMark place h never = h
 plain_stays IsOutOfStep place h never = h
 plain_stays Cannot place h never = h
 
-no_start : (place : Place) (k : Kind) (n : ℕ) → place.stage ≡ stages.Plain → kind_says place.stage place.ends k ≡ Starts n → ⊥
-no_start place k n h e = by k (ap (λ (x : Stage). kind_says x place.ends k) (sym h) ∙ e) where
-  by : (k : Kind) → kind_says stages.Plain place.ends k ≡ Starts n → ⊥
+no_start : (place : Place) (k : LineKind) (n : ℕ) → place.stage ≡ stages.Plain → kind_says place.stage place.ends k ≡ Starts n → ⊥
+no_start place k n h e = by k (ap (λ (x : ScriptStage). kind_says x place.ends k) (sym h) ∙ e) where
+  by : (k : LineKind) → kind_says stages.Plain place.ends k ≡ Starts n → ⊥
   by (Tells x) e = may_by (may place.ends x) e where
     may_by : (b : Bool) → cond b (Comes x) Cannot ≡ Starts n → ⊥
     may_by true e = cc
@@ -95,21 +95,21 @@ plain_over : (ls : List Piece) (place : Place) → place.stage ≡ stages.Plain 
 plain_over [] place h = h
 plain_over (l ∷ ls) place h = plain_over ls (place_said place (line_says place l)) (plain_stays (line_says place l) place h (λ n e. no_start place (kind_of l) n h e))
 
-says_bare : (stage : Stage) (ends : Ends) → kind_says stage ends HasNone ≡ HasNoMark
+says_bare : (stage : ScriptStage) (ends : Ends) → kind_says stage ends HasNone ≡ HasNoMark
 says_bare stages.Start ends = refl
 says_bare stages.Plain ends = refl
 says_bare stages.Headed ends = refl
 says_bare (stages.Told n) ends = refl
 says_bare (stages.Numbered n) ends = refl
 
-plain_bare : (k : Kind) (ends : Ends) → kind_under First k ≡ HasNone → kind_says stages.Plain ends k ≡ HasNoMark
+plain_bare : (k : LineKind) (ends : Ends) → kind_under First k ≡ HasNone → kind_says stages.Plain ends k ≡ HasNoMark
 plain_bare (Tells e) ends h = cc
 plain_bare Writes ends h = cc
 plain_bare (Numbers n) ends h = refl
 plain_bare HasNone ends h = refl
 
-bare_says : (w : Version) (ls : List Piece) (k : Kind) → kind_under w k ≡ HasNone → (let place = place_over (beginning w) ls in kind_says place.stage place.ends k ≡ HasNoMark)
-bare_says First ls k h = let place = place_over (beginning First) ls in ap (λ (x : Stage). kind_says x place.ends k) (plain_over ls (beginning First) refl) ∙ plain_bare k place.ends h
+bare_says : (w : Version) (ls : List Piece) (k : LineKind) → kind_under w k ≡ HasNone → (let place = place_over (beginning w) ls in kind_says place.stage place.ends k ≡ HasNoMark)
+bare_says First ls k h = let place = place_over (beginning First) ls in ap (λ (x : ScriptStage). kind_says x place.ends k) (plain_over ls (beginning First) refl) ∙ plain_bare k place.ends h
 bare_says (Second s) ls k h = let place = place_over (beginning (Second s)) ls in ap (kind_says place.stage place.ends) h ∙ says_bare place.stage place.ends
 
 -- where no line is a fault, the line is marked
@@ -135,7 +135,7 @@ along_state o [] = refl
 along_state o (s ∷ t) = ap (λ (x : Ends). ends_after x s.event) (along_state o t) ∙ sym (along_both at_start (events t) (s.event ∷ []))
 
 -- the events that a kind tells
-abbrev kind_told : Kind → List Event
+abbrev kind_told : LineKind → List Event
 kind_told (Tells e) = e ∷ []
 kind_told k = []
 
@@ -148,7 +148,7 @@ told_kind (Whole line) = by (mark_of line) (step_of line) where
   by None (Some n) = refl
   by None None = refl
 
-one_said : (n : ℕ) (place : Place) (k : Kind) → fault_said n (kind_says place.stage place.ends k) ≡ None → (place_said place (kind_says place.stage place.ends k)).ends ≡ ends_along place.ends (kind_told k)
+one_said : (n : ℕ) (place : Place) (k : LineKind) → fault_said n (kind_says place.stage place.ends k) ≡ None → (place_said place (kind_says place.stage place.ends k)).ends ≡ ends_along place.ends (kind_told k)
 one_said n place k = by place.stage k where
   may_by : (x : Event) (b : Bool) → fault_said n (cond b (Comes x) Cannot) ≡ None → (place_said place (cond b (Comes x) Cannot)).ends ≡ ends_after place.ends x
   may_by x true f = refl
@@ -158,7 +158,7 @@ one_said n place k = by place.stage k where
   due_by m true = refl
   due_by m false = refl
 
-  by : (stage : Stage) (k : Kind) → fault_said n (kind_says stage place.ends k) ≡ None → (place_said place (kind_says stage place.ends k)).ends ≡ ends_along place.ends (kind_told k)
+  by : (stage : ScriptStage) (k : LineKind) → fault_said n (kind_says stage place.ends k) ≡ None → (place_said place (kind_says stage place.ends k)).ends ≡ ends_along place.ends (kind_told k)
   by stages.Plain (Tells x) f = may_by x (may place.ends x) f
   by stages.Plain Writes f = refl
   by stages.Headed (Numbers m) f = due_by m (m == 0)
@@ -175,7 +175,7 @@ over_told n place (l ∷ ls) e =
     ∙ ap (λ (x : Ends). ends_along x (all_told_of ls)) (one_said n place (kind_of l) p.0 ∙ ap (ends_along place.ends) (sym (told_kind l)))
     ∙ sym (along_both place.ends (reply_of l) (all_told_of ls))
 
-says_cannot : (n : ℕ) (stage : Stage) (ends : Ends) (e : Event) → may ends e ≡ false → fault_said n (kind_says stage ends (Tells e)) ≡ None → ⊥
+says_cannot : (n : ℕ) (stage : ScriptStage) (ends : Ends) (e : Event) → may ends e ≡ false → fault_said n (kind_says stage ends (Tells e)) ≡ None → ⊥
 says_cannot n stages.Start ends e m f = cc
 says_cannot n stages.Plain ends e m f = let z : fault_said n Cannot ≡ None = ap (λ (b : Bool). fault_said n (cond b (Comes e) Cannot)) (sym m) ∙ f in cc
 says_cannot n stages.Headed ends e m f = cc
@@ -217,4 +217,4 @@ may_behind o before line later e a never free k m =
     over_told (1 + header_lines v) (beginning v) (behind_header v before) b.0
     ∙ ap (ends_along opened) (behind_told o before ∙ told_await o v (proper_in before) before a)
     ∙ sym (along_state q a.trace ∙ ap (ends_along at_start) (events_later q a.trace a.lawful a.opened)) in
-    says_cannot b.1.0 place.stage place.ends e (ap (λ (x : Ends). may x e) ends ∙ m) (ap (λ (x : Kind). fault_said b.1.0 (kind_says place.stage place.ends x)) (sym k) ∙ b.1.1)
+    says_cannot b.1.0 place.stage place.ends e (ap (λ (x : Ends). may x e) ends ∙ m) (ap (λ (x : LineKind). fault_said b.1.0 (kind_says place.stage place.ends x)) (sym k) ∙ b.1.1)

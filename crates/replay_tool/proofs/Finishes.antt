@@ -4,14 +4,14 @@ use Rattle.line_io.specs.Causes.{Rose}
 use Rattle.line_io.specs.Lines.{Piece, Reads}
 use Rattle.line_io.specs.Runs.{whole}
 use Rattle.line_io.specs.Source.{Received, Supplied}
-use Rattle.line_io.specs.Taken.{Place, Taken, IsOpenStill}
+use Rattle.line_io.specs.Taken.{Place, Taken}
 use Rattle.line_io.specs.declared.taker.LinesEnd.TheVariants as ends
 use Rattle.policy_rules.specs.declared.settings.Settings.{Settings}
-use Rattle.adapter_core.specs.Parts.{Parts}
+use Rattle.adapter_core.specs.Parts.{CoreParts}
 use Rattle.command_endings.specs.declared.ending.Ending.{Ending}
 use Rattle.command_endings.specs.declared.ending.Ending.TheVariants as endings
 use Rattle.script_player.specs.declared.player.Player.{Player}
-use Rattle.script_player.specs.declared.stage.Stage.{Stage}
+use Rattle.script_player.specs.declared.stage.ScriptStage.{ScriptStage}
 use Rattle.command_endings.specs.Streams.{Streams, streams}
 use Rattle.script_player.specs.Versions.{script_fault}
 use Rattle.script_player.specs.Playing.{Scripted, Took}
@@ -28,7 +28,7 @@ to_fault o start now (endings.OutOfStep n) i r = r
 to_fault o start now (endings.MayNotCome n) i r = r
 to_fault o start now f i r = absurd i
 
-took_fine : (o : Settings) (lines : List Piece) (core : Parts) (stage : Stage) (text : List ℕ) (before after : Received) → Took o lines core stage text before after → script_fault lines ≡ None
+took_fine : (o : Settings) (lines : List Piece) (core : CoreParts) (stage : ScriptStage) (text : List ℕ) (before after : Received) → Took o lines core stage text before after → script_fault lines ≡ None
 took_fine o [] core stage text before after t = refl
 took_fine o (l ∷ ls) core stage text before after t = t.fine
 
@@ -99,7 +99,6 @@ module _ {O : Type 0} (see : O → Received) (old new : Place Player O) (o : Set
           fine = ap script_fault (sym t.ends.all) ∙ took_fine o t.pieces new.taker.core new.taker.stage new.taker.text.text (see old.output) (see new.output) (t.ends.took o fresh).took;
           scripted = subst (λ (ls : List Piece). Scripted o ls [] (see old.output) output) t.ends.all d.1;
         };
-        still_open = subst (λ (ls : List Piece). IsOpenStill 131072 t.given ls) t.ends.all t.ends.still_open;
       })
 
   -- no more lines were taken

@@ -13,16 +13,16 @@ use Rattle.policy_rules.specs.declared.settings.Settings.{Settings}
 use Rattle.adapter_core.specs.declared.ends.Ends.{Ends}
 use Rattle.adapter_core.specs.Ends.{may, is_over}
 use Rattle.adapter_core.specs.Trace.{state, iface_text, engine_text}
-use Rattle.adapter_core.specs.Parts.{Parts}
+use Rattle.adapter_core.specs.Parts.{CoreParts}
 use Rattle.session_script.proofs.Lines.{written_lines}
 use Rattle.session_script.proofs.Numbered.{number_line}
 use Rattle.session_script.proofs.Scripts.{event_line, some_opened}
 use Rattle.command_endings.specs.declared.ending.Ending.{Ending}
 use Rattle.command_endings.specs.declared.ending.Ending.TheVariants as endings
-use Rattle.script_player.specs.declared.stage.Stage.{Stage}
-use Rattle.script_player.specs.declared.stage.Stage.TheVariants as stages
+use Rattle.script_player.specs.declared.stage.ScriptStage.{ScriptStage}
+use Rattle.script_player.specs.declared.stage.ScriptStage.TheVariants as stages
 use Rattle.replay_tool.specs.Check.{lines_before, lines_by, BeginBy, AwaitBy, kind_in}
-use Rattle.script_player.specs.Versions.{Second, Kind, Tells, Writes, Numbers, HasNone, kind_of, kind_says, Comes, Starts, HasNoMark, IsOutOfStep, Cannot}
+use Rattle.script_player.specs.Versions.{Second, LineKind, Tells, Writes, Numbers, HasNone, kind_of, kind_says, Comes, Starts, HasNoMark, IsOutOfStep, Cannot}
 use Rattle.replay_tool.specs.Walked.{Fit, TakesEvent, TakesNumber, TakesDue, Fails, said_undue, undue, other_than, fit, fault_in, Followed, Standing}
 use Rattle.replay_tool.proofs.Checks.{longer_lines, next_number, next_event, no_await, number_kind, header_some}
 use Rattle.replay_tool.proofs.Places.{Taken, Goes, Unmarked, MayNot, Other, other_bytes, no_bytes, nothing, something, is_quiet, shows_next, by_other, written_is, written_still, tells_text, numbers_text, one_event, whole_one, ends_are}
@@ -33,7 +33,7 @@ more_some before p = omega (arith, length-append before (p ∷ []))
 
 -- BEHIND A STEP
 
-module _ (o s : Settings) (core : Parts) (last : ℕ) (due : List ℕ) (before : List Piece) (st : Standing o (Second s) core (stages.Told last) due before) (some : 1 ≤ length before) (line : List ℕ) (number : ℕ) (core' : Parts) (stage' : Stage) (due' : List ℕ) where
+module _ (o s : Settings) (core : CoreParts) (last : ℕ) (due : List ℕ) (before : List Piece) (st : Standing o (Second s) core (stages.Told last) due before) (some : 1 ≤ length before) (line : List ℕ) (number : ℕ) (core' : CoreParts) (stage' : ScriptStage) (due' : List ℕ) where
   abbrev p : Piece
   p = Whole line
 
@@ -52,7 +52,7 @@ module _ (o s : Settings) (core : Parts) (last : ℕ) (due : List ℕ) (before :
       no_await o s st.proper st.trace st.lawful st.opened before (map Whole (parts due)) st.at.0.same (is_quiet o (Second s) core (stages.Told last) due before st some st.at.0)
       (λ none v. going none (ap is_over (ends_are o (Second s) core (stages.Told last) due before st some) ∙ v)) a
 
-  none2 : (length due == 0) ≡ true → (k : Kind) → kind_of p ≡ k → ((n : ℕ) → k ≡ Numbers n → ⊥) → BeginBy o (Second s) (before ++ p ∷ []) → ⊥
+  none2 : (length due == 0) ≡ true → (k : LineKind) → kind_of p ≡ k → ((n : ℕ) → k ≡ Numbers n → ⊥) → BeginBy o (Second s) (before ++ p ∷ []) → ⊥
   none2 d k e never b = never (step_number (length st.trace)) (sym e ∙ number_kind p (length st.trace) (next2 d b).0)
 
   number_is : step_number (last + 1) ≡ step_number (length st.trace)
@@ -70,7 +70,7 @@ module _ (o s : Settings) (core : Parts) (last : ℕ) (due : List ℕ) (before :
       let ends = ends_are o (Second s) core (stages.Told last) due before st some in
       Other a (λ b. let x = (next2 d b).1 in over_may (state s st.trace).ends x.0 st.opened (ap is_over (sym ends) ∙ v) x.1) (numbers_marked n k) (λ x h w. let z = sym k ∙ h in cc)
   by_over d n k e false v = λ answer a f.
-      Goes a (subst (λ (x : Parts). Standing o (Second s) x stage' due' (before ++ p ∷ [])) (sym f.0) (subst (λ (x : Stage). Standing o (Second s) core x due' (before ++ p ∷ [])) (sym f.1) (record {
+      Goes a (subst (λ (x : CoreParts). Standing o (Second s) x stage' due' (before ++ p ∷ [])) (sym f.0) (subst (λ (x : ScriptStage). Standing o (Second s) core x due' (before ++ p ∷ [])) (sym f.1) (record {
         proper = st.proper;
         trace = st.trace;
         lawful = st.lawful;
@@ -109,13 +109,13 @@ module _ (o s : Settings) (core : Parts) (last : ℕ) (due : List ℕ) (before :
   by_astray d e k false v = λ answer a f.
       Other a (none2 d (Tells e) k (λ n h. cc)) (λ h. let z = sym k ∙ h in cc) (await2 (λ none w. let z = sym v ∙ w in cc))
 
-  undue2 : (length due == 0) ≡ true → (k : Kind) → kind_of p ≡ k → Goal2 (said_undue core.ends number k (kind_says (stages.Told last) core.ends k))
+  undue2 : (length due == 0) ≡ true → (k : LineKind) → kind_of p ≡ k → Goal2 (said_undue core.ends number k (kind_says (stages.Told last) core.ends k))
   undue2 d (Tells e) k = by_astray d e k (is_over core.ends) refl
   undue2 d Writes k = λ answer a f. Other a (none2 d Writes k (λ n h. cc)) (λ h. let z = sym k ∙ h in cc) (λ x h w. let z = sym k ∙ h in cc)
   undue2 d (Numbers n) k = by_number d n k (n == step_number (last + 1)) refl
   undue2 d HasNone k = λ answer a f. Unmarked a (none2 d HasNone k (λ n h. cc)) k
 
-  bare2 : (k : Kind) → kind_says (stages.Told last) core.ends k ≡ HasNoMark → k ≡ HasNone
+  bare2 : (k : LineKind) → kind_says (stages.Told last) core.ends k ≡ HasNoMark → k ≡ HasNone
   bare2 (Tells e) h = cc
   bare2 Writes h = cc
   bare2 (Numbers n) h = absurd (by (n == step_number (last + 1)) h) where
@@ -124,14 +124,14 @@ module _ (o s : Settings) (core : Parts) (last : ℕ) (due : List ℕ) (before :
     by false h = cc
   bare2 HasNone h = refl
 
-  marked2 : (k : Kind) → (kind_says (stages.Told last) core.ends k ≡ HasNoMark → ⊥) → k ≢ HasNone
+  marked2 : (k : LineKind) → (kind_says (stages.Told last) core.ends k ≡ HasNoMark → ⊥) → k ≢ HasNone
   marked2 (Tells e) never h = cc
   marked2 Writes never h = cc
   marked2 (Numbers n) never h = cc
   marked2 HasNone never h = never refl
 
   by_same2 : (length due == 0) ≡ false → (b : Bool) → bytes_eq line (before_first is_feed due) ≡ b → Goal2 (cond b TakesDue (Fails (other_than (stages.Told last) core.ends number line)))
-  by_same2 d true e = λ answer a f. Goes a (subst (λ (x : Parts). Standing o (Second s) x stage' due' (before ++ p ∷ [])) (sym f.0) (subst (λ (x : Stage). Standing o (Second s) core x due' (before ++ p ∷ [])) (sym f.1) (record {
+  by_same2 d true e = λ answer a f. Goes a (subst (λ (x : CoreParts). Standing o (Second s) x stage' due' (before ++ p ∷ [])) (sym f.0) (subst (λ (x : ScriptStage). Standing o (Second s) core x due' (before ++ p ∷ [])) (sym f.1) (record {
     proper = st.proper;
     trace = st.trace;
     lawful = st.lawful;
@@ -152,11 +152,11 @@ module _ (o s : Settings) (core : Parts) (last : ℕ) (due : List ℕ) (before :
 
 -- BEHIND A NUMBER
 
-module _ (o s : Settings) (core : Parts) (step : ℕ) (due : List ℕ) (before : List Piece) (st : Standing o (Second s) core (stages.Numbered step) due before) (line : List ℕ) (number : ℕ) (core' : Parts) (stage' : Stage) (due' : List ℕ) where
+module _ (o s : Settings) (core : CoreParts) (step : ℕ) (due : List ℕ) (before : List Piece) (st : Standing o (Second s) core (stages.Numbered step) due before) (line : List ℕ) (number : ℕ) (core' : CoreParts) (stage' : ScriptStage) (due' : List ℕ) where
   abbrev p3 : Piece
   p3 = Whole line
 
-  abbrev stage3 : Stage
+  abbrev stage3 : ScriptStage
   stage3 = stages.Numbered step
 
   abbrev script3 : List Piece
@@ -173,7 +173,7 @@ module _ (o s : Settings) (core : Parts) (step : ℕ) (due : List ℕ) (before :
 
   -- a side has not ended
   open3 : is_over (state s st.trace).ends ≡ false
-  open3 = ap (λ (w : Parts). is_over w.ends) (sym st.stands.0) ∙ st.at.not_over
+  open3 = ap (λ (w : CoreParts). is_over w.ends) (sym st.stands.0) ∙ st.at.not_over
 
   -- a script of version 2 has a header
   script_some : 1 ≤ length script3
@@ -182,7 +182,7 @@ module _ (o s : Settings) (core : Parts) (step : ℕ) (due : List ℕ) (before :
   next3 : BeginBy o (Second s) (before ++ p3 ∷ []) → (e : Event) × (kind_of p3 ≡ Tells e) × (may (state s st.trace).ends e ≡ true)
   next3 b = next_event o s st.proper st.trace st.lawful st.opened script3 (sym (append-nil script3)) script_some p3 (subst (λ (ls : List Piece). BeginBy o (Second s) (ls ++ p3 ∷ [])) (sym before_is) b)
 
-  none3 : (k : Kind) → kind_of p3 ≡ k → ((e : Event) → k ≡ Tells e → ⊥) → BeginBy o (Second s) (before ++ p3 ∷ []) → ⊥
+  none3 : (k : LineKind) → kind_of p3 ≡ k → ((e : Event) → k ≡ Tells e → ⊥) → BeginBy o (Second s) (before ++ p3 ∷ []) → ⊥
   none3 k e never b = let n = next3 b in never n.0 (sym e ∙ n.1)
 
   event3 : (e : Event) → kind_of p3 ≡ Tells e → may core.ends e ≡ true → Goal3 (TakesEvent e)
@@ -191,7 +191,7 @@ module _ (o s : Settings) (core : Parts) (step : ℕ) (due : List ℕ) (before :
       let next = f.0.adds.extends s st.trace st.lawful st.stands in
       let shown = event_line (state s st.trace).ends x.event st.opened next.0.1.may_come in
       let text : event_text x.event ≡ line = ap event_text f.0.adds.event ∙ sym (whole_one (tells_text p3 e k)) in
-      Goes a (subst (λ (y : Stage). Standing o (Second s) core' y due' (before ++ p3 ∷ [])) (sym f.1) (record {
+      Goes a (subst (λ (y : ScriptStage). Standing o (Second s) core' y due' (before ++ p3 ∷ [])) (sym f.1) (record {
         proper = st.proper;
         trace = x ∷ st.trace;
         lawful = next.0;
@@ -215,12 +215,12 @@ module _ (o s : Settings) (core : Parts) (step : ℕ) (due : List ℕ) (before :
   by_may3 : (e : Event) → kind_of p3 ≡ Tells e → (b : Bool) → may core.ends e ≡ b → Goal3 (said_undue core.ends number (Tells e) (cond b (Comes e) Cannot))
   by_may3 e k true m = event3 e k m
   by_may3 e k false m = λ answer a f.
-      let ends : core.ends ≡ (state s st.trace).ends = ap (λ (w : Parts). w.ends) st.stands.0 in
+      let ends : core.ends ≡ (state s st.trace).ends = ap (λ (w : CoreParts). w.ends) st.stands.0 in
       let not : may (state s st.trace).ends e ≡ false = ap (λ (x : Ends). may x e) (sym ends) ∙ m in
       MayNot a (λ b. let n = next3 b in let same = one_event (sym n.1 ∙ k) in let z = sym n.2 ∙ ap (may (state s st.trace).ends) same ∙ not in cc) e k
       (record { trace = st.trace; lawful = st.lawful; opened = st.opened; same = ap (λ (b : Bool). lines_before (Second s) b st.trace) open3 ∙ before_is }) not
 
-  undue3 : (k : Kind) → kind_of p3 ≡ k → Goal3 (said_undue core.ends number k (kind_says stage3 core.ends k))
+  undue3 : (k : LineKind) → kind_of p3 ≡ k → Goal3 (said_undue core.ends number k (kind_says stage3 core.ends k))
   undue3 (Tells e) k = by_may3 e k (may core.ends e) refl
   undue3 Writes k = λ answer a f. Other a (none3 Writes k (λ e h. cc)) (λ h. let z = sym k ∙ h in cc) (λ e h x. let z = sym k ∙ h in cc)
   undue3 (Numbers n) k = λ answer a f. Other a (none3 (Numbers n) k (λ e h. cc)) (λ h. let z = sym k ∙ h in cc) (λ e h x. let z = sym k ∙ h in cc)

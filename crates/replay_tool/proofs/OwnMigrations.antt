@@ -15,8 +15,8 @@ use Rattle.session_script.specs.OneWay.{IsOpened}
 use Rattle.session_script.proofs.Lines.{told}
 use Rattle.session_script.proofs.Scripts.{some_opened, only_open}
 use Rattle.command_endings.specs.Streams.{Streams}
-use Rattle.dialogue_laws.specs.OneLine.{IsOneLine, WritesLines}
-use Rattle.dialogue_laws.proofs.OneLine.{write_lines}
+use Rattle.line_laws.specs.OneLine.{IsOneLine, WritesLines}
+use Rattle.line_laws.proofs.OneLine.{write_lines}
 use Rattle.lawful_talk.proofs.Marked.{can_be_marked, reply_parts, order_parts}
 use Rattle.script_migration.specs.Migrated.{MigratesScripts}
 use Rattle.script_migration.specs.Traces.{AreEventsMarked, IsMarked, IsWrittenMarked}

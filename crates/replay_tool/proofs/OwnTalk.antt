@@ -23,7 +23,7 @@ use Rattle.command_endings.specs.Streams.{Streams}
 use Rattle.script_player.specs.Versions.{Version, First, Second, script_by, settings_by}
 use Rattle.session_judge.specs.declared.listener.Listener.{Listener}
 use Rattle.session_judge.specs.declared.rule.Rule.{Rule}
-use Rattle.session_judge.specs.declared.talk.Talk.{Talk}
+use Rattle.session_judge.specs.declared.talk.JudgedTalk.{JudgedTalk}
 use Rattle.session_judge.specs.Deeds.{deed_of}
 use Rattle.session_judge.specs.Talks.{opening}
 use Rattle.judge_report.specs.Texts.{searched, crossings_line, lawful_line}
@@ -41,7 +41,7 @@ use Rattle.replay_tool.proofs.Replayed.{short_whole, marked_piece}
 -- THE LINES OF A LOG
 
 -- no order crosses
-abbrev Apart : Talk → Type 0
+abbrev Apart : JudgedTalk → Type 0
 Apart t = t.crossings ≡ 0
 
 -- the report has no fault yet, and in the lines to come no mark breaks a rule and no order crosses

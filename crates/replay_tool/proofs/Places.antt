@@ -15,16 +15,16 @@ use Rattle.policy_rules.specs.declared.settings.Settings.{Settings}
 use Rattle.adapter_core.specs.declared.ends.Ends.{Ends}
 use Rattle.adapter_core.specs.Ends.{may}
 use Rattle.adapter_core.specs.Trace.{Step, state, iface_text, engine_text}
-use Rattle.adapter_core.specs.Parts.{Parts}
+use Rattle.adapter_core.specs.Parts.{CoreParts}
 use Rattle.session_script.specs.Script.{written_text, events_in, event_told}
 use Rattle.session_script.proofs.Lines.{written_lines, written_parts, step_lines}
 use Rattle.session_script.proofs.Scripts.{event_line, some_opened, written_quiet}
 use Rattle.command_endings.specs.declared.ending.Ending.{Ending}
 use Rattle.command_endings.specs.declared.ending.Ending.TheVariants as endings
-use Rattle.script_player.specs.declared.stage.Stage.{Stage}
-use Rattle.script_player.specs.declared.stage.Stage.TheVariants as stages
+use Rattle.script_player.specs.declared.stage.ScriptStage.{ScriptStage}
+use Rattle.script_player.specs.declared.stage.ScriptStage.TheVariants as stages
 use Rattle.replay_tool.specs.Check.{lines_by, ScriptBy, BeginBy, AwaitBy, kind_in, kind_under}
-use Rattle.script_player.specs.Versions.{Version, First, settings_by, Kind, Tells, Writes, Numbers, HasNone, kind_by, kind_of, kind_says, Said, Comes, Passes, Starts, HasNoMark, IsOutOfStep, Cannot}
+use Rattle.script_player.specs.Versions.{Version, First, settings_by, LineKind, Tells, Writes, Numbers, HasNone, kind_by, kind_of, kind_says, LineSaid, Comes, Passes, Starts, HasNoMark, IsOutOfStep, Cannot}
 use Rattle.replay_tool.specs.Walked.{Fit, TakesEvent, TakesDue, Fails, said_undue, said_other, undue, other_than, fit, fault_in, Followed, at_end as ending_at, Shows, Standing}
 use Rattle.replay_tool.proofs.Checks.{all_told_of, whole_told, IsSomeIn, longer_lines, none_missing, is_due, next_plain}
 
@@ -45,7 +45,7 @@ tail_quiet [] ys h = h
 tail_quiet (x ∷ xs) ys h = cc
 
 -- what a line comes to
-pub data Taken (o : Settings) (v : Version) (before : List Piece) (p : Piece) (number : ℕ) (answer : Option Ending) (core : Parts) (stage : Stage) (due : List ℕ) : Type 0 where
+pub data Taken (o : Settings) (v : Version) (before : List Piece) (p : Piece) (number : ℕ) (answer : Option Ending) (core : CoreParts) (stage : ScriptStage) (due : List ℕ) : Type 0 where
   Goes : answer ≡ None → Standing o v core stage due (before ++ p ∷ []) → Taken o v before p number answer core stage due
   Unmarked : answer ≡ Some (endings.NoMark number) → (BeginBy o v (before ++ p ∷ []) → ⊥) → kind_in v p ≡ HasNone → Taken o v before p number answer core stage due
   MayNot : answer ≡ Some (endings.MayNotCome number) → (BeginBy o v (before ++ p ∷ []) → ⊥) → (e : Event) → kind_of p ≡ Tells e → (a : AwaitBy o v before) → may (state (settings_by v o) a.trace).ends e ≡ false
@@ -80,7 +80,7 @@ numbers_text (Whole line) n k = by (mark_of line) (step_of line) refl k where
   by (Some (Happens e)) s h k = cc
   by (Some m) s h k = cc
 
-module _ (o : Settings) (v : Version) (core : Parts) (stage : Stage) (due : List ℕ) (before : List Piece) (st : Standing o v core stage due before) (some : IsSomeIn v before) where
+module _ (o : Settings) (v : Version) (core : CoreParts) (stage : ScriptStage) (due : List ℕ) (before : List Piece) (st : Standing o v core stage due before) (some : IsSomeIn v before) where
   abbrev q : Settings
   q = settings_by v o
 
@@ -91,7 +91,7 @@ module _ (o : Settings) (v : Version) (core : Parts) (stage : Stage) (due : List
   t = st.trace
 
   pub ends_are : core.ends ≡ (state q t).ends
-  ends_are = ap (λ (w : Parts). w.ends) st.stands.0
+  ends_are = ap (λ (w : CoreParts). w.ends) st.stands.0
 
   pub nothing : (length due == 0) ≡ true → due_lines ≡ []
   nothing e = ap (λ (xs : List ℕ). map Whole (parts xs)) (no_bytes due e)
@@ -115,7 +115,7 @@ module _ (o : Settings) (v : Version) (core : Parts) (stage : Stage) (due : List
 
   -- THE LINE THAT IS DUE
 
-  module _ (p : Piece) (number : ℕ) (core' : Parts) (stage' : Stage) (due' : List ℕ) where
+  module _ (p : Piece) (number : ℕ) (core' : CoreParts) (stage' : ScriptStage) (due' : List ℕ) where
     abbrev Result : Option Ending → Type 0
     Result answer = Taken o v before p number answer core' stage' due'
 
@@ -134,7 +134,7 @@ module _ (o : Settings) (v : Version) (core : Parts) (stage : Stage) (due : List
 
     -- a line that is not the one that is due
     pub by_other : Shows v t due before → (length due == 0) ≡ false → (p ≡ Whole (before_first is_feed due) → ⊥) → ((e : Event) → kind_of p ≡ Tells e → AwaitBy o v before → ⊥)
-        → (s : Said) → (s ≡ HasNoMark → kind_in v p ≡ HasNone) → ((s ≡ HasNoMark → ⊥) → kind_in v p ≢ HasNone) → (answer : Option Ending) → answer ≡ Some (said_other number s) → Result answer
+        → (s : LineSaid) → (s ≡ HasNoMark → kind_in v p ≡ HasNone) → ((s ≡ HasNoMark → ⊥) → kind_in v p ≢ HasNone) → (answer : Option Ending) → answer ≡ Some (said_other number s) → Result answer
     by_other w d never await HasNoMark u m answer a = Unmarked a (not_due w d never) (u refl)
     by_other w d never await (Comes e) u m answer a = Other a (not_due w d never) (m (λ h. cc)) await
     by_other w d never await (Starts n) u m answer a = Other a (not_due w d never) (m (λ h. cc)) await
@@ -151,7 +151,7 @@ whole_one h = cc
 
 -- VERSION 1
 
-module _ (o : Settings) (core : Parts) (due : List ℕ) (before : List Piece) (st : Standing o First core stages.Plain due before) (line : List ℕ) (number : ℕ) (core' : Parts) (stage' : Stage) (due' : List ℕ) where
+module _ (o : Settings) (core : CoreParts) (due : List ℕ) (before : List Piece) (st : Standing o First core stages.Plain due before) (line : List ℕ) (number : ℕ) (core' : CoreParts) (stage' : ScriptStage) (due' : List ℕ) where
   abbrev p : Piece
   p = Whole line
 
@@ -173,7 +173,7 @@ module _ (o : Settings) (core : Parts) (due : List ℕ) (before : List Piece) (s
       let next = f.0.adds.extends o st.trace st.lawful st.stands in
       let shown = event_line (state o st.trace).ends s.event st.opened next.0.1.may_come in
       let text : event_text s.event ≡ line = ap event_text f.0.adds.event ∙ sym (whole_one (tells_text p e k)) in
-      Goes a (subst (λ (x : Stage). Standing o First core' x due' (before ++ p ∷ [])) (sym f.1) (record {
+      Goes a (subst (λ (x : ScriptStage). Standing o First core' x due' (before ++ p ∷ [])) (sym f.1) (record {
         proper = tt;
         trace = s ∷ st.trace;
         lawful = next.0;
@@ -190,7 +190,7 @@ module _ (o : Settings) (core : Parts) (due : List ℕ) (before : List Piece) (s
         };
       }))
 
-  none1 : (length due == 0) ≡ true → (k : Kind) → kind_of p ≡ k → ((e : Event) → k ≡ Tells e → ⊥) → BeginBy o First (before ++ p ∷ []) → ⊥
+  none1 : (length due == 0) ≡ true → (k : LineKind) → kind_of p ≡ k → ((e : Event) → k ≡ Tells e → ⊥) → BeginBy o First (before ++ p ∷ []) → ⊥
   none1 d k e never b = let n = next1 d b in never n.0 (sym e ∙ n.1)
 
   by_may1 : (length due == 0) ≡ true → (e : Event) → kind_of p ≡ Tells e → (b : Bool) → may core.ends e ≡ b → Goal1 (said_undue core.ends number (Tells e) (cond b (Comes e) Cannot))
@@ -201,13 +201,13 @@ module _ (o : Settings) (core : Parts) (due : List ℕ) (before : List Piece) (s
       MayNot a (λ b. let n = next1 d b in let same = one_event (sym n.1 ∙ k) in let z = sym n.2 ∙ ap (may (state o st.trace).ends) same ∙ not in cc) e k
       (record { trace = st.trace; lawful = st.lawful; opened = st.opened; same = same1 d ∙ append-nil before }) not
 
-  undue1 : (length due == 0) ≡ true → (k : Kind) → kind_of p ≡ k → Goal1 (said_undue core.ends number k (kind_says stages.Plain core.ends k))
+  undue1 : (length due == 0) ≡ true → (k : LineKind) → kind_of p ≡ k → Goal1 (said_undue core.ends number k (kind_says stages.Plain core.ends k))
   undue1 d (Tells e) k = by_may1 d e k (may core.ends e) refl
   undue1 d Writes k = λ answer a f. Other a (none1 d Writes k (λ e h. cc)) (λ h. let z = ap (kind_under First) (sym k) ∙ h in cc) (λ e h x. let z = sym k ∙ h in cc)
   undue1 d (Numbers n) k = λ answer a f. Unmarked a (none1 d (Numbers n) k (λ e h. cc)) (ap (kind_under First) k)
   undue1 d HasNone k = λ answer a f. Unmarked a (none1 d HasNone k (λ e h. cc)) (ap (kind_under First) k)
 
-  bare1 : (k : Kind) → kind_says stages.Plain core.ends k ≡ HasNoMark → kind_under First k ≡ HasNone
+  bare1 : (k : LineKind) → kind_says stages.Plain core.ends k ≡ HasNoMark → kind_under First k ≡ HasNone
   bare1 (Tells e) h = absurd (by (may core.ends e) h) where
     by : (b : Bool) → cond b (Comes e) Cannot ≡ HasNoMark → ⊥
     by true h = cc
@@ -216,14 +216,14 @@ module _ (o : Settings) (core : Parts) (due : List ℕ) (before : List Piece) (s
   bare1 (Numbers n) h = refl
   bare1 HasNone h = refl
 
-  marked1 : (k : Kind) → (kind_says stages.Plain core.ends k ≡ HasNoMark → ⊥) → kind_under First k ≢ HasNone
+  marked1 : (k : LineKind) → (kind_says stages.Plain core.ends k ≡ HasNoMark → ⊥) → kind_under First k ≢ HasNone
   marked1 (Tells e) never h = cc
   marked1 Writes never h = cc
   marked1 (Numbers n) never h = never refl
   marked1 HasNone never h = never refl
 
   by_same1 : (length due == 0) ≡ false → (b : Bool) → bytes_eq line (before_first is_feed due) ≡ b → Goal1 (cond b TakesDue (Fails (other_than stages.Plain core.ends number line)))
-  by_same1 d true e = λ answer a f. Goes a (subst (λ (x : Parts). Standing o First x stage' due' (before ++ p ∷ [])) (sym f.0) (subst (λ (x : Stage). Standing o First core x due' (before ++ p ∷ [])) (sym f.1) (record {
+  by_same1 d true e = λ answer a f. Goes a (subst (λ (x : CoreParts). Standing o First x stage' due' (before ++ p ∷ [])) (sym f.0) (subst (λ (x : ScriptStage). Standing o First core x due' (before ++ p ∷ [])) (sym f.1) (record {
     proper = tt;
     trace = st.trace;
     lawful = st.lawful;

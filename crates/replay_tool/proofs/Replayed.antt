@@ -22,9 +22,9 @@ use Rattle.session_script.proofs.Lines.{behind, written_lines, event_lines, line
 use Rattle.session_script.proofs.Numbered.{number_line, numbered_lines, numbered_lines_added}
 use Rattle.session_script.proofs.Scripts.{goes_on, lines_added, later_event, later_events, some_opened, events_later, event_line, one_later, only_open}
 use Rattle.command_endings.specs.declared.ending.Ending.{Ending}
-use Rattle.script_player.specs.declared.stage.Stage.{Stage}
-use Rattle.script_player.specs.declared.stage.Stage.TheVariants as stages
-use Rattle.script_player.specs.Versions.{Tells, Writes, Numbers, kind_by, kind_of, Version, First, Second, header_lines, settings_by, Place, Said, Comes, Passes, Starts, IsOutOfStep, Cannot, kind_says, line_says, place_said, place_over, fault_said, or_later, first_fault, events_said, events_of, opened, beginning}
+use Rattle.script_player.specs.declared.stage.ScriptStage.{ScriptStage}
+use Rattle.script_player.specs.declared.stage.ScriptStage.TheVariants as stages
+use Rattle.script_player.specs.Versions.{Tells, Writes, Numbers, kind_by, kind_of, Version, First, Second, header_lines, settings_by, Place, LineSaid, Comes, Passes, Starts, IsOutOfStep, Cannot, kind_says, line_says, place_said, place_over, fault_said, or_later, first_fault, events_said, events_of, opened, beginning}
 use Rattle.script_player.proofs.VersionLines.{no_earlier, said_more}
 use Rattle.replay_tool.proofs.Checks.{more_in, event_kind, number_kind}
 
@@ -74,10 +74,10 @@ none_fine n place = record { faultless = refl; events_are = refl; place_is = ref
 
 -- ONE LINE
 
-one_fine : (n : ℕ) (place : Place) (l : Piece) (s : Said) (es : List Event) → line_says place l ≡ s → fault_said n s ≡ None → events_said s [] ≡ es → Fine n place (l ∷ []) es (place_said place s)
+one_fine : (n : ℕ) (place : Place) (l : Piece) (s : LineSaid) (es : List Event) → line_says place l ≡ s → fault_said n s ≡ None → events_said s [] ≡ es → Fine n place (l ∷ []) es (place_said place s)
 one_fine n place l s es says f e = record {
-  faultless = ap (λ (x : Said). or_later (fault_said n x) None) says ∙ ap (λ (a : Option Ending). or_later a None) f;
-  events_are = ap (λ (x : Said). events_said x []) says ∙ e;
+  faultless = ap (λ (x : LineSaid). or_later (fault_said n x) None) says ∙ ap (λ (a : Option Ending). or_later a None) f;
+  events_are = ap (λ (x : LineSaid). events_said x []) says ∙ e;
   place_is = ap (place_said place) says;
 }
 
@@ -174,7 +174,7 @@ both_behind First newer t = lines_added newer t
 both_behind (Second s) newer t = numbered_lines_added newer t
 
 -- where the reading stands behind step k
-abbrev stage_behind : Version → ℕ → Stage
+abbrev stage_behind : Version → ℕ → ScriptStage
 stage_behind First k = stages.Plain
 stage_behind (Second s) k = stages.Told (step_number k)
 

@@ -4,16 +4,16 @@ use Rattle.line_io.specs.Event.{Event, is_line}
 use Rattle.line_io.specs.Event as events
 use Rattle.adapter_core.specs.declared.ends.Ends.{Ends}
 use Rattle.adapter_core.specs.Ends.{may, is_over}
-use Rattle.adapter_core.specs.Parts.{Parts}
+use Rattle.adapter_core.specs.Parts.{CoreParts}
 use Rattle.adapter_core.specs.Stands.{Stands}
-use Rattle.script_player.specs.declared.stage.Stage.{Stage}
-use Rattle.script_player.specs.declared.stage.Stage.TheVariants as stages
+use Rattle.script_player.specs.declared.stage.ScriptStage.{ScriptStage}
+use Rattle.script_player.specs.declared.stage.ScriptStage.TheVariants as stages
 use Rattle.replay_tool.specs.Walked.{IsOpen, MayTake}
-use Rattle.script_player.specs.Versions.{Kind, Tells, Writes, Numbers, HasNone, Starts, kind_says, stage_started}
+use Rattle.script_player.specs.Versions.{LineKind, Tells, Writes, Numbers, HasNone, Starts, kind_says, stage_started}
 use Rattle.script_player.proofs.Plays.{no_event, due_below}
 
 -- the number of a step has at most 18 digits
-pub starts_open : (stage : Stage) (ends : Ends) (kind : Kind) (m : ℕ) → IsOpen stage → kind_says stage ends kind ≡ Starts m → IsOpen (stage_started stage m)
+pub starts_open : (stage : ScriptStage) (ends : Ends) (kind : LineKind) (m : ℕ) → IsOpen stage → kind_says stage ends kind ≡ Starts m → IsOpen (stage_started stage m)
 starts_open stages.Start ends kind m o h = absurd o
 starts_open stages.Headed ends kind m o h = absurd o
 starts_open stages.Plain ends (Tells x) m o h = absurd (no_event ends x m h)
@@ -22,14 +22,14 @@ starts_open (stages.Numbered n) ends (Tells x) m o h = absurd (no_event ends x m
 starts_open stage ends kind m o h = cc
 
 -- a line may be taken in a session that was opened
-pub open_takes : (core : Parts) (stage : Stage) → IsOpen stage → MayTake core stage
+pub open_takes : (core : CoreParts) (stage : ScriptStage) → IsOpen stage → MayTake core stage
 open_takes core stages.Start o = absurd o
 open_takes core stages.Plain o = o
 open_takes core stages.Headed o = o
 open_takes core (stages.Told n) o = o
 open_takes core (stages.Numbered n) o = o
 
-pub unread_takes : (core : Parts) (stage : Stage) → Stands core.settings core [] → stage ≡ stages.Start → MayTake core stage
+pub unread_takes : (core : CoreParts) (stage : ScriptStage) → Stands core.settings core [] → stage ≡ stages.Start → MayTake core stage
 unread_takes core stage st e = subst (MayTake core) (sym e) st
 
 -- WHERE BOTH SIDES HAVE ENDED

@@ -3,7 +3,7 @@ use Rattle.std.specs.Prelude.{◌≡◌, ◌≢◌, ℕ, ◌+◌, ◌^◌, ◌�
 use Rattle.std.specs.Io.KnownBytes.{Appends}
 use Rattle.line_io.specs.Causes.{Rose}
 use Rattle.line_io.specs.Event.{Event}
-use Rattle.line_io.specs.Lines.{Piece, Whole, TooLong, Held, IsWaiting, items, parts}
+use Rattle.line_io.specs.Lines.{Piece, Whole, TooLong, items, parts}
 use Rattle.script_lines.specs.Marks.{Mark, mark_of}
 use Rattle.script_lines.specs.StepLine.{step_line, step_number}
 use Rattle.line_io.specs.Runs.{Runs, whole}
@@ -15,7 +15,7 @@ use Rattle.command_endings.specs.declared.ending.Ending.{Ending}
 use Rattle.command_endings.specs.declared.ending.Ending.TheVariants as endings
 use Rattle.replay_tool.specs.Verdict.{verdict}
 use Rattle.command_endings.specs.Streams.{Streams}
-use Rattle.script_player.specs.Versions.{Kind, Tells, Writes, HasNone, kind_of, Version, First, Second, version_in, settings_by, script_by}
+use Rattle.script_player.specs.Versions.{LineKind, Tells, Writes, HasNone, kind_of, Version, First, Second, version_in, settings_by, script_by}
 use Rattle.command_endings.specs.Reads.{Got, IsAll, AreRead, AreFirst}
 use Rattle.line_io.specs.declared.limits.TheConstants.{SCRIPT_LINE}
 
@@ -68,13 +68,13 @@ mark_in (Whole line) = mark_of line
 mark_in TooLong = None
 
 -- a step line counts only behind a header
-abbrev pub kind_under : Version → Kind → Kind
+abbrev pub kind_under : Version → LineKind → LineKind
 kind_under First (Tells e) = Tells e
 kind_under First Writes = Writes
 kind_under First kind = HasNone
 kind_under (Second settings) kind = kind
 
-abbrev pub kind_in : Version → Piece → Kind
+abbrev pub kind_in : Version → Piece → LineKind
 kind_in version line = kind_under version (kind_of line)
 
 -- The line with this number was read, and is the first up to which the lines do not begin the script of a lawful trace.
@@ -137,10 +137,6 @@ pub record BeginsWhole (o : Settings) (start now : Streams) : Type 0 where
 pub record BeginsMuch (o : Settings) (start now : Streams) : Type 0 where
   pub begins : BeginsWhole o start now
   pub least : 2 ^ 32 ≤ length begins.got
-  pub held : Held
-  pub calls : ℕ
-  pub runs : Runs SCRIPT_LINE held begins.got (whole SCRIPT_LINE begins.got) calls
-  pub waits : IsWaiting held
 
 -- what was found in the input
 abbrev pub Finds : Settings → Ending → Streams → Streams → Type 0

@@ -2,8 +2,8 @@
 use Rattle.std.specs.Prelude.{ℕ, ◌≤◌, List, [], ◌∷◌, length, ◌&&◌, if◌then◌else◌, ◌-◌, nat_lt, codes, Option, Some, None, Vec, vec_items, map}
 use Rattle.std.specs.Option.{option_map}
 use Rattle.std.specs.Str.{bytes_eq}
-use Rattle.replay_tool.specs.declared.command.Command.{Command}
-use Rattle.replay_tool.specs.declared.command.Command.TheVariants as commands
+use Rattle.replay_tool.specs.declared.command.ReplayCommand.{ReplayCommand}
+use Rattle.replay_tool.specs.declared.command.ReplayCommand.TheVariants as commands
 use Rattle.session_judge.specs.declared.listener.Listener.{Listener}
 use Rattle.session_judge.specs.declared.listener.Listener.TheVariants as listeners
 use Rattle.policy_rules.specs.declared.settings.Settings.{Settings}
@@ -81,7 +81,7 @@ command_of [] = None
 command_of (name ∷ words) = command_named name words
 
 -- what a command asks for
-abbrev pub asked : Command → Asked
+abbrev pub asked : ReplayCommand → Asked
 asked (commands.Replay s) = Replay s
 asked (commands.Check s) = Check s
 asked (commands.Migrate s) = Migrate s
@@ -94,7 +94,7 @@ asked (commands.Drill number count) = Drill number count
 asked (commands.Moves words) = Moves (fen_of (texts words.now))
 
 -- the settings and the count of a command are within their ranges
-abbrev pub HasProper : Command → Type 0
+abbrev pub HasProper : ReplayCommand → Type 0
 HasProper (commands.Replay s) = IsProper s
 HasProper (commands.Check s) = IsProper s
 HasProper (commands.Migrate s) = IsProper s

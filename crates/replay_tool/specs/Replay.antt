@@ -3,7 +3,6 @@ use Rattle.std.specs.Prelude.{◌≡◌, ℕ, ◌^◌, ◌≤◌, List, [], leng
 use Rattle.std.specs.Io.KnownBytes.{Appends}
 use Rattle.line_io.specs.Lines.{Piece, items}
 use Rattle.line_io.specs.Runs.{whole}
-use Rattle.line_io.specs.Taken.{IsOpenStill}
 use Rattle.policy_rules.specs.declared.settings.Settings.{Settings}
 use Rattle.adapter_core.specs.Trace.{Step, Lawful}
 use Rattle.session_script.specs.Script.{events}
@@ -43,10 +42,9 @@ pub record ReplaysWhole (o : Settings) (least : ℕ) (start now : Streams) : Typ
   pub fine : script_fault (whole SCRIPT_LINE got) ≡ None
   pub scripted : IsScripted o start now (whole SCRIPT_LINE got)
 
--- the input is too long: all whole lines of 2^32 bytes or more were replayed, and no read saw the end
+-- the input is too long: all whole lines of 2^32 bytes or more were replayed
 pub record ReplaysMuch (o : Settings) (start now : Streams) : Type 0 where
   pub replays : ReplaysWhole o (2 ^ 32) start now
-  pub still_open : IsOpenStill SCRIPT_LINE replays.got (whole SCRIPT_LINE replays.got)
 
 -- The output got a front of the script of a lawful trace. Its events are those of the first lines of the input.
 pub record CutShort (o : Settings) (start now : Streams) : Type 0 where

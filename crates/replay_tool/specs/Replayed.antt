@@ -5,7 +5,6 @@ use Rattle.line_io.specs.Causes.{Rose}
 use Rattle.line_io.specs.Event.{Event}
 use Rattle.line_io.specs.Lines.{Piece, items}
 use Rattle.line_io.specs.Runs.{whole}
-use Rattle.line_io.specs.Taken.{IsOpenStill}
 use Rattle.policy_rules.specs.Policy.{IsProper}
 use Rattle.policy_rules.specs.declared.settings.Settings.{Settings}
 use Rattle.adapter_core.specs.Trace.{Step, Lawful, state}
@@ -63,11 +62,10 @@ pub record WholeReplayed (o : Settings) (before after : Streams) : Type 0 where
   pub faultless : script_fault (whole SCRIPT_LINE got) ≡ None
   pub script : WritesScript o before after (whole SCRIPT_LINE got)
 
--- so it is if the input gave at least 2^32 bytes, and none of the reads saw its end
+-- so it is if the input gave at least 2^32 bytes
 pub record MuchReplayed (o : Settings) (before after : Streams) : Type 0 where
   pub replayed : WholeReplayed o before after
   pub least : 2 ^ 32 ≤ length replayed.got
-  pub still_open : IsOpenStill SCRIPT_LINE replayed.got (whole SCRIPT_LINE replayed.got)
 
 -- The output took a front of the script of the session of the first lines.
 pub record FrontWritten (o : Settings) (before after : Streams) : Type 0 where

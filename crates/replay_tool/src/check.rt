@@ -21,14 +21,14 @@ use command_endings::Ending;
 use line_io::{Event, Lines, LinesEnd, NoMemory, SCRIPT_LINE, Source, TakesLines, take_lines};
 use policy_rules::Settings;
 use script_lines::{Mark, read_header, read_mark};
-use script_player::{Said, Stage};
+use script_player::{LineSaid, ScriptStage};
 use std::alloc::Global;
 
 // A session, the lines of a log, where the reading stands, and the lines that are due in it.
 #[derive(Drop)]
 struct Checker {
     core: Core,
-    stage: Stage,
+    stage: ScriptStage,
     due: ExpectedLines,
     // how many lines were taken
     number: u64,
@@ -67,7 +67,7 @@ fn astray(core: &Core, number: u64, line: &[u8]) -> Ending
 // Takes a line if none is due.
 fn take_undue(
     core: &mut Core,
-    stage: &mut Stage,
+    stage: &mut ScriptStage,
     number: u64,
     line: &[u8],
     due: &mut ExpectedLines,
@@ -80,32 +80,32 @@ fn take_undue(
     ensures open { IsOpen stage.new }
 {
     match stage.says(core, line) {
-        Said::Comes(event) => {
+        LineSaid::Comes(event) => {
             step(core, &event, due);
             *stage = stage.told();
             None
         }
-        Said::Starts(step) => {
+        LineSaid::Starts(step) => {
             if core.over() {
                 return Some(Ending::Differs(number));
             }
             *stage = stage.started(step);
             None
         }
-        Said::HasNoMark => Some(Ending::NoMark(number)),
-        Said::Cannot => Some(Ending::MayNotCome(number)),
-        Said::Passes => Some(Ending::Differs(number)),
-        Said::IsOutOfStep => Some(astray(core, number, line)),
+        LineSaid::HasNoMark => Some(Ending::NoMark(number)),
+        LineSaid::Cannot => Some(Ending::MayNotCome(number)),
+        LineSaid::Passes => Some(Ending::Differs(number)),
+        LineSaid::IsOutOfStep => Some(astray(core, number, line)),
     }
 }
 
 // What a line is that is not the one that is due.
-fn other_line(core: &Core, stage: Stage, number: u64, line: &[u8]) -> Ending
+fn other_line(core: &Core, stage: ScriptStage, number: u64, line: &[u8]) -> Ending
     requires { IsOpen stage }
     ensures { result ≡ other_than stage core.now.ends number line.now }
 {
     match stage.says(core, line) {
-        Said::HasNoMark => Ending::NoMark(number),
+        LineSaid::HasNoMark => Ending::NoMark(number),
         _ => Ending::Differs(number),
     }
 }
@@ -113,7 +113,7 @@ fn other_line(core: &Core, stage: Stage, number: u64, line: &[u8]) -> Ending
 // Takes a line of a log whose session was opened.
 fn take_line(
     core: &mut Core,
-    stage: &mut Stage,
+    stage: &mut ScriptStage,
     number: u64,
     line: &[u8],
     due: &mut ExpectedLines,
@@ -139,7 +139,7 @@ ghost use Rattle.replay_tool.specs.Walked.{other_than};
 // Takes the first line, by which the session is opened.
 fn take_first(
     core: &mut Core,
-    stage: &mut Stage,
+    stage: &mut ScriptStage,
     number: u64,
     line: &[u8],
     due: &mut ExpectedLines,
@@ -152,12 +152,12 @@ fn take_first(
     match read_header(line) {
         Some(settings) => {
             open_numbered(core, &settings, due);
-            *stage = Stage::Told(0);
+            *stage = ScriptStage::Told(0);
             None
         }
         None => {
             step(core, &Event::Open, due);
-            *stage = Stage::Plain;
+            *stage = ScriptStage::Plain;
             take_line(core, stage, number, line, due)
         }
     }
@@ -166,7 +166,7 @@ fn take_first(
 // Takes a line.
 fn take_any(
     core: &mut Core,
-    stage: &mut Stage,
+    stage: &mut ScriptStage,
     number: u64,
     line: &[u8],
     due: &mut ExpectedLines,
@@ -177,10 +177,11 @@ fn take_any(
     ensures open { IsOpen stage.new }
 {
     match *stage {
-        Stage::Start => take_first(core, stage, number, line, due),
-        Stage::Plain | Stage::Headed | Stage::Told(_) | Stage::Numbered(_) => take_line(
-            core, stage, number, line, due,
-        ),
+        ScriptStage::Start => take_first(core, stage, number, line, due),
+        ScriptStage::Plain
+        | ScriptStage::Headed
+        | ScriptStage::Told(_)
+        | ScriptStage::Numbered(_) => take_line(core, stage, number, line, due),
     }
 }
 
@@ -204,12 +205,12 @@ fn end_of(checker: &mut Checker) -> Ending
     ensures { EndsAt checker.old.core checker.old.stage checker.old.due checker.old.number result }
 {
     match checker.stage {
-        Stage::Start => {
+        ScriptStage::Start => {
             step(&mut checker.core, &Event::Open, &mut checker.due);
             ending_at(&checker.due, checker.number)
         }
-        Stage::Plain | Stage::Told(_) => ending_at(&checker.due, checker.number),
-        Stage::Headed | Stage::Numbered(_) => Ending::Differs(checker.number + 1),
+        ScriptStage::Plain | ScriptStage::Told(_) => ending_at(&checker.due, checker.number),
+        ScriptStage::Headed | ScriptStage::Numbered(_) => Ending::Differs(checker.number + 1),
     }
 }
 
@@ -220,7 +221,7 @@ impl Checker {
     {
         Ok(Checker {
             core: Core::make(alloc, settings)?,
-            stage: Stage::Start,
+            stage: ScriptStage::Start,
             due: ExpectedLines::make(alloc)?,
             number: 0,
         })

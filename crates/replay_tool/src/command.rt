@@ -10,7 +10,7 @@ use session_judge::Listener;
 
 /// What the words of the program command.
 #[derive(Clone, Copy)]
-pub enum Command<'a> {
+pub enum ReplayCommand<'a> {
     /// Replays the marks of the input with these settings.
     Replay(Settings),
     /// Compares the input with the lawful script of its events.
@@ -33,64 +33,64 @@ pub enum Command<'a> {
     Moves(&'a [Vec<u8>]),
 }
 
-fn read_drill(words: &[Vec<u8>]) -> Option<Command>
+fn read_drill(words: &[Vec<u8>]) -> Option<ReplayCommand>
     ensures value { option_map asked result ≡ drill_of (texts words.now) }
     ensures proper { IfSome result (λ command. HasProper command) }
 {
     let [number, count] = words else {
         return None;
     };
-    Some(Command::Drill {
+    Some(ReplayCommand::Drill {
         number: read_number(number.as_slice(), 10, 0, MODULUS - 1)?,
         count: read_number(count.as_slice(), 10, 0, MOST_ROUNDS)?,
     })
 }
 
 /// The command `judge`, which takes no words, or `tap` for the log of a tap.
-fn read_judge<'a>(words: &[Vec<u8>]) -> Option<Command<'a>>
+fn read_judge<'a>(words: &[Vec<u8>]) -> Option<ReplayCommand<'a>>
     ensures value { option_map asked result ≡ judge_of (texts words.now) }
     ensures proper { IfSome result (λ command. HasProper command) }
 {
     match words {
-        [] => Some(Command::Judge(Listener::Bridge)),
-        [word] if word.as_slice() == b"tap".as_slice() => Some(Command::Judge(Listener::Tap)),
+        [] => Some(ReplayCommand::Judge(Listener::Bridge)),
+        [word] if word.as_slice() == b"tap".as_slice() => Some(ReplayCommand::Judge(Listener::Tap)),
         _ => None,
     }
 }
 
 /// The command `drive`, which takes no words.
-fn read_drive<'a>(words: &[Vec<u8>]) -> Option<Command<'a>>
+fn read_drive<'a>(words: &[Vec<u8>]) -> Option<ReplayCommand<'a>>
     ensures value { option_map asked result ≡ alone Drive (texts words.now) }
     ensures proper { IfSome result (λ command. HasProper command) }
 {
     match words {
-        [] => Some(Command::Drive),
+        [] => Some(ReplayCommand::Drive),
         _ => None,
     }
 }
 
-fn read_revive(words: &[Vec<u8>]) -> Option<Command>
+fn read_revive(words: &[Vec<u8>]) -> Option<ReplayCommand>
     ensures value { option_map asked result ≡ revive_of (texts words.now) }
     ensures proper { IfSome result (λ command. HasProper command) }
 {
     let [lives] = words else {
         return None;
     };
-    Some(Command::Revive {
+    Some(ReplayCommand::Revive {
         lives: read_number(lives.as_slice(), 1, 1, 9)?,
     })
 }
 
-fn read_named<'a>(name: &[u8], words: &'a [Vec<u8>]) -> Option<Command<'a>>
+fn read_named<'a>(name: &[u8], words: &'a [Vec<u8>]) -> Option<ReplayCommand<'a>>
     ensures value { option_map asked result ≡ command_named name.now (texts words.now) }
     ensures proper { IfSome result (λ command. HasProper command) }
 {
     if name == b"replay".as_slice() {
-        Some(Command::Replay(read_settings(words)?))
+        Some(ReplayCommand::Replay(read_settings(words)?))
     } else if name == b"check".as_slice() {
-        Some(Command::Check(read_settings(words)?))
+        Some(ReplayCommand::Check(read_settings(words)?))
     } else if name == b"migrate".as_slice() {
-        Some(Command::Migrate(read_settings(words)?))
+        Some(ReplayCommand::Migrate(read_settings(words)?))
     } else if name == b"judge".as_slice() {
         read_judge(words)
     } else if name == b"revive".as_slice() {
@@ -98,20 +98,20 @@ fn read_named<'a>(name: &[u8], words: &'a [Vec<u8>]) -> Option<Command<'a>>
     } else if name == b"drive".as_slice() {
         read_drive(words)
     } else if name == b"games".as_slice() {
-        Some(Command::Games(read_settings(words)?))
+        Some(ReplayCommand::Games(read_settings(words)?))
     } else if name == b"positions".as_slice() {
-        Some(Command::Positions(read_settings(words)?))
+        Some(ReplayCommand::Positions(read_settings(words)?))
     } else if name == b"drill".as_slice() {
         read_drill(words)
     } else if name == b"moves".as_slice() && !words.is_empty() {
-        Some(Command::Moves(words))
+        Some(ReplayCommand::Moves(words))
     } else {
         None
     }
 }
 
 /// The command of the words, which do not include the program's name.
-pub fn read_command(words: &[Vec<u8>]) -> Option<Command>
+pub fn read_command(words: &[Vec<u8>]) -> Option<ReplayCommand>
     ensures value { option_map asked result ≡ command_of (texts words.now) }
     ensures proper { IfSome result (λ command. HasProper command) }
 {

@@ -47,7 +47,7 @@ fn add_words(words: &[Vec<u8>], text: &mut Vec<u8>) -> Result<(), NoMemory>
 
 // Puts the text of a move, and a line feed.
 fn put_line(m: Move, out: &mut Out)
-    requires officer { IsOfficer m.promo }
+    requires officer { IsOfficer m.promotion }
     requires room { length out.old.text + 6 ≤ out.old.room }
     ensures put { out.new ≡ with out.old (one_line (text_of m)) }
     ensures few { length out.new.text ≤ length out.old.text + 6 }
@@ -59,7 +59,7 @@ fn put_line(m: Move, out: &mut Out)
 
 // Puts the texts of moves, one a line.
 fn put_moves(moves: &[Move], out: &mut Out)
-    requires officers { (m : AnyMove) → Contains moves.now m → IsOfficer m.promo }
+    requires officers { (m : AnyMove) → Contains moves.now m → IsOfficer m.promotion }
     requires room { length out.old.text + length moves.now * 6 ≤ out.old.room }
     ensures { out.new ≡ with out.old (move_lines moves.now) }
 {

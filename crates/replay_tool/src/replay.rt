@@ -29,10 +29,10 @@ ghost use Rattle.session_positions.specs.PositionsWritten.{PositionsWritten};
 ghost use Rattle.line_io.specs.declared.limits.TheConstants.{SCRIPT_LINE};
 
 use crate::check::Audit;
-use crate::command::{Command, read_command};
+use crate::command::{ReplayCommand, read_command};
 use crate::moves::list_moves;
 use crate::play::play_drill;
-use crate::run::Run;
+use crate::run::ScriptRun;
 use crate::verdict::write_verdict;
 use command_endings::{Ending, tell, tell_short};
 use driver_script::run_drive;
@@ -67,7 +67,7 @@ fn run_replay<I: Source, O: Sink, D: Sink>(
         (streams (I.state input.old) (O.state output.old) (D.state diag.old))
         (streams (I.state input.new) (O.state output.new) (D.state diag.new)) (code_of result) }
 {
-    let Ok(mut run) = Run::make(alloc, settings) else {
+    let Ok(mut run) = ScriptRun::make(alloc, settings) else {
         return tell_short(Ending::NoMemory, diag);
     };
     let ending = run.go(input, output);
@@ -121,24 +121,26 @@ fn run_words<I: Source, O: Sink, D: Sink>(
         (streams (I.state input.new) (O.state output.new) (D.state diag.new)) (code_of result) }
 {
     match read_command(words) {
-        Some(Command::Replay(settings)) => {
+        Some(ReplayCommand::Replay(settings)) => {
             session_laws(settings);
             run_replay(alloc, &settings, input, output, diag)
         }
-        Some(Command::Check(settings)) => {
+        Some(ReplayCommand::Check(settings)) => {
             session_laws(settings);
             run_check(alloc, &settings, input, output, diag)
         }
-        Some(Command::Migrate(settings)) => migrate(alloc, &settings, input, output, diag),
-        Some(Command::Judge(listener)) => run_judge(alloc, listener, input, output, diag),
-        Some(Command::Revive { lives }) => run_revive(alloc, lives, input, output, diag),
-        Some(Command::Drive) => run_drive(alloc, input, output, diag),
-        Some(Command::Games(settings)) => write_games(alloc, &settings, input, output, diag),
-        Some(Command::Positions(settings)) => {
+        Some(ReplayCommand::Migrate(settings)) => migrate(alloc, &settings, input, output, diag),
+        Some(ReplayCommand::Judge(listener)) => run_judge(alloc, listener, input, output, diag),
+        Some(ReplayCommand::Revive { lives }) => run_revive(alloc, lives, input, output, diag),
+        Some(ReplayCommand::Drive) => run_drive(alloc, input, output, diag),
+        Some(ReplayCommand::Games(settings)) => write_games(alloc, &settings, input, output, diag),
+        Some(ReplayCommand::Positions(settings)) => {
             write_positions(alloc, &settings, input, output, diag)
         }
-        Some(Command::Drill { number, count }) => play_drill(alloc, number, count, output, diag),
-        Some(Command::Moves(words)) => list_moves(alloc, words, output, diag),
+        Some(ReplayCommand::Drill { number, count }) => play_drill(
+            alloc, number, count, output, diag,
+        ),
+        Some(ReplayCommand::Moves(words)) => list_moves(alloc, words, output, diag),
         None => tell_short(Ending::Usage, diag),
     }
 }

@@ -21,19 +21,19 @@ use std::alloc::Global;
 
 // A session that is replayed, and the lines of its script.
 #[derive(Drop)]
-pub(crate) struct Run {
+pub(crate) struct ScriptRun {
     player: Player,
     lines: Lines,
 }
 
-impl Run {
+impl ScriptRun {
     /// A run before its first line. It takes all memory that it ever uses.
-    pub fn make(alloc: Global, settings: &Settings) -> Result<Run, NoMemory>
+    pub fn make(alloc: Global, settings: &Settings) -> Result<ScriptRun, NoMemory>
         requires { IsProper settings.now }
         ensures player { IfOk result (λ run. IsFresh settings.now run.player) }
         ensures lines { IfOk result (λ run. run.lines ≡ unread SCRIPT_LINE) }
     {
-        Ok(Run {
+        Ok(ScriptRun {
             player: Player::make(alloc, settings)?,
             lines: Lines::make(alloc, SCRIPT_LINE)?,
         })

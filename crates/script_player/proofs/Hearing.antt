@@ -10,14 +10,14 @@ use Rattle.line_io.specs.Out.{Text, empty}
 use Rattle.line_io.specs.Source.{Received, TakesPrefix}
 use Rattle.line_io.specs.Takers.{Then}
 use Rattle.policy_rules.specs.declared.settings.Settings.{Settings}
-use Rattle.adapter_core.specs.Parts.{Parts}
+use Rattle.adapter_core.specs.Parts.{CoreParts}
 use Rattle.command_endings.specs.declared.ending.Ending.{Ending}
 use Rattle.command_endings.specs.declared.ending.Ending.TheVariants as endings
 use Rattle.script_player.specs.declared.player.Player.{Player}
-use Rattle.script_player.specs.declared.stage.Stage.{Stage}
-use Rattle.script_player.specs.declared.stage.Stage.TheVariants as stages
+use Rattle.script_player.specs.declared.stage.ScriptStage.{ScriptStage}
+use Rattle.script_player.specs.declared.stage.ScriptStage.TheVariants as stages
 use Rattle.script_player.specs.Stages.{IsNumbered, is_start}
-use Rattle.script_player.specs.Versions.{version_in, Said, fault_said, kind_says, kind_of}
+use Rattle.script_player.specs.Versions.{version_in, LineSaid, fault_said, kind_says, kind_of}
 use Rattle.script_player.specs.Playing.{HasBegun, Played, Playing, Scripted, Takes, Took}
 use Rattle.script_player.specs.Replaying.{IsFresh, with_text, MayGoOn, Stood, Broke, Halted, Came, Finished, replays}
 use Rattle.script_player.proofs.VersionLines.{version_stays}
@@ -31,14 +31,14 @@ stood_first see player output fresh = λ o f. record {
   took = record { is_start = f.is_start; stands = f.stands; is_empty = ap (λ (t : Text). t.text) f.text; appended = Appends-nil (see output).taken };
   may = record {
     new = λ _. (fresh.stands, ap (λ (t : Text). t.text) f.text);
-    numbered = subst (λ (s : Stage). IsNumbered s) (sym f.is_start) tt;
+    numbered = subst (λ (s : ScriptStage). IsNumbered s) (sym f.is_start) tt;
     room = ap (λ (t : Text). t.room) f.text;
   };
   no_failure = refl;
 }
 
 -- lines with one more are some
-pub took_more : (o : Settings) (lines : List Piece) (p : Piece) (core : Parts) (stage : Stage) (text : List ℕ) (before after : Received)
+pub took_more : (o : Settings) (lines : List Piece) (p : Piece) (core : CoreParts) (stage : ScriptStage) (text : List ℕ) (before after : Received)
     → Playing o (lines ++ p ∷ []) core stage text before after → Took o (lines ++ p ∷ []) core stage text before after
 took_more o [] p core stage text before after x = x
 took_more o (l ∷ ls) p core stage text before after x = x
@@ -51,7 +51,7 @@ came_by o lines p None player before after x may same = record { took = took_mor
 came_by o lines p (Some f) player before after x may same = record { halts = inr (record { is_fault = x.0; scripted = x.1; no_failure = same }); may = may }
 
 -- what was replayed is a script that was written but for the rest
-pub scripted_by : (o : Settings) (lines : List Piece) (core : Parts) (stage : Stage) (text : List ℕ) (before after : Received) → Playing o lines core stage text before after → Scripted o lines text before after
+pub scripted_by : (o : Settings) (lines : List Piece) (core : CoreParts) (stage : ScriptStage) (text : List ℕ) (before after : Received) → Playing o lines core stage text before after → Scripted o lines text before after
 scripted_by o lines core stage text before after p = record { trace = p.trace; lawful = p.lawful; short = p.short; events_are = p.events_are; written = p.written; appended = p.appended; script_is = p.script_is }
 
 -- the rest was written
@@ -91,7 +91,7 @@ broke_all o lines text before after later s t same rose =
     subst (λ (ls : List Piece). Broke o ls before later) (append-nil lines) (broke o lines [] text before after later s t same rose)
 
 -- the session goes on with what is left written
-pub playing_wrote : (o : Settings) (lines : List Piece) (core : Parts) (stage : Stage) (text : List ℕ) (before after later : Received) → Playing o lines core stage text before after → Appends after.taken later.taken text
+pub playing_wrote : (o : Settings) (lines : List Piece) (core : CoreParts) (stage : ScriptStage) (text : List ℕ) (before after later : Received) → Playing o lines core stage text before after → Appends after.taken later.taken text
     → Playing o lines core stage [] before later
 playing_wrote o lines core stage text before after later p a = record {
   fine = p.fine;
@@ -108,7 +108,7 @@ playing_wrote o lines core stage text before after later p a = record {
 }
 
 -- the same where no line may have come
-pub took_wrote : (o : Settings) (lines : List Piece) (core : Parts) (stage : Stage) (text : List ℕ) (before after later : Received) → Took o lines core stage text before after → Appends after.taken later.taken text
+pub took_wrote : (o : Settings) (lines : List Piece) (core : CoreParts) (stage : ScriptStage) (text : List ℕ) (before after later : Received) → Took o lines core stage text before after → Appends after.taken later.taken text
     → Took o lines core stage [] before later
 took_wrote o [] core stage text before after later u a = record {
   is_start = u.is_start;
@@ -119,7 +119,7 @@ took_wrote o [] core stage text before after later u a = record {
 took_wrote o (l ∷ ls) core stage text before after later p a = playing_wrote o (l ∷ ls) core stage text before after later p a
 
 -- where something is left to write the session was opened
-pub took_some : (o : Settings) (lines : List Piece) (core : Parts) (stage : Stage) (text : List ℕ) (before after : Received) → 0 < length text → Took o lines core stage text before after → Scripted o lines text before after
+pub took_some : (o : Settings) (lines : List Piece) (core : CoreParts) (stage : ScriptStage) (text : List ℕ) (before after : Received) → 0 < length text → Took o lines core stage text before after → Scripted o lines text before after
 took_some o [] core stage text before after some u = let n = ap length u.is_empty in absurd (let z : ⊥ = omega (arith, n, some) in z)
 took_some o (l ∷ ls) core stage text before after some p = scripted_by o (l ∷ ls) core stage text before after p
 
@@ -229,12 +229,12 @@ then_by see player0 output0 pieces (Some e) player output h = h
 
 -- an opened session goes on
 pub may_headed : (player : Player) → player.stage ≡ stages.Headed → player.text.room ≡ 8388608 → MayGoOn player
-may_headed player h r = record { new = λ e. absurd (not_start player.stage (ap is_start h) e); numbered = subst (λ (s : Stage). IsNumbered s) (sym h) tt; room = r }
+may_headed player h r = record { new = λ e. absurd (not_start player.stage (ap is_start h) e); numbered = subst (λ (s : ScriptStage). IsNumbered s) (sym h) tt; room = r }
 
 pub may_plain : (player : Player) → player.stage ≡ stages.Plain → player.text.room ≡ 8388608 → MayGoOn player
-may_plain player h r = record { new = λ e. absurd (not_start player.stage (ap is_start h) e); numbered = subst (λ (s : Stage). IsNumbered s) (sym h) tt; room = r }
+may_plain player h r = record { new = λ e. absurd (not_start player.stage (ap is_start h) e); numbered = subst (λ (s : ScriptStage). IsNumbered s) (sym h) tt; room = r }
 
-pub may_taken : (old new : Player) (said : Said) → is_start old.stage ≡ false → Takes old.core old.stage old.text said new.core new.stage new.text → IsNumbered new.stage → new.text.room ≡ 8388608 → MayGoOn new
+pub may_taken : (old new : Player) (said : LineSaid) → is_start old.stage ≡ false → Takes old.core old.stage old.text said new.core new.stage new.text → IsNumbered new.stage → new.text.room ≡ 8388608 → MayGoOn new
 may_taken old new said e t n r =
     let is_open = takes_open old.core old.stage old.text said new.core new.stage new.text e t in
     record { new = λ s. absurd (not_start new.stage is_open s); numbered = n; room = r }

@@ -7,7 +7,7 @@ use Rattle.policy_rules.specs.declared.settings.Settings.{Settings}
 use Rattle.command_endings.specs.declared.ending.Ending.{Ending}
 use Rattle.command_endings.specs.declared.ending.Ending.TheVariants as endings
 use Rattle.script_player.specs.declared.player.Player.{Player}
-use Rattle.script_player.specs.Versions.{Said, Comes, Passes, Starts, HasNoMark, IsOutOfStep, Cannot, fault_said, first_fault, or_later, line_says, place_said, Place as ReadingPlace, script_fault, version_in, beginning, behind_header, header_lines}
+use Rattle.script_player.specs.Versions.{LineSaid, Comes, Passes, Starts, HasNoMark, IsOutOfStep, Cannot, fault_said, first_fault, or_later, line_says, place_said, Place as ReadingPlace, script_fault, version_in, beginning, behind_header, header_lines}
 use Rattle.script_player.specs.Playing.{Scripted}
 use Rattle.script_player.specs.Replaying.{Broke, Faulted, Halted, Finished, Left, is_cut}
 
@@ -19,7 +19,7 @@ IsLineFault (endings.OutOfStep n) = ⊤
 IsLineFault (endings.MayNotCome n) = ⊤
 IsLineFault e = ⊥
 
-said_fault : (n : ℕ) (s : Said) (f : Ending) → fault_said n s ≡ Some f → IsLineFault f
+said_fault : (n : ℕ) (s : LineSaid) (f : Ending) → fault_said n s ≡ Some f → IsLineFault f
 said_fault n (Comes e) f h = cc
 said_fault n Passes f h = cc
 said_fault n (Starts k) f h = cc

@@ -15,21 +15,21 @@ use Rattle.policy_rules.specs.declared.settings.Settings.{Settings}
 use Rattle.adapter_core.specs.declared.ends.Ends.{Ends}
 use Rattle.adapter_core.specs.Ends.{may, ends_after}
 use Rattle.adapter_core.specs.Trace.{Step, Lawful, state, iface_text, engine_text}
-use Rattle.adapter_core.specs.Parts.{Parts}
+use Rattle.adapter_core.specs.Parts.{CoreParts}
 use Rattle.adapter_core.specs.Stands.{Stands}
 use Rattle.session_script.specs.Script.{numbered_text, numbered_texts, step_text}
 use Rattle.command_endings.specs.declared.ending.Ending.{Ending}
 use Rattle.command_endings.specs.declared.ending.Ending.TheVariants as endings
-use Rattle.script_player.specs.declared.stage.Stage.{Stage}
-use Rattle.script_player.specs.declared.stage.Stage.TheVariants as stages
-use Rattle.script_player.specs.Versions.{Kind, Tells, Numbers, kind_of, Version, First, Second, version_by, version_in, behind_header, header_lines, settings_by, script_by, Said, Comes, Passes, Starts, HasNoMark, IsOutOfStep, Cannot, event_says, number_says, kind_says, line_says, stage_started, stage_told, Place, place_said, place_over, fault_said, first_fault, events_said, events_of, opened, beginning, fault_by, events_by, script_fault, script_events}
+use Rattle.script_player.specs.declared.stage.ScriptStage.{ScriptStage}
+use Rattle.script_player.specs.declared.stage.ScriptStage.TheVariants as stages
+use Rattle.script_player.specs.Versions.{LineKind, Tells, Numbers, kind_of, Version, First, Second, version_by, version_in, behind_header, header_lines, settings_by, script_by, LineSaid, Comes, Passes, Starts, HasNoMark, IsOutOfStep, Cannot, event_says, number_says, kind_says, line_says, stage_started, stage_told, Place, place_said, place_over, fault_said, first_fault, events_said, events_of, opened, beginning, fault_by, events_by, script_fault, script_events}
 use Rattle.script_player.specs.Playing.{Steps, Takes, text_at, CountIs, Playing, Scripted, Played}
 use Rattle.script_player.proofs.VersionLines.{place_more, fault_more, events_more, behind_more, behind_length}
 
 -- WHAT A STAGE LETS COME
 
 -- an event comes in version 1, or behind the number of its step
-pub data Fits (v : Version) (stage : Stage) (count : ℕ) : Type 0 where
+pub data Fits (v : Version) (stage : ScriptStage) (count : ℕ) : Type 0 where
   AtPlain : v ≡ First → stage ≡ stages.Plain → Fits v stage count
   AtNumber : (settings : Settings) (number : ℕ) → v ≡ Second settings → stage ≡ stages.Numbered number → number ≡ step_number count → Fits v stage count
 
@@ -39,7 +39,7 @@ no_start due n e h = by (n == due) h where
   by true h = cc
   by false h = cc
 
-comes_at : (v : Version) (stage : Stage) (count : ℕ) (ends : Ends) (kind : Kind) (e : Event) → CountIs v stage count → kind_says stage ends kind ≡ Comes e → Fits v stage count
+comes_at : (v : Version) (stage : ScriptStage) (count : ℕ) (ends : Ends) (kind : LineKind) (e : Event) → CountIs v stage count → kind_says stage ends kind ≡ Comes e → Fits v stage count
 comes_at First stages.Plain count ends kind e c h = AtPlain refl refl
 comes_at (Second s) stages.Headed count ends (Numbers n) e c h = absurd (no_start 0 n e h)
 comes_at (Second s) (stages.Told last) count ends (Numbers n) e c h = absurd (no_start (step_number (last + 1)) n e h)
@@ -62,7 +62,7 @@ is_due due n m h = by (n == due) refl h where
   by false t h = cc
 
 -- the number of a step is counted
-starts_at : (v : Version) (stage : Stage) (count : ℕ) (ends : Ends) (kind : Kind) (m : ℕ) → CountIs v stage count → kind_says stage ends kind ≡ Starts m → CountIs v (stage_started stage m) count
+starts_at : (v : Version) (stage : ScriptStage) (count : ℕ) (ends : Ends) (kind : LineKind) (m : ℕ) → CountIs v stage count → kind_says stage ends kind ≡ Starts m → CountIs v (stage_started stage m) count
 starts_at First stages.Plain count ends (Tells e) m c h = absurd (no_event ends e m h)
 starts_at First stages.Headed count ends kind m c h = absurd c
 starts_at First (stages.Told n) count ends kind m c h = absurd c
@@ -75,17 +75,17 @@ starts_at v stages.Start count ends kind m c h = absurd c
 starts_at v stage count ends kind m c h = cc
 
 -- after its event the step is counted
-told_at : (v : Version) (stage : Stage) (count : ℕ) → Fits v stage count → CountIs v (stage_told stage) (suc count)
-told_at v stage count (AtPlain a b) = subst (λ (x : Version). CountIs x (stage_told stage) (suc count)) (sym a) (subst (λ (x : Stage). CountIs First (stage_told x) (suc count)) (sym b) tt)
+told_at : (v : Version) (stage : ScriptStage) (count : ℕ) → Fits v stage count → CountIs v (stage_told stage) (suc count)
+told_at v stage count (AtPlain a b) = subst (λ (x : Version). CountIs x (stage_told stage) (suc count)) (sym a) (subst (λ (x : ScriptStage). CountIs First (stage_told x) (suc count)) (sym b) tt)
 told_at v stage count (AtNumber s n a b c) =
-    subst (λ (x : Version). CountIs x (stage_told stage) (suc count)) (sym a) (subst (λ (x : Stage). CountIs (Second s) (stage_told x) (suc count)) (sym b) (count, refl, c))
+    subst (λ (x : Version). CountIs x (stage_told stage) (suc count)) (sym a) (subst (λ (x : ScriptStage). CountIs (Second s) (stage_told x) (suc count)) (sym b) (count, refl, c))
 
 -- the text of a step goes on with the script
-text_on : (v : Version) (stage : Stage) (t : List Step) (s : Step) (front : List ℕ) → Fits v stage (length t) → front ≡ script_by v t → front ++ text_at stage s ≡ script_by v (s ∷ t)
+text_on : (v : Version) (stage : ScriptStage) (t : List Step) (s : Step) (front : List ℕ) → Fits v stage (length t) → front ≡ script_by v t → front ++ text_at stage s ≡ script_by v (s ∷ t)
 text_on v stage t s front (AtPlain a b) e =
-    ap (λ (x : Stage). front ++ text_at x s) b ∙ ap (λ l. l ++ step_text s) (e ∙ ap (λ (x : Version). script_by x t) a) ∙ sym (ap (λ (x : Version). script_by x (s ∷ t)) a)
+    ap (λ (x : ScriptStage). front ++ text_at x s) b ∙ ap (λ l. l ++ step_text s) (e ∙ ap (λ (x : Version). script_by x t) a) ∙ sym (ap (λ (x : Version). script_by x (s ∷ t)) a)
 text_on v stage t s front (AtNumber o n a b c) e =
-    ap (λ (x : Stage). front ++ text_at x s) b
+    ap (λ (x : ScriptStage). front ++ text_at x s) b
     ∙ ap (λ k. front ++ numbered_marks k s.event (iface_text s) (engine_text s)) c
     ∙ ap (λ l. l ++ numbered_text (length t) s) (e ∙ ap (λ (x : Version). script_by x t) a)
     ∙ append_assoc (header_text o) (10 ∷ numbered_texts t) (numbered_text (length t) s)
@@ -94,11 +94,11 @@ text_on v stage t s front (AtNumber o n a b c) e =
 -- ONE LINE
 
 -- the sides after a step of a core
-core_ends : (o : Settings) (old new : Parts) (t : List Step) (step : Step) (e : Event) → step.event ≡ e → Stands o old t → Stands o new (step ∷ t) → new.ends ≡ ends_after old.ends e
+core_ends : (o : Settings) (old new : CoreParts) (t : List Step) (step : Step) (e : Event) → step.event ≡ e → Stands o old t → Stands o new (step ∷ t) → new.ends ≡ ends_after old.ends e
 core_ends o old new t step e same st st' =
-    ap (λ (v : Parts). v.ends) (st'.0) ∙ ap (λ (x : Event). ends_after (state o t).ends x) same ∙ ap (λ (v : Parts). ends_after v.ends e) (sym (st.0))
+    ap (λ (v : CoreParts). v.ends) (st'.0) ∙ ap (λ (x : Event). ends_after (state o t).ends x) same ∙ ap (λ (v : CoreParts). ends_after v.ends e) (sym (st.0))
 
-module _ (o : Settings) (lines : List Piece) (core : Parts) (stage : Stage) (text : List ℕ) (before after : Received) (p : Playing o lines core stage text before after) (piece : Piece)
+module _ (o : Settings) (lines : List Piece) (core : CoreParts) (stage : ScriptStage) (text : List ℕ) (before after : Received) (p : Playing o lines core stage text before after) (piece : Piece)
     (same : version_in (lines ++ piece ∷ []) ≡ version_in lines) (number : ℕ) (number_is : number ≡ length lines + 1) where
   abbrev v : Version
   v = version_in lines
@@ -112,7 +112,7 @@ module _ (o : Settings) (lines : List Piece) (core : Parts) (stage : Stage) (tex
   abbrev here : Place
   here = record { stage = stage; ends = core.ends }
 
-  abbrev said : Said
+  abbrev said : LineSaid
   said = line_says here piece
 
   behind : behind_header v more ≡ body ++ piece ∷ []
@@ -126,7 +126,7 @@ module _ (o : Settings) (lines : List Piece) (core : Parts) (stage : Stage) (tex
       ap (λ (x : Version). fault_by x more) same
       ∙ ap (first_fault (1 + header_lines v) (beginning v)) behind
       ∙ fault_more (1 + header_lines v) (beginning v) body piece p.fine
-      ∙ ap (λ (x : Said). fault_said (1 + header_lines v + length body) x) said_is
+      ∙ ap (λ (x : LineSaid). fault_said (1 + header_lines v + length body) x) said_is
       ∙ ap (λ k. fault_said k said) (let n = behind_length v lines refl in let z : 1 + header_lines v + length body ≡ number = omega (arith, n, number_is) in z)
 
   events_on : script_events more ≡ script_events lines ++ events_said said []
@@ -134,7 +134,7 @@ module _ (o : Settings) (lines : List Piece) (core : Parts) (stage : Stage) (tex
       ap (λ (x : Version). events_by x more) same
       ∙ ap (λ (ls : List Piece). Open ∷ events_of (beginning v) ls) behind
       ∙ ap (λ (es : List Event). Open ∷ es)
-      (events_more (1 + header_lines v) (beginning v) body piece p.fine ∙ ap (λ (x : Said). events_of (beginning v) body ++ events_said x []) said_is)
+      (events_more (1 + header_lines v) (beginning v) body piece p.fine ∙ ap (λ (x : LineSaid). events_of (beginning v) body ++ events_said x []) said_is)
 
   place_on : place_over (beginning (version_in more)) (behind_header (version_in more) more) ≡ place_said here said
   place_on =
@@ -162,7 +162,7 @@ module _ (o : Settings) (lines : List Piece) (core : Parts) (stage : Stage) (tex
   )
 
   -- the line tells no event
-  on_quiet : (stage' : Stage) → fault_said number said ≡ None → events_said said [] ≡ [] → place_said here said ≡ record { stage = stage'; ends = core.ends } → CountIs v stage' (length p.trace)
+  on_quiet : (stage' : ScriptStage) → fault_said number said ≡ None → events_said said [] ≡ [] → place_said here said ≡ record { stage = stage'; ends = core.ends } → CountIs v stage' (length p.trace)
       → Playing o more core stage' text before after
   on_quiet stage' is none at count = record {
     fine = fault_is ∙ is;
@@ -179,7 +179,7 @@ module _ (o : Settings) (lines : List Piece) (core : Parts) (stage : Stage) (tex
   }
 
   -- its event was stepped
-  on_event : (e : Event) (core' : Parts) (old new : Text) → old.text ≡ text → said ≡ Comes e → Steps stage core core' e old new → Playing o more core' (stage_told stage) new.text before after
+  on_event : (e : Event) (core' : CoreParts) (old new : Text) → old.text ≡ text → said ≡ Comes e → Steps stage core core' e old new → Playing o more core' (stage_told stage) new.text before after
   on_event e core' old new is_text is s =
       let next = s.adds.extends (settings_by v o) p.trace p.lawful p.stands in
       let fits = comes_at v stage (length p.trace) core.ends (kind_of piece) e p.count is in
@@ -192,42 +192,42 @@ module _ (o : Settings) (lines : List Piece) (core : Parts) (stage : Stage) (tex
         stands = subst (λ (x : Version). Stands (settings_by x o) core' (s.step ∷ p.trace)) (sym same) next.1;
         short = (s.short, p.short);
         events_are = ap (λ (es : List Event). es ++ s.step.event ∷ []) p.events_are ∙ ap (λ (x : Event). script_events lines ++ x ∷ []) s.adds.event
-            ∙ sym (events_on ∙ ap (λ (x : Said). script_events lines ++ events_said x []) is);
+            ∙ sym (events_on ∙ ap (λ (x : LineSaid). script_events lines ++ events_said x []) is);
         written = p.written;
         appended = p.appended;
         script_is = ap (λ (t : Text). p.written ++ t.text) s.put ∙ ap (λ l. p.written ++ (l ++ text_at stage s.step)) is_text ∙ sym (append_assoc p.written text (text_at stage s.step))
             ∙ text_on v stage p.trace s.step (p.written ++ text) fits p.script_is ∙ ap (λ (x : Version). script_by x (s.step ∷ p.trace)) (sym same);
       }
 
-  kept_at : (core' : Parts) (stage' to : Stage) (old new : Text) → old.text ≡ text → core' ≡ core → stage' ≡ to → new ≡ old → Playing o more core to text before after → Playing o more core' stage' new.text before after
+  kept_at : (core' : CoreParts) (stage' to : ScriptStage) (old new : Text) → old.text ≡ text → core' ≡ core → stage' ≡ to → new ≡ old → Playing o more core to text before after → Playing o more core' stage' new.text before after
   kept_at core' stage' to old new is_text c s t x =
-      subst (λ (w : Parts). Playing o more w stage' new.text before after) (sym c)
-      (subst (λ (w : Stage). Playing o more core w new.text before after) (sym s)
+      subst (λ (w : CoreParts). Playing o more w stage' new.text before after) (sym c)
+      (subst (λ (w : ScriptStage). Playing o more core w new.text before after) (sym s)
       (subst (λ (w : List ℕ). Playing o more core to w before after) (sym (ap (λ (y : Text). y.text) t ∙ is_text)) x))
 
-  kept : (core' : Parts) (stage' : Stage) (old new : Text) → old.text ≡ text → (core' ≡ core) × (stage' ≡ stage) × (new ≡ old) → Playing o more core stage text before after → Playing o more core' stage' new.text before after
+  kept : (core' : CoreParts) (stage' : ScriptStage) (old new : Text) → old.text ≡ text → (core' ≡ core) × (stage' ≡ stage) × (new ≡ old) → Playing o more core stage text before after → Playing o more core' stage' new.text before after
   kept core' stage' old new is_text t x = kept_at core' stage' stage old new is_text t.0 t.1 t.2 x
 
-  bad : (core' : Parts) (stage' : Stage) (old new : Text) (f : Ending) → old.text ≡ text → (core' ≡ core) × (stage' ≡ stage) × (new ≡ old) → Played o more (Some f) core stage text before after → Played o more (Some f) core' stage' new.text before after
+  bad : (core' : CoreParts) (stage' : ScriptStage) (old new : Text) (f : Ending) → old.text ≡ text → (core' ≡ core) × (stage' ≡ stage) × (new ≡ old) → Played o more (Some f) core stage text before after → Played o more (Some f) core' stage' new.text before after
   bad core' stage' old new f is_text t x = (x.0, subst (λ (w : List ℕ). Scripted o more w before after) (sym (ap (λ (y : Text). y.text) t.2 ∙ is_text)) x.1)
 
-  of_said : (x : Said) (core' : Parts) (stage' : Stage) (old new : Text) → old.text ≡ text → said ≡ x → Takes core stage old x core' stage' new
+  of_said : (x : LineSaid) (core' : CoreParts) (stage' : ScriptStage) (old new : Text) → old.text ≡ text → said ≡ x → Takes core stage old x core' stage' new
       → Played o more (fault_said number x) core' stage' new.text before after
-  of_said (Comes e) core' stage' old new is_text is t = subst (λ (s : Stage). Playing o more core' s new.text before after) (sym t.1) (on_event e core' old new is_text is t.0)
+  of_said (Comes e) core' stage' old new is_text is t = subst (λ (s : ScriptStage). Playing o more core' s new.text before after) (sym t.1) (on_event e core' old new is_text is t.0)
   of_said Passes core' stage' old new is_text is t =
-      kept core' stage' old new is_text t (on_quiet stage (ap (fault_said number) is) (ap (λ (y : Said). events_said y []) is) (ap (place_said here) is) p.count)
+      kept core' stage' old new is_text t (on_quiet stage (ap (fault_said number) is) (ap (λ (y : LineSaid). events_said y []) is) (ap (place_said here) is) p.count)
   of_said (Starts n) core' stage' old new is_text is t =
       kept_at core' stage' (stage_started stage n) old new is_text t.0 t.1 t.2
-      (on_quiet (stage_started stage n) (ap (fault_said number) is) (ap (λ (y : Said). events_said y []) is) (ap (place_said here) is) (starts_at v stage (length p.trace) core.ends (kind_of piece) n p.count is))
+      (on_quiet (stage_started stage n) (ap (fault_said number) is) (ap (λ (y : LineSaid). events_said y []) is) (ap (place_said here) is) (starts_at v stage (length p.trace) core.ends (kind_of piece) n p.count is))
   of_said HasNoMark core' stage' old new is_text is t =
-      bad core' stage' old new (endings.NoMark number) is_text t (on_fault (endings.NoMark number) (ap (fault_said number) is) (ap (λ (y : Said). events_said y []) is))
+      bad core' stage' old new (endings.NoMark number) is_text t (on_fault (endings.NoMark number) (ap (fault_said number) is) (ap (λ (y : LineSaid). events_said y []) is))
   of_said IsOutOfStep core' stage' old new is_text is t =
-      bad core' stage' old new (endings.OutOfStep number) is_text t (on_fault (endings.OutOfStep number) (ap (fault_said number) is) (ap (λ (y : Said). events_said y []) is))
+      bad core' stage' old new (endings.OutOfStep number) is_text t (on_fault (endings.OutOfStep number) (ap (fault_said number) is) (ap (λ (y : LineSaid). events_said y []) is))
   of_said Cannot core' stage' old new is_text is t =
-      bad core' stage' old new (endings.MayNotCome number) is_text t (on_fault (endings.MayNotCome number) (ap (fault_said number) is) (ap (λ (y : Said). events_said y []) is))
+      bad core' stage' old new (endings.MayNotCome number) is_text t (on_fault (endings.MayNotCome number) (ap (fault_said number) is) (ap (λ (y : LineSaid). events_said y []) is))
 
   -- what the line said was done
-  pub on_line : (core' : Parts) (stage' : Stage) (old new : Text) (answer : Option Ending) → old.text ≡ text → answer ≡ fault_said number said → Takes core stage old said core' stage' new
+  pub on_line : (core' : CoreParts) (stage' : ScriptStage) (old new : Text) (answer : Option Ending) → old.text ≡ text → answer ≡ fault_said number said → Takes core stage old said core' stage' new
       → Played o more answer core' stage' new.text before after
   on_line core' stage' old new answer is_text e t = subst (λ (a : Option Ending). Played o more a core' stage' new.text before after) (sym e) (of_said said core' stage' old new is_text refl t)
 
@@ -237,9 +237,9 @@ no_length : (n : ℕ) → n ≡ 0 + n
 no_length n = omega arith
 
 -- a session of version 1 was opened
-pub begun_plain : (o : Settings) (core core' : Parts) (stage' : Stage) (old new : Text) (before after : Received) → Stands o core [] → old.text ≡ [] → Appends before.taken after.taken []
+pub begun_plain : (o : Settings) (core core' : CoreParts) (stage' : ScriptStage) (old new : Text) (before after : Received) → Stands o core [] → old.text ≡ [] → Appends before.taken after.taken []
     → Steps stages.Plain core core' Open old new → stage' ≡ stages.Plain → Playing o [] core' stage' new.text before after
-begun_plain o core core' stage' old new before after st empty a s is_plain = subst (λ (x : Stage). Playing o [] core' x new.text before after) (sym is_plain) (
+begun_plain o core core' stage' old new before after st empty a s is_plain = subst (λ (x : ScriptStage). Playing o [] core' x new.text before after) (sym is_plain) (
     let next = s.adds.extends o [] tt st in
     record {
       fine = refl;
@@ -255,12 +255,12 @@ begun_plain o core core' stage' old new before after st empty a s is_plain = sub
       script_is = ap (λ (t : Text). t.text) s.put ∙ ap (λ l. l ++ step_text s.step) empty;
     }) where
       ends_are : Stands o core' (s.step ∷ []) → core'.ends ≡ opened
-      ends_are st' = core_ends o core core' [] s.step Open s.adds.event st st' ∙ ap (λ (x : Ends). ends_after x Open) (ap (λ (v : Parts). v.ends) st.0)
+      ends_are st' = core_ends o core core' [] s.step Open s.adds.event st st' ∙ ap (λ (x : Ends). ends_after x Open) (ap (λ (v : CoreParts). v.ends) st.0)
 
 -- a session of version 2 was opened by its header
-pub begun_numbered : (o settings : Settings) (line : List ℕ) (set core' : Parts) (stage' : Stage) (old new : Text) (before after : Received) → header_of line ≡ Some settings → Stands settings set [] → old.text ≡ [] → Appends before.taken after.taken []
+pub begun_numbered : (o settings : Settings) (line : List ℕ) (set core' : CoreParts) (stage' : ScriptStage) (old new : Text) (before after : Received) → header_of line ≡ Some settings → Stands settings set [] → old.text ≡ [] → Appends before.taken after.taken []
     → Steps (stages.Numbered 0) set core' Open (with (with old (header_text settings)) (10 ∷ [])) new → stage' ≡ stages.Headed → Playing o (Whole line ∷ []) core' stage' new.text before after
-begun_numbered o settings line set core' stage' old new before after is_header st empty a s is_headed = subst (λ (x : Stage). Playing o (Whole line ∷ []) core' x new.text before after) (sym is_headed) (
+begun_numbered o settings line set core' stage' old new before after is_header st empty a s is_headed = subst (λ (x : ScriptStage). Playing o (Whole line ∷ []) core' x new.text before after) (sym is_headed) (
     let next = s.adds.extends settings [] tt st in
     let is : version_in (Whole line ∷ []) ≡ Second settings = ap version_by is_header in
     record {
@@ -279,7 +279,7 @@ begun_numbered o settings line set core' stage' old new before after is_header s
           ∙ ap (λ (x : Version). script_by x (s.step ∷ [])) (sym is);
     }) where
       ends_are : Stands settings core' (s.step ∷ []) → core'.ends ≡ opened
-      ends_are st' = core_ends settings set core' [] s.step Open s.adds.event st st' ∙ ap (λ (x : Ends). ends_after x Open) (ap (λ (v : Parts). v.ends) st.0)
+      ends_are st' = core_ends settings set core' [] s.step Open s.adds.event st st' ∙ ap (λ (x : Ends). ends_after x Open) (ap (λ (v : CoreParts). v.ends) st.0)
 
 -- WHAT THE CODE NEEDS OF A STAGE
 
@@ -290,21 +290,21 @@ event_may ends x e h = by (may ends x) refl h where
   by false t h = cc
 
 -- an event that comes may come
-pub comes_may : (stage : Stage) (ends : Ends) (kind : Kind) (e : Event) → kind_says stage ends kind ≡ Comes e → may ends e ≡ true
+pub comes_may : (stage : ScriptStage) (ends : Ends) (kind : LineKind) (e : Event) → kind_says stage ends kind ≡ Comes e → may ends e ≡ true
 comes_may stages.Plain ends (Tells x) e h = event_may ends x e h
 comes_may stages.Headed ends (Numbers n) e h = absurd (no_start 0 n e h)
 comes_may (stages.Told last) ends (Numbers n) e h = absurd (no_start (step_number (last + 1)) n e h)
 comes_may (stages.Numbered n) ends (Tells x) e h = event_may ends x e h
 comes_may stage ends kind e h = cc
 
-pub told_numbered : (stage : Stage) → IsNumbered stage → IsNumbered (stage_told stage)
+pub told_numbered : (stage : ScriptStage) → IsNumbered stage → IsNumbered (stage_told stage)
 told_numbered stages.Start i = i
 told_numbered stages.Plain i = i
 told_numbered stages.Headed i = i
 told_numbered (stages.Told n) i = i
 told_numbered (stages.Numbered n) i = i
 
-started_numbered : (stage : Stage) (n : ℕ) → n < 10 ^ 18 → IsNumbered (stage_started stage n)
+started_numbered : (stage : ScriptStage) (n : ℕ) → n < 10 ^ 18 → IsNumbered (stage_started stage n)
 started_numbered stages.Start n l = l
 started_numbered stages.Plain n l = l
 started_numbered stages.Headed n l = l
@@ -314,12 +314,12 @@ started_numbered (stages.Numbered k) n l = l
 pub due_below : (k n m : ℕ) → number_says (step_number k) n ≡ Starts m → m < 10 ^ 18
 due_below k n m h = let e = is_due (step_number k) n m h in let b = number_below k in omega (arith, e, b)
 
-starts_below : (stage : Stage) (ends : Ends) (kind : Kind) (m : ℕ) → kind_says stage ends kind ≡ Starts m → m < 10 ^ 18
+starts_below : (stage : ScriptStage) (ends : Ends) (kind : LineKind) (m : ℕ) → kind_says stage ends kind ≡ Starts m → m < 10 ^ 18
 starts_below stages.Plain ends (Tells x) m h = absurd (no_event ends x m h)
 starts_below stages.Headed ends (Numbers n) m h = let e = is_due 0 n m h in omega (arith, e)
 starts_below (stages.Told last) ends (Numbers n) m h = due_below (last + 1) n m h
 starts_below (stages.Numbered n) ends (Tells x) m h = absurd (no_event ends x m h)
 starts_below stage ends kind m h = cc
 
-pub starts_numbered : (stage : Stage) (ends : Ends) (kind : Kind) (m : ℕ) → kind_says stage ends kind ≡ Starts m → IsNumbered (stage_started stage m)
+pub starts_numbered : (stage : ScriptStage) (ends : Ends) (kind : LineKind) (m : ℕ) → kind_says stage ends kind ≡ Starts m → IsNumbered (stage_started stage m)
 starts_numbered stage ends kind m h = started_numbered stage m (starts_below stage ends kind m h)

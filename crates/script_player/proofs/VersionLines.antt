@@ -4,7 +4,7 @@ use Rattle.line_io.specs.Event.{Event}
 use Rattle.line_io.specs.Lines.{Piece, Whole, TooLong, items}
 use Rattle.command_endings.specs.declared.ending.Ending.{Ending}
 use Rattle.command_endings.specs.Reads.{AreFirst, IsAll}
-use Rattle.script_player.specs.Versions.{Version, First, Second, version_in, behind_header, header_lines, Place, Said, Comes, Passes, Starts, HasNoMark, IsOutOfStep, Cannot, line_says, place_said, place_over, fault_said, or_later, first_fault, events_said, events_of, beginning, fault_by, script_fault}
+use Rattle.script_player.specs.Versions.{Version, First, Second, version_in, behind_header, header_lines, Place, LineSaid, Comes, Passes, Starts, HasNoMark, IsOutOfStep, Cannot, line_says, place_said, place_over, fault_said, or_later, first_fault, events_said, events_of, beginning, fault_by, script_fault}
 
 pub no_earlier : (a b : Option Ending) → or_later a b ≡ None → (a ≡ None) × (b ≡ None)
 no_earlier None b e = (refl, e)
@@ -27,7 +27,7 @@ fault_more n place (x ∷ ls) l e =
     ∙ fault_more (n + 1) (place_said place (line_says place x)) ls l f.1
     ∙ ap (λ k. fault_said k (line_says (place_over place (x ∷ ls)) l)) (let z : n + 1 + length ls ≡ n + suc (length ls) = omega arith in z)
 
-pub said_more : (n : ℕ) (s : Said) (es fs : List Event) → fault_said n s ≡ None → events_said s (es ++ fs) ≡ events_said s es ++ fs
+pub said_more : (n : ℕ) (s : LineSaid) (es fs : List Event) → fault_said n s ≡ None → events_said s (es ++ fs) ≡ events_said s es ++ fs
 said_more n (Comes e) es fs f = refl
 said_more n Passes es fs f = refl
 said_more n (Starts number) es fs f = refl

@@ -13,7 +13,7 @@ use Rattle.session_script.specs.Script.{events}
 use Rattle.command_endings.specs.declared.ending.Ending.{Ending}
 use Rattle.command_endings.specs.declared.ending.Ending.TheVariants as endings
 use Rattle.script_player.specs.declared.player.Player.{Player}
-use Rattle.script_player.specs.declared.stage.Stage.TheVariants as stages
+use Rattle.script_player.specs.declared.stage.ScriptStage.TheVariants as stages
 use Rattle.script_player.specs.Playing.{MayTake, Scripted, Took}
 use Rattle.script_player.specs.Versions.{script_by, script_events, script_fault, settings_by, version_in}
 use Rattle.command_endings.specs.declared.limits.TheConstants.{TEXT_ROOM}

@@ -1,22 +1,22 @@
 -- Lines and stages as the program has them.
 use Rattle.std.specs.Prelude.{ℕ, ◌<◌, ◌^◌, Bool, true, false, Option, Some, None}
 use Rattle.line_io.specs.Event.{event_of}
-use Rattle.script_player.specs.declared.stage.Kind as code_kind
-use Rattle.script_player.specs.declared.stage.Kind.TheVariants as kinds
-use Rattle.script_player.specs.declared.stage.Said as code_said
-use Rattle.script_player.specs.declared.stage.Said.TheVariants as saids
-use Rattle.script_player.specs.declared.stage.Stage.{Stage}
-use Rattle.script_player.specs.declared.stage.Stage.TheVariants as stages
-use Rattle.script_player.specs.Versions.{Kind, Said}
+use Rattle.script_player.specs.declared.stage.LineKind as code_kind
+use Rattle.script_player.specs.declared.stage.LineKind.TheVariants as kinds
+use Rattle.script_player.specs.declared.stage.LineSaid as code_said
+use Rattle.script_player.specs.declared.stage.LineSaid.TheVariants as saids
+use Rattle.script_player.specs.declared.stage.ScriptStage.{ScriptStage}
+use Rattle.script_player.specs.declared.stage.ScriptStage.TheVariants as stages
+use Rattle.script_player.specs.Versions.{LineKind, LineSaid}
 use Rattle.script_player.specs.Versions as reading
 
-abbrev pub kind : code_kind.Kind → Kind
+abbrev pub kind : code_kind.LineKind → LineKind
 kind (kinds.Tells event) = reading.Tells (event_of event)
 kind kinds.Writes = reading.Writes
 kind (kinds.Numbers number) = reading.Numbers number
 kind kinds.HasNone = reading.HasNone
 
-abbrev pub said : code_said.Said → Said
+abbrev pub said : code_said.LineSaid → LineSaid
 said (saids.Comes event) = reading.Comes (event_of event)
 said saids.Passes = reading.Passes
 said (saids.Starts number) = reading.Starts number
@@ -25,16 +25,16 @@ said saids.IsOutOfStep = reading.IsOutOfStep
 said saids.Cannot = reading.Cannot
 
 -- the number of a step has at most 18 digits
-abbrev pub IsNumbered : Stage → Type 0
+abbrev pub IsNumbered : ScriptStage → Type 0
 IsNumbered (stages.Told number) = number < 10 ^ 18
 IsNumbered (stages.Numbered number) = number < 10 ^ 18
 IsNumbered stage = Unit {0}
 
-abbrev pub is_start : Stage → Bool
+abbrev pub is_start : ScriptStage → Bool
 is_start stages.Start = true
 is_start stage = false
 
 -- the number of the step whose event comes
-abbrev pub number_of : Stage → Option ℕ
+abbrev pub number_of : ScriptStage → Option ℕ
 number_of (stages.Numbered number) = Some number
 number_of stage = None

@@ -12,25 +12,25 @@ use Rattle.adapter_core.specs.Trace.{Step}
 use Rattle.session_script.specs.Script.{script1, script2}
 use Rattle.command_endings.specs.declared.ending.Ending.{Ending}
 use Rattle.command_endings.specs.declared.ending.Ending.TheVariants as endings
-use Rattle.script_player.specs.declared.stage.Stage.{Stage}
-use Rattle.script_player.specs.declared.stage.Stage.TheVariants as stages
+use Rattle.script_player.specs.declared.stage.ScriptStage.{ScriptStage}
+use Rattle.script_player.specs.declared.stage.ScriptStage.TheVariants as stages
 
 -- A LINE BY ITSELF
 
 -- the mark of an event, the mark of a line that was written, the number of a step, or nothing of these
-pub data Kind : Type 0 where
-  Tells : (event : Event) → Kind
-  Writes : Kind
-  Numbers : (number : ℕ) → Kind
-  HasNone : Kind
+pub data LineKind : Type 0 where
+  Tells : (event : Event) → LineKind
+  Writes : LineKind
+  Numbers : (number : ℕ) → LineKind
+  HasNone : LineKind
 
-abbrev pub kind_by : Option Mark → Option ℕ → Kind
+abbrev pub kind_by : Option Mark → Option ℕ → LineKind
 kind_by (Some (Happens e)) number = Tells e
 kind_by (Some m) number = Writes
 kind_by None (Some n) = Numbers n
 kind_by None None = HasNone
 
-abbrev pub kind_of : Piece → Kind
+abbrev pub kind_of : Piece → LineKind
 kind_of (Whole line) = kind_by (mark_of line) (step_of line)
 kind_of TooLong = HasNone
 
@@ -73,27 +73,27 @@ script_by (Second settings) trace = script2 settings trace
 
 -- where a reading stands: the stage, and the sides after the events that came
 pub record Place : Type 0 where
-  pub stage : Stage
+  pub stage : ScriptStage
   pub ends : Ends
 
 -- what a line says there: an event that may come, a line that was written, the number of the step that comes, or a fault
-pub data Said : Type 0 where
-  Comes : (event : Event) → Said
-  Passes : Said
-  Starts : (number : ℕ) → Said
-  HasNoMark : Said
-  IsOutOfStep : Said
-  Cannot : Said
+pub data LineSaid : Type 0 where
+  Comes : (event : Event) → LineSaid
+  Passes : LineSaid
+  Starts : (number : ℕ) → LineSaid
+  HasNoMark : LineSaid
+  IsOutOfStep : LineSaid
+  Cannot : LineSaid
 
-abbrev pub event_says : Ends → Event → Said
+abbrev pub event_says : Ends → Event → LineSaid
 event_says ends e = if may ends e then Comes e else Cannot
 
-abbrev pub number_says : ℕ → ℕ → Said
+abbrev pub number_says : ℕ → ℕ → LineSaid
 number_says due number = if number == due then Starts number else IsOutOfStep
 
 -- In version 1 marks come in any order. With a header step 0 comes behind the header, and then step by step its number, the mark of
 -- its event, and the lines that it wrote. Open is the event of step 0, and has no mark.
-abbrev pub kind_says : Stage → Ends → Kind → Said
+abbrev pub kind_says : ScriptStage → Ends → LineKind → LineSaid
 kind_says stages.Start ends kind = HasNoMark
 kind_says stages.Plain ends (Tells e) = event_says ends e
 kind_says stages.Plain ends Writes = Passes
@@ -110,18 +110,18 @@ kind_says (stages.Numbered number) ends (Tells e) = event_says ends e
 kind_says (stages.Numbered number) ends HasNone = HasNoMark
 kind_says (stages.Numbered number) ends kind = IsOutOfStep
 
-abbrev pub line_says : Place → Piece → Said
+abbrev pub line_says : Place → Piece → LineSaid
 line_says place line = kind_says place.stage place.ends (kind_of line)
 
-abbrev pub stage_started : Stage → ℕ → Stage
+abbrev pub stage_started : ScriptStage → ℕ → ScriptStage
 stage_started stages.Headed number = stages.Told number
 stage_started stage number = stages.Numbered number
 
-abbrev pub stage_told : Stage → Stage
+abbrev pub stage_told : ScriptStage → ScriptStage
 stage_told (stages.Numbered number) = stages.Told number
 stage_told stage = stage
 
-abbrev pub place_said : Place → Said → Place
+abbrev pub place_said : Place → LineSaid → Place
 place_said place (Comes e) = record { stage = stage_told place.stage; ends = ends_after place.ends e }
 place_said place (Starts number) = record { stage = stage_started place.stage number; ends = place.ends }
 place_said place s = place
@@ -132,7 +132,7 @@ place_over place [] = place
 place_over place (l ∷ ls) = place_over (place_said place (line_says place l)) ls
 
 -- the fault of the line with this number
-abbrev pub fault_said : ℕ → Said → Option Ending
+abbrev pub fault_said : ℕ → LineSaid → Option Ending
 fault_said n HasNoMark = Some (endings.NoMark n)
 fault_said n IsOutOfStep = Some (endings.OutOfStep n)
 fault_said n Cannot = Some (endings.MayNotCome n)
@@ -148,7 +148,7 @@ first_fault n place [] = None
 first_fault n place (l ∷ ls) =
     or_later (fault_said n (line_says place l)) (first_fault (n + 1) (place_said place (line_says place l)) ls)
 
-abbrev pub events_said : Said → List Event → List Event
+abbrev pub events_said : LineSaid → List Event → List Event
 events_said (Comes e) later = e ∷ later
 events_said Passes later = later
 events_said (Starts number) later = later
@@ -165,7 +165,7 @@ events_of place (l ∷ ls) = events_said (line_says place l) (events_of (place_s
 abbrev pub opened : Ends
 opened = ends_after at_start Open
 
-abbrev pub first_stage : Version → Stage
+abbrev pub first_stage : Version → ScriptStage
 first_stage First = stages.Plain
 first_stage (Second settings) = stages.Headed
 

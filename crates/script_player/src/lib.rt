@@ -6,4 +6,4 @@ mod player;
 mod stage;
 
 pub use player::Player;
-pub use stage::{Said, Stage};
+pub use stage::{LineSaid, ScriptStage};

@@ -12,11 +12,11 @@ ghost use Rattle.script_player.specs.Playing.{HasBegun, Playing, Steps, Takes};
 ghost use Rattle.script_player.specs.Replaying.{IsFresh};
 ghost use Rattle.script_player.specs.Stages.{IsNumbered};
 ghost use Rattle.script_player.specs.Versions.{fault_said, kind_of, kind_says};
-ghost use Rattle.script_player.specs.declared.stage.Stage.TheVariants as stages;
+ghost use Rattle.script_player.specs.declared.stage.ScriptStage.TheVariants as stages;
 ghost use Rattle.script_lines.specs.declared.header.TheConstants.{HEADER_ROOM};
 ghost use Rattle.script_lines.specs.declared.step_text.TheConstants.{STEP_ROOM};
 
-use crate::stage::{Said, Stage};
+use crate::stage::{LineSaid, ScriptStage};
 use adapter_core::Core;
 use command_endings::{Ending, TEXT_ROOM, tell};
 use line_io::{Event, Failed, NoMemory, Out, Sink, TakesLines, write_all};
@@ -29,12 +29,12 @@ use std::alloc::Global;
 #[derive(Drop)]
 pub struct Player {
     core: Core,
-    stage: Stage,
+    stage: ScriptStage,
     text: Out,
 }
 
 // One step of the core, and its marks, behind its number if steps are numbered.
-fn step(core: &mut Core, stage: Stage, event: &Event, text: &mut Out)
+fn step(core: &mut Core, stage: ScriptStage, event: &Event, text: &mut Out)
     requires may { may core.old.ends (event_of event.now) ≡ true }
     requires stage { IsNumbered stage }
     requires room { length text.old.text + STEP_ROOM ≤ text.old.room }
@@ -56,7 +56,7 @@ impl Player {
     {
         Ok(Player {
             core: Core::make(alloc, settings)?,
-            stage: Stage::Start,
+            stage: ScriptStage::Start,
             text: Out::make(alloc, TEXT_ROOM)?,
         })
     }
@@ -69,8 +69,13 @@ impl Player {
             self.new.core self.new.stage self.new.text }
         ensures room { self.new.text.room ≡ self.old.text.room }
     {
-        step(&mut self.core, Stage::Plain, &Event::Open, &mut self.text);
-        self.stage = Stage::Plain;
+        step(
+            &mut self.core,
+            ScriptStage::Plain,
+            &Event::Open,
+            &mut self.text,
+        );
+        self.stage = ScriptStage::Plain;
     }
 
     // Opens a session by its header.
@@ -87,11 +92,11 @@ impl Player {
         self.text.put(b"\n");
         step(
             &mut self.core,
-            Stage::Numbered(0),
+            ScriptStage::Numbered(0),
             &Event::Open,
             &mut self.text,
         );
-        self.stage = Stage::Headed;
+        self.stage = ScriptStage::Headed;
     }
 
     // Takes a line of a session that was opened.
@@ -107,19 +112,19 @@ impl Player {
         ensures stage { IsNumbered self.new.stage }
     {
         match self.stage.says(&self.core, line) {
-            Said::Comes(event) => {
+            LineSaid::Comes(event) => {
                 step(&mut self.core, self.stage, &event, &mut self.text);
                 self.stage = self.stage.told();
                 None
             }
-            Said::Passes => None,
-            Said::Starts(step) => {
+            LineSaid::Passes => None,
+            LineSaid::Starts(step) => {
                 self.stage = self.stage.started(step);
                 None
             }
-            Said::HasNoMark => Some(Ending::NoMark(number)),
-            Said::IsOutOfStep => Some(Ending::OutOfStep(number)),
-            Said::Cannot => Some(Ending::MayNotCome(number)),
+            LineSaid::HasNoMark => Some(Ending::NoMark(number)),
+            LineSaid::IsOutOfStep => Some(Ending::OutOfStep(number)),
+            LineSaid::Cannot => Some(Ending::MayNotCome(number)),
         }
     }
 }
@@ -128,7 +133,7 @@ impl Player {
     fn is_new(&self) -> bool
         ensures { result ≡ is_start self.now.stage }
     {
-        matches!(self.stage, Stage::Start)
+        matches!(self.stage, ScriptStage::Start)
     }
 
     // If another line is taken, the text is to be written first.

@@ -10,7 +10,7 @@ use script_lines::{Mark, next_number, read_mark, read_step};
 
 /// What comes next in a script.
 #[derive(Clone, Copy)]
-pub enum Stage {
+pub enum ScriptStage {
     /// The first line.
     Start,
     /// A mark of version 1.
@@ -25,7 +25,7 @@ pub enum Stage {
 
 /// A line by itself, wherever it stands.
 #[derive(Drop)]
-pub enum Kind<'a> {
+pub enum LineKind<'a> {
     /// The mark of an event.
     Tells(Event<'a>),
     /// The mark of a line that was written.
@@ -38,7 +38,7 @@ pub enum Kind<'a> {
 
 /// What a line says where it stands.
 #[derive(Drop)]
-pub enum Said<'a> {
+pub enum LineSaid<'a> {
     /// An event, which may come.
     Comes(Event<'a>),
     /// That a line was written.
@@ -51,58 +51,61 @@ pub enum Said<'a> {
     Cannot,
 }
 
-fn kind_of(line: &[u8]) -> Kind<'_>
+fn kind_of(line: &[u8]) -> LineKind<'_>
     ensures { kind result ≡ kind_of (Whole line.now) }
 {
     match read_mark(line) {
-        Ok(Mark::Event(event)) => Kind::Tells(event),
-        Ok(_) => Kind::Writes,
+        Ok(Mark::Event(event)) => LineKind::Tells(event),
+        Ok(_) => LineKind::Writes,
         Err(_) => match read_step(line) {
-            Some(number) => Kind::Numbers(number),
-            None => Kind::HasNone,
+            Some(number) => LineKind::Numbers(number),
+            None => LineKind::HasNone,
         },
     }
 }
 
-fn event_says<'a>(core: &Core, event: Event<'a>) -> Said<'a>
+fn event_says<'a>(core: &Core, event: Event<'a>) -> LineSaid<'a>
     ensures { said result ≡ event_says core.now.ends (event_of event.entry) }
 {
     if core.may(&event) {
-        Said::Comes(event)
+        LineSaid::Comes(event)
     } else {
-        Said::Cannot
+        LineSaid::Cannot
     }
 }
 
 ghost use Rattle.line_io.specs.Event.{event_of};
 ghost use Rattle.script_player.specs.Versions.{event_says, number_says};
 
-fn number_says<'a>(due: u64, number: u64) -> Said<'a>
+fn number_says<'a>(due: u64, number: u64) -> LineSaid<'a>
     ensures { said result ≡ number_says due number }
 {
     if number == due {
-        Said::Starts(number)
+        LineSaid::Starts(number)
     } else {
-        Said::IsOutOfStep
+        LineSaid::IsOutOfStep
     }
 }
 
-impl Stage {
+impl ScriptStage {
     /// What a line says here.
-    pub fn says<'a>(self, core: &Core, line: &'a [u8]) -> Said<'a>
+    pub fn says<'a>(self, core: &Core, line: &'a [u8]) -> LineSaid<'a>
         requires { IsNumbered self }
         ensures { said result ≡ kind_says self core.now.ends (kind_of (Whole line.now)) }
     {
         match (self, kind_of(line)) {
-            (Stage::Start, _) | (_, Kind::HasNone) => Said::HasNoMark,
-            (Stage::Plain, Kind::Tells(event)) => event_says(core, event),
-            (Stage::Plain, Kind::Writes) => Said::Passes,
-            (Stage::Plain, Kind::Numbers(_)) => Said::HasNoMark,
-            (Stage::Headed, Kind::Numbers(number)) => number_says(0, number),
-            (Stage::Told(_), Kind::Writes) => Said::Passes,
-            (Stage::Told(last), Kind::Numbers(number)) => number_says(next_number(last), number),
-            (Stage::Numbered(_), Kind::Tells(event)) => event_says(core, event),
-            _ => Said::IsOutOfStep,
+            (ScriptStage::Start, _) | (_, LineKind::HasNone) => LineSaid::HasNoMark,
+            (ScriptStage::Plain, LineKind::Tells(event)) => event_says(core, event),
+            (ScriptStage::Plain, LineKind::Writes) => LineSaid::Passes,
+            (ScriptStage::Plain, LineKind::Numbers(_)) => LineSaid::HasNoMark,
+            (ScriptStage::Headed, LineKind::Numbers(number)) => number_says(0, number),
+            (ScriptStage::Told(_), LineKind::Writes) => LineSaid::Passes,
+            (ScriptStage::Told(last), LineKind::Numbers(number)) => number_says(
+                next_number(last),
+                number,
+            ),
+            (ScriptStage::Numbered(_), LineKind::Tells(event)) => event_says(core, event),
+            _ => LineSaid::IsOutOfStep,
         }
     }
 
@@ -111,27 +114,27 @@ impl Stage {
         ensures { result ≡ number_of self }
     {
         match self {
-            Stage::Numbered(number) => Some(number),
+            ScriptStage::Numbered(number) => Some(number),
             _ => None,
         }
     }
 
     /// The stage behind the number of a step.
-    pub fn started(self, number: u64) -> Stage
+    pub fn started(self, number: u64) -> ScriptStage
         ensures { result ≡ stage_started self number }
     {
         match self {
-            Stage::Headed => Stage::Told(number),
-            _ => Stage::Numbered(number),
+            ScriptStage::Headed => ScriptStage::Told(number),
+            _ => ScriptStage::Numbered(number),
         }
     }
 
     /// The stage behind the mark of an event.
-    pub fn told(self) -> Stage
+    pub fn told(self) -> ScriptStage
         ensures { result ≡ stage_told self }
     {
         match self {
-            Stage::Numbered(number) => Stage::Told(number),
+            ScriptStage::Numbered(number) => ScriptStage::Told(number),
             _ => self,
         }
     }

@@ -3,6 +3,7 @@ use chess_board::read_move;
 use peer_words::GoKind;
 use script_lines::read_mark;
 use session_judge::{Judge, Listener, Rule, Search, crossings_are_the_difference};
+use std::alloc::Global;
 use std::process::Abort;
 
 /// Hears the lines of a log, which stand between bars, and gives the line that breaks a rule.
@@ -90,21 +91,21 @@ const ROWS: [Row; 22] = [
     ),
 ];
 
-fn expect_broken(rt: &impl Abort, log: &str, want: Option<(u64, Rule)>) -> Judge {
-    let mut judge = Judge::new(Listener::Bridge);
+fn expect_broken(rt: &impl Abort, alloc: Global, log: &str, want: Option<(u64, Rule)>) -> Judge {
+    let mut judge = Judge::new(alloc, Listener::Bridge);
     assert!(rt; heard(rt, &mut judge, log) == want, "{log}");
     judge
 }
 
-fn expect_all_broken(rt: &impl Abort, rows: &[Row]) {
+fn expect_all_broken(rt: &impl Abort, alloc: Global, rows: &[Row]) {
     for (log, line, rule) in rows {
-        expect_broken(rt, log, Some((*line, *rule)));
+        expect_broken(rt, alloc, log, Some((*line, *rule)));
     }
 }
 
 #[test]
 fn each_rule_is_broken(rt: HostRuntime) {
-    expect_all_broken(&rt, &ROWS);
+    expect_all_broken(&rt, rt.alloc(), &ROWS);
 }
 
 const SEARCHED: &str =
@@ -112,7 +113,7 @@ const SEARCHED: &str =
 
 #[test]
 fn a_search_is_told(rt: HostRuntime) {
-    let judge = expect_broken(&rt, SEARCHED, None);
+    let judge = expect_broken(&rt, rt.alloc(), SEARCHED, None);
     let search = Search {
         number: 1,
         kind: GoKind::Move,
@@ -180,9 +181,9 @@ const TAPPED: [Tapped; 10] = [
     ),
 ];
 
-fn expect_tapped(rt: &impl Abort, rows: &[Tapped]) {
+fn expect_tapped(rt: &impl Abort, alloc: Global, rows: &[Tapped]) {
     for (log, crossings, broken) in rows {
-        let mut judge = Judge::new(Listener::Tap);
+        let mut judge = Judge::new(alloc, Listener::Tap);
         assert!(rt; heard(rt, &mut judge, log) == *broken, "{log}");
         assert_eq!(rt; judge.crossings(), *crossings);
     }
@@ -190,13 +191,13 @@ fn expect_tapped(rt: &impl Abort, rows: &[Tapped]) {
 
 #[test]
 fn orders_cross(rt: HostRuntime) {
-    expect_tapped(&rt, &TAPPED);
+    expect_tapped(&rt, rt.alloc(), &TAPPED);
 }
 
 // The search that has ended stays as it was told.
 #[test]
 fn a_crossing_stops_no_search(rt: HostRuntime) {
-    let mut judge = Judge::new(Listener::Tap);
+    let mut judge = Judge::new(rt.alloc(), Listener::Tap);
     let log = "U uci|u uciok|U position startpos|U go ponder|u bestmove e2e4|U ponderhit|U stop";
     assert!(rt; heard(&rt, &mut judge, log) == None, "{log}");
     let search = Search {

@@ -98,7 +98,7 @@ fn reports_are_written(rt: HostRuntime) -> Result<(), Fail> {
 #[test]
 fn a_report_grows(rt: HostRuntime) -> Result<(), Fail> {
     let mut text = Out::make(rt.alloc(), 3 * LAST_LINES)?;
-    let mut report = Report::new(Listener::Bridge);
+    let mut report = Report::new(rt.alloc(), Listener::Bridge);
     expect_ending(&rt, report.read_line(1, b"U uci", &mut text), None);
     assert!(rt; text.bytes().is_empty());
     report.put_last(Ending::Done, &mut text);

@@ -7,15 +7,15 @@ use Rattle.script_lines.specs.Header.{header_of}
 use Rattle.policy_rules.specs.declared.settings.Settings.{Settings}
 use Rattle.game_record.specs.Game.{Game}
 use Rattle.adapter_core.specs.Trace.{Step, Lawful}
-use Rattle.adapter_core.specs.Parts.{Parts}
+use Rattle.adapter_core.specs.Parts.{CoreParts}
 use Rattle.adapter_core.specs.Stands.{Stands}
 use Rattle.session_script.specs.Script.{events}
 use Rattle.command_endings.specs.declared.ending.Ending.{Ending}
 use Rattle.command_endings.specs.declared.ending.Ending.TheVariants as endings
-use Rattle.script_player.specs.declared.stage.Stage.{Stage}
-use Rattle.script_player.specs.declared.stage.Stage.TheVariants as stages
+use Rattle.script_player.specs.declared.stage.ScriptStage.{ScriptStage}
+use Rattle.script_player.specs.declared.stage.ScriptStage.TheVariants as stages
 use Rattle.script_player.specs.Stages.{is_start}
-use Rattle.script_player.specs.Versions.{Version, First, Said, Comes, Starts, Passes, HasNoMark, IsOutOfStep, Cannot, version_by, version_in, settings_by, events_by, fault_said, kind_of, kind_says, script_events, script_fault}
+use Rattle.script_player.specs.Versions.{Version, First, LineSaid, Comes, Starts, Passes, HasNoMark, IsOutOfStep, Cannot, version_by, version_in, settings_by, events_by, fault_said, kind_of, kind_says, script_events, script_fault}
 use Rattle.script_player.specs.Playing.{HasBegun, Playing, Played, Scripted, Took, Unbegun}
 use Rattle.script_player.proofs.VersionLines.{version_stays}
 use Rattle.script_player.proofs.Plays.{begun_plain}
@@ -50,11 +50,11 @@ came o lines piece None w text script p g = gathered_more o lines piece w text s
 came o lines piece (Some f) w text script p g = (p.0, session o (lines ++ piece ∷ []) script text p.1 g)
 
 -- lines of an opened session
-some_text : (o : Settings) (lines : List Piece) (core : Parts) (stage : Stage) (script text : List ℕ) → is_start stage ≡ false → Took o lines core stage script unseen unseen → IsGathered o lines text → IsTextOf text_over o lines text
+some_text : (o : Settings) (lines : List Piece) (core : CoreParts) (stage : ScriptStage) (script text : List ℕ) → is_start stage ≡ false → Took o lines core stage script unseen unseen → IsGathered o lines text → IsTextOf text_over o lines text
 some_text o [] core stage script text e t g = let x : is_start stage ≡ true = ap is_start t.is_start in let z = sym x ∙ e in cc
 some_text o (l ∷ ls) core stage script text e t g = g
 
-same_version : (o : Settings) (lines : List Piece) (piece : Piece) (core : Parts) (stage : Stage) (script : List ℕ) → is_start stage ≡ false → Took o lines core stage script unseen unseen → version_in (lines ++ piece ∷ []) ≡ version_in lines
+same_version : (o : Settings) (lines : List Piece) (piece : Piece) (core : CoreParts) (stage : ScriptStage) (script : List ℕ) → is_start stage ≡ false → Took o lines core stage script unseen unseen → version_in (lines ++ piece ∷ []) ≡ version_in lines
 same_version o [] piece core stage script e t = let x : is_start stage ≡ true = ap is_start t.is_start in let z = sym x ∙ e in cc
 same_version o (l ∷ ls) piece core stage script e t = version_stays l ls (piece ∷ [])
 
@@ -106,9 +106,9 @@ pub then_by : (w0 : GameWriter) (lines : List Piece) (answer : Option Ending) (w
 then_by w0 lines None w text h = h
 then_by w0 lines (Some f) w text h = λ o u. says_fault o lines f text (h o u)
 
-pub of_line : (n : ℕ) (s : Said) (answer : Option Ending) → answer ≡ fault_said n s → IfSome answer (λ (e : Ending). IsOfLine e)
+pub of_line : (n : ℕ) (s : LineSaid) (answer : Option Ending) → answer ≡ fault_said n s → IfSome answer (λ (e : Ending). IsOfLine e)
 of_line n s answer e = subst (λ (a : Option Ending). IfSome a (λ (x : Ending). IsOfLine x)) (sym e) (by s) where
-  by : (x : Said) → IfSome (fault_said n x) (λ (e : Ending). IsOfLine e)
+  by : (x : LineSaid) → IfSome (fault_said n x) (λ (e : Ending). IsOfLine e)
   by (Comes ev) = tt
   by (Starts k) = tt
   by Passes = tt
@@ -188,8 +188,8 @@ module _ (o : Settings) (lines : List Piece) (old mid : GameWriter) (before open
       came o lines TooLong (Some (endings.NoMark number)) mid (before ++ opening) begun.0.text played
       (subst (λ (ls : List Piece). IsTextOf text_over o (ls ++ TooLong ∷ []) (before ++ opening)) (sym none.0)
       (subst (IsTextOf text_over o (TooLong ∷ [])) (sym nothing) text)) where
-        long_gathers : (core : Parts) (stage : Stage) → stage ≡ stages.Plain → Gathers core stage (kind_says stage core.ends (kind_of TooLong)) core stage []
-        long_gathers core stage is = subst (λ (s : Stage). Gathers core s (kind_says s core.ends (kind_of TooLong)) core s []) (sym is) (refl, refl, refl)
+        long_gathers : (core : CoreParts) (stage : ScriptStage) → stage ≡ stages.Plain → Gathers core stage (kind_says stage core.ends (kind_of TooLong)) core stage []
+        long_gathers core stage is = subst (λ (s : ScriptStage). Gathers core s (kind_says s core.ends (kind_of TooLong)) core s []) (sym is) (refl, refl, refl)
 
   -- no line came
   pub finished_first : (ending : Ending) (game : Game) → IsInputEnd ending → game ≡ mid.core.desk.game → Says o lines ending (before ++ (opening ++ games_text (last_by ending game)))
@@ -205,14 +205,14 @@ pub long_later : (o : Settings) (lines : List Piece) (old : GameWriter) (before 
     → CameTo o (lines ++ TooLong ∷ []) (Some (endings.NoMark number)) old (before ++ [])
 long_later o lines old before number e g n =
     later_line o lines old old before [] TooLong number (Some (endings.NoMark number)) e g n (says old.stage) (nothing old.stage) where
-      says : (stage : Stage) → Some (endings.NoMark number) ≡ fault_said number (kind_says stage old.core.ends (kind_of TooLong))
+      says : (stage : ScriptStage) → Some (endings.NoMark number) ≡ fault_said number (kind_says stage old.core.ends (kind_of TooLong))
       says stages.Start = refl
       says stages.Plain = refl
       says stages.Headed = refl
       says (stages.Told k) = refl
       says (stages.Numbered k) = refl
 
-      nothing : (stage : Stage) → Gathers old.core stage (kind_says stage old.core.ends (kind_of TooLong)) old.core stage []
+      nothing : (stage : ScriptStage) → Gathers old.core stage (kind_says stage old.core.ends (kind_of TooLong)) old.core stage []
       nothing stages.Start = (refl, refl, refl)
       nothing stages.Plain = (refl, refl, refl)
       nothing stages.Headed = (refl, refl, refl)

@@ -1,12 +1,9 @@
 -- A game that goes with another.
-use Rattle.std.proofs.Common.{◌≡◌, ℕ, zero, suc, ◌+◌, ◌-◌, ◌<◌, ◌≤◌, List, [], ◌∷◌, ◌++◌, length, take, map, Option, Some, None, Result, Ok, Err, OnOk, IsErr, refl, sym, ap, subst, ◌∙◌, arith, length-append}
-use Rattle.std.specs.Prelude.{◌↔◌}
+use Rattle.std.proofs.Common.{◌≡◌, ℕ, zero, suc, ◌+◌, ◌-◌, ◌<◌, ◌≤◌, List, [], ◌∷◌, ◌++◌, length, take, map, Option, Some, None, refl, sym, ap, subst, ◌∙◌, arith, length-append}
 use Rattle.std.specs.List.{slice_get}
 use Rattle.std.proofs.lemmas.List.{length-take-le, length-map, take_all}
 use Rattle.chess_board.specs.declared.board.Move.{Move}
 use Rattle.chess_board.specs.Position.{Position}
-use Rattle.game_record.specs.declared.game.PushFault.{PushFault}
-use Rattle.game_record.specs.declared.game.PushFault.TheVariants as faults
 use Rattle.game_record.specs.Game.{Ply, Game, ply_of, plies_of, IsPlayable, played, now_of, now_after, AreLegal, begun, with_ply, without_last}
 use Rattle.session_games.specs.Following.{Follows, Stays, Begins, Plays, TakesBack}
 
@@ -57,16 +54,6 @@ has_last (x ∷ moves) some e =
     let there : slice_get (x ∷ moves) (length moves) ≡ None = ap (slice_get (x ∷ moves)) (sym n) ∙ e in
     let here = y.1 in
     cc
-
--- a legal move is taken while there is room
-pub pushed : {T : Type 0} (r : Result T PushFault) (g new : Game) (m : Move)
-    → ((r ≡ Err faults.Illegal) ↔ (IsPlayable (now_of g) (ply_of m) → ⊥))
-    → ((r ≡ Err faults.TooLong) ↔ (IsPlayable (now_of g) (ply_of m) × (length g.moves ≡ 12000)))
-    → OnOk r (new ≡ with_ply g (ply_of m)) → IsPlayable (now_of g) (ply_of m) → length g.moves < 12000
-    → new ≡ with_ply g (ply_of m)
-pushed (Ok u) g new m i l ok p few = ok
-pushed (Err faults.Illegal) g new m i l ok p few = absurd (i.0 refl p)
-pushed (Err faults.TooLong) g new m i l ok p few = let n = (l.0 refl).1 in absurd (let z : ⊥ = omega (arith, n, few) in z)
 
 -- MOVES ARE TAKEN BACK
 

@@ -3,3 +3,4 @@ pub mod Stepped
 pub mod Sessions
 pub mod Came
 pub mod Written
+pub mod Stays

@@ -8,15 +8,15 @@ use Rattle.policy_rules.specs.declared.settings.Settings.{Settings}
 use Rattle.game_record.specs.Game.{Game}
 use Rattle.game_text.specs.Text.{game_text}
 use Rattle.adapter_core.specs.Trace.{Step, Lawful}
-use Rattle.adapter_core.specs.Parts.{Parts}
+use Rattle.adapter_core.specs.Parts.{CoreParts}
 use Rattle.adapter_core.proofs.Unique.{unique}
 use Rattle.session_script.specs.Script.{events}
 use Rattle.session_script.proofs.Scripts.{same_trace}
 use Rattle.command_endings.specs.declared.ending.Ending.{Ending}
 use Rattle.command_endings.specs.declared.ending.Ending.TheVariants as endings
-use Rattle.script_player.specs.declared.stage.Stage.{Stage}
-use Rattle.script_player.specs.declared.stage.Stage.TheVariants as stages
-use Rattle.script_player.specs.Versions.{Version, First, Second, version_by, version_in, behind_header, header_lines, settings_by, Said, Comes, Passes, Starts, HasNoMark, IsOutOfStep, Cannot, kind_of, kind_says, line_says, Place, place_over, first_fault, events_said, events_of, beginning, events_by, script_events}
+use Rattle.script_player.specs.declared.stage.ScriptStage.{ScriptStage}
+use Rattle.script_player.specs.declared.stage.ScriptStage.TheVariants as stages
+use Rattle.script_player.specs.Versions.{Version, First, Second, version_by, version_in, behind_header, header_lines, settings_by, LineSaid, Comes, Passes, Starts, HasNoMark, IsOutOfStep, Cannot, kind_of, kind_says, line_says, Place, place_over, first_fault, events_said, events_of, beginning, events_by, script_events}
 use Rattle.script_player.specs.Playing.{HasBegun, Playing, Played, Scripted, Steps, Takes, text_at}
 use Rattle.script_player.proofs.VersionLines.{events_more, behind_more}
 use Rattle.session_games.specs.Games.{game_of, games_over, games_text, over_by}
@@ -29,10 +29,10 @@ games_text-append (g ∷ a) b = ap (λ (t : List ℕ). game_text g ++ t) (games_
 
 -- THE STEPS OF A REPLAY
 
-as_steps : (stage : Stage) (core core' : Parts) (e : Event) (more : List ℕ) (old : Text) → GameSteps core core' e more → (new : Text) × Steps stage core core' e old new
+as_steps : (stage : ScriptStage) (core core' : CoreParts) (e : Event) (more : List ℕ) (old : Text) → GameSteps core core' e more → (new : Text) × Steps stage core core' e old new
 as_steps stage core core' e more old s = (with old (text_at stage s.step), record { step = s.step; adds = s.adds; put = refl; short = s.short })
 
-pub as_takes : (core : Parts) (stage : Stage) (said : Said) (core' : Parts) (stage' : Stage) (more : List ℕ) (old : Text) → Gathers core stage said core' stage' more → (new : Text) × Takes core stage old said core' stage' new
+pub as_takes : (core : CoreParts) (stage : ScriptStage) (said : LineSaid) (core' : CoreParts) (stage' : ScriptStage) (more : List ℕ) (old : Text) → Gathers core stage said core' stage' more → (new : Text) × Takes core stage old said core' stage' new
 as_takes core stage (Comes e) core' stage' more old t = let s = as_steps stage core core' e more old t.0 in (s.0, (s.1, t.1))
 as_takes core stage (Starts n) core' stage' more old t = (old, (t.0, t.1, refl))
 as_takes core stage Passes core' stage' more old t = (old, (t.0, t.1, refl))
@@ -40,7 +40,7 @@ as_takes core stage HasNoMark core' stage' more old t = (old, (t.0, t.1, refl))
 as_takes core stage IsOutOfStep core' stage' more old t = (old, (t.0, t.1, refl))
 as_takes core stage Cannot core' stage' more old t = (old, (t.0, t.1, refl))
 
-pub as_begun : (first : Option Settings) (core core' : Parts) (stage' : Stage) (more : List ℕ) (old : Text) → HasOpened first core core' stage' more → (new : Text) × HasBegun first core old core' stage' new
+pub as_begun : (first : Option Settings) (core core' : CoreParts) (stage' : ScriptStage) (more : List ℕ) (old : Text) → HasOpened first core core' stage' more → (new : Text) × HasBegun first core old core' stage' new
 as_begun None core core' stage' more old h = let s = as_steps stages.Plain core core' Open more old h.0 in (s.0, (s.1, h.1))
 as_begun (Some settings) core core' stage' more old h =
     let s = as_steps (stages.Numbered 0) h.0 core' Open more (with (with old (header_text settings)) (10 ∷ [])) h.2 in
@@ -48,7 +48,7 @@ as_begun (Some settings) core core' stage' more old h =
 
 -- THE FIRST STEP
 
-one_event : (a : List Event) (x y e : Event) → (a ++ x ∷ []) ++ y ∷ [] ≡ e ∷ [] → ⊥
+pub one_event : (a : List Event) (x y e : Event) → (a ++ x ∷ []) ++ y ∷ [] ≡ e ∷ [] → ⊥
 one_event [] x y e h = cc
 one_event (z ∷ []) x y e h = cc
 one_event (z ∷ w ∷ a) x y e h = cc
@@ -70,7 +70,7 @@ over_same g g' h h' e e' a b c =
 
 -- ONE LINE MORE
 
-module _ (o : Settings) (lines : List Piece) (core : Parts) (stage : Stage) (script : List ℕ) (p : Playing o lines core stage script unseen unseen)
+module _ (o : Settings) (lines : List Piece) (core : CoreParts) (stage : ScriptStage) (script : List ℕ) (p : Playing o lines core stage script unseen unseen)
     (text : List ℕ) (games : IsTextOf text_over o lines text) (piece : Piece) (same : version_in (lines ++ piece ∷ []) ≡ version_in lines) where
   abbrev v : Version
   v = version_in lines
@@ -81,7 +81,7 @@ module _ (o : Settings) (lines : List Piece) (core : Parts) (stage : Stage) (scr
   abbrev more : List Piece
   more = lines ++ piece ∷ []
 
-  abbrev said : Said
+  abbrev said : LineSaid
   said = kind_says stage core.ends (kind_of piece)
 
   events_on : script_events more ≡ script_events lines ++ events_said said []
@@ -104,13 +104,13 @@ module _ (o : Settings) (lines : List Piece) (core : Parts) (stage : Stage) (scr
       ∙ games trace (back trace l) (e ∙ events_on ∙ ap (λ (es : List Event). script_events lines ++ es) none ∙ append-nil (script_events lines))
       ∙ forth trace
 
-  stepped : (e : Event) (core' : Parts) (put : List ℕ) → said ≡ Comes e → GameSteps core core' e put → IsTextOf text_over o more (text ++ put)
+  stepped : (e : Event) (core' : CoreParts) (put : List ℕ) → said ≡ Comes e → GameSteps core core' e put → IsTextOf text_over o more (text ++ put)
   stepped e core' put is s = λ trace l told.
       let next = s.adds.extends q p.trace p.lawful p.stands in
       let mine = s.step ∷ p.trace in
       let mine_events : events mine ≡ script_events more =
       ap (λ (es : List Event). es ++ s.step.event ∷ []) p.events_are ∙ ap (λ (x : Event). script_events lines ++ x ∷ []) s.adds.event
-      ∙ sym (events_on ∙ ap (λ (x : Said). script_events lines ++ events_said x []) is) in
+      ∙ sym (events_on ∙ ap (λ (x : LineSaid). script_events lines ++ events_said x []) is) in
       let one : trace ≡ mine = same_trace q (unique q) trace mine (back trace l) next.0 (told ∙ sym mine_events) in
       let over = over_by (game_of q p.trace) s.step.event (game_of q mine) in
       let put_is : put ≡ games_text over =
@@ -121,14 +121,14 @@ module _ (o : Settings) (lines : List Piece) (core : Parts) (stage : Stage) (scr
       ∙ sym (games_text-append (games_over q p.trace) over)
       ∙ ap (text_over q) (sym one) ∙ forth trace
 
-  by_said : (x : Said) (core' : Parts) (stage' : Stage) (put : List ℕ) → said ≡ x → Gathers core stage x core' stage' put → IsTextOf text_over o more (text ++ put)
+  by_said : (x : LineSaid) (core' : CoreParts) (stage' : ScriptStage) (put : List ℕ) → said ≡ x → Gathers core stage x core' stage' put → IsTextOf text_over o more (text ++ put)
   by_said (Comes e) core' stage' put is t = stepped e core' put is t.0
-  by_said (Starts n) core' stage' put is t = quiet put (ap (λ (y : Said). events_said y []) is) t.2
-  by_said Passes core' stage' put is t = quiet put (ap (λ (y : Said). events_said y []) is) t.2
-  by_said HasNoMark core' stage' put is t = quiet put (ap (λ (y : Said). events_said y []) is) t.2
-  by_said IsOutOfStep core' stage' put is t = quiet put (ap (λ (y : Said). events_said y []) is) t.2
-  by_said Cannot core' stage' put is t = quiet put (ap (λ (y : Said). events_said y []) is) t.2
+  by_said (Starts n) core' stage' put is t = quiet put (ap (λ (y : LineSaid). events_said y []) is) t.2
+  by_said Passes core' stage' put is t = quiet put (ap (λ (y : LineSaid). events_said y []) is) t.2
+  by_said HasNoMark core' stage' put is t = quiet put (ap (λ (y : LineSaid). events_said y []) is) t.2
+  by_said IsOutOfStep core' stage' put is t = quiet put (ap (λ (y : LineSaid). events_said y []) is) t.2
+  by_said Cannot core' stage' put is t = quiet put (ap (λ (y : LineSaid). events_said y []) is) t.2
 
   -- the text has the game that is over behind the line
-  pub text_on : (core' : Parts) (stage' : Stage) (put : List ℕ) → Gathers core stage said core' stage' put → IsTextOf text_over o more (text ++ put)
+  pub text_on : (core' : CoreParts) (stage' : ScriptStage) (put : List ℕ) → Gathers core stage said core' stage' put → IsTextOf text_over o more (text ++ put)
   text_on core' stage' put t = by_said said core' stage' put refl t

@@ -16,7 +16,7 @@ use Rattle.desk_rules.specs.Lines.{at_position, change}
 use Rattle.desk_rules.specs.Steps.{Effect, desk_after_effect}
 use Rattle.desk_rules.specs.Steps as effects
 use Rattle.adapter_core.specs.Trace.{Step, Lawful, State, state, situation, effect}
-use Rattle.adapter_core.specs.Parts.{Parts}
+use Rattle.adapter_core.specs.Parts.{CoreParts}
 use Rattle.adapter_core.specs.Stands.{Stands}
 use Rattle.script_player.specs.Playing.{Adds}
 use Rattle.session_games.specs.Following.{Follows, Stays, Begins, Plays, TakesBack, IsReached}
@@ -41,10 +41,10 @@ effect_changes h (effects.Shows best hint) = Plays (ply_of best) refl
 effect_changes h d = Stays refl
 
 -- the game of a core is that of each trace for which it stands
-pub game_stands : (o : Settings) (core : Parts) (t : List Step) → Stands o core t → core.desk.game ≡ (state o t).desk.game
-game_stands o core t st = ap (λ (v : Parts). v.desk.game) st.0
+pub game_stands : (o : Settings) (core : CoreParts) (t : List Step) → Stands o core t → core.desk.game ≡ (state o t).desk.game
+game_stands o core t st = ap (λ (v : CoreParts). v.desk.game) st.0
 
-module _ (old new : Parts) (e : Event) (step : Step) (adds : Adds old new e step) (r : IsReached old) where
+module _ (old new : CoreParts) (e : Event) (step : Step) (adds : Adds old new e step) (r : IsReached old) where
   pub reached_on : IsReached new
   reached_on =
       let x = adds.extends r.settings r.trace r.lawful r.stands in

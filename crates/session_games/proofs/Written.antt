@@ -10,7 +10,7 @@ use Rattle.policy_rules.specs.Policy.{IsProper}
 use Rattle.policy_rules.specs.declared.settings.Settings.{Settings}
 use Rattle.game_record.specs.Game.{Game}
 use Rattle.adapter_core.specs.Trace.{Step, Lawful}
-use Rattle.adapter_core.specs.Parts.{Parts}
+use Rattle.adapter_core.specs.Parts.{CoreParts}
 use Rattle.adapter_core.specs.Stands.{Stands}
 use Rattle.adapter_core.proofs.Holds.{stands_first}
 use Rattle.adapter_core.proofs.Unique.{unique}
@@ -29,17 +29,17 @@ use Rattle.script_player.proofs.VersionLines.{not_none, one_fault, same_fault, n
 use Rattle.line_scribe.specs.Outcomes.{LineReported, Outcome, WroteLast}
 use Rattle.line_scribe.proofs.Outcomes.{memory_ran, outcome}
 use Rattle.line_scribe.specs.Putting.{IsOfLine}
-use Rattle.line_scribe.specs.Scribed.{EndsBy, IsText, WroteFront, WroteAll, WroteWhole}
+use Rattle.line_scribe.specs.Scribed.{EndsBy, EndsRightly, HasReason, IsText, WroteFront, WroteAll, WroteWhole}
 use Rattle.session_games.specs.declared.writer.GameWriter.{GameWriter}
 use Rattle.session_games.specs.Games.{game_of, games_over, games_text, running}
 use Rattle.session_games.specs.Gathering.{Faulted, Finished, Gathered, HasSession, IsUnused, MayGather, Says, fresh, text_all, text_over, unseen, writes_games}
-use Rattle.session_games.specs.GamesWritten.{AllWritten, CompletesGames, FaultReported, FrontWritten, GamesWritten, IsSession, MuchWritten, TellsFault, WholeWritten, WritesGames}
-use Rattle.session_games.proofs.Sessions.{games_text-append}
+use Rattle.session_games.specs.GamesWritten.{AllWritten, AreWhole, CompletesGames, FaultReported, FrontWritten, GamesWritten, IsSession, MuchWritten, TellsFault, WholeWritten, WritesGames}
+use Rattle.session_games.proofs.Stays.{first_games_stay}
 
 -- A WRITER BEFORE ITS FIRST LINE
 
-settings_at_first : (o : Settings) (core : Parts) → Stands o core [] → core.settings ≡ o
-settings_at_first o core st = ap (λ (v : Parts). v.settings) st.0
+settings_at_first : (o : Settings) (core : CoreParts) → Stands o core [] → core.settings ≡ o
+settings_at_first o core st = ap (λ (v : CoreParts). v.settings) st.0
 
 unused_fresh : (o : Settings) → IsProper o → IsUnused o (fresh o)
 unused_fresh o p = record { is_start = refl; stands = stands_first o p; same = refl }
@@ -60,20 +60,6 @@ nothing_gathered w o u = record {
 }
 
 -- THE FIRST FAULT
-
--- A FRONT OF THE TEXT
-
-front_of_more : (n : ℕ) (xs ys : List ℕ) → (k : ℕ) × (take n xs ≡ take k (xs ++ ys))
-front_of_more zero xs ys = (0, refl)
-front_of_more (suc n) [] ys = (0, refl)
-front_of_more (suc n) (x ∷ xs) ys = let r = front_of_more n xs ys in (suc r.0, ap (λ (l : List ℕ). x ∷ l) r.1)
-
--- a front of the games that are over is one of all games
-front_over : (q : Settings) (trace : List Step) (n : ℕ) → (k : ℕ) × (take n (text_over q trace) ≡ take k (text_all q trace))
-front_over q trace n =
-    let last = running (game_of q trace) in
-    let f = front_of_more n (text_over q trace) (games_text last) in
-    (f.0, f.1 ∙ ap (take f.0) (sym (games_text-append (games_over q trace) last)))
 
 -- WHAT THE STATUS SAYS
 
@@ -153,38 +139,34 @@ module _ (o : Settings) (w0 : GameWriter) (is_new : w0 ≡ fresh o) (unused : Is
 
   -- A FRONT WAS WRITTEN
 
+  -- the text is that of the games that were over, or of all games if these are all lines
   abbrev OverOrAll : List Piece → List ℕ → Type 0
-  OverOrAll lines text = HasSession text_over o lines text ⊎ HasSession text_all o lines text
+  OverOrAll lines text = HasSession text_over o lines text ⊎ (AreWhole start lines × HasSession text_all o lines text)
 
   front_by : (lines : List Piece) → AreRead start now lines → (text : List ℕ) → OverOrAll lines text → (n : ℕ) → Wrote (take n text) → FrontWritten o start now
-  front_by lines read text (inl s) n a =
-      let q = settings_by (version_in lines) o in
-      let k = front_over q s.trace n in
-      record {
-        lines = lines;
-        read = read;
-        trace = s.trace;
-        session = session_of lines s.trace s.lawful s.events_are;
-        front = k.0;
-        written = subst Wrote (ap (take n) s.text_is ∙ k.1) a;
-      }
-  front_by lines read text (inr s) n a = record {
+  front_by lines read text (inl s) n a = record {
     lines = lines;
     read = read;
     trace = s.trace;
     session = session_of lines s.trace s.lawful s.events_are;
-    front = n;
-    written = subst (λ (l : List ℕ). Wrote (take n l)) s.text_is a;
+    written = inl (n, subst (λ (l : List ℕ). Wrote (take n l)) s.text_is a);
+  }
+  front_by lines read text (inr w) n a = record {
+    lines = lines;
+    read = read;
+    trace = w.1.trace;
+    session = session_of lines w.1.trace w.1.lawful w.1.events_are;
+    written = inr (w.0, (n, subst (λ (l : List ℕ). Wrote (take n l)) w.1.text_is a));
   }
 
-  said : (lines : List Piece) (e : Ending) (text : List ℕ) → Says o lines e text → OverOrAll lines text
-  said lines endings.Done text s = inr s.1
-  said lines endings.ReadingFailed text s = inl s.1
-  said lines endings.TooLong text s = inl s.1
-  said lines (endings.NoMark n) text s = inl s.1
-  said lines (endings.OutOfStep n) text s = inl s.1
-  said lines (endings.MayNotCome n) text s = inl s.1
-  said lines e text s = absurd s
+  said : (lines : List Piece) (e : Ending) (text : List ℕ) → EndsRightly start.input.left lines e → Says o lines e text → OverOrAll lines text
+  said lines endings.Done text w s = inr ((w, s.0), s.1)
+  said lines endings.ReadingFailed text w s = inl s.1
+  said lines endings.TooLong text w s = inl s.1
+  said lines (endings.NoMark n) text w s = inl s.1
+  said lines (endings.OutOfStep n) text w s = inl s.1
+  said lines (endings.MayNotCome n) text w s = inl s.1
+  said lines e text w s = absurd s
 
   gathered : (lines : List Piece) (w : GameWriter) (text : List ℕ) → Gathered o lines w text → 0 < length text → OverOrAll lines text
   gathered [] w text g some = let n = ap length g.games in absurd (let z : ⊥ = omega (arith, n, some) in z)
@@ -195,14 +177,14 @@ module _ (o : Settings) (w0 : GameWriter) (is_new : w0 ≡ fresh o) (unused : Is
     text_is = g.games g.took.trace g.took.lawful g.took.events_are;
   })
 
-  text_by : (lines : List Piece) (text : List ℕ) → IsText writes_games w0 lines text → 0 < length text → OverOrAll lines text
-  text_by lines text (inl p) some = gathered lines p.0 text (p.1 o unused) some
-  text_by lines text (inr p) some = said lines p.0 text (p.1 o unused)
+  text_by : (lines : List Piece) (text : List ℕ) (i : IsText writes_games w0 lines text) → HasReason (EndsRightly start.input.left lines) i → 0 < length text → OverOrAll lines text
+  text_by lines text (inl p) w some = gathered lines p.0 text (p.1 o unused) some
+  text_by lines text (inr p) w some = said lines p.0 text w (p.1 o unused)
 
   part : (Unread × Kept) ⊎ WroteFront writes_games w0 start now ⊎ WroteLast writes_games w0 start now → (Unread × Kept) ⊎ FrontWritten o start now
   part (inl u) = inl u
-  part (inr (inl w)) = inr (front_by w.lines w.read w.text (text_by w.lines w.text w.is_text w.some) w.front w.written)
-  part (inr (inr w)) = inr (front_by w.lines w.read w.text (said w.lines w.ending w.text (w.says o unused)) (length w.text) (subst Wrote (sym (take-length w.text)) w.written))
+  part (inr (inl w)) = inr (front_by w.lines w.read w.text (text_by w.lines w.text w.is_text w.reason w.some) w.front w.written)
+  part (inr (inr w)) = inr (front_by w.lines w.read w.text (said w.lines w.ending w.text w.reason (w.says o unused)) (length w.text) (subst Wrote (sym (take-length w.text)) w.written))
 
   -- WHICH STATUS COMES
 
@@ -235,6 +217,7 @@ module _ (o : Settings) (w0 : GameWriter) (is_new : w0 ≡ fresh o) (unused : Is
     memory = λ z. out.memory z;
     reading_failed = λ z. let p = out.reading z in (p.0, whole_by endings.ReadingFailed 0 (λ lines text s. s) p.1);
     writing_failed = λ z. let p = out.writing z in (p.0, part p.1);
+    first_stay = first_games_stay o;
     too_long = λ z. much_by (out.too_long z);
     complete = complete;
     faults_told = faults_told;

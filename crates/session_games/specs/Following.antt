@@ -4,7 +4,7 @@ use Rattle.chess_board.specs.Position.{Position}
 use Rattle.game_record.specs.Game.{Ply, Game, begun, with_ply, without_last}
 use Rattle.policy_rules.specs.declared.settings.Settings.{Settings}
 use Rattle.adapter_core.specs.Trace.{Step, Lawful}
-use Rattle.adapter_core.specs.Parts.{Parts}
+use Rattle.adapter_core.specs.Parts.{CoreParts}
 use Rattle.adapter_core.specs.Stands.{Stands}
 
 -- it stays, another begins, a move is played, or moves are taken back
@@ -15,7 +15,7 @@ pub data Follows (g h : Game) : Type 0 where
   TakesBack : (n : ℕ) → h ≡ without_last g n → Follows g h
 
 -- the core stands for a lawful trace
-pub record IsReached (core : Parts) : Type 0 where
+pub record IsReached (core : CoreParts) : Type 0 where
   pub settings : Settings
   pub trace : List Step
   pub lawful : Lawful settings trace

@@ -1,10 +1,12 @@
 -- What the command `games` promises.
-use Rattle.std.specs.Prelude.{◌≡◌, ◌⊎◌, ℕ, ◌^◌, ◌≤◌, ◌<◌, List, length, take, Some, None}
+use Rattle.std.specs.Prelude.{◌≡◌, ◌⊎◌, ℕ, ◌^◌, ◌≤◌, ◌<◌, List, ◌++◌, length, Some, None}
 use Rattle.std.specs.Io.KnownBytes.{Appends}
 use Rattle.line_io.specs.Causes.{Rose}
 use Rattle.line_io.specs.Event.{Event}
 use Rattle.line_io.specs.Lines.{Piece, items}
 use Rattle.line_io.specs.Runs.{whole}
+use Rattle.line_io.specs.Source.{TakesPrefix}
+use Rattle.game_record.specs.Game.{Game}
 use Rattle.policy_rules.specs.declared.settings.Settings.{Settings}
 use Rattle.adapter_core.specs.Trace.{Step, Lawful}
 use Rattle.session_script.specs.Script.{events}
@@ -14,8 +16,9 @@ use Rattle.command_endings.specs.Diagnostics.{diagnostic}
 use Rattle.command_endings.specs.Ran.{Ran, WritingBroke}
 use Rattle.command_endings.specs.Reads.{AreFirst, AreRead, Got, IsAll}
 use Rattle.command_endings.specs.Streams.{Streams, AreSame, IsSteady}
-use Rattle.line_scribe.specs.Scribed.{EndsBy}
+use Rattle.line_scribe.specs.Scribed.{AreAll, EndsBy}
 use Rattle.script_player.specs.Versions.{script_events, script_fault, settings_by, version_in}
+use Rattle.session_games.specs.Games.{games_over}
 use Rattle.session_games.specs.Gathering.{fresh, text_all, text_over, writes_games}
 use Rattle.line_io.specs.declared.limits.TheConstants.{SCRIPT_LINE}
 
@@ -67,15 +70,30 @@ pub record MuchWritten (o : Settings) (before after : Streams) : Type 0 where
   pub games : WholeWritten o before after
   pub least : 2 ^ 32 ≤ length games.got
 
--- The output took a front of the texts of the games of the session of the first lines.
+-- all of the input was read, and none of its lines is a fault
+abbrev pub AreWhole : Streams → List Piece → Type 0
+AreWhole before lines = AreAll before.input.left lines × (script_fault lines ≡ None)
+
+-- The output took a front of the texts of the games that were over in the first lines; or of those of all games, if these
+-- lines are the whole input.
 pub record FrontWritten (o : Settings) (before after : Streams) : Type 0 where
   pub lines : List Piece
   pub read : AreRead before after lines
   pub trace : List Step
   pub session : IsSession o lines trace
-  pub front : ℕ
-  pub written : Appends before.output.taken after.output.taken
-      (take front (text_all (settings_by (version_in lines) o) trace))
+  pub written :
+      TakesPrefix before.output.taken after.output.taken
+      (text_over (settings_by (version_in lines) o) trace)
+      ⊎ (AreWhole before lines × TakesPrefix before.output.taken after.output.taken
+      (text_all (settings_by (version_in lines) o) trace))
+
+-- The games that were over in the first lines are the first of those that are over in more lines.
+abbrev pub FirstGamesStay : Settings → Type 0
+FirstGamesStay o =
+    (lines later : List Piece) (trace trace' : List Step) → IsSession o lines trace
+    → IsSession o (lines ++ later) trace' → (more : List Game)
+    × (games_over (settings_by (version_in (lines ++ later)) o) trace'
+    ≡ games_over (settings_by (version_in lines) o) trace ++ more)
 
 -- The games of an input without a fault of fewer than 2^32 bytes are written, or there was no memory.
 abbrev pub CompletesGames : Streams → Streams → ℕ → Type 0
@@ -105,6 +123,8 @@ pub record GamesWritten (o : Settings) (Unread Kept : Type 0) (before after : St
       × WholeWritten o before after
   pub writing_failed : code ≡ 5 → WritingBroke before after × ((Unread × Kept)
       ⊎ FrontWritten o before after)
+  -- so that this is a front of what is due for the whole input
+  pub first_stay : FirstGamesStay o
   pub too_long : code ≡ 6 → MuchWritten o before after
   -- which status comes
   pub complete : CompletesGames before after code

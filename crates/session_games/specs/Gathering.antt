@@ -7,15 +7,15 @@ use Rattle.line_io.specs.Source.{Received}
 use Rattle.policy_rules.specs.declared.settings.Settings.{Settings}
 use Rattle.adapter_core.specs.Trace.{Step, Lawful}
 use Rattle.desk_rules.specs.Desk.{opening_desk}
-use Rattle.adapter_core.specs.Parts.{Parts, opening}
+use Rattle.adapter_core.specs.Parts.{CoreParts, opening}
 use Rattle.adapter_core.specs.Stands.{Stands}
 use Rattle.session_script.specs.Script.{IsShortStep, events}
 use Rattle.command_endings.specs.declared.ending.Ending.{Ending}
 use Rattle.command_endings.specs.declared.ending.Ending.TheVariants as endings
-use Rattle.script_player.specs.declared.stage.Stage.{Stage}
-use Rattle.script_player.specs.declared.stage.Stage.TheVariants as stages
+use Rattle.script_player.specs.declared.stage.ScriptStage.{ScriptStage}
+use Rattle.script_player.specs.declared.stage.ScriptStage.TheVariants as stages
 use Rattle.script_player.specs.Stages.{IsNumbered}
-use Rattle.script_player.specs.Versions.{Said, Comes, Starts, script_events, script_fault, settings_by, stage_started, stage_told, version_in}
+use Rattle.script_player.specs.Versions.{LineSaid, Comes, Starts, script_events, script_fault, settings_by, stage_started, stage_told, version_in}
 use Rattle.script_player.specs.Playing.{Adds, Took}
 use Rattle.line_scribe.specs.Putting.{Putting}
 use Rattle.session_games.specs.declared.writer.GameWriter.{GameWriter}
@@ -30,14 +30,14 @@ pub record HasPut (Holds : List ℕ → Type 0) (old new : Text) : Type 0 where
   pub holds : Holds more
 
 -- A step of this event was taken, and this is the text of the game that was over then, if one was.
-pub record GameSteps (old new : Parts) (e : Event) (more : List ℕ) : Type 0 where
+pub record GameSteps (old new : CoreParts) (e : Event) (more : List ℕ) : Type 0 where
   pub step : Step
   pub adds : Adds old new e step
   pub short : IsShortStep step
   pub over : more ≡ games_text (over_by old.desk.game e new.desk.game)
 
 -- what a line said was done, and this was put for it
-abbrev pub Gathers : Parts → Stage → Said → Parts → Stage → List ℕ → Type 0
+abbrev pub Gathers : CoreParts → ScriptStage → LineSaid → CoreParts → ScriptStage → List ℕ → Type 0
 Gathers core stage (Comes e) core' stage' more =
     GameSteps core core' e more × (stage' ≡ stage_told stage)
 Gathers core stage (Starts number) core' stage' more =
@@ -45,11 +45,11 @@ Gathers core stage (Starts number) core' stage' more =
 Gathers core stage said core' stage' more = (core' ≡ core) × (stage' ≡ stage) × (more ≡ [])
 
 -- The session was opened by a first line that is this header, or none.
-abbrev pub HasOpened : Option Settings → Parts → Parts → Stage → List ℕ → Type 0
+abbrev pub HasOpened : Option Settings → CoreParts → CoreParts → ScriptStage → List ℕ → Type 0
 HasOpened None core core' stage' more =
     GameSteps core core' Open more × (stage' ≡ stages.Plain)
 HasOpened (Some settings) core core' stage' more =
-    (set : Parts) × Stands settings set [] × GameSteps set core' Open more
+    (set : CoreParts) × Stands settings set [] × GameSteps set core' Open more
     × (stage' ≡ stages.Headed)
 
 -- the writer that is made with these settings

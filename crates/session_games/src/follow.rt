@@ -13,7 +13,7 @@ fn play_last(game: &mut Game, now: &Game)
 {
     now.facts();
     if let Some(m) = now.moves().last() {
-        let _ = game.push(*m);
+        game.play(*m);
     }
 }
 

@@ -21,14 +21,14 @@ use line_io::{Event, NoMemory, Out};
 use line_scribe::Scribe;
 use policy_rules::Settings;
 use script_lines::read_header;
-use script_player::{Said, Stage};
+use script_player::{LineSaid, ScriptStage};
 use std::alloc::Global;
 
 /// A session, and where the reading of its script stands.
 #[derive(Drop)]
 pub struct GameWriter {
     core: Core,
-    stage: Stage,
+    stage: ScriptStage,
     /// The game of the core, kept beside it: the core lets go of its moves in the step that begins
     /// another.
     game: Game,
@@ -74,7 +74,7 @@ impl GameWriter {
     {
         Ok(GameWriter {
             core: Core::make(alloc, settings)?,
-            stage: Stage::Start,
+            stage: ScriptStage::Start,
             game: Game::make(alloc)?,
         })
     }
@@ -82,7 +82,7 @@ impl GameWriter {
     fn is_new(&self) -> bool
         ensures { result ≡ is_start self.now.stage }
     {
-        matches!(self.stage, Stage::Start)
+        matches!(self.stage, ScriptStage::Start)
     }
 
     // Opens a session of version 1.
@@ -96,7 +96,7 @@ impl GameWriter {
         ensures few { length text.new.text ≤ length text.old.text + GAME_ROOM }
     {
         step(&mut self.core, &mut self.game, &Event::Open, text);
-        self.stage = Stage::Plain;
+        self.stage = ScriptStage::Plain;
     }
 
     // Opens a session by its header.
@@ -113,7 +113,7 @@ impl GameWriter {
     {
         self.core.set(settings);
         step(&mut self.core, &mut self.game, &Event::Open, text);
-        self.stage = Stage::Headed;
+        self.stage = ScriptStage::Headed;
     }
 
     // Takes a line of a session that was opened.
@@ -130,19 +130,19 @@ impl GameWriter {
         ensures may { MayGather self.new }
     {
         match self.stage.says(&self.core, line) {
-            Said::Comes(event) => {
+            LineSaid::Comes(event) => {
                 step(&mut self.core, &mut self.game, &event, text);
                 self.stage = self.stage.told();
                 None
             }
-            Said::Passes => None,
-            Said::Starts(step) => {
+            LineSaid::Passes => None,
+            LineSaid::Starts(step) => {
                 self.stage = self.stage.started(step);
                 None
             }
-            Said::HasNoMark => Some(Ending::NoMark(number)),
-            Said::IsOutOfStep => Some(Ending::OutOfStep(number)),
-            Said::Cannot => Some(Ending::MayNotCome(number)),
+            LineSaid::HasNoMark => Some(Ending::NoMark(number)),
+            LineSaid::IsOutOfStep => Some(Ending::OutOfStep(number)),
+            LineSaid::Cannot => Some(Ending::MayNotCome(number)),
         }
     }
 }

@@ -8,17 +8,17 @@ use Rattle.script_lines.specs.Header.{header_of}
 use Rattle.policy_rules.specs.declared.settings.Settings.{Settings}
 use Rattle.game_record.specs.Game.{Game}
 use Rattle.adapter_core.specs.Trace.{Step, Lawful}
-use Rattle.adapter_core.specs.Parts.{Parts}
+use Rattle.adapter_core.specs.Parts.{CoreParts}
 use Rattle.adapter_core.specs.Stands.{Stands}
 use Rattle.adapter_core.proofs.Unique.{unique}
 use Rattle.session_script.specs.Script.{events}
 use Rattle.session_script.proofs.Scripts.{same_trace}
 use Rattle.command_endings.specs.declared.ending.Ending.{Ending}
 use Rattle.command_endings.specs.declared.ending.Ending.TheVariants as endings
-use Rattle.script_player.specs.declared.stage.Stage.{Stage}
-use Rattle.script_player.specs.declared.stage.Stage.TheVariants as stages
+use Rattle.script_player.specs.declared.stage.ScriptStage.{ScriptStage}
+use Rattle.script_player.specs.declared.stage.ScriptStage.TheVariants as stages
 use Rattle.script_player.specs.Stages.{is_start}
-use Rattle.script_player.specs.Versions.{Version, beginning, behind_header, header_lines, First, Said, Comes, Starts, Passes, HasNoMark, IsOutOfStep, Cannot, version_by, version_in, settings_by, events_by, fault_said, kind_of, kind_says, script_events, script_fault}
+use Rattle.script_player.specs.Versions.{Version, beginning, behind_header, header_lines, First, LineSaid, Comes, Starts, Passes, HasNoMark, IsOutOfStep, Cannot, version_by, version_in, settings_by, events_by, fault_said, kind_of, kind_says, script_events, script_fault}
 use Rattle.script_player.specs.Playing.{HasBegun, Playing, Played, Scripted, Took, Unbegun}
 use Rattle.script_player.proofs.VersionLines.{version_stays}
 use Rattle.script_player.proofs.Plays.{begun_plain}
@@ -51,11 +51,11 @@ came o lines piece None w text script p g = followed_more o lines piece w text s
 came o lines piece (Some f) w text script p g = (p.0, session o (lines ++ piece ∷ []) script text p.1 g)
 
 -- lines of an opened session
-some_text : (o : Settings) (lines : List Piece) (core : Parts) (stage : Stage) (script text : List ℕ) → is_start stage ≡ false → Took o lines core stage script unseen unseen → IsFollowed o lines text → IsTextOf o lines text
+some_text : (o : Settings) (lines : List Piece) (core : CoreParts) (stage : ScriptStage) (script text : List ℕ) → is_start stage ≡ false → Took o lines core stage script unseen unseen → IsFollowed o lines text → IsTextOf o lines text
 some_text o [] core stage script text e t g = let x : is_start stage ≡ true = ap is_start t.is_start in let z = sym x ∙ e in cc
 some_text o (l ∷ ls) core stage script text e t g = g
 
-same_version : (o : Settings) (lines : List Piece) (piece : Piece) (core : Parts) (stage : Stage) (script : List ℕ) → is_start stage ≡ false → Took o lines core stage script unseen unseen → version_in (lines ++ piece ∷ []) ≡ version_in lines
+same_version : (o : Settings) (lines : List Piece) (piece : Piece) (core : CoreParts) (stage : ScriptStage) (script : List ℕ) → is_start stage ≡ false → Took o lines core stage script unseen unseen → version_in (lines ++ piece ∷ []) ≡ version_in lines
 same_version o [] piece core stage script e t = let x : is_start stage ≡ true = ap is_start t.is_start in let z = sym x ∙ e in cc
 same_version o (l ∷ ls) piece core stage script e t = version_stays l ls (piece ∷ [])
 
@@ -64,7 +64,7 @@ no_text o [] text e g = g
 no_text o (l ∷ ls) text e g = cc
 
 -- what was put at Open is the text of the one session whose only event it is
-begun_is : (q : Settings) (core : Parts) (opened trace : List Step) → Lawful q opened → Stands q core opened → events opened ≡ Open ∷ [] → Lawful q trace → events trace ≡ Open ∷ []
+begun_is : (q : Settings) (core : CoreParts) (opened trace : List Step) → Lawful q opened → Stands q core opened → events opened ≡ Open ∷ [] → Lawful q trace → events trace ≡ Open ∷ []
     → position_line 0 core.desk.game ≡ positions_text q (0 ∷ []) trace
 begun_is q core opened trace lo st eo l e =
     ap (position_line 0) (game_stands q core opened st)
@@ -190,8 +190,8 @@ module _ (o : Settings) (lines : List Piece) (old mid : PositionWriter) (before 
       came o lines TooLong (Some (endings.NoMark number)) mid (before ++ opening) begun.0.text played
       (subst (λ (ls : List Piece). IsTextOf o (ls ++ TooLong ∷ []) (before ++ opening)) (sym none.0)
       (subst (IsTextOf o (TooLong ∷ [])) (sym whole) text)) where
-        nothing : (core : Parts) (stage : Stage) → stage ≡ stages.Plain → Follows 1 core stage (kind_says stage core.ends (kind_of TooLong)) core stage []
-        nothing core stage is = subst (λ (s : Stage). Follows 1 core s (kind_says s core.ends (kind_of TooLong)) core s []) (sym is) (refl, refl, refl)
+        nothing : (core : CoreParts) (stage : ScriptStage) → stage ≡ stages.Plain → Follows 1 core stage (kind_says stage core.ends (kind_of TooLong)) core stage []
+        nothing core stage is = subst (λ (s : ScriptStage). Follows 1 core s (kind_says s core.ends (kind_of TooLong)) core s []) (sym is) (refl, refl, refl)
 
   -- no line came
   pub finished_first : (ending : Ending) → IsInputEnd ending → Says o lines ending (before ++ opening)
@@ -208,14 +208,14 @@ pub long_later : (o : Settings) (lines : List Piece) (old : PositionWriter) (bef
     → CameTo o (lines ++ TooLong ∷ []) (Some (endings.NoMark number)) old (before ++ [])
 long_later o lines old before number e g n =
     later_line o lines old old before [] TooLong number (Some (endings.NoMark number)) e g n (says old.stage) (nothing old.stage) where
-      says : (stage : Stage) → Some (endings.NoMark number) ≡ fault_said number (kind_says stage old.core.ends (kind_of TooLong))
+      says : (stage : ScriptStage) → Some (endings.NoMark number) ≡ fault_said number (kind_says stage old.core.ends (kind_of TooLong))
       says stages.Start = refl
       says stages.Plain = refl
       says stages.Headed = refl
       says (stages.Told k) = refl
       says (stages.Numbered k) = refl
 
-      nothing : (stage : Stage) → Follows number old.core stage (kind_says stage old.core.ends (kind_of TooLong)) old.core stage []
+      nothing : (stage : ScriptStage) → Follows number old.core stage (kind_says stage old.core.ends (kind_of TooLong)) old.core stage []
       nothing stages.Start = (refl, refl, refl)
       nothing stages.Plain = (refl, refl, refl)
       nothing stages.Headed = (refl, refl, refl)

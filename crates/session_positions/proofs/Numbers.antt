@@ -2,15 +2,15 @@
 use Rattle.std.proofs.Common.{◌≡◌, ℕ, suc, ◌+◌, List, [], ◌∷◌, ◌++◌, length, reverse, Some, None, refl, sym, ap, ◌∙◌, arith, append-nil}
 use Rattle.std.proofs.lemmas.List.{reverse-append}
 use Rattle.line_io.specs.Lines.{Piece}
-use Rattle.script_player.specs.Versions.{Version, Place, Said, Comes, Passes, Starts, HasNoMark, IsOutOfStep, Cannot, beginning, behind_header, fault_said, first_fault, header_lines, line_says, place_over, place_said, script_fault, version_in}
+use Rattle.script_player.specs.Versions.{Version, Place, LineSaid, Comes, Passes, Starts, HasNoMark, IsOutOfStep, Cannot, beginning, behind_header, fault_said, first_fault, header_lines, line_says, place_over, place_said, script_fault, version_in}
 use Rattle.script_player.proofs.VersionLines.{behind_length, behind_more, no_earlier}
 use Rattle.session_positions.specs.Positions.{event_lines, numbers_of, numbers_said}
 
 -- a line by itself
-abbrev pub own : ℕ → Said → List ℕ
+abbrev pub own : ℕ → LineSaid → List ℕ
 own n s = numbers_said n s []
 
-said_more : (n : ℕ) (s : Said) (ns ms : List ℕ) → fault_said n s ≡ None → numbers_said n s (ns ++ ms) ≡ numbers_said n s ns ++ ms
+said_more : (n : ℕ) (s : LineSaid) (ns ms : List ℕ) → fault_said n s ≡ None → numbers_said n s (ns ++ ms) ≡ numbers_said n s ns ++ ms
 said_more n (Comes e) ns ms f = refl
 said_more n Passes ns ms f = refl
 said_more n (Starts k) ns ms f = refl
@@ -28,7 +28,7 @@ numbers_more n place (x ∷ ls) l e =
     ∙ ap (λ (k : ℕ). numbers_of (n + 1) (place_said place (line_says place x)) ls ++ own k (line_says (place_over place (x ∷ ls)) l)) (let z : n + 1 + length ls ≡ n + suc (length ls) = omega arith in z))
     ∙ said_more n (line_says place x) (numbers_of (n + 1) (place_said place (line_says place x)) ls) (own (n + suc (length ls)) (line_says (place_over place (x ∷ ls)) l)) f.0
 
-own_reversed : (n : ℕ) (s : Said) → reverse (own n s) ≡ own n s
+own_reversed : (n : ℕ) (s : LineSaid) → reverse (own n s) ≡ own n s
 own_reversed n (Comes e) = refl
 own_reversed n Passes = refl
 own_reversed n (Starts k) = refl

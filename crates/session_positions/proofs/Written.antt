@@ -9,7 +9,7 @@ use Rattle.line_io.specs.Runs.{whole}
 use Rattle.policy_rules.specs.Policy.{IsProper}
 use Rattle.policy_rules.specs.declared.settings.Settings.{Settings}
 use Rattle.adapter_core.specs.Trace.{Step, Lawful}
-use Rattle.adapter_core.specs.Parts.{Parts}
+use Rattle.adapter_core.specs.Parts.{CoreParts}
 use Rattle.adapter_core.specs.Stands.{Stands}
 use Rattle.adapter_core.proofs.Holds.{stands_first}
 use Rattle.adapter_core.proofs.Unique.{unique}
@@ -35,8 +35,8 @@ use Rattle.session_positions.specs.PositionsWritten.{AllWritten, CompletesPositi
 
 -- A WRITER BEFORE ITS FIRST LINE
 
-settings_at_first : (o : Settings) (core : Parts) → Stands o core [] → core.settings ≡ o
-settings_at_first o core st = ap (λ (v : Parts). v.settings) st.0
+settings_at_first : (o : Settings) (core : CoreParts) → Stands o core [] → core.settings ≡ o
+settings_at_first o core st = ap (λ (v : CoreParts). v.settings) st.0
 
 unused_fresh : (o : Settings) → IsProper o → IsUnused o (fresh o)
 unused_fresh o p = record { is_start = refl; stands = stands_first o p }

@@ -7,15 +7,15 @@ use Rattle.line_io.specs.Source.{Received}
 use Rattle.policy_rules.specs.declared.settings.Settings.{Settings}
 use Rattle.game_record.specs.Game.{Game}
 use Rattle.adapter_core.specs.Trace.{Step, Lawful}
-use Rattle.adapter_core.specs.Parts.{Parts, opening}
+use Rattle.adapter_core.specs.Parts.{CoreParts, opening}
 use Rattle.adapter_core.specs.Stands.{Stands}
 use Rattle.session_script.specs.Script.{IsShortStep, events}
 use Rattle.command_endings.specs.declared.ending.Ending.{Ending}
 use Rattle.command_endings.specs.declared.ending.Ending.TheVariants as endings
-use Rattle.script_player.specs.declared.stage.Stage.{Stage}
-use Rattle.script_player.specs.declared.stage.Stage.TheVariants as stages
+use Rattle.script_player.specs.declared.stage.ScriptStage.{ScriptStage}
+use Rattle.script_player.specs.declared.stage.ScriptStage.TheVariants as stages
 use Rattle.script_player.specs.Stages.{IsNumbered}
-use Rattle.script_player.specs.Versions.{Said, Comes, Starts, script_events, script_fault, settings_by, stage_started, stage_told, version_in}
+use Rattle.script_player.specs.Versions.{LineSaid, Comes, Starts, script_events, script_fault, settings_by, stage_started, stage_told, version_in}
 use Rattle.script_player.specs.Playing.{Adds, Took}
 use Rattle.line_scribe.specs.Putting.{Putting}
 use Rattle.session_positions.specs.declared.writer.PositionWriter.{PositionWriter}
@@ -28,7 +28,7 @@ pub record HasPut (Holds : List ℕ → Type 0) (old new : Text) : Type 0 where
   pub holds : Holds more
 
 -- A step of this event was taken, and this text was made of the games before and after it.
-pub record TakesStep (text_of : Game → Game → List ℕ) (old new : Parts) (e : Event)
+pub record TakesStep (text_of : Game → Game → List ℕ) (old new : CoreParts) (e : Event)
     (more : List ℕ) : Type 0 where
   pub step : Step
   pub adds : Adds old new e step
@@ -36,11 +36,11 @@ pub record TakesStep (text_of : Game → Game → List ℕ) (old new : Parts) (e
   pub told : more ≡ text_of old.desk.game new.desk.game
 
 -- The first step tells its position in any case.
-abbrev pub Opens : Parts → Parts → List ℕ → Type 0
+abbrev pub Opens : CoreParts → CoreParts → List ℕ → Type 0
 Opens core core' more = TakesStep (λ before after. position_line 0 after) core core' Open more
 
 -- what the line with this number said was done, and this was put for it
-abbrev pub Follows : ℕ → Parts → Stage → Said → Parts → Stage → List ℕ → Type 0
+abbrev pub Follows : ℕ → CoreParts → ScriptStage → LineSaid → CoreParts → ScriptStage → List ℕ → Type 0
 Follows number core stage (Comes e) core' stage' more =
     TakesStep (line_by number) core core' e more × (stage' ≡ stage_told stage)
 Follows number core stage (Starts step) core' stage' more =
@@ -49,10 +49,10 @@ Follows number core stage said core' stage' more =
     (core' ≡ core) × (stage' ≡ stage) × (more ≡ [])
 
 -- The session was opened by a first line that is this header, or none.
-abbrev pub HasOpened : Option Settings → Parts → Parts → Stage → List ℕ → Type 0
+abbrev pub HasOpened : Option Settings → CoreParts → CoreParts → ScriptStage → List ℕ → Type 0
 HasOpened None core core' stage' more = Opens core core' more × (stage' ≡ stages.Plain)
 HasOpened (Some settings) core core' stage' more =
-    (set : Parts) × Stands settings set [] × Opens set core' more × (stage' ≡ stages.Headed)
+    (set : CoreParts) × Stands settings set [] × Opens set core' more × (stage' ≡ stages.Headed)
 
 -- the writer that is made with these settings
 abbrev pub fresh : Settings → PositionWriter

@@ -7,12 +7,12 @@ use Rattle.fen_text.specs.Written.{written}
 use Rattle.game_record.specs.Game.{Game, now_of}
 use Rattle.policy_rules.specs.declared.settings.Settings.{Settings}
 use Rattle.adapter_core.specs.Trace.{Step, state}
-use Rattle.script_player.specs.Versions.{Place, Said, Comes, Passes, Starts, beginning, behind_header, header_lines, line_says, place_said, version_in}
+use Rattle.script_player.specs.Versions.{Place, LineSaid, Comes, Passes, Starts, beginning, behind_header, header_lines, line_says, place_said, version_in}
 
 -- WHICH LINES TELL EVENTS
 
 -- the number of a line stands before those of later lines if it tells an event that may come
-abbrev pub numbers_said : ℕ → Said → List ℕ → List ℕ
+abbrev pub numbers_said : ℕ → LineSaid → List ℕ → List ℕ
 numbers_said n (Comes e) later = n ∷ later
 numbers_said n Passes later = later
 numbers_said n (Starts step) later = later

@@ -22,14 +22,14 @@ use line_io::{Event, NoMemory, Out};
 use line_scribe::Scribe;
 use policy_rules::Settings;
 use script_lines::read_header;
-use script_player::{Said, Stage};
+use script_player::{LineSaid, ScriptStage};
 use std::alloc::Global;
 
 /// A session, and where the reading of its script stands.
 #[derive(Drop)]
 pub struct PositionWriter {
     core: Core,
-    stage: Stage,
+    stage: ScriptStage,
 }
 
 /// The text of a position.
@@ -95,14 +95,14 @@ impl PositionWriter {
     {
         Ok(PositionWriter {
             core: Core::make(alloc, settings)?,
-            stage: Stage::Start,
+            stage: ScriptStage::Start,
         })
     }
 
     fn is_new(&self) -> bool
         ensures { result ≡ is_start self.now.stage }
     {
-        matches!(self.stage, Stage::Start)
+        matches!(self.stage, ScriptStage::Start)
     }
 
     // Opens a session of version 1.
@@ -115,7 +115,7 @@ impl PositionWriter {
         ensures few { length text.new.text ≤ length text.old.text + POSITION_ROOM }
     {
         open(&mut self.core, text);
-        self.stage = Stage::Plain;
+        self.stage = ScriptStage::Plain;
     }
 
     // Opens a session of version 2.
@@ -131,7 +131,7 @@ impl PositionWriter {
     {
         self.core.set(settings);
         open(&mut self.core, text);
-        self.stage = Stage::Headed;
+        self.stage = ScriptStage::Headed;
     }
 
     // Takes a line of a session that was opened.
@@ -148,19 +148,19 @@ impl PositionWriter {
         ensures may { MayFollow self.new }
     {
         match self.stage.says(&self.core, line) {
-            Said::Comes(event) => {
+            LineSaid::Comes(event) => {
                 step(&mut self.core, number, &event, text);
                 self.stage = self.stage.told();
                 None
             }
-            Said::Passes => None,
-            Said::Starts(step) => {
+            LineSaid::Passes => None,
+            LineSaid::Starts(step) => {
                 self.stage = self.stage.started(step);
                 None
             }
-            Said::HasNoMark => Some(Ending::NoMark(number)),
-            Said::IsOutOfStep => Some(Ending::OutOfStep(number)),
-            Said::Cannot => Some(Ending::MayNotCome(number)),
+            LineSaid::HasNoMark => Some(Ending::NoMark(number)),
+            LineSaid::IsOutOfStep => Some(Ending::OutOfStep(number)),
+            LineSaid::Cannot => Some(Ending::MayNotCome(number)),
         }
     }
 }

@@ -27,13 +27,13 @@ const NUMBERED_SCRIPT: &str =
 
 // What the program made of its words and an input.
 #[derive(Drop)]
-struct Answer {
+struct RunResult {
     status: u8,
     output: Vec<u8>,
     told: Vec<u8>,
 }
 
-impl Answer {
+impl RunResult {
     // Whether this came of it.
     fn expect(&self, rt: &impl Abort, status: u8, output: &str, told: &str) -> Result<(), Fail> {
         assert_eq!(rt; self.told.as_slice(), told.as_bytes());
@@ -49,14 +49,14 @@ fn run(
     words: &[u8],
     input: &mut MemSource,
     output: &mut MemSink,
-) -> Result<Answer, Fail> {
+) -> Result<RunResult, Fail> {
     let mut diag = MemSink::make(alloc, 100, &[])?;
     let mut split = Vec::new(alloc);
     for word in words.split(|b| *b == b'|') {
         split.push(Vec::from_slice(alloc, word)?)?;
     }
     let status = replay_main(alloc, split.as_slice(), input, output, &mut diag);
-    Ok(Answer {
+    Ok(RunResult {
         status: status.code,
         output: Vec::from_slice(alloc, output.taken())?,
         told: Vec::from_slice(alloc, diag.taken())?,
@@ -64,7 +64,7 @@ fn run(
 }
 
 // Replays an input that is read in pieces, some reads of which fail.
-fn replayed(alloc: Global, input: &[u8], piece: usize, fails: &[u64]) -> Result<Answer, Fail>
+fn replayed(alloc: Global, input: &[u8], piece: usize, fails: &[u64]) -> Result<RunResult, Fail>
     requires { 0 < piece }
 {
     let mut source = MemSource::make(alloc, input, piece, fails)?;
@@ -73,7 +73,7 @@ fn replayed(alloc: Global, input: &[u8], piece: usize, fails: &[u64]) -> Result<
 }
 
 // Checks a script that is read byte for byte.
-fn checked(alloc: Global, script: &str) -> Result<Answer, Fail> {
+fn checked(alloc: Global, script: &str) -> Result<RunResult, Fail> {
     let mut source = MemSource::make(alloc, script.as_bytes(), 1, &[])?;
     let mut output = MemSink::make(alloc, 100, &[])?;
     run(alloc, b"check", &mut source, &mut output)

@@ -1,4 +1,3 @@
-use Rattle.line_scribe.specs.Scribed.{EndsBy}
 use Rattle.command_endings.specs.Streams.{Streams, streams}
 use Rattle.line_scribe.proofs.Endings.{ended}
 use Rattle.line_scribe.proofs.run.run_scribe.Goals as goal

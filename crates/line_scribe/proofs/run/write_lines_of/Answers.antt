@@ -1,4 +1,4 @@
-use Rattle.std.proofs.Common.{◌∙◌, ℕ, ap, refl, subst}
+use Rattle.std.proofs.Common.{ℕ, ap, refl, subst}
 use Rattle.line_io.specs.Lines.{Held}
 use Rattle.line_io.specs.Taken.{Taken, place}
 use Rattle.line_io.specs.declared.taker.LinesEnd.{LinesEnd}

@@ -1,4 +1,4 @@
-use Rattle.std.proofs.Common.{◌∙◌, sym, inr, refl}
+use Rattle.std.proofs.Common.{◌≡◌, ◌∙◌, sym, inr, refl}
 use Rattle.line_scribe.proofs.Scribing.{on_err, on_ok, said_closed, stood_cut_all, stood_moved}
 use Rattle.line_scribe.proofs.writer.Writer.end.Goals as goal
 
@@ -6,7 +6,7 @@ pub returns-then-is_err : goal.returns-then-is_err
 returns-then-is_err g c = λ s0 lines before t.
     inr (
       refl,
-      stood_cut_all g.S.Scribe.means s0 lines c.args.self.now.scribe c.args.self.now.text before (g.O.Sink.state c.args.output.now) (g.O.Sink.state c.make_room.new.output) t
+      stood_cut_all g.S.Scribe.means s0 (λ e. e ≡ c.args.ending) lines c.args.self.now.scribe c.args.self.now.text before (g.O.Sink.state c.args.output.now) (g.O.Sink.state c.make_room.new.output) t
           (on_err c.make_room.result _ c.make_room.ensures.err (sym c.is_err.ensures.value ∙ c.if-is_err.true)),
     )
 

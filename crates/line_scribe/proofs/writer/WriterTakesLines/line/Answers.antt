@@ -1,5 +1,6 @@
 use Rattle.std.proofs.Common.{◌∙◌, ◌∷◌, ◌++◌, [], sym, inl, refl}
 use Rattle.line_io.specs.Lines.{Whole}
+use Rattle.line_scribe.specs.Putting.{IsOfLine}
 use Rattle.line_scribe.proofs.Scribing.{line_put, on_err, on_ok, stood_cut, stood_moved, then_by}
 use Rattle.line_scribe.proofs.writer.WriterTakesLines.line.Goals as goal
 
@@ -7,7 +8,7 @@ pub returns-then-is_err-clause-takes : goal.returns-then-is_err-clause-takes
 returns-then-is_err-clause-takes g c = λ w0 o0 pieces t n.
     inl (
       refl,
-      stood_cut g.S.Scribe.means w0.scribe pieces (Whole c.args.line.now ∷ []) c.args.self.now.scribe c.args.self.now.text (g.O.Sink.state o0) (g.O.Sink.state c.args.output.now) (g.O.Sink.state c.make_room.new.output) t
+      stood_cut g.S.Scribe.means w0.scribe IsOfLine pieces (Whole c.args.line.now ∷ []) c.args.self.now.scribe c.args.self.now.text (g.O.Sink.state o0) (g.O.Sink.state c.args.output.now) (g.O.Sink.state c.make_room.new.output) t
           (on_err c.make_room.result _ c.make_room.ensures.err (sym c.is_err.ensures.value ∙ c.if-is_err.true)),
     )
 

@@ -1,7 +1,7 @@
 use Rattle.std.proofs.Common.{◌∙◌, [], ◌∷◌, ap, subst, refl}
 use Rattle.line_io.specs.Event.{Open}
 use Rattle.line_io.specs.Out.{Text, with}
-use Rattle.script_player.specs.declared.stage.Stage.TheVariants as stages
+use Rattle.script_player.specs.declared.stage.ScriptStage.TheVariants as stages
 use Rattle.script_player.specs.Playing.{Steps}
 use Rattle.script_player.proofs.Players.{may_open}
 use Rattle.script_player.proofs.player.Player.open_numbered.Goals as goal

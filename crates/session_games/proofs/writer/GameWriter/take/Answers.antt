@@ -1,13 +1,13 @@
 use Rattle.std.proofs.Common.{◌≡◌, ℕ, ◌∙◌, sym, ap, subst}
 use Rattle.line_io.specs.Lines.{Whole}
-use Rattle.script_player.specs.declared.stage.Stage.{Stage}
-use Rattle.script_player.specs.declared.stage.Stage.TheVariants as stages
+use Rattle.script_player.specs.declared.stage.ScriptStage.{ScriptStage}
+use Rattle.script_player.specs.declared.stage.ScriptStage.TheVariants as stages
 use Rattle.script_player.specs.Stages.{IsNumbered, said}
 use Rattle.script_player.specs.Versions.{kind_of, stage_started}
 use Rattle.script_player.proofs.Plays.{comes_may, starts_numbered}
 use Rattle.session_games.proofs.writer.GameWriter.take.Goals as goal
 
-no_start : (stage : Stage) (n : ℕ) → stage_started stage n ≡ stages.Start → ⊥
+no_start : (stage : ScriptStage) (n : ℕ) → stage_started stage n ≡ stages.Start → ⊥
 no_start stages.Start n e = cc
 no_start stages.Plain n e = cc
 no_start stages.Headed n e = cc

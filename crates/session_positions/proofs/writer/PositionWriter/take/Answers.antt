@@ -1,20 +1,20 @@
 use Rattle.std.proofs.Common.{◌≡◌, ℕ, ◌∙◌, false, sym, ap, subst}
 use Rattle.line_io.specs.Lines.{Whole}
-use Rattle.script_player.specs.declared.stage.Stage.{Stage}
-use Rattle.script_player.specs.declared.stage.Stage.TheVariants as stages
+use Rattle.script_player.specs.declared.stage.ScriptStage.{ScriptStage}
+use Rattle.script_player.specs.declared.stage.ScriptStage.TheVariants as stages
 use Rattle.script_player.specs.Stages.{IsNumbered, is_start, said}
 use Rattle.script_player.specs.Versions.{kind_of, stage_started, stage_told}
 use Rattle.script_player.proofs.Plays.{comes_may, starts_numbered, told_numbered}
 use Rattle.session_positions.proofs.writer.PositionWriter.take.Goals as goal
 
-no_start : (stage : Stage) (n : ℕ) → stage_started stage n ≡ stages.Start → ⊥
+no_start : (stage : ScriptStage) (n : ℕ) → stage_started stage n ≡ stages.Start → ⊥
 no_start stages.Start n e = cc
 no_start stages.Plain n e = cc
 no_start stages.Headed n e = cc
 no_start (stages.Told k) n e = cc
 no_start (stages.Numbered k) n e = cc
 
-not_told : (stage : Stage) → is_start stage ≡ false → stage_told stage ≡ stages.Start → ⊥
+not_told : (stage : ScriptStage) → is_start stage ≡ false → stage_told stage ≡ stages.Start → ⊥
 not_told stages.Start e h = cc
 not_told stages.Plain e h = cc
 not_told stages.Headed e h = cc

@@ -7,7 +7,7 @@ use Rattle.line_io.specs.declared.taker.LinesEnd.TheVariants as ends
 use Rattle.command_endings.specs.declared.ending.Ending.{Ending}
 use Rattle.script_player.specs.Replaying.{replays}
 use Rattle.replay_tool.proofs.Finishes.{causes_by, causes_left, go_ended, go_endless, go_failed, go_left}
-use Rattle.replay_tool.proofs.run.Run.go.Goals as goal
+use Rattle.replay_tool.proofs.run.ScriptRun.go.Goals as goal
 
 pub returns-in-Stopped-clause-stopped : goal.returns-in-Stopped-clause-stopped
 returns-in-Stopped-clause-stopped g c = λ o diag diag_now fresh.

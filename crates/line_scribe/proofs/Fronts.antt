@@ -1,0 +1,33 @@
+-- Fronts of what is due for all lines of an input.
+use Rattle.std.proofs.Common.{◌≡◌, ℕ, zero, suc, List, [], ◌∷◌, ◌++◌, take, Option, None, Some, append-nil, append_assoc, refl, sym, ap, subst, ◌∙◌}
+use Rattle.line_io.specs.Lines.{Piece}
+use Rattle.command_endings.specs.Reads.{AreFirst}
+use Rattle.line_scribe.specs.Scribed.{AreAll}
+
+-- one text is a front of the other
+pub record IsFront (text whole : List ℕ) : Type 0 where
+  pub more : List ℕ
+  pub whole_is : whole ≡ text ++ more
+
+pub all_front : (text : List ℕ) → IsFront text text
+all_front text = record { more = []; whole_is = sym (append-nil text) }
+
+pub front_on : (a b c : List ℕ) → IsFront a b → IsFront b c → IsFront a c
+front_on a b c f g = record { more = f.more ++ g.more; whole_is = g.whole_is ∙ ap (λ l. l ++ g.more) f.whole_is ∙ append_assoc a f.more g.more }
+
+front_of_more : (n : ℕ) (xs ys : List ℕ) → (k : ℕ) × (take n xs ≡ take k (xs ++ ys))
+front_of_more zero xs ys = (0, refl)
+front_of_more (suc n) [] ys = (0, refl)
+front_of_more (suc n) (x ∷ xs) ys = let r = front_of_more n xs ys in (suc r.0, ap (λ (l : List ℕ). x ∷ l) r.1)
+
+-- a front of a front
+pub take_front : (n : ℕ) (text whole : List ℕ) → IsFront text whole → (k : ℕ) × (take n text ≡ take k whole)
+take_front n text whole f = let r = front_of_more n text f.more in (r.0, r.1 ∙ ap (take r.0) (sym f.whole_is))
+
+-- the lines that follow in the input
+pub later_of : (left : Option (List ℕ)) (lines : List Piece) → AreFirst left lines → (later : List Piece) × AreAll left (lines ++ later)
+later_of None lines a = ([], tt)
+later_of (Some x) lines a = (a.0, a.1)
+
+pub none_later : (left : Option (List ℕ)) (lines : List Piece) → AreAll left lines → AreAll left (lines ++ [])
+none_later left lines a = subst (AreAll left) (sym (append-nil lines)) a
