@@ -2,15 +2,13 @@
 #![tactic(auto)]
 
 use line_io::{ReadAdapter, WriteAdapter};
-use program_edges::{ClosedStreams, words_of};
+use program_edges::{ClosedStreams, NO_MEMORY, words_of};
 use program_texts::{About, answer_about};
 use scripted_engine::scripted_main;
 use std::fs::File;
 use std::io::{ErrorKind, Read};
 use std::process::ExitCode;
 use std::{fs, io, str};
-
-const NO_MEMORY: u8 = 3;
 
 /// A reader that opens its file at the first read, so that a file that cannot be opened is a read
 /// that failed. No file has a name that is not UTF-8.
@@ -55,11 +53,13 @@ scripted(1) says how FILE is written.
 };
 
 fn main(rt: HostRuntime) -> ExitCode {
-    let closed = ClosedStreams::fill(&rt);
+    let Some(closed) = ClosedStreams::fill(&rt) else {
+        return ExitCode::from(NO_MEMORY);
+    };
     let Ok(words) = words_of(&rt, rt.alloc(), usize::MAX) else {
         return ExitCode::from(NO_MEMORY);
     };
-    let mut output = WriteAdapter::new(closed.output(rt.stdout()));
+    let mut output = closed.output(WriteAdapter::new(rt.stdout()));
     if let Some(status) = answer_about(rt.alloc(), words.as_slice(), &ABOUT, &mut output) {
         return ExitCode::from(status.code);
     }
@@ -68,7 +68,7 @@ fn main(rt: HostRuntime) -> ExitCode {
         name: name_in(words.as_slice()),
         file: None,
     });
-    let mut input = ReadAdapter::new(closed.input(rt.stdin()));
+    let mut input = closed.input(ReadAdapter::new(rt.stdin()));
     let status = scripted_main(
         rt.alloc(),
         words.as_slice(),

@@ -8,14 +8,13 @@ use Rattle.line_io.specs.Causes.{Rose}
 use Rattle.line_io.specs.Lines.{Piece, Whole, TooLong, items}
 use Rattle.line_io.specs.Source.{TakesPrefix}
 use Rattle.line_io.specs.Taken.{Place, Taken}
-use Rattle.line_io.proofs.Timed.{in_time_as}
 use Rattle.line_io.specs.Source.{Supplied}
 use Rattle.line_io.specs.declared.taker.LinesEnd.{LinesEnd}
 use Rattle.line_io.specs.declared.taker.LinesEnd.TheVariants as ends
 use Rattle.scripted_engine.specs.Blocks.{Block}
 use Rattle.scripted_engine.specs.Queues.{Scripted}
 use Rattle.scripted_engine.specs.Answers.{Stands, Gives}
-use Rattle.scripted_engine.specs.Ends.{is_quit, until_quit, has_quit, replies_after, replies, HasAnswers, AnswersInTime, Answered, streams}
+use Rattle.scripted_engine.specs.Ends.{is_quit, until_quit, has_quit, replies_after, replies, Answered, streams}
 use Rattle.line_io.specs.Source.{Received}
 use Rattle.scripted_engine.specs.Heard.{Heard, Halted, answers_of, ending_of}
 use Rattle.scripted_engine.proofs.Replies.{has_append, until_append, replies_append, replies_last, none_behind}
@@ -124,9 +123,6 @@ replies_more blocks ps qs = more_by blocks ps qs (has_quit (until_quit ps)) refl
 no_more : (limit : ℕ) (bytes left : List ℕ) → left ≡ [] → items limit bytes ≡ items limit (bytes ++ left)
 no_more limit bytes left e = ap (items limit) (sym (append-nil bytes) ∙ ap (λ l. bytes ++ l) (sym e))
 
-in_time_by : {O : Type 0} (see : O → Received) (old new : Place Scripted O) (blocks : List Block) → Stands old.taker blocks [] → (ending : LinesEnd Stop) → (t : Taken (answers_of see) 65536 ending old new) → AnswersInTime blocks (see old.output) t.given
-in_time_by see old new blocks stands ending t = (t.pieces, in_time_as 65536 _ (HasAnswers blocks (see old.output)) (λ pieces w. let h = w.2 blocks stands in (see w.1, subst (λ (l : List ℕ). Appends (see old.output).taken (see w.1).taken l) h.answered h.took)) t.given t.pieces t.in_time)
-
 -- how the answers end
 pub answered_by : {O : Type 0} (see : O → Received) (ending : LinesEnd Stop) (old new : Place Scripted O) (blocks : List Block) (file file' : Supplied) → Stands old.taker blocks []
     → Taken (answers_of see) 65536 ending old new → Answered (ending_of ending) blocks (streams file old.input (see old.output)) (streams file' new.input (see new.output))
@@ -138,7 +134,6 @@ answered_by {O} see (ends.Stopped stops.Quit) old new blocks file file' stands t
       told = h.told;
       gave = t.gave;
       took = h.took;
-      in_time = in_time_by see old new blocks stands (ends.Stopped stops.Quit) t;
       ends = record {
         ended = f.ended;
         all = λ left live. let m = f.front left live in h.stops.0 ∙ ap (λ ls. replies_after blocks [] ls) (sym (until_stays t.pieces m.0 h.stops.1)) ∙ ap (replies blocks) (sym m.1);
@@ -154,7 +149,6 @@ answered_by {O} see (ends.Stopped stops.WriteFailed) old new blocks file file' s
       told = h.told;
       gave = t.gave;
       took = h.took;
-      in_time = in_time_by see old new blocks stands (ends.Stopped stops.WriteFailed) t;
       ends = (
         h.stops.0,
         record {
@@ -174,7 +168,6 @@ answered_by {O} see ends.Ended old new blocks file file' stands t =
       told = h.told;
       gave = t.gave;
       took = h.took;
-      in_time = in_time_by see old new blocks stands ends.Ended t;
       ends = record {
         ended = true;
         all = λ left live. h.answered ∙ ap (replies blocks) (t.ends.all ∙ no_more 65536 t.given left (live refl));
@@ -189,7 +182,6 @@ answered_by {O} see ends.ReadFailed old new blocks file file' stands t =
       told = h.told;
       gave = t.gave;
       took = h.took;
-      in_time = in_time_by see old new blocks stands ends.ReadFailed t;
       ends = (t.ends.fault, record { all = h.answered ∙ ap (replies blocks) t.ends.all; no_quit = ap (λ ps. has_quit (until_quit ps)) (sym t.ends.all) ∙ h.no_quit });
     }
 answered_by {O} see ends.Endless old new blocks file file' stands t =
@@ -199,6 +191,5 @@ answered_by {O} see ends.Endless old new blocks file file' stands t =
       told = h.told;
       gave = t.gave;
       took = h.took;
-      in_time = in_time_by see old new blocks stands ends.Endless t;
       ends = (t.ends.many, record { all = h.answered ∙ ap (replies blocks) t.ends.all; no_quit = ap (λ ps. has_quit (until_quit ps)) (sym t.ends.all) ∙ h.no_quit });
     }

@@ -5,8 +5,8 @@ use Rattle.std.proofs.KnownBytes.{Appends-trans, Consumes-trans, Appends-nil, Co
 use Rattle.scripted_engine.specs.Ends.{IsRead, NoScript}
 use Rattle.line_io.specs.Lines.{Reads}
 use Rattle.line_io.specs.Source.{Supplied}
-use Rattle.scripted_engine.specs.declared.ending.Ending.{Ending}
-use Rattle.scripted_engine.specs.declared.ending.Ending.TheVariants.{NoMemory}
+use Rattle.scripted_engine.specs.declared.ending.ScriptedEnding.{ScriptedEnding}
+use Rattle.scripted_engine.specs.declared.ending.ScriptedEnding.TheVariants.{NoMemory}
 use Rattle.std.specs.Result.{IsErrAnd}
 use Rattle.std.proofs.lemmas.List.{take-append-le}
 
@@ -36,7 +36,7 @@ pub front_taken : (n m : ℕ) (buf rest : List ℕ) → n ≤ length buf → n �
 front_taken n m buf rest h i = take-take n m (buf ++ rest) i ∙ take-append-le n buf rest h
 
 -- no memory came
-pub no_memory : (r : Result (Vec ℕ Global) Ending) (file file' : Supplied) (script : List ℕ) → IsErrAnd r (λ e. e ≡ NoMemory) → length script ≤ 16777216
+pub no_memory : (r : Result (Vec ℕ Global) ScriptedEnding) (file file' : Supplied) (script : List ℕ) → IsErrAnd r (λ e. e ≡ NoMemory) → length script ≤ 16777216
     → MatchResult r (λ read. (read.items ≡ script) × IsRead file' script) (NoScript file file' script)
 no_memory (Ok v) file file' script h l = absurd h
-no_memory (Err e) file file' script h l = subst (λ (x : Ending). NoScript file file' script x) (sym h) l
+no_memory (Err e) file file' script h l = subst (λ (x : ScriptedEnding). NoScript file file' script x) (sym h) l

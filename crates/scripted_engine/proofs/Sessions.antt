@@ -7,12 +7,11 @@ use Rattle.scripted_engine.specs.Script.{first_bad, blocks_of}
 use Rattle.scripted_engine.specs.Ends.{streams, code_of, IsRead, NoScript, Answered, replies, Session, Completes, AnswersInput}
 use Rattle.line_io.specs.Source.{Received}
 use Rattle.line_io.specs.Source.{Supplied}
-use Rattle.line_io.specs.Taken.{starts}
-use Rattle.scripted_engine.specs.declared.ending.Ending.{Ending}
-use Rattle.scripted_engine.specs.declared.ending.Ending.TheVariants.{Done, Usage, NoMemory, ReadFailed, WriteFailed, BadScript, TooLarge, Endless}
+use Rattle.scripted_engine.specs.declared.ending.ScriptedEnding.{ScriptedEnding}
+use Rattle.scripted_engine.specs.declared.ending.ScriptedEnding.TheVariants.{Done, Usage, NoMemory, ReadFailed, WriteFailed, BadScript, TooLarge, Endless}
 
 -- no script came
-pub unread : (ending : Ending) (file file' input : Supplied) (output : Received) (script : List ℕ) → Reads file file' script → NoScript file file' script ending → Session ending (streams file input output) (streams file' input output)
+pub unread : (ending : ScriptedEnding) (file file' input : Supplied) (output : Received) (script : List ℕ) → Reads file file' script → NoScript file file' script ending → Session ending (streams file input output) (streams file' input output)
 unread ending file file' input output script gave why = record {
   script = script;
   heard = [];
@@ -20,7 +19,6 @@ unread ending file file' input output script gave why = record {
   from_file = gave;
   from_input = record { given = Appends-nil input.given; left = Consumes-nil input.left };
   to_output = Appends-nil output.taken;
-  in_time = ([], starts);
   ends = inl (record { why = why; none_heard = refl; none_told = refl });
 }
 
@@ -28,7 +26,7 @@ pub opened_none : (file input : Supplied) (output : Received) → Session NoMemo
 opened_none file input output = unread NoMemory file file input output [] (record { given = Appends-nil file.given; left = Consumes-nil file.left }) (omega arith)
 
 -- the lines were answered
-pub answered : (ending : Ending) (file file' input input' : Supplied) (output output' : Received) (script : List ℕ) → Reads file file' script → IsRead file' script → first_bad script ≡ None
+pub answered : (ending : ScriptedEnding) (file file' input input' : Supplied) (output output' : Received) (script : List ℕ) → Reads file file' script → IsRead file' script → first_bad script ≡ None
     → Answered ending (blocks_of script) (streams file input output) (streams file' input' output') → Session ending (streams file input output) (streams file' input' output')
 answered ending file file' input input' output output' script gave read good a = record {
   script = script;
@@ -37,12 +35,11 @@ answered ending file file' input input' output output' script gave read good a =
   from_file = gave;
   from_input = a.gave;
   to_output = a.took;
-  in_time = a.in_time;
   ends = inr (record { read = read; good = good; ends = a.ends });
 }
 
 -- a run that was given one word does not end by its usage
-pub not_usage : (ending : Ending) (file file' input input' : Supplied) (output output' : Received) → Session ending (streams file input output) (streams file' input' output') → code_of ending ≡ 2 → ⊥
+pub not_usage : (ending : ScriptedEnding) (file file' input input' : Supplied) (output output' : Received) → Session ending (streams file input output) (streams file' input' output') → code_of ending ≡ 2 → ⊥
 not_usage Done file file' input input' output output' s e = cc
 not_usage Usage file file' input input' output output' s e = elim (s.ends) [ inl h ↦ h.why | inr h ↦ h.ends ]
 not_usage NoMemory file file' input input' output output' s e = cc
@@ -89,7 +86,7 @@ answers_done file file' input input' output output' s script heard f i =
           subst (λ (l : List ℕ). Appends output.taken output'.taken l) (told ∙ ap (λ b. replies (blocks_of s.script) (items 65536 b)) (sym t.2) ∙ ap (λ b. replies (blocks_of b) (items 65536 heard)) same) s.to_output
     ]
 
-pub answers : (ending : Ending) (file file' input input' : Supplied) (output output' : Received) → Session ending (streams file input output) (streams file' input' output') → AnswersInput (code_of ending) (streams file input output) (streams file' input' output')
+pub answers : (ending : ScriptedEnding) (file file' input input' : Supplied) (output output' : Received) → Session ending (streams file input output) (streams file' input' output') → AnswersInput (code_of ending) (streams file input output) (streams file' input' output')
 answers Done file file' input input' output output' s = λ script heard f i e. answers_done file file' input input' output output' s script heard f i
 answers Usage file file' input input' output output' s = λ script heard f i e. cc
 answers NoMemory file file' input input' output output' s = λ script heard f i e. cc
@@ -103,7 +100,7 @@ some_none : (o : Option ℕ) → IsSome o → o ≡ None → ⊥
 some_none None h e = cc h
 some_none (Some x) h e = cc e
 
-pub complete : (ending : Ending) (file file' input input' : Supplied) (output output' : Received) → Session ending (streams file input output) (streams file' input' output') → Completes (code_of ending) (streams file input output) (streams file' input' output')
+pub complete : (ending : ScriptedEnding) (file file' input input' : Supplied) (output output' : Received) → Session ending (streams file input output) (streams file' input' output') → Completes (code_of ending) (streams file input output) (streams file' input' output')
 complete Done file file' input input' output output' s = λ script heard p. inl refl
 complete NoMemory file file' input input' output output' s = λ script heard p. inr refl
 complete Usage file file' input input' output output' s = λ script heard p. elim (s.ends) [ inl h ↦ absurd h.why | inr h ↦ absurd h.ends ]

@@ -8,19 +8,19 @@ use Rattle.line_io.specs.Source.{Received}
 use Rattle.line_io.specs.Causes.{Rose}
 use Rattle.line_io.specs.Lines.{Piece, Whole, TooLong, Reads, items}
 use Rattle.line_io.specs.Runs.{whole}
-use Rattle.line_io.specs.Taken.{IsOver, InTime}
+use Rattle.line_io.specs.Taken.{IsOver}
 use Rattle.line_io.specs.Source.{Supplied}
 use Rattle.peer_words.specs.Tokens.{first_token}
 use Rattle.scripted_engine.specs.Blocks.{Block}
 use Rattle.scripted_engine.specs.Answers.{answer}
 use Rattle.scripted_engine.specs.Script.{first_bad, blocks_of}
-use Rattle.scripted_engine.specs.declared.ending.Ending.{Ending}
-use Rattle.scripted_engine.specs.declared.ending.Ending.TheVariants.{Done, Usage, NoMemory, ReadFailed, WriteFailed, BadScript, TooLarge, Endless}
+use Rattle.scripted_engine.specs.declared.ending.ScriptedEnding.{ScriptedEnding}
+use Rattle.scripted_engine.specs.declared.ending.ScriptedEnding.TheVariants.{Done, Usage, NoMemory, ReadFailed, WriteFailed, BadScript, TooLarge, Endless}
 use Rattle.scripted_engine.specs.declared.run.TheConstants.{SCRIPT_LIMIT}
 use Rattle.line_io.specs.declared.limits.TheConstants.{PEER_LINE}
 
 -- the exit status
-abbrev pub code_of : Ending → ℕ
+abbrev pub code_of : ScriptedEnding → ℕ
 code_of Done = 0
 code_of Usage = 2
 code_of NoMemory = 3
@@ -61,7 +61,7 @@ pub record IsRead (file : Supplied) (script : List ℕ) : Type 0 where
   pub at_end : IsAtEnd file.left
 
 -- why there is no script
-abbrev pub NoScript : Supplied → Supplied → List ℕ → Ending → Type 0
+abbrev pub NoScript : Supplied → Supplied → List ℕ → ScriptedEnding → Type 0
 NoScript old new script Done = ⊥
 NoScript old new script Usage = ⊥
 NoScript old new script NoMemory = length script ≤ SCRIPT_LIMIT
@@ -103,7 +103,7 @@ abbrev pub streams : Supplied → Supplied → Received → Streams
 streams file input output = record { file = file; input = input; output = output }
 
 -- how the answers to the lines of the input end
-abbrev pub LinesEnd : Ending → List Block → Streams → Streams → List ℕ → List ℕ → Type 0
+abbrev pub LinesEnd : ScriptedEnding → List Block → Streams → Streams → List ℕ → List ℕ → Type 0
 LinesEnd Done blocks old new heard told = AnswersAll blocks old.input new.input heard told
 LinesEnd Usage blocks old new heard told = ⊥
 LinesEnd NoMemory blocks old new heard told = ⊥
@@ -115,47 +115,35 @@ LinesEnd BadScript blocks old new heard told = ⊥
 LinesEnd TooLarge blocks old new heard told = ⊥
 LinesEnd Endless blocks old new heard told = (2 ^ 32 ≤ length heard) × AnswersWhole blocks heard told
 
--- the output has taken the answers to these lines
-abbrev pub HasAnswers : List Block → Received → List Piece → Type 0
-HasAnswers blocks output pieces =
-    (now : Received) × Appends output.taken now.taken (replies blocks pieces)
-
--- Each read came when the answers to all lines that were whole by then were written.
-abbrev pub AnswersInTime : List Block → Received → List ℕ → Type 0
-AnswersInTime blocks output heard =
-    (pieces : List Piece) × InTime PEER_LINE (HasAnswers blocks output) heard pieces
-
 -- The input gave some bytes, and the output took some.
-pub record Answered (ending : Ending) (blocks : List Block) (old new : Streams) : Type 0 where
+pub record Answered (ending : ScriptedEnding) (blocks : List Block) (old new : Streams) : Type 0 where
   pub heard : List ℕ
   pub told : List ℕ
   pub gave : Reads old.input new.input heard
   pub took : Appends old.output.taken new.output.taken told
-  pub in_time : AnswersInTime blocks old.output heard
   pub ends : LinesEnd ending blocks old new heard told
 
 -- there is no script, nothing is read of the input, and nothing is written
-pub record HasNoScript (ending : Ending) (script heard told : List ℕ) (old new : Streams) : Type 0 where
+pub record HasNoScript (ending : ScriptedEnding) (script heard told : List ℕ) (old new : Streams) : Type 0 where
   pub why : NoScript old.file new.file script ending
   pub none_heard : heard ≡ []
   pub none_told : told ≡ []
 
 -- the lines were answered by a script that is good
-pub record HasScript (ending : Ending) (script heard told : List ℕ) (old new : Streams) : Type 0 where
+pub record HasScript (ending : ScriptedEnding) (script heard told : List ℕ) (old new : Streams) : Type 0 where
   pub read : IsRead new.file script
   pub good : first_bad script ≡ None
   pub ends : LinesEnd ending (blocks_of script) old new heard told
 
 -- The file gave this script, the input these bytes, and the output took this. The run had no script,
 -- or answered the lines by it.
-pub record Session (ending : Ending) (old new : Streams) : Type 0 where
+pub record Session (ending : ScriptedEnding) (old new : Streams) : Type 0 where
   pub script : List ℕ
   pub heard : List ℕ
   pub told : List ℕ
   pub from_file : Reads old.file new.file script
   pub from_input : Reads old.input new.input heard
   pub to_output : Appends old.output.taken new.output.taken told
-  pub in_time : AnswersInTime (blocks_of script) old.output heard
   pub ends : HasNoScript ending script heard told old new ⊎ HasScript ending script heard told old new
 
 -- The file gave a good script within the limit, the input gave fewer than 2^32 bytes, and no count

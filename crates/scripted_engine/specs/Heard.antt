@@ -13,10 +13,10 @@ use Rattle.scripted_engine.specs.Answers.{Stands}
 use Rattle.scripted_engine.specs.Ends.{until_quit, has_quit, replies}
 use Rattle.scripted_engine.specs.declared.answering.Stop.{Stop}
 use Rattle.scripted_engine.specs.declared.answering.Stop.TheVariants as stops
-use Rattle.scripted_engine.specs.declared.ending.Ending.{Ending}
-use Rattle.scripted_engine.specs.declared.ending.Ending.TheVariants as endings
+use Rattle.scripted_engine.specs.declared.ending.ScriptedEnding.{ScriptedEnding}
+use Rattle.scripted_engine.specs.declared.ending.ScriptedEnding.TheVariants as endings
 
-abbrev pub ending_of : LinesEnd Stop → Ending
+abbrev pub ending_of : LinesEnd Stop → ScriptedEnding
 ending_of (ends.Stopped stops.Quit) = endings.Done
 ending_of (ends.Stopped stops.WriteFailed) = endings.WriteFailed
 ending_of ends.Ended = endings.Done

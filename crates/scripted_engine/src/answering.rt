@@ -3,7 +3,7 @@ ghost use Rattle.std.specs.Prelude.{◌≡◌};
 ghost use Rattle.scripted_engine.specs.Ends.{is_quit};
 ghost use Rattle.scripted_engine.specs.Heard.{ending_of};
 
-use crate::{Ending, Scripted};
+use crate::{Scripted, ScriptedEnding};
 use line_io::{LinesEnd, Sink, TakesLines, write_all};
 use peer_words::split_token;
 
@@ -15,15 +15,15 @@ pub enum Stop {
 }
 
 /// How a run ends.
-pub fn ending_of(end: LinesEnd<Stop>) -> Ending
+pub fn ending_of(end: LinesEnd<Stop>) -> ScriptedEnding
     ensures { result ≡ ending_of end }
 {
     match end {
-        LinesEnd::Stopped(Stop::Quit) => Ending::Done,
-        LinesEnd::Stopped(Stop::WriteFailed) => Ending::WriteFailed,
-        LinesEnd::Ended => Ending::Done,
-        LinesEnd::ReadFailed => Ending::ReadFailed,
-        LinesEnd::Endless => Ending::Endless,
+        LinesEnd::Stopped(Stop::Quit) => ScriptedEnding::Done,
+        LinesEnd::Stopped(Stop::WriteFailed) => ScriptedEnding::WriteFailed,
+        LinesEnd::Ended => ScriptedEnding::Done,
+        LinesEnd::ReadFailed => ScriptedEnding::ReadFailed,
+        LinesEnd::Endless => ScriptedEnding::Endless,
     }
 }
 

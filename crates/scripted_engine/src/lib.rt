@@ -9,6 +9,6 @@ mod queue;
 mod run;
 mod script;
 
-pub use ending::Ending;
+pub use ending::ScriptedEnding;
 pub use run::scripted_main;
 pub use script::{ScriptFault, Scripted};

@@ -7,11 +7,11 @@ ghost use Rattle.scripted_engine.specs.Script.{blocks_of, first_bad};
 ghost use Rattle.scripted_engine.specs.Answers.{Stands};
 ghost use Rattle.scripted_engine.specs.Ends.{streams, IsRead, NoScript, Answered, Session};
 ghost use Rattle.scripted_engine.specs.Ends.{AnswersInput, Completes, code_of};
-ghost use Rattle.scripted_engine.specs.declared.ending.Ending.{Ending};
+ghost use Rattle.scripted_engine.specs.declared.ending.ScriptedEnding.{ScriptedEnding};
 ghost use Rattle.line_io.specs.declared.limits.TheConstants.{PEER_LINE};
 
 use crate::answering::ending_of;
-use crate::{Ending, ScriptFault, Scripted};
+use crate::{ScriptFault, Scripted, ScriptedEnding};
 use line_io::{Lines, PEER_LINE, Sink, Source, Status, take_lines};
 use std::alloc::Global;
 
@@ -20,7 +20,7 @@ const SCRIPT_LIMIT: usize = 16_777_216;
 const CHUNK: usize = 65_536;
 
 // The script in the file.
-fn read_script<F: Source>(alloc: Global, file: &mut F) -> Result<Vec<u8>, Ending>
+fn read_script<F: Source>(alloc: Global, file: &mut F) -> Result<Vec<u8>, ScriptedEnding>
     ensures { let old = F.state file.old in
         let new = F.state file.new in
         (script : List ℕ) × Reads old new script
@@ -31,11 +31,11 @@ fn read_script<F: Source>(alloc: Global, file: &mut F) -> Result<Vec<u8>, Ending
     let mut script = Vec::new(alloc);
     loop {
         match file.read(&mut chunk) {
-            Err(_) => return Err(Ending::ReadFailed),
+            Err(_) => return Err(ScriptedEnding::ReadFailed),
             Ok(0) => return Ok(script),
             Ok(count) => {
                 if count > SCRIPT_LIMIT - script.len() {
-                    return Err(Ending::TooLarge);
+                    return Err(ScriptedEnding::TooLarge);
                 }
                 script.extend_from_slice(&chunk[..count])?;
             }
@@ -49,7 +49,7 @@ fn answer_lines<I: Source, O: Sink>(
     lines: &mut Lines,
     input: &mut I,
     output: &mut O,
-) -> Ending
+) -> ScriptedEnding
     requires { lines.old ≡ unread PEER_LINE }
     ensures { (blocks : List Block) (file file' : Supplied) → Stands scripted.old blocks []
         → Answered result blocks
@@ -60,7 +60,7 @@ fn answer_lines<I: Source, O: Sink>(
 }
 
 // The script in the file, ready to answer.
-fn open_script<F: Source>(alloc: Global, file: &mut F) -> Result<Scripted, Ending>
+fn open_script<F: Source>(alloc: Global, file: &mut F) -> Result<Scripted, ScriptedEnding>
     ensures { let old = F.state file.old in
         let new = F.state file.new in
         (script : List ℕ) × Reads old new script
@@ -70,8 +70,8 @@ fn open_script<F: Source>(alloc: Global, file: &mut F) -> Result<Scripted, Endin
     let script = read_script(alloc, file)?;
     match Scripted::make(alloc, script.as_slice()) {
         Ok(scripted) => Ok(scripted),
-        Err(ScriptFault::NoMemory) => Err(Ending::NoMemory),
-        Err(ScriptFault::BadLine { line: _ }) => Err(Ending::BadScript),
+        Err(ScriptFault::NoMemory) => Err(ScriptedEnding::NoMemory),
+        Err(ScriptFault::BadLine { line: _ }) => Err(ScriptedEnding::BadScript),
     }
 }
 
@@ -80,13 +80,13 @@ fn run<F: Source, I: Source, O: Sink>(
     file: &mut F,
     input: &mut I,
     output: &mut O,
-) -> Ending
+) -> ScriptedEnding
     ensures { Session result
         (streams (F.state file.old) (I.state input.old) (O.state output.old))
         (streams (F.state file.new) (I.state input.new) (O.state output.new)) }
 {
     let Ok(mut lines) = Lines::make(alloc, PEER_LINE) else {
-        return Ending::NoMemory;
+        return ScriptedEnding::NoMemory;
     };
     match open_script(alloc, file) {
         Ok(mut scripted) => answer_lines(&mut scripted, &mut lines, input, output),
@@ -98,7 +98,7 @@ fn run<F: Source, I: Source, O: Sink>(
 ///
 /// The word is the file's name; the file itself is a source, whose first read opens it. A line of
 /// more than 65,536 bytes is ignored. It stops after the answer to a line whose first token is
-/// `quit`, or at the end of the input. The exit statuses are those of [`Ending`].
+/// `quit`, or at the end of the input. The exit statuses are those of [`ScriptedEnding`].
 pub fn scripted_main<F: Source, I: Source, O: Sink>(
     alloc: Global,
     words: &[Vec<u8>],
@@ -113,7 +113,7 @@ pub fn scripted_main<F: Source, I: Source, O: Sink>(
         (O.state output.old) in
         let new = streams (F.state file.new) (I.state input.new) (O.state output.new) in
         length words.now ≡ 1
-        → (ending : Ending) × (result.code ≡ code_of ending) × Session ending old new }
+        → (ending : ScriptedEnding) × (result.code ≡ code_of ending) × Session ending old new }
     ensures answers { let old = streams (F.state file.old) (I.state input.old)
         (O.state output.old) in
         let new = streams (F.state file.new) (I.state input.new) (O.state output.new) in
@@ -125,7 +125,7 @@ pub fn scripted_main<F: Source, I: Source, O: Sink>(
 {
     if words.len() != 1 {
         return Status {
-            code: Ending::Usage.code(),
+            code: ScriptedEnding::Usage.code(),
         };
     }
     let ending = run(alloc, file, input, output);

@@ -3,7 +3,7 @@ use Rattle.line_io.specs.Lines.{Held}
 use Rattle.line_io.specs.Taken.{Taken, place}
 use Rattle.scripted_engine.specs.Ends.{Answered, streams}
 use Rattle.scripted_engine.specs.Heard.{answers_of}
-use Rattle.scripted_engine.specs.declared.ending.Ending.{Ending}
+use Rattle.scripted_engine.specs.declared.ending.ScriptedEnding.{ScriptedEnding}
 use Rattle.scripted_engine.proofs.Hearing.{answered_by}
 use Rattle.scripted_engine.proofs.run.answer_lines.Goals as goal
 
@@ -12,6 +12,6 @@ returns g c = λ blocks file file' stands.
     let see = λ (o : g.row.O.Denot). g.O.Sink.state o in
     let old = place c.args.scripted.now c.args.output.now (g.I.Source.state c.args.input.now) in
     let new = place c.take_lines.new.taker c.take_lines.new.output (g.I.Source.state c.take_lines.new.input) in
-    subst (λ (e : Ending). Answered e blocks (streams file old.input (see old.output)) (streams file' new.input (see new.output))) (sym c.ending_of.ensures)
+    subst (λ (e : ScriptedEnding). Answered e blocks (streams file old.input (see old.output)) (streams file' new.input (see new.output))) (sym c.ending_of.ensures)
     (answered_by see c.take_lines.result old new blocks file file' stands
     (subst (λ (k : ℕ). Taken (answers_of see) k c.take_lines.result old new) (ap (λ (h : Held). h.limit) c.requires) c.take_lines.ensures))
