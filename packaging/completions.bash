@@ -24,7 +24,8 @@ _wineravine() {
 _wineravine_replay() {
   local word=${COMP_WORDS[COMP_CWORD]}
   if [ "$COMP_CWORD" = 1 ]; then
-    mapfile -t COMPREPLY < <(compgen -W 'replay check migrate games positions judge drive revive moves drill' -- "$word")
+    mapfile -t COMPREPLY < <(compgen -W 'replay check migrate games positions judge drive revive moves drill --help --version' \
+      -- "$word")
     return
   fi
   case ${COMP_WORDS[1]} in
@@ -40,6 +41,10 @@ _wineravine_replay() {
 # LOG ENGINE [ARG..], where a reviver has its LIVES in front
 _wineravine_between() {
   local word=${COMP_WORDS[COMP_CWORD]} number=$COMP_CWORD
+  if [ "$COMP_CWORD" = 1 ] && [ "${word:0:1}" = - ]; then
+    mapfile -t COMPREPLY < <(compgen -W '--help --version' -- "$word")
+    return
+  fi
   [ "${1##*/}" != reviver ] || number=$((number - 1))
   case $number in
     0) mapfile -t COMPREPLY < <(compgen -W '1 2 3 4 5 6 7 8 9' -- "$word") ;;
@@ -48,7 +53,17 @@ _wineravine_between() {
   esac
 }
 
+_wineravine_report() {
+  local word=${COMP_WORDS[COMP_CWORD]}
+  [ "${COMP_WORDS[COMP_CWORD - 1]}" != --jobs ] || return 0
+  case $word in
+    -*) mapfile -t COMPREPLY < <(compgen -W '--machines --jobs --joblog --resume --help --version' -- "$word") ;;
+    *) mapfile -t COMPREPLY < <(compgen -f -- "$word") ;;
+  esac
+}
+
 complete -F _wineravine wineravine wineravine-bridge
+complete -o filenames -F _wineravine_report wineravine-report
 complete -F _wineravine_replay replay
 complete -F _wineravine_between driver tap reviver
 complete -f scripted

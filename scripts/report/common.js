@@ -3,8 +3,12 @@ const $ = id => document.getElementById(id);
 const SVG = "http://www.w3.org/2000/svg";
 const dataIn = id => JSON.parse($(id).textContent);
 
-// Every text of a log goes through textContent: none can become markup. Control characters are shown as their pictures.
-const visible = text => text.replace(/[\0-\x08\x0b-\x1f]/g, it => String.fromCharCode(0x2400 + it.charCodeAt(0))).replace(/\x7f/g, "\u2421");
+// Every text of a log goes through textContent: none can become markup. Control characters are shown as their pictures, and
+// signs that are not seen, or that turn the order of others round, by their numbers.
+const UNSEEN = /[\x80-\x9f\xad\u061c\u200b-\u200f\u2028-\u202e\u2060-\u206f\ufeff\ufff9-\ufffb]/g;
+const pictureOf = it => it === "\x7f" ? "\u2421" : String.fromCharCode(0x2400 + it.charCodeAt(0));
+const numberOf = it => "\\u" + it.charCodeAt(0).toString(16).padStart(4, "0");
+const visible = text => text.replace(/[\0-\x08\x0b-\x1f\x7f]/g, pictureOf).replace(UNSEEN, numberOf);
 function put(to, tag, set = {}, text) {
   const e = document.createElement(tag);
   for (const k in set) if (k === "class") e.className = set[k]; else e.setAttribute(k, set[k]);

@@ -5,7 +5,10 @@ const LINES = D.lines, P = D.positions, timed = D.times.length > 0;
 const from = { x: "from the interface", X: "to the interface", u: "from the engine", U: "to the engine", "#": "step" };
 const letterOf = i => LINES[i].charAt(0);
 const textOf = i => LINES[i].slice(2);
-const wordOf = i => textOf(i).split(" ", 1)[0];
+function wordOf(i) {
+  const line = LINES[i], end = line.indexOf(" ", 2);
+  return end < 0 ? line.slice(2) : line.slice(2, end);
+}
 const lateAt = new Set(S.late.map(n => n - 1));
 document.body.classList.toggle("timed", timed);
 
@@ -24,11 +27,13 @@ const counted = [...new Set(results)].map(it => S.games.length === 1 ? it : it +
 const kinds = { move: "for a move", ponder: "pondering", analyse: "analysing" };
 if (S.engine) fact("engine", S.engine);
 fact("log of", S.kind + (S.torn ? ", its last line torn" : ""));
-fact("games", S.games.length + (counted.length ? ": " + counted.join(", ") : ""));
-fact("moves shown", S.shown);
-fact("searches", Object.keys(kinds).map(kind => S.searches[kind] + " " + kinds[kind]).join(", "));
-fact("late answers, not shown", S.late.length, S.late.length ? "bad" : "").id = "late-count";
-fact("given up by pondering or analysis", S.givenUp);
+const isBridge = S.kind === "bridge", isTap = S.kind === "tap";
+if (isBridge) fact("games", S.games.length + (counted.length ? ": " + counted.join(", ") : ""));
+if (!isTap) fact("moves shown", S.shown);
+if (isBridge || isTap) fact("searches", Object.keys(kinds).map(kind => S.searches[kind] + " " + kinds[kind]).join(", "));
+if (isBridge) fact("late answers, not shown", S.late.length, S.late.length ? "bad" : "").id = "late-count";
+else fact("late answers", "not told by the log of a " + S.kind);
+if (isBridge) fact("given up by pondering or analysis", S.givenUp);
 fact("lines", S.count);
 if (S.settings) fact("settings", S.settings);
 if (S.late.length) put($("late"), "span", { class: "bad" }, "Came late and was not shown: ");

@@ -18,6 +18,9 @@ function isGood(row, name) {
   return !row.fault && (!v || v.good);
 }
 
+// What only the log of a bridge tells.
+const toldBy = (row, n) => of(row, "kind") === "bridge" ? n : "";
+
 // A column: its head, its text, by which it is sorted, and its sort of cell.
 const columns = [
   ["log", row => row.log],
@@ -25,11 +28,11 @@ const columns = [
   ["check", row => row.fault || verdict(row, "check"), "verdict"],
   ["talk", row => verdict(row, "talk"), "verdict"],
   ["engine", row => of(row, "engine") || ""],
-  ["games", row => gamesIn(row).length, "number"],
+  ["games", row => toldBy(row, gamesIn(row).length), "number"],
   ["results", results],
-  ["moves shown", row => of(row, "shown") || 0, "number"],
-  ["late answers", row => lateIn(row).length, "number"],
-  ["lines", row => of(row, "count") || 0, "number"],
+  ["moves shown", row => of(row, "kind") === "tap" ? "" : of(row, "shown") ?? "", "number"],
+  ["late answers", row => toldBy(row, lateIn(row).length), "number"],
+  ["lines", row => of(row, "count") ?? "", "number"],
 ];
 
 const fact = (name, value, kind) => { const e = put($("facts"), "div"); put(e, "dt", {}, name); put(e, "dd", { class: kind || "" }, value); };
@@ -63,7 +66,7 @@ const lines = LOGS.map((row, k) => {
 });
 function order() {
   const key = columns[sorted][1], side = down ? -1 : 1;
-  const compare = (a, b) => typeof a === "number" ? a - b : a.localeCompare(b, undefined, { numeric: true });
+  const compare = (a, b) => String(a).localeCompare(String(b), undefined, { numeric: true });
   lines.sort((a, b) => side * compare(key(a.row), key(b.row)) || a.k - b.k);
   $("logs").append(...lines.map(it => it.e));
   [...$("heads").children].forEach((e, k) => e.setAttribute("aria-sort", k === sorted ? (down ? "descending" : "ascending") : "none"));
@@ -100,5 +103,6 @@ if (CROSS.engines.length) {
     put(e, "td", { class: "number" }, points + " of " + played);
   });
 }
+if (!LOGS.length) put($("logs"), "tr").append("No log (*.log) is below this folder.");
 order();
 document.body.dataset.ready = "yes";

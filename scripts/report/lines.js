@@ -54,7 +54,7 @@ function putLane(e, k, row) {
   const cell = put(e, "span", { role: "gridcell" }), i = row.at;
   if (lateAt.has(i) && k === 1) {
     cell.className = "says";
-    cell.textContent = "late: not shown";
+    cell.textContent = "not shown: late";
   }
   if (k !== laneOf(i)) return;
   cell.className = row.to ? "says fold" : "says";

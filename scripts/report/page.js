@@ -94,7 +94,7 @@ const keys = {
   Enter: unfoldHere, "/": () => $("find").focus(), n: () => findNext(1), N: () => findNext(-1), l: toLate,
 };
 addEventListener("keydown", e => {
-  const other = e.ctrlKey || e.altKey || e.metaKey || e.target.tagName === "INPUT" || (e.target.closest("button, a") && e.key === "Enter");
+  const other = e.ctrlKey || e.altKey || e.metaKey || e.target.tagName === "INPUT" || e.target === $("raw") || (e.target.closest("button, a") && e.key === "Enter");
   if (other || !keys[e.key] || !LINES.length) return;
   keys[e.key]();
   e.preventDefault();

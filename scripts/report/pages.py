@@ -7,7 +7,8 @@ import pathlib
 import re
 
 PARTS = pathlib.Path(__file__).resolve().parent
-SCRIPTS = {"page": ("common", "head", "lines", "board", "plots", "page"), "index": ("common", "index")}
+SCRIPTS = {"page": ("common", "head", "lines", "board", "plots", "page"),
+           "index": ("common", "index")}
 SUMMARY = re.compile(r'<script id="summary" type="application/json">(.*)</script>')
 
 
@@ -30,9 +31,10 @@ def page_of(name, title, **data):
     """The page of this name, with its style and script in it, and its data."""
     style = (PARTS / "report.css").read_text("utf-8")
     script = "".join((PARTS / f"{part}.js").read_text("utf-8") for part in SCRIPTS[name])
-    parts = {"TITLE": title_of(title), "STYLE": style, "SCRIPT": script, "STYLE_NAME": allowed(style), "SCRIPT_NAME": allowed(script)}
+    parts = {"TITLE": title_of(title), "STYLE": style, "SCRIPT": script,
+             "STYLE_NAME": allowed(style), "SCRIPT_NAME": allowed(script)}
     parts.update((key.upper(), data_of(value)) for key, value in data.items())
-    template = (PARTS / f"{name}.html").read_text("utf-8")
+    template = "".join((PARTS / f"{part}.html").read_text("utf-8") for part in ("top", name))
     return re.sub(r"@([A-Z_]+)@", lambda it: parts[it[1]], template)
 
 

@@ -7,20 +7,22 @@ function shareAt(n) {
   while (i < Math.min(n + 8, LINES.length) && !LINES[i].startsWith("X move ")) i++;
   return timed && i < LINES.length && D.times[i] !== null && D.times[n - 1] !== null ? D.times[i] - D.times[n - 1] : null;
 }
-// What a line of thinking says of the best line; a mate says who is mated.
+// What a line of thinking says of the best line, if no later one said it; a mate says who is mated.
 function hear(move, text) {
   const value = name => { const it = words[name].exec(text); return it ? +it[1] : null; };
   if ((value("multipv") || 1) > 1) return;
   const cp = value("cp"), mate = value("mate"), sign = move.black ? -1 : 1;
-  if (cp !== null) Object.assign(move, { score: sign * cp / 100, mate: null });
-  if (mate !== null) Object.assign(move, { score: null, mate: Math.abs(mate), winner: mate > 0 ? sign : -sign });
-  move.depth = value("depth") ?? move.depth;
-  move.time = value("time") ?? move.time;
+  if (!hasScore(move) && mate !== null) Object.assign(move, { mate: Math.abs(mate), winner: mate > 0 ? sign : -sign });
+  else if (!hasScore(move) && cp !== null) move.score = sign * cp / 100;
+  move.depth ??= value("depth");
+  move.time ??= value("time");
 }
+const hasScore = move => move.score !== null || move.mate !== null;
+const isWhole = move => hasScore(move) && move.depth !== null && move.time !== null;
 function shownMove(search) {
   const p = positionAt(search.to - 1), black = p >= 0 && P[p][1].split(" ")[1] === "b";
   const move = { line: search.to, name: moveAt.get(search.to) || search.shown, black, score: null, mate: null, depth: null, time: null };
-  for (let i = search.from; i < search.to - 1; i++) {
+  for (let i = search.to - 2; i >= search.from && !isWhole(move); i--) {
     if (letterOf(i) === "u" && wordOf(i) === "info") hear(move, textOf(i).split(" string ", 1)[0]);
   }
   move.own = shareAt(search.to);
@@ -42,7 +44,7 @@ const scoreSeries = {
   apart: move => move.mate !== null,
 };
 function linear(name, key, unit, digits, scale) {
-  const top = Math.max(...shownMoves.map(move => move[key] || 0)) || 1, label = v => (v * scale).toFixed(digits) + unit;
+  const top = shownMoves.reduce((most, move) => Math.max(most, move[key] || 0), 0) || 1, label = v => (v * scale).toFixed(digits) + unit;
   return {
     name,
     ticks: [[6, label(top)], [51, label(top / 2)], [96, "0"]],
@@ -110,8 +112,10 @@ if (shownMoves.length) {
 
 let markTime = () => {};
 function putTimes() {
-  const end = D.times.reduce((last, time) => time === null ? last : time, started), span = Math.max(end - started, 1e-6);
-  const at = time => (time - started) / span * 1000;
+  // a clock that was set back leaves times before the first one
+  const known = D.times.filter(time => time !== null), most = known.reduce((a, b) => Math.max(a, b));
+  const least = known.reduce((a, b) => Math.min(a, b)), span = Math.max(most - least, 1e-6);
+  const at = time => (time - least) / span * 1000;
   const label = "Real time: " + plural(LINES.length, "line") + " in " + span.toFixed(1) + " seconds";
   const svg = draw($("strip"), "svg", { viewBox: "0 0 1000 62", preserveAspectRatio: "none", role: "img", "aria-label": label });
   for (const search of D.searches) {
@@ -128,7 +132,7 @@ function putTimes() {
   const now = draw(svg, "line", { y1: 0, y2: 62, stroke: "var(--bad)", id: "now", ...lineStyle });
   markTime = i => { if (D.times[i] !== null) for (const end of ["x1", "x2"]) now.setAttribute(end, at(D.times[i])); };
   svg.addEventListener("click", e => {
-    const r = svg.getBoundingClientRect(), wanted = started + (e.clientX - r.left) / r.width * span, off = i => Math.abs(D.times[i] - wanted);
+    const r = svg.getBoundingClientRect(), wanted = least + (e.clientX - r.left) / r.width * span, off = i => Math.abs(D.times[i] - wanted);
     choose(D.times.reduce((best, time, i) => time !== null && off(i) < off(best) ? i : best, 0), true);
   });
   const scale = put($("strip"), "div", { class: "scale" });

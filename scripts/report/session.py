@@ -1,5 +1,8 @@
-"""A log, and what `replay` says of it. Nothing here knows the rules of chess or of the protocols' dialogue: positions, games,
-searches and verdicts are those of `replay`."""
+"""A log, and what `replay` says of it.
+
+Nothing here knows the rules of chess or of the protocols' dialogue: positions, games, searches and
+verdicts are those of `replay`.
+"""
 import os
 import pathlib
 import re
@@ -7,7 +10,8 @@ import subprocess
 
 STAMP = re.compile(rb"(\d{1,12}(?:\.\d{1,9})?) (?=[xuXU#])")
 HEADER = re.compile(rb"#[23] ")
-SEARCH = re.compile(r"search \d+: (\w+), from line (\d+), (?:to line (\d+)|open), (not )?stopped, (\S+)")
+SEARCH = re.compile(r"search \d+: (\w+), from line (\d+), (?:to line (\d+)|open), "
+                    r"(not )?stopped, (\S+)")
 ILLEGAL = "X tellusererror Illegal position"
 
 
@@ -56,7 +60,8 @@ class Answer:
     def __init__(self, words, log):
         program = os.environ.get("REPLAY", "replay")
         try:
-            ran = subprocess.run([program, *words], input=log.input, capture_output=True, check=False)
+            ran = subprocess.run([program, *words], input=log.input, capture_output=True,
+                                 check=False)
         except OSError as fault:
             raise Missing(f"{program} cannot be run: {fault.strerror}") from fault
         self.words = " ".join(["replay", *words])
@@ -116,7 +121,8 @@ def searches_in(answer):
 
 def is_late(search):
     """A search for a move that was stopped, has ended and shows no move."""
-    return search["kind"] == "move" and search["stopped"] and search["to"] is not None and not search["shown"]
+    has_ended = search["to"] is not None and not search["shown"]
+    return search["kind"] == "move" and search["stopped"] and has_ended
 
 
 def is_given_up(search):
@@ -132,19 +138,24 @@ def games_in(answer):
             start = line[6:-2]
             continue
         *words, result = line.split(" ")
-        yield {"start": start, "moves": [it for it in words if not re.fullmatch(r"\d+\.+", it)], "result": result}
+        yield {"start": start, "moves": [it for it in words if not re.fullmatch(r"\d+\.+", it)],
+               "result": result}
         start = None
 
 
 def courses(lines, positions):
-    """For each game the lines that left its positions, and the result that the interface told. A game goes on by each line
-    that leaves a position, back by `undo` and `remove`, and is over at a `new` or `setboard` that is not refused."""
+    """For each game the lines that left its positions, and the result that the interface told.
+
+    A game goes on by each line that leaves a position, back by `undo` and `remove`, and is over at
+    a `new` or `setboard` that is not refused.
+    """
     left, course, told = {number for number, _ in positions}, [], None
     for number, line in enumerate(lines, 1):
         word = line[2:].split()[:1] if line.startswith("x ") else []
         if word == ["result"]:
             told = line[2:].strip()[7:] or told
-        elif word in (["new"], ["setboard"]) and (number in left or ILLEGAL not in lines[number:number + 1]):
+        elif word in (["new"],
+                      ["setboard"]) and (number in left or ILLEGAL not in lines[number:number + 1]):
             if course:
                 yield course, told
             course, told = [], None
@@ -160,7 +171,8 @@ def courses(lines, positions):
 def side_of(course, start, lines):
     """Which side the engine had, by the moves that it showed."""
     first = (start or " w").split(" ")[1] == "b"
-    sides = {(n + first) % 2 for n, number in enumerate(course) if lines[number - 1].startswith("u ")}
+    sides = {(n + first) % 2 for n,
+             number in enumerate(course) if lines[number - 1].startswith("u ")}
     return {frozenset({0}): "white", frozenset({1}): "black"}.get(frozenset(sides), "")
 
 
@@ -176,7 +188,8 @@ def engine_in(log, kind):
     """The name by which the engine calls itself."""
     names = (line[10:] for line in log.lines if line.startswith("u id name "))
     if kind == "driver":
-        found = (re.search(r'myname="([^"]*)"', line) for line in log.lines if line.startswith("u feature "))
+        found = (re.search(r'myname="([^"]*)"',
+                           line) for line in log.lines if line.startswith("u feature "))
         names = (it[1] for it in found if it)
     return next(names, "")
 
@@ -197,16 +210,21 @@ def session_of(log, name):
         verdicts.append(written_again(log, ["drive"]))
     if kind == "reviver":
         verdicts.append(revived(log))
+    # a tap's log does not have what the interface was shown, so nothing in it is late
+    tells = searches if kind == "bridge" else []
     shown = "X move " if kind == "bridge" else "X bestmove "
     summary = {
-        "name": name, "kind": kind, "torn": log.torn, "engine": engine_in(log, kind), "settings": log.settings(),
+        "name": name, "kind": kind, "torn": log.torn, "engine": engine_in(log, kind),
+               "settings": log.settings(),
         "verdicts": verdicts, "count": len(log.lines), "games": games,
         "shown": sum(line.startswith(shown) for line in log.lines),
-        "late": [it["to"] for it in searches if is_late(it)],
-        "givenUp": sum(is_given_up(it) for it in searches),
-        "searches": {kind: sum(it["kind"] == kind for it in searches) for kind in ("move", "ponder", "analyse")},
+        "late": [it["to"] for it in tells if is_late(it)],
+        "givenUp": sum(is_given_up(it) for it in tells),
+        "searches": {kind: sum(it["kind"] == kind for it in searches) for kind in ("move", "ponder",
+                                                                                   "analyse")},
     }
-    return summary, {"lines": log.lines, "times": log.times, "searches": searches, "positions": positions}
+    return summary, {"lines": log.lines, "times": log.times, "searches": searches,
+                     "positions": positions}
 
 
 def read_log(path):
