@@ -30,7 +30,7 @@ fn status_with<R: Threads + Wait + Sync + Abort>(
     session: ExactSession,
     log: &[u8],
 ) -> Result<u8, NoMemory> {
-    let words = words_of(alloc, &["--LogFile", "b.log", "toy", "-x y"])?;
+    let words = words_of(alloc, &["--LogFile", "b.log", "--", "toy", "-x y"])?;
     let lines = AtomicU64::new(0);
     let fails = Fails {
         writes: session.failing_writes,
