@@ -121,7 +121,7 @@ def check_machines(page, logins, folder, count):
             table_of(page, folder, *words, "--resume")
     kept = sum(made.stat().st_mtime_ns == stamp for made, stamp in before.items())
     hosts = logins.hosts_in(joblog)
-    wants(hosts, "machines: GNU parallel left out both logins, which took longer than ten seconds")
+    wants(hosts, "machines: GNU parallel left out both logins")
     wants(len(hosts) in (0, 2), f"machines: the jobs ran on {hosts}")
     wants(min(logged, len(before)) - 4 <= kept < count - 1,
           f"machines: {kept} pages were kept, {logged} jobs were done before")

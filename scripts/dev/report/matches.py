@@ -29,8 +29,10 @@ def check_times(page, work, wineravine, scripted, replay):
     command = recipes("mkfifo")[0].replace("wineravine ", f"{wineravine} ", 1)
     command = command.replace("stockfish", engine) + "; wait"
     talk = "xboard\nprotover 2\nnew\npost\nusermove e2e4\n"
-    ran = ask("bash", "-c", f"(printf '{talk}'; sleep 0.5; echo quit) | ({command})", cwd=work,
-              timeout=60)
+    # (on a busy machine `ts` may begin after half a second)
+    begun = "for _ in $(seq 200); do [ ! -s timed.log ] || break; sleep 0.1; done"
+    talking = f"(printf '{talk}'; {begun}; sleep 0.5; echo quit)"
+    ran = ask("bash", "-c", f"{talking} | ({command})", cwd=work, timeout=60)
     log = work / "timed.log"
     wants(log.exists() and log.stat().st_size > 0, f"times: {ran.stderr.decode()}")
     page.open(page_of(log))
