@@ -1,18 +1,22 @@
 //! The program `bridge`: a chess interface on standard input and output, a UCI engine behind it.
 #![tactic(auto)]
 
-use bridge_app::{bridge_main, refuse_for_memory};
+use bridge_app::bridge_main;
 use child_engine::{EngineInput, RealHost};
+use host_run::refuse_for_memory;
 use line_io::{ReadAdapter, WriteAdapter};
 use program_edges::{ClosedStreams, NO_MEMORY, WORDS_ROOM, words_of};
+use sink_offers::Interface;
 use std::process::{ChildStdin, ExitCode};
 
 fn main(rt: HostRuntime) -> ExitCode {
     let Some(closed) = ClosedStreams::fill(&rt) else {
         return ExitCode::from(NO_MEMORY);
     };
-    let mut input = closed.input(ReadAdapter::new(rt.stdin()));
-    let mut output = closed.output(WriteAdapter::new(rt.stdout()));
+    let mut interface = Interface {
+        input: closed.input(ReadAdapter::new(rt.stdin())),
+        output: closed.output(WriteAdapter::new(rt.stdout())),
+    };
     let mut diag = closed.diag(WriteAdapter::new(rt.stderr()));
     let mut host = RealHost::<_, EngineInput<ChildStdin>>::new(&rt, closed.has_own_diag(&rt));
     let status = match words_of(&rt, rt.alloc(), WORDS_ROOM) {
@@ -20,12 +24,11 @@ fn main(rt: HostRuntime) -> ExitCode {
             &rt,
             rt.alloc(),
             words.as_slice(),
-            &mut input,
-            &mut output,
+            &mut interface,
             &mut host,
             &mut diag,
         ),
-        Err(_) => refuse_for_memory(&mut diag),
+        Err(_) => refuse_for_memory(b"bridge", &mut diag),
     };
     ExitCode::from(status.code)
 }

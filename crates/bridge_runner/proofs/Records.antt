@@ -1,5 +1,5 @@
 -- What a run of the bridge leaves.
-use Rattle.std.proofs.Common.{◌≡◌, ◌∙◌, ℕ, true, false, refl, sym, ap, subst, arith, List, [], ◌∷◌, ◌++◌, filter, Some}
+use Rattle.std.proofs.Common.{◌≡◌, ◌∙◌, ℕ, Bool, true, false, ◌||◌, refl, sym, ap, subst, arith, List, [], ◌∷◌, ◌++◌, filter, Some}
 use Rattle.line_io.specs.Source.{Supplied, Received}
 use Rattle.line_io.specs.Event.{Event}
 use Rattle.policy_rules.specs.declared.settings.Settings.{Settings}
@@ -24,7 +24,7 @@ use Rattle.mediator_host.specs.Mediated as hosts
 use Rattle.mediator_host.specs.Recorded.{RecordedAs}
 use Rattle.mediator_host.proofs.Wholes.{recorded_as, whole_as, when_whole, nothing_left}
 use Rattle.bridge_runner.specs.declared.session.Session.{Session}
-use Rattle.bridge_runner.specs.Texts.{received, texts}
+use Rattle.bridge_runner.specs.Texts.{received, has_loss, texts}
 use Rattle.bridge_runner.specs.Plays.{turns_of, IsNew, plays}
 use Rattle.bridge_runner.specs.Recorded.{Recorded, IsWhole}
 use Rattle.bridge_runner.specs.Bridged.{Bridged, Leaves}
@@ -44,6 +44,15 @@ texts_same peers.Iface o (s ∷ []) = refl
 texts_same peers.Engine o (s ∷ []) = refl
 texts_same peers.Iface o (s ∷ r ∷ t) = ap (λ (l : List ℕ). l ++ iface_text s) (texts_same peers.Iface o (r ∷ t))
 texts_same peers.Engine o (s ∷ r ∷ t) = ap (λ (l : List ℕ). l ++ engine_text s) (texts_same peers.Engine o (r ∷ t))
+
+loss_same : (p : Peer) (o : Settings) (t : List Step) → turns.has_loss p (turns_of o t) ≡ has_loss p t
+loss_same p o [] = refl
+loss_same p o (s ∷ []) = refl
+loss_same p o (s ∷ r ∷ t) = ap (λ (b : Bool). turns.is_loss p s.event || b) (loss_same p o (r ∷ t))
+
+not_lost : (lost failed : Bool) → (lost ≡ true → failed ≡ true) → failed ≡ false → lost ≡ false
+not_lost true failed h e = let z : true ≡ false = sym (h refl) ∙ e in cc
+not_lost false failed h e = refl
 
 module _ (session : Session) (first : List ℕ) (before after : Outside) (failures : Failures) (x : Mediated plays session first before after failures) where
   abbrev o : Settings
@@ -88,12 +97,21 @@ module _ (session : Session) (first : List ℕ) (before after : Outside) (failur
         recorded = subst (λ (t : Settings). Recorded t trace before.books after.books failures) new.settings_are recorded;
       }
 
+  no_loss : failures ≡ no_failure → (p : Peer) → has_loss p trace ≡ false
+  no_loss e peers.Iface =
+      sym (loss_same peers.Iface o trace) ∙ ap (λ (ts : List Turn). turns.has_loss peers.Iface ts) (sym turns_are)
+      ∙ not_lost _ _ x.ran.looped.iface.only (sym x.told.iface_write ∙ ap (λ (f : Failures). f.iface_write) e)
+  no_loss e peers.Engine =
+      sym (loss_same peers.Engine o trace) ∙ ap (λ (ts : List Turn). turns.has_loss peers.Engine ts) (sym turns_are)
+      ∙ not_lost _ _ x.ran.looped.engine.only (sym x.told.engine_write ∙ ap (λ (f : Failures). f.engine_write) e)
+
   whole_run : failures ≡ no_failure → after.books.logs_out ≡ 1 → before.books.tells ≡ true → (bytes : List ℕ) → before.books.says ≡ Some bytes → IsWhole o first bytes before after
   whole_run e one tells bytes says =
       let w = whole_as plays session first before after failures x (script2 o trace) (texts engine_text trace) (texts iface_text trace) put_is down_is up_is e one tells bytes says in
       record {
         trace = trace;
         lawful = x.ran.looped.did.lawful;
+        no_loss = no_loss e;
         log = w.log;
         later = x.ran.later;
         begins = came;

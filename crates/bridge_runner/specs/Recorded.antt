@@ -1,11 +1,12 @@
 -- What the books of a host that tells its bytes say of a run of the bridge.
-use Rattle.std.specs.Prelude.{◌≡◌, ℕ, List, [], ◌∷◌, ◌++◌, Some}
+use Rattle.std.specs.Prelude.{◌≡◌, ℕ, List, [], ◌∷◌, ◌++◌, false, Some}
 use Rattle.std.specs.Io.KnownBytes.{Appends}
 use Rattle.line_io.specs.Event.{Event}
 use Rattle.line_io.specs.Lines.{items}
 use Rattle.policy_rules.specs.declared.settings.Settings.{Settings}
 use Rattle.adapter_core.specs.Trace.{Step, Lawful, iface_text, engine_text}
 use Rattle.session_script.specs.Script.{script2}
+use Rattle.event_pipe.specs.declared.message.Peer.{Peer}
 use Rattle.event_pipe.specs.declared.message.Peer.TheVariants as peers
 use Rattle.event_pipe.specs.declared.reader.ReadEnd.TheVariants as read_ends
 use Rattle.event_pipe.specs.Rule.{sent_by}
@@ -15,7 +16,7 @@ use Rattle.host_run.specs.declared.failures.Failures.{Failures}
 use Rattle.host_run.specs.Outside.{Outside}
 use Rattle.mediator.specs.First.{first_events, ArrivedBehind}
 use Rattle.mediator_host.specs.Recorded.{RecordedAs}
-use Rattle.bridge_runner.specs.Texts.{received, texts}
+use Rattle.bridge_runner.specs.Texts.{received, has_loss, texts}
 
 -- What the books say of a run that made this trace, if the host tells its bytes: the log is the trace's script, the engine
 -- took its orders, and it received what the engine gave.
@@ -28,6 +29,8 @@ Recorded settings trace before after failures =
 pub record IsWhole (settings : Settings) (first bytes : List ℕ) (before after : Outside) : Type 0 where
   pub trace : List Step
   pub lawful : Lawful settings trace
+  -- neither side was lost
+  pub no_loss : (p : Peer) → has_loss p trace ≡ false
   -- the log's bytes are the script of the trace
   pub log : after.books.logs ≡ Some (script2 settings trace) ∷ []
   -- the first lines came before all that both sides gave

@@ -1,7 +1,10 @@
 -- The events and the texts of a trace, whose newest step stands first.
 use Rattle.std.specs.Prelude.{ℕ, List, [], ◌∷◌, ◌++◌, Bool, true, false, if◌then◌else◌}
+use Rattle.std.specs.List.{list_any}
 use Rattle.line_io.specs.Event.{Event, Open, IfaceLost, EngineLost}
 use Rattle.adapter_core.specs.Trace.{Step}
+use Rattle.event_pipe.specs.declared.message.Peer.{Peer}
+use Rattle.mediator.specs.Turns.{is_loss}
 
 -- the loop's own events
 abbrev pub is_own : Event → Bool
@@ -14,6 +17,10 @@ is_own e = false
 abbrev pub received : List Step → List Event
 received [] = []
 received (s ∷ t) = received t ++ (if is_own s.event then [] else s.event ∷ [])
+
+-- a step is that of this peer's loss
+abbrev pub has_loss : Peer → List Step → Bool
+has_loss p trace = list_any (λ s. is_loss p s.event) trace
 
 -- what the steps wrote, in order
 abbrev pub texts : (Step → List ℕ) → List Step → List ℕ

@@ -65,6 +65,10 @@ fresh_sink tells = record { taken = if tells then Some [] else None; faults = 0 
 abbrev pub WasLetGo : {K : Type 0} → (K → Received) → (K → Type 0) → Received → Type 0
 WasLetGo {K} state is_let_go shown = (sink : K) × (state sink ≡ shown) × is_let_go sink
 
+-- it did not let go
+abbrev pub HoldsOn : {K : Type 0} → (K → Type 0) → K → Type 0
+HoldsOn is_let_go sink = is_let_go sink → ⊥
+
 -- The count does not fall, rose if the call failed, and is as before if it succeeded or if
 -- there was no memory.
 pub record FailsBy {T : Type 0} (before now : ℕ) (result : Result T HostFault) : Type 0 where

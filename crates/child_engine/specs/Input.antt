@@ -10,7 +10,7 @@ use Rattle.line_io.specs.Lines.{line_feed}
 abbrev pub shown_by : {W : Type 0} → EngineInput W → Received
 shown_by input = closing.shown_by input.sink
 
--- the line `quit` was not taken yet
+-- the writer is held: it was not let go, and took no line `quit`
 abbrev pub is_open : {W : Type 0} → EngineInput W → Bool
 is_open input = closing.is_open input.sink
 

@@ -22,7 +22,7 @@ books_of h =
       tells = true;
       runs_out = h.runs_out;
       logs_out = h.logs_out;
-      runs = map (λ run. told_by (shown_by_source run.src) (shown_by_sink run.snk)) h.runs.items;
+      runs = map (λ run. told_by (shown_by_source run.source) (shown_by_sink run.sink)) h.runs.items;
       logs = map (λ log. (shown_by_sink log).taken) h.closed_logs.items;
     }
 

@@ -48,9 +48,9 @@ pub(crate) fn raised(count: u64, part: u64) -> u64
 
 /// A started engine: its output, its input, and what it is waited for by.
 pub struct Started<S, K, P> {
-    pub src: S,
-    pub snk: K,
-    pub kid: P,
+    pub source: S,
+    pub sink: K,
+    pub process: P,
 }
 
 /// Starts engines and opens logs, and takes them back.
@@ -85,9 +85,9 @@ pub trait Host {
         requires few { (books self.old).runs_out < 10 }
         ensures out { OnOk result (books self.new ≡ with_run (books self.old)) }
         ensures source { IfOk result (λ run.
-            Self.EngineSource.state run.src ≡ fresh_source (books self.old).says) }
+            Self.EngineSource.state run.source ≡ fresh_source (books self.old).says) }
         ensures sink { IfOk result (λ run.
-            Self.EngineSink.state run.snk ≡ fresh_sink (books self.old).tells) }
+            Self.EngineSink.state run.sink ≡ fresh_sink (books self.old).tells) }
         ensures err { OnErr result (books self.new ≡ books self.old) }
         ensures asked { Asks (asked self.old)
             (and_engines 1 (map string_bytes words.now) (asked self.old)) (asked self.new)
@@ -112,12 +112,12 @@ pub trait Host {
     ) -> Result<(), Failed>
         requires { length (books self.old).runs < (books self.old).runs_out }
         ensures books { books self.new
-            ≡ with_closed_run (books self.old) (Self.EngineSource.state run.src)
-            (Self.EngineSink.state run.snk) }
+            ≡ with_closed_run (books self.old) (Self.EngineSource.state run.source)
+            (Self.EngineSink.state run.sink) }
         ensures asked { asked self.new ≡ asked self.old }
         ensures cause { ClosesBy (faults self.old) (faults self.new)
-            (Self.EngineSource.state run.src).faults
-            (Self.EngineSink.state run.snk).faults result };
+            (Self.EngineSource.state run.source).faults
+            (Self.EngineSink.state run.sink).faults result };
 
     /// Takes a log back.
     fn close_log(&mut self, log: Self::Log)

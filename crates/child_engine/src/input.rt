@@ -45,7 +45,7 @@ impl<W> EngineInput<W> {
         self.sink.faults()
     }
 
-    /// Whether the line `quit` was not taken yet.
+    /// Whether the writer is held: it was not let go, and took no line `quit`.
     pub fn is_open(&self) -> bool
         ensures { result ≡ is_open self.now }
     {

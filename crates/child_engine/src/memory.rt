@@ -21,8 +21,8 @@ pub struct Fails<'a> {
 // The parts of a run that was closed.
 #[derive(Drop)]
 struct ClosedRun {
-    src: MemSource,
-    snk: MemSink,
+    source: MemSource,
+    sink: MemSink,
 }
 
 // A copy of a text.
@@ -130,7 +130,7 @@ impl MemHost {
         requires { k < length (books_of self.now).runs }
         ensures { IfSome (slice_get (books_of self.now).runs k) (λ t. t.taken ≡ Some result.now) }
     {
-        self.runs[k].snk.taken()
+        self.runs[k].sink.taken()
     }
 
     /// What the k-th closed log took, counted from 0.
@@ -186,9 +186,9 @@ impl Host for MemHost {
         requires words { 0 < length words.now }
         requires few { (books_of self.old).runs_out < 10 }
         ensures out { OnOk result (books_of self.new ≡ with_run (books_of self.old)) }
-        ensures source { IfOk result (λ run. supply_of run.src ≡ unread_supply
+        ensures source { IfOk result (λ run. supply_of run.source ≡ unread_supply
             (means_of self.old).engine (means_of self.old).piece (means_of self.old).reads) }
-        ensures sink { IfOk result (λ run. store_of run.snk
+        ensures sink { IfOk result (λ run. store_of run.sink
             ≡ unwritten_store (means_of self.old).room (means_of self.old).writes) }
         ensures err { OnErr result (books_of self.new ≡ books_of self.old) }
         ensures asked { Asks (asked_of self.old)
@@ -198,13 +198,13 @@ impl Host for MemHost {
         ensures fails { (means_of self.old).fails_start ≡ true → IsErr result }
         ensures means { means_of self.new ≡ means_of self.old }
     {
-        let src = MemSource::make(
+        let source = MemSource::make(
             alloc,
             self.engine.as_slice(),
             self.piece,
             self.failing_reads.as_slice(),
         )?;
-        let snk = MemSink::make(alloc, self.room, self.failing_writes.as_slice())?;
+        let sink = MemSink::make(alloc, self.room, self.failing_writes.as_slice())?;
         let words = copies_of(alloc, words)?;
         if self.engines.push(words).is_err() {
             return Err(HostFault::NoMemory);
@@ -214,7 +214,11 @@ impl Host for MemHost {
             return Err(HostFault::Failed);
         }
         self.runs_out += 1;
-        Ok(Started { src, snk, kid: () })
+        Ok(Started {
+            source,
+            sink,
+            process: (),
+        })
     }
 
     fn open_log(&mut self, alloc: Global, name: &str) -> Result<MemSink, HostFault>
@@ -246,17 +250,21 @@ impl Host for MemHost {
         requires { length (books_of self.old).runs < (books_of self.old).runs_out }
         ensures books { books_of self.new
             ≡ with_closed_run (books_of self.old)
-            (shown_by_source run.src) (shown_by_sink run.snk) }
+            (shown_by_source run.source) (shown_by_sink run.sink) }
         ensures asked { asked_of self.new ≡ asked_of self.old }
         ensures cause { ClosesBy self.old.faults self.new.faults
-            (shown_by_source run.src).faults (shown_by_sink run.snk).faults result }
+            (shown_by_source run.source).faults (shown_by_sink run.sink).faults result }
         ensures fails { (means_of self.old).fails_wait ≡ true → IsErr result }
         ensures means { means_of self.new ≡ means_of self.old }
     {
-        let Started { src, snk, kid: () } = run;
-        self.faults.reads = raised(self.faults.reads, src.faults());
-        self.faults.writes = raised(self.faults.writes, snk.faults());
-        let _ = self.runs.push(ClosedRun { src, snk });
+        let Started {
+            source,
+            sink,
+            process: (),
+        } = run;
+        self.faults.reads = raised(self.faults.reads, source.faults());
+        self.faults.writes = raised(self.faults.writes, sink.faults());
+        let _ = self.runs.push(ClosedRun { source, sink });
         if self.fails_wait {
             self.faults.waits = self.faults.waits.saturating_add(1);
             return Err(Failed);

@@ -1,5 +1,6 @@
 // A sink over the pipe into an engine.
 ghost use Rattle.std.specs.Prelude.{◌≡◌};
+ghost use Rattle.child_engine.specs.Hosts.{HoldsOn};
 ghost use Rattle.child_engine.specs.Real.{untold_sink};
 
 use crate::{Closing, EngineInput, LetGo};
@@ -8,9 +9,10 @@ use std::io::Write;
 /// A sink over the pipe `P` into an engine: its type says when the pipe is let go, so that the engine
 /// meets the end of its input. It reports no bytes.
 pub trait PipeSink<P>: LetGo {
-    /// Over a pipe, with no fault counted.
+    /// Over a pipe that it holds, with no fault counted.
     fn over(pipe: P) -> Self
-        ensures { Self.state result ≡ untold_sink 0 };
+        ensures shown { Self.state result ≡ untold_sink 0 }
+        ensures held { HoldsOn Self.is_let_go result };
 
     /// How many writes failed.
     fn faults(&self) -> u64

@@ -130,7 +130,7 @@ impl<
 > Host for RealHost<R, S> {
     ghost use Rattle.std.specs.Prelude.{◌≡◌, ◌<◌, length, map, string_bytes, IfOk, OnOk, OnErr};
     ghost use Rattle.line_io.specs.Adapters.{read_faults};
-    ghost use Rattle.child_engine.specs.Hosts.{ClosesBy, StartsBy, with_closed_run, with_run};
+    ghost use Rattle.child_engine.specs.Hosts.{ClosesBy, HoldsOn, StartsBy, with_closed_run, with_run};
     ghost use Rattle.child_engine.specs.Real.{books_of, spawned_words, untold_sink, untold_source};
 
     type EngineSource = ReadAdapter<ChildStdout>;
@@ -149,30 +149,35 @@ impl<
         requires words { 0 < length words.now }
         requires few { (books_of self.old).runs_out < 10 }
         ensures out { OnOk result (books_of self.new ≡ with_run (books_of self.old)) }
-        ensures source { IfOk result (λ run. read_faults run.src ≡ 0) }
-        ensures sink { IfOk result (λ run. S.state run.snk ≡ untold_sink 0) }
-        ensures command { IfOk result (λ run. spawned_words run.kid ≡ map string_bytes words.now) }
+        ensures source { IfOk result (λ run. read_faults run.source ≡ 0) }
+        ensures sink { IfOk result (λ run. S.state run.sink ≡ untold_sink 0) }
+        ensures held { IfOk result (λ run. HoldsOn S.is_let_go run.sink) }
+        ensures command { IfOk result (λ run. spawned_words run.process ≡ map string_bytes words.now) }
         ensures err { OnErr result (books_of self.new ≡ books_of self.old) }
         ensures cause { StartsBy self.old.faults self.new.faults result }
     {
         let command = command_of(alloc, words)?;
-        let mut kid = match EngineProcess::spawn(&self.rt, command, &diag_of(self.shares_diag)) {
-            Ok(kid) => kid,
+        let mut process = match EngineProcess::spawn(
+            &self.rt,
+            command,
+            &diag_of(self.shares_diag),
+        ) {
+            Ok(process) => process,
             Err(error) => {
                 let fault = fault_of(error);
                 self.faults.starts = counted(self.faults.starts, fault);
                 return Err(fault);
             }
         };
-        let Some((input, output)) = kid.take_pipes() else {
+        let Some((input, output)) = process.take_pipes() else {
             self.faults.starts = self.faults.starts.saturating_add(1);
             return Err(HostFault::Failed);
         };
         self.runs_out += 1;
         Ok(Started {
-            src: ReadAdapter::new(output),
-            snk: S::over(input),
-            kid,
+            source: ReadAdapter::new(output),
+            sink: S::over(input),
+            process,
         })
     }
 
@@ -193,18 +198,22 @@ impl<
     fn close(&mut self, run: StartedEngine<S>) -> Result<(), Failed>
         requires { length (books_of self.old).runs < (books_of self.old).runs_out }
         ensures books { books_of self.new
-            ≡ with_closed_run (books_of self.old) (untold_source 0) (S.state run.snk) }
+            ≡ with_closed_run (books_of self.old) (untold_source 0) (S.state run.sink) }
         ensures cause { ClosesBy self.old.faults self.new.faults
-            (read_faults run.src) (S.state run.snk).faults result }
+            (read_faults run.source) (S.state run.sink).faults result }
     {
-        let Started { src, snk, kid } = run;
-        self.faults.reads = raised(self.faults.reads, src.faults());
-        self.faults.writes = raised(self.faults.writes, snk.faults());
+        let Started {
+            source,
+            sink,
+            process,
+        } = run;
+        self.faults.reads = raised(self.faults.reads, source.faults());
+        self.faults.writes = raised(self.faults.writes, sink.faults());
         self.runs_closed += 1;
         // an engine that waits for either pipe can end only once both are closed
-        drop(snk);
-        drop(src);
-        if kid.wait().is_err() {
+        drop(sink);
+        drop(source);
+        if process.wait().is_err() {
             self.faults.waits = self.faults.waits.saturating_add(1);
             return Err(Failed);
         }

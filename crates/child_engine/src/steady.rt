@@ -71,19 +71,19 @@ impl Host for SteadyHost {
         requires words { 0 < length words.now }
         requires few { (books_of self.old).runs_out < 10 }
         ensures out { OnOk result (books_of self.new ≡ with_run (books_of self.old)) }
-        ensures source { IfOk result (λ run. steady_of run.src
+        ensures source { IfOk result (λ run. steady_of run.source
             ≡ unread_supply (says_of self.old).engine (says_of self.old).piece []) }
         ensures err { OnErr result (books_of self.new ≡ books_of self.old) }
         ensures cause { StartsBy no_faults no_faults result }
         ensures says { says_of self.new ≡ says_of self.old }
     {
         let _ = words;
-        let src = SteadySource::make(alloc, self.engine.as_slice(), self.piece)?;
+        let source = SteadySource::make(alloc, self.engine.as_slice(), self.piece)?;
         self.runs_out += 1;
         Ok(Started {
-            src,
-            snk: NullSink::new(),
-            kid: (),
+            source,
+            sink: NullSink::new(),
+            process: (),
         })
     }
 
@@ -95,15 +95,15 @@ impl Host for SteadyHost {
     fn close(&mut self, run: Started<SteadySource, NullSink, ()>) -> Result<(), Failed>
         requires { length (books_of self.old).runs < (books_of self.old).runs_out }
         ensures books { books_of self.new
-            ≡ with_closed_run (books_of self.old) (shown_by_source run.src) untold_sink }
+            ≡ with_closed_run (books_of self.old) (shown_by_source run.source) untold_sink }
         ensures cause { ClosesBy no_faults no_faults 0 0 result }
     {
         let Started {
-            src,
-            snk: _,
-            kid: (),
+            source,
+            sink: _,
+            process: (),
         } = run;
-        let _ = self.runs.push(src);
+        let _ = self.runs.push(source);
         Ok(())
     }
 

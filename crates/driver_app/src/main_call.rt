@@ -1,11 +1,9 @@
 // The program over any host.
 ghost use Rattle.std.specs.Prelude.{◌≡◌, true, IfSome};
 ghost use Rattle.child_engine.specs.Hosts.{IsUnused};
-ghost use Rattle.host_run.specs.Endings.{code_of, diagnostic};
 ghost use Rattle.host_run.specs.Asked.{AsksByWords};
-ghost use Rattle.host_run.specs.Outside.{outside};
-ghost use Rattle.host_run.specs.Program.{Answers, Ends, IsToldTo, StatusSays};
-ghost use Rattle.host_run.specs.declared.ending.ProgramEnding.TheVariants as endings;
+ghost use Rattle.host_run.specs.Outside.{outside_of};
+ghost use Rattle.host_run.specs.Program.{Answers, Ends, StatusSays};
 ghost use Rattle.program_words.specs.Words.{AreTaken, bytes_of};
 ghost use Rattle.driver_runner.specs.Driven.{Leaves};
 ghost use Rattle.driver_runner.specs.Recorded.{IsWhole};
@@ -13,28 +11,28 @@ ghost use Rattle.driver_app.specs.Program.{program};
 
 use child_engine::Host;
 use driver_runner::drive_run;
-use host_run::{ProgramEnding, tell};
+use host_run::{ProgramEnding, finish};
 use line_io::{Sink, Source, Status};
 use program_words::read_words;
+use sink_offers::Interface;
 use std::alloc::Global;
 use std::sync::Wait;
 use std::thread::Threads;
 
-// What the words ask for, and how it ends.
+// Runs the driver that the words ask for, and reports how that ended.
 fn end_of<I: Source + Send, O: Sink + Send, H: Host, R: Threads + Wait + Sync>(
     rt: &R,
     alloc: Global,
     words: &[Vec<u8>],
-    input: &mut I,
-    output: &mut O,
+    interface: &mut Interface<I, O>,
     host: &mut H,
 ) -> ProgramEnding
     requires { IsUnused (H.books host.old) }
     ensures ends { Ends (AreTaken (bytes_of words.now)) (Leaves
-        (outside (I.state input.old) (O.state output.old) (H.faults host.old) (H.books host.old))
-        (outside (I.state input.new) (O.state output.new) (H.faults host.new) (H.books host.new)))
-        (outside (I.state input.old) (O.state output.old) (H.faults host.old) (H.books host.old))
-        (outside (I.state input.new) (O.state output.new) (H.faults host.new) (H.books host.new))
+        (outside_of I.state O.state H.faults H.books interface.old host.old)
+        (outside_of I.state O.state H.faults H.books interface.new host.new))
+        (outside_of I.state O.state H.faults H.books interface.old host.old)
+        (outside_of I.state O.state H.faults H.books interface.new host.new)
         result }
     ensures asked { AsksByWords (bytes_of words.now)
         (H.asked host.old) (H.asked host.new)
@@ -46,23 +44,10 @@ fn end_of<I: Source + Send, O: Sink + Send, H: Host, R: Threads + Wait + Sync>(
             alloc,
             request.log_name.as_str(),
             request.engine.as_slice(),
-            input,
-            output,
+            interface,
             host,
         )),
         Err(refusal) => ProgramEnding::from(refusal),
-    }
-}
-
-/// How a program ends that has no memory for its words.
-pub fn refuse_for_memory<D: Sink>(diag: &mut D) -> Status
-    ensures status { result.code ≡ code_of endings.NoMemory }
-    ensures told { IsToldTo (D.state diag.old) (D.state diag.new)
-        (diagnostic program endings.NoMemory) }
-{
-    tell(b"driver", ProgramEnding::NoMemory, diag);
-    Status {
-        code: ProgramEnding::NoMemory.code(),
     }
 }
 
@@ -74,35 +59,32 @@ pub fn drive_main<I: Source + Send, O: Sink + Send, H: Host, D: Sink, R: Threads
     rt: &R,
     alloc: Global,
     words: &[Vec<u8>],
-    input: &mut I,
-    output: &mut O,
+    interface: &mut Interface<I, O>,
     host: &mut H,
     diag: &mut D,
 ) -> Status
     requires { IsUnused (H.books host.old) }
     ensures answers { Answers program (AreTaken (bytes_of words.now)) (Leaves
-        (outside (I.state input.old) (O.state output.old) (H.faults host.old) (H.books host.old))
-        (outside (I.state input.new) (O.state output.new) (H.faults host.new) (H.books host.new)))
-        (outside (I.state input.old) (O.state output.old) (H.faults host.old) (H.books host.old))
-        (outside (I.state input.new) (O.state output.new) (H.faults host.new) (H.books host.new))
+        (outside_of I.state O.state H.faults H.books interface.old host.old)
+        (outside_of I.state O.state H.faults H.books interface.new host.new))
+        (outside_of I.state O.state H.faults H.books interface.old host.old)
+        (outside_of I.state O.state H.faults H.books interface.new host.new)
         (D.state diag.old) (D.state diag.new) result.code }
     ensures status { StatusSays (AreTaken (bytes_of words.now))
-        (outside (I.state input.old) (O.state output.old) (H.faults host.old) (H.books host.old))
-        (outside (I.state input.new) (O.state output.new) (H.faults host.new) (H.books host.new))
+        (outside_of I.state O.state H.faults H.books interface.old host.old)
+        (outside_of I.state O.state H.faults H.books interface.new host.new)
         result.code }
     ensures whole { result.code ≡ 0 → (H.books host.old).tells ≡ true
         → IfSome (H.books host.old).says (λ bytes. IsWhole bytes
-        (outside (I.state input.old) (O.state output.old) (H.faults host.old) (H.books host.old))
-        (outside (I.state input.new) (O.state output.new) (H.faults host.new) (H.books host.new))) }
+        (outside_of I.state O.state H.faults H.books interface.old host.old)
+        (outside_of I.state O.state H.faults H.books interface.new host.new)) }
     ensures asked { AsksByWords (bytes_of words.now)
         (H.asked host.old) (H.asked host.new)
         (H.faults host.old) (H.faults host.new) (H.books host.new) }
     ensures unstarted { result.code ≡ 8
-        → (I.state input.new ≡ I.state input.old) × (O.state output.new ≡ O.state output.old) }
+        → (I.state interface.new.input ≡ I.state interface.old.input)
+        × (O.state interface.new.output ≡ O.state interface.old.output) }
 {
-    let ending = end_of(rt, alloc, words, input, output, host);
-    tell(b"driver", ending, diag);
-    Status {
-        code: ending.code(),
-    }
+    let ending = end_of(rt, alloc, words, interface, host);
+    finish(b"driver", ending, diag)
 }

@@ -2,7 +2,7 @@
 ghost use Rattle.std.specs.Prelude.{◌<◌, length, map, string_bytes};
 ghost use Rattle.child_engine.specs.Hosts.{IsUnused};
 ghost use Rattle.host_run.specs.Asked.{AsksFor};
-ghost use Rattle.host_run.specs.Outside.{outside};
+ghost use Rattle.host_run.specs.Outside.{outside_of};
 ghost use Rattle.driver_runner.specs.Driven.{Leaves};
 
 use crate::Driving;
@@ -10,7 +10,8 @@ use cecp_driver::Driver;
 use child_engine::Host;
 use host_run::{Failures, only_memory};
 use line_io::{Sink, Source};
-use mediator_host::run_mediator;
+use mediator_host::{RunRequest, run_mediator};
+use sink_offers::Interface;
 use std::alloc::Global;
 use std::sync::Wait;
 use std::thread::Threads;
@@ -22,31 +23,27 @@ pub fn drive_run<I: Source + Send, O: Sink + Send, H: Host, R: Threads + Wait + 
     alloc: Global,
     log_name: &str,
     words: &[String],
-    input: &mut I,
-    output: &mut O,
+    interface: &mut Interface<I, O>,
     host: &mut H,
 ) -> Failures
     requires words { 0 < length words.now }
     requires unused { IsUnused (H.books host.old) }
     ensures leaves { Leaves
-        (outside (I.state input.old) (O.state output.old) (H.faults host.old) (H.books host.old))
-        (outside (I.state input.new) (O.state output.new) (H.faults host.new) (H.books host.new))
+        (outside_of I.state O.state H.faults H.books interface.old host.old)
+        (outside_of I.state O.state H.faults H.books interface.new host.new)
         result }
     ensures asked { AsksFor (map string_bytes words.now) log_name.now
         (H.asked host.old) (H.asked host.new) (H.books host.new) result }
 {
     match Driver::make(alloc) {
-        Ok(driver) => run_mediator(
-            rt,
-            alloc,
-            Driving { driver },
-            b"",
-            log_name,
-            words,
-            input,
-            output,
-            host,
-        ),
+        Ok(driver) => {
+            let request = RunRequest {
+                first: b"",
+                log_name,
+                engine: words,
+            };
+            run_mediator(rt, alloc, Driving { driver }, &request, interface, host)
+        }
         Err(_) => only_memory(),
     }
 }

@@ -6,7 +6,7 @@ use Rattle.std.proofs.lemmas.Bool.{or_parts}
 use mathlib.Core.Option.{Option, some, none, some-injective, some-ne-none}
 use lib.ListN.{get_elem?}
 use Rattle.atomic_table.proofs.Lists.{at_set}
-use Rattle.crossbeam_channel.specs.Fifo.{Pushes, Pops, Forks, Merges, Learns}
+use Rattle.crossbeam_channel.specs.Fifo.{Pushes, Pops, Forks, Merges}
 use Rattle.line_io.specs.Event.{Event}
 use Rattle.event_pipe.specs.declared.pipe.KnownOfPass.{KnownOfPass}
 use Rattle.event_pipe.specs.declared.pipe.TheConstants.{CHANNEL_ROOM}
@@ -15,8 +15,7 @@ use Rattle.event_pipe.specs.declared.message.Peer.TheVariants as peers
 use Rattle.event_pipe.specs.declared.message.MessageBody.{MessageBody}
 use Rattle.event_pipe.specs.declared.message.MessageBody.TheVariants as says
 use Rattle.event_pipe.specs.Message.{role_of, sent_event, role_of_event, is_end, is_good}
-use Rattle.event_pipe.specs.Rule.{is_of, of, ended, Orderly, idle, sender, Adds, Gets, Fits, Delivers, AllGood, Total, joined_first, joined_second}
-use Rattle.event_pipe.specs.Ends.{Came}
+use Rattle.event_pipe.specs.Rule.{is_of, of, ended, Orderly, idle, sender, Adds, Gets, Fits, Delivers, AllGood, joined_first, joined_second}
 
 pub of-append : (role : ℕ) (xs ys : List Event) → of role (xs ++ ys) ≡ of role xs ++ of role ys
 of-append role [] ys = refl
@@ -37,7 +36,7 @@ own x = grind (arith, nat_tests)
 other : (x : Event) (role : ℕ) → role_of_event x ≢ role → is_of role x ≡ false
 other x role n = grind (arith, nat_tests)
 
-is_own : (x : Event) (role : ℕ) → is_of role x ≡ true → role_of_event x ≡ role
+pub is_own : (x : Event) (role : ℕ) → is_of role x ≡ true → role_of_event x ≡ role
 is_own x role h = grind (arith, nat_tests)
 
 orderly_snoc : (xs : List Event) (x : Event) → Orderly xs → ended xs ≡ false → Orderly (xs ++ x ∷ [])
@@ -64,7 +63,7 @@ at_x : (a b : Bool) (ys : List Event) → (a ≡ true → ys ≡ []) → (b ≡ 
 at_x true b ys f g h = f refl
 at_x false b ys f g h = g h
 
-orderly_after : (xs ys : List Event) → Orderly (xs ++ ys) → ended xs ≡ true → ys ≡ []
+pub orderly_after : (xs ys : List Event) → Orderly (xs ++ ys) → ended xs ≡ true → ys ≡ []
 orderly_after [] ys o e = cc
 orderly_after (x ∷ xs) ys o e = at_x (is_end x) (ended xs) ys (λ t. tail xs ys (o.0 t)) (λ t. orderly_after xs ys o.1 t) e
 
@@ -361,67 +360,6 @@ pub merges_second : (pass : ℕ) (v : KnownOfPass) (from : ℕ) (w : KnownOfPass
 merges_second pass v from w zero' made joined role =
     merges 2 pass v from w (joined_second v w) zero' made role (omega arith) (omega arith) refl refl refl
     (λ seat sent f s e. ((λ _. f (omega arith)), λ j. (refl, e)))
-
-pub totals : (pass : ℕ) (v : KnownOfPass) → v.role ≡ 0 → v.joined ≡ 2 → Learns Delivers pass v (Total v)
-totals pass v zero' joined items views d at =
-    let mine = d.fits pass v at in
-    let one = mine.first zero' (omega arith) in
-    let two = mine.second zero' (omega arith) in
-    record {
-      first = ap (λ l. of 1 (l ++ items)) (mine.takes zero') ∙ d.each 1 ∙ sym one.1;
-      second = ap (λ l. of 2 (l ++ items)) (mine.takes zero') ∙ d.each 2 ∙ sym two.1;
-      room = d.room;
-      first_orderly = subst Orderly (sym one.1) (d.orderly 1);
-      second_orderly = subst Orderly (sym two.1) (d.orderly 2);
-    }
-
-pub came : (p : Peer) (taken items sent : List Event) → of (role_of p) (taken ++ items) ≡ sent → Orderly sent → Came p taken sent
-came p taken items sent e o =
-    let front = sym e ∙ of-append (role_of p) taken items in
-    record { left = of (role_of p) items; front = front; whole = orderly_after (of (role_of p) taken) (of (role_of p) items) (subst Orderly front o) }
-
-pub came_first : (v a b x y : KnownOfPass) → a ≡ joined_first v x → b ≡ joined_second a y → (items : List Event) → Total b items → Came peers.Iface v.taken x.sent
-came_first v a b x y e f items t =
-    let taken : b.taken ≡ v.taken = ap (λ (h : KnownOfPass). h.taken) f ∙ ap (λ (h : KnownOfPass). h.taken) e in
-    let first : b.first ≡ x.sent = ap (λ (h : KnownOfPass). h.first) f ∙ ap (λ (h : KnownOfPass). h.first) e in
-    came peers.Iface v.taken items x.sent (ap (λ l. of 1 (l ++ items)) (sym taken) ∙ t.first ∙ first) (subst Orderly first t.first_orderly)
-
-pub came_second : (v a b x y : KnownOfPass) → a ≡ joined_first v x → b ≡ joined_second a y → (items : List Event) → Total b items → Came peers.Engine v.taken y.sent
-came_second v a b x y e f items t =
-    let taken : b.taken ≡ v.taken = ap (λ (h : KnownOfPass). h.taken) f ∙ ap (λ (h : KnownOfPass). h.taken) e in
-    let second : b.second ≡ y.sent = ap (λ (h : KnownOfPass). h.second) f in
-    came peers.Engine v.taken items y.sent (ap (λ l. of 2 (l ++ items)) (sym taken) ∙ t.second ∙ second) (subst Orderly second t.second_orderly)
-
--- an event counts for one role at most
-count_one : (a b : Bool) (l : ℕ) (ms ns : List Event) → length ms + length ns ≤ l → (a ≡ true → b ≡ true → ⊥) → (x : Event)
-    → length (cond a (x ∷ ms) ms) + length (cond b (x ∷ ns) ns) ≤ suc l
-count_one true true l ms ns le apart x = absurd (apart refl refl)
-count_one true false l ms ns le apart x = omega arith
-count_one false true l ms ns le apart x = omega arith
-count_one false false l ms ns le apart x = omega arith
-
-both_roles : (l : List Event) → length (of 1 l) + length (of 2 l) ≤ length l
-both_roles [] = omega arith
-both_roles (x ∷ l) =
-    count_one (is_of 1 x) (is_of 2 x) (length l) (of 1 l) (of 2 l) (both_roles l)
-    (λ a b. let e = is_own x 1 a in let f = is_own x 2 b in omega arith) x
-
-within : (taken items sent_first sent_second : List Event) → of 1 (taken ++ items) ≡ sent_first → of 2 (taken ++ items) ≡ sent_second → length items ≤ CHANNEL_ROOM
-    → length sent_first + length sent_second ≤ length taken + CHANNEL_ROOM
-within taken items first second e f room =
-    let all = both_roles (taken ++ items) in
-    let l = length-append taken items in
-    let one = ap length e in
-    let two = ap length f in
-    omega arith
-
-pub came_within : (v a b x y : KnownOfPass) → a ≡ joined_first v x → b ≡ joined_second a y → (items : List Event) → Total b items
-    → length x.sent + length y.sent ≤ length v.taken + CHANNEL_ROOM
-came_within v a b x y e f items t =
-    let taken : b.taken ≡ v.taken = ap (λ (h : KnownOfPass). h.taken) f ∙ ap (λ (h : KnownOfPass). h.taken) e in
-    let first : b.first ≡ x.sent = ap (λ (h : KnownOfPass). h.first) f ∙ ap (λ (h : KnownOfPass). h.first) e in
-    let second : b.second ≡ y.sent = ap (λ (h : KnownOfPass). h.second) f in
-    within v.taken items x.sent y.sent (ap (λ l. of 1 (l ++ items)) (sym taken) ∙ t.first ∙ first) (ap (λ l. of 2 (l ++ items)) (sym taken) ∙ t.second ∙ second) t.room
 
 pub sent_role : (p : Peer) (w : MessageBody) → role_of_event (sent_event p w) ≡ role_of p
 sent_role peers.Iface (says.Line line) = refl

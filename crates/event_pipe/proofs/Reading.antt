@@ -42,7 +42,7 @@ last_ends : (p : Peer) → is_end (last_event p) ≡ true
 last_ends peers.Iface = refl
 last_ends peers.Engine = refl
 
--- where none of these is an end, what comes behind them arrives behind them
+-- where none of these is an end, what comes after them arrives after them
 arrivals_behind : (p : Peer) (xs ys : List Piece) → ended (piece_events p xs) ≡ false → arrivals p (xs ++ ys) ≡ piece_events p xs ++ arrivals p ys
 arrivals_behind p [] ys h = refl
 arrivals_behind p (x ∷ xs) ys h =

@@ -68,7 +68,7 @@ pub record Arrived (p : Peer) (before after : Supplied) (sent : List Event) (r :
   pub over : ended sent ≡ true
   -- all that arrives
   pub all : r ≡ read_ends.Done → sent ≡ arrivals p (items line_limit got)
-  -- no byte is left, but behind `quit`
+  -- no byte is left, but after `quit`
   pub at_end : r ≡ read_ends.Done → closed sent ≡ true → IfSome before.left (λ _. IsAtEnd after.left)
   -- if reading failed: of the lines that a line feed ended
   pub at_fault : (f : ReadFault) → r ≡ read_ends.Fault f → sent ≡ arrivals p (whole line_limit got)

@@ -24,7 +24,7 @@ sent_by peer events = of (role_of peer) events
 abbrev pub ended : List Event → Bool
 ended events = list_any is_end events
 
--- nothing stands behind an end
+-- nothing follows an end
 abbrev pub Orderly : List Event → Type 0
 Orderly [] = Unit {0}
 Orderly (e ∷ es) = (is_end e ≡ true → es ≡ []) × Orderly es
@@ -73,7 +73,7 @@ pub record Delivers (items : List Event) (views : List KnownOfPass) : Type 0 whe
   pub each : (role : ℕ) → of role (taken ++ items) ≡ sent role
   -- it never holds more
   pub room : length items ≤ CHANNEL_ROOM
-  -- nothing was sent behind an end
+  -- nothing was sent after an end
   pub orderly : (role : ℕ) → Orderly (sent role)
   -- each line is within the limit, and has no line feed
   pub good : AllGood (taken ++ items)

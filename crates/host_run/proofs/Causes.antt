@@ -1,12 +1,13 @@
 -- What each status says.
-use Rattle.std.proofs.Common.{◌≡◌, ◌∙◌, ◌⊎◌, ℕ, Bool, true, false, if◌then◌else◌, nat_eq, refl, sym, ap, subst, inl, inr, Result, Err}
+use Rattle.std.proofs.Common.{◌≡◌, ◌∙◌, ◌⊎◌, ℕ, List, Bool, true, false, if◌then◌else◌, nat_eq, refl, sym, ap, subst, inl, inr, Result, Err}
 use Rattle.host_run.specs.declared.failures.Failures.{Failures}
 use Rattle.host_run.specs.declared.ending.ProgramEnding.{ProgramEnding}
 use Rattle.host_run.specs.declared.ending.ProgramEnding.TheVariants as endings
 use Rattle.host_run.specs.Early.{no_failure}
-use Rattle.host_run.specs.Endings.{ending_of, ending_for, code_of}
+use Rattle.host_run.specs.Endings.{ending_of, ending_for, code_of, diagnostic}
 use Rattle.host_run.specs.Outside.{Outside, AreTold, HaveNotRisen, AreAsBefore}
-use Rattle.host_run.specs.Program.{DoesNothing, RunEnds, Ends, StatusSays}
+use Rattle.line_io.specs.Source.{Received}
+use Rattle.host_run.specs.Program.{DoesNothing, RunEnds, Ends, IsToldTo, Answers, StatusSays}
 use Rattle.program_words.specs.declared.refusal.WordsRefusal.{WordsRefusal}
 use Rattle.program_words.specs.declared.refusal.WordsRefusal.TheVariants as refusals
 
@@ -213,3 +214,8 @@ module _ (Taken : Type 0) (Left : Failures → Type 0) (before after : Outside) 
 
   pub status_says : (code : ℕ) → code ≡ code_of ending → Ends Taken Left before after ending → StatusSays Taken before after code
   status_says code e ends = subst (λ (k : ℕ). StatusSays Taken before after k) (sym e) (said ends)
+
+  -- a program that ended so, and reported it
+  pub answers : (program : List ℕ) (diag diag' : Received) (code : ℕ) → code ≡ code_of ending → IsToldTo diag diag' (diagnostic program ending) → Ends Taken Left before after ending
+      → Answers program Taken Left before after diag diag' code
+  answers program diag diag' code e told ends = record { ending = ending; ends = ends; code_is = e; diagnosed = told }

@@ -3,6 +3,7 @@ use Rattle.std.specs.Prelude.{◌≡◌, ◌≤◌, false, length}
 use Rattle.line_io.specs.Causes.{Rose}
 use Rattle.line_io.specs.Source.{Supplied, Received}
 use Rattle.event_pipe.specs.Counts.{Tells}
+use Rattle.sink_offers.specs.declared.streams.Interface.{Interface}
 use Rattle.child_engine.specs.Hosts.{Books}
 use Rattle.child_engine.specs.declared.host.Faults.{Faults}
 use Rattle.host_run.specs.declared.failures.Failures.{Failures}
@@ -17,6 +18,11 @@ pub record Outside : Type 0 where
 abbrev pub outside : Supplied → Received → Faults → Books → Outside
 outside input output faults books =
     record { input = input; output = output; faults = faults; books = books }
+
+-- the same of the interface and the host, by what each shows
+abbrev pub outside_of : {I O H : Type 0} → (I → Supplied) → (O → Received) → (H → Faults) → (H → Books) → Interface I O → H → Outside
+outside_of input output faults books interface host =
+    outside (input interface.input) (output interface.output) (faults host) (books host)
 
 -- each count rose if its failure is reported, and is as before if it is not
 pub record AreTold (before after : Outside) (failures : Failures) : Type 0 where

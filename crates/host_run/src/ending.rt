@@ -2,9 +2,10 @@
 ghost use Rattle.std.specs.Prelude.{◌≡◌, string_bytes};
 ghost use Rattle.host_run.specs.Endings.{ending_of, code_of, words_of, diagnostic};
 ghost use Rattle.host_run.specs.Program.{IsToldTo};
+ghost use Rattle.host_run.specs.declared.ending.ProgramEnding.TheVariants as endings;
 
 use crate::Failures;
-use line_io::{Sink, write_all};
+use line_io::{Sink, Status, write_all};
 use program_words::WordsRefusal;
 
 /// How a program ends. If several failures came, the one that stands first here is reported.
@@ -111,4 +112,24 @@ pub fn tell<D: Sink>(program: &[u8], ending: ProgramEnding, diag: &mut D)
     if write_all(diag, program).is_ok() {
         let _ = write_all(diag, ending.words());
     }
+}
+
+/// Ends a program: writes the diagnostic, and answers with the status.
+pub fn finish<D: Sink>(program: &[u8], ending: ProgramEnding, diag: &mut D) -> Status
+    ensures status { result.code ≡ code_of ending }
+    ensures told { IsToldTo (D.state diag.old) (D.state diag.new) (diagnostic program.now ending) }
+{
+    tell(program, ending, diag);
+    Status {
+        code: ending.code(),
+    }
+}
+
+/// How a program ends that has no memory for its words.
+pub fn refuse_for_memory<D: Sink>(program: &[u8], diag: &mut D) -> Status
+    ensures status { result.code ≡ code_of endings.NoMemory }
+    ensures told { IsToldTo (D.state diag.old) (D.state diag.new)
+        (diagnostic program.now endings.NoMemory) }
+{
+    finish(program, ProgramEnding::NoMemory, diag)
 }

@@ -20,9 +20,9 @@ pub fn start_engine<H: Host, R: Threads>(
     requires words { 0 < length words.now }
     requires unused { IsUnused (H.books host.old) }
     ensures source { IfOk result (λ run.
-        H.EngineSource.state run.src ≡ fresh_source (H.books host.old).says) }
+        H.EngineSource.state run.source ≡ fresh_source (H.books host.old).says) }
     ensures sink { IfOk result (λ run.
-        H.EngineSink.state run.snk ≡ fresh_sink (H.books host.old).tells) }
+        H.EngineSink.state run.sink ≡ fresh_sink (H.books host.old).tells) }
     ensures books { OnOk result (H.books host.new ≡ with_run (H.books host.old)) }
     ensures faults { OnOk result (H.faults host.new ≡ H.faults host.old) }
     ensures unstarted { OnErr result (H.books host.new ≡ H.books host.old) }

@@ -7,11 +7,10 @@ use Rattle.line_io.specs.Source.{Received}
 use Rattle.engine_revival.specs.declared.state.RevivalState.{RevivalState}
 use Rattle.engine_revival.specs.Script.{AllMayHappen, state_after, state_behind, texts_from, event_text, may_happen}
 use Rattle.event_pipe.specs.Counts.{Tells}
-use Rattle.sink_offers.specs.declared.offering.LoopEnd.{LoopEnd}
-use Rattle.sink_offers.specs.Streams.{Sinks, TookFront, Offered}
+use Rattle.sink_offers.specs.Streams.{sinks, TookFront, Offered}
 use Rattle.sink_offers.specs.Took.{LogTook}
 use Rattle.life_runner.specs.Played.{event_up, event_child, lines_up, lines_to_child}
-use Rattle.life_runner.specs.Looped.{Offers, Played, PlayedUp}
+use Rattle.life_runner.specs.Looped.{Offers, Shown, Played, PlayedUp}
 
 pub behind_append : (s : RevivalState) (es fs : List Event) → state_behind s (es ++ fs) ≡ state_behind (state_behind s es) fs
 behind_append s [] fs = refl
@@ -101,52 +100,40 @@ took f a b p x = record { whole = λ h. x.whole h; front = λ h. (x.front refl h
 
 -- EVENTS THAT WERE PLAYED
 
-pub played_none : (s : RevivalState) (a : Sinks) (f : LoopEnd) → Played s s [] a a f f
-played_none s a f =
-    record { may = tt; state_is = refl; offers = record { output = offered_none f.output a.output; engine = offered_none f.engine a.engine; log = offered_none f.log a.log } }
+pub up_none : (a : Shown) → PlayedUp a a []
+up_none a = record { may = tt; state_is = refl; up = offered_none a.failed.output a.output; marks = offered_none a.failed.log a.log }
 
-pub played_more : (s s' s'' : RevivalState) (es : List Event) (e : Event) (a b c : Sinks) (f g h : LoopEnd) → Played s s' es a b f g → may_happen s' e ≡ true → s'' ≡ state_after s' e
-    → Offers (event_up s' e) (event_child s' e) (event_text s' e) b c g h → Played s s'' (es ++ e ∷ []) a c f h
-played_more s s' s'' es e a b c f g h p m z o =
-    let k = p.state_is in
-    let last = e ∷ [] in
-    record {
-      may = may_append s es last p.may (ap (λ (x : RevivalState). may_happen x e) (sym k) ∙ m, tt);
-      state_is = z ∙ ap (λ (x : RevivalState). state_after x e) k ∙ sym (behind_append s es last);
-      offers = record {
-        output = offered_as _ _ _ _ _ _ (up_append s es last ∙ ap (λ (x : RevivalState). lines_up s es ++ lines_up x last) (sym k) ∙ ap (λ (l : List ℕ). lines_up s es ++ l) (append-nil (event_up s' e))) (offered_both _ _ _ _ _ _ _ _ p.offers.output o.output);
-        engine =
-            offered_as _ _ _ _ _ _ (child_append s es last ∙ ap (λ (x : RevivalState). lines_to_child s es ++ lines_to_child x last) (sym k) ∙ ap (λ (l : List ℕ). lines_to_child s es ++ l) (append-nil (event_child s' e)))
-            (offered_both _ _ _ _ _ _ _ _ p.offers.engine o.engine);
-        log = offered_as _ _ _ _ _ _ (text_append s es last ∙ ap (λ (x : RevivalState). texts_from s es ++ texts_from x last) (sym k) ∙ ap (λ (l : List ℕ). texts_from s es ++ l) (append-nil (event_text s' e))) (offered_both _ _ _ _ _ _ _ _ p.offers.log o.log);
-      };
-    }
-
--- OF THE INTERFACE AND THE LOG
-
-pub up_none : (s : RevivalState) (o l : Received) (f : LoopEnd) → PlayedUp s s [] o o l l f f
-up_none s o l f = record { may = tt; state_is = refl; up = offered_none f.output o; marks = offered_none f.log l }
-
-pub up_of_all : (s s' : RevivalState) (es : List Event) (a b : Sinks) (f g : LoopEnd) → Played s s' es a b f g → PlayedUp s s' es a.output b.output a.log b.log f g
-up_of_all s s' es a b f g p = record { may = p.may; state_is = p.state_is; up = p.offers.output; marks = p.offers.log }
-
-pub up_one : (s s' : RevivalState) (e : Event) (o o' l l' : Received) (f g : LoopEnd) → may_happen s e ≡ true → s' ≡ state_after s e → Offered f.output g.output o o' (event_up s e)
-    → Offered f.log g.log l l' (event_text s e) → PlayedUp s s' (e ∷ []) o o' l l' f g
-up_one s s' e o o' l l' f g m z u v =
+pub up_one : (a b : Shown) (e : Event) → may_happen a.state e ≡ true → b.state ≡ state_after a.state e
+    → Offered a.failed.output b.failed.output a.output b.output (event_up a.state e) → Offered a.failed.log b.failed.log a.log b.log (event_text a.state e) → PlayedUp a b (e ∷ [])
+up_one a b e m z u v =
     record {
       may = (m, tt);
       state_is = z;
-      up = offered_as _ _ _ _ _ _ (append-nil (event_up s e)) u;
-      marks = offered_as _ _ _ _ _ _ (append-nil (event_text s e)) v;
+      up = offered_as _ _ _ _ _ _ (append-nil (event_up a.state e)) u;
+      marks = offered_as _ _ _ _ _ _ (append-nil (event_text a.state e)) v;
     }
 
-pub up_both : (s s' s'' : RevivalState) (es fs : List Event) (o o' o'' l l' l'' : Received) (f g h : LoopEnd) → PlayedUp s s' es o o' l l' f g → PlayedUp s' s'' fs o' o'' l' l'' g h
-    → PlayedUp s s'' (es ++ fs) o o'' l l'' f h
-up_both s s' s'' es fs o o' o'' l l' l'' f g h x y =
+pub up_both : (a b c : Shown) (es fs : List Event) → PlayedUp a b es → PlayedUp b c fs → PlayedUp a c (es ++ fs)
+up_both a b c es fs x y =
     let k = x.state_is in
     record {
-      may = may_append s es fs x.may (subst (λ (z : RevivalState). AllMayHappen z fs) k y.may);
-      state_is = y.state_is ∙ ap (λ (z : RevivalState). state_behind z fs) k ∙ sym (behind_append s es fs);
-      up = offered_as _ _ _ _ _ _ (up_append s es fs ∙ ap (λ (z : RevivalState). lines_up s es ++ lines_up z fs) (sym k)) (offered_both _ _ _ _ _ _ _ _ x.up y.up);
-      marks = offered_as _ _ _ _ _ _ (text_append s es fs ∙ ap (λ (z : RevivalState). texts_from s es ++ texts_from z fs) (sym k)) (offered_both _ _ _ _ _ _ _ _ x.marks y.marks);
+      may = may_append a.state es fs x.may (subst (λ (z : RevivalState). AllMayHappen z fs) k y.may);
+      state_is = y.state_is ∙ ap (λ (z : RevivalState). state_behind z fs) k ∙ sym (behind_append a.state es fs);
+      up = offered_as _ _ _ _ _ _ (up_append a.state es fs ∙ ap (λ (z : RevivalState). lines_up a.state es ++ lines_up z fs) (sym k)) (offered_both _ _ _ _ _ _ _ _ x.up y.up);
+      marks = offered_as _ _ _ _ _ _ (text_append a.state es fs ∙ ap (λ (z : RevivalState). texts_from a.state es ++ texts_from z fs) (sym k)) (offered_both _ _ _ _ _ _ _ _ x.marks y.marks);
+    }
+
+pub played_none : (a : Shown) (sink : Received) → Played a a sink sink []
+played_none a sink = record { up = up_none a; child = offered_none a.failed.engine sink }
+
+pub played_more : (a b c : Shown) (x y z : Received) (es : List Event) (e : Event) → Played a b x y es → may_happen b.state e ≡ true → c.state ≡ state_after b.state e
+    → Offers (event_up b.state e) (event_child b.state e) (event_text b.state e) (sinks b.output y b.log) (sinks c.output z c.log) b.failed c.failed → Played a c x z (es ++ e ∷ [])
+played_more a b c x y z es e p m s o =
+    record {
+      up = up_both a b c es (e ∷ []) p.up (up_one b c e m s o.output o.log);
+      child =
+          offered_as _ _ _ _ _ _
+          (child_append a.state es (e ∷ []) ∙ ap (λ (k : RevivalState). lines_to_child a.state es ++ lines_to_child k (e ∷ [])) (sym p.up.state_is)
+          ∙ ap (λ (l : List ℕ). lines_to_child a.state es ++ l) (append-nil (event_child b.state e)))
+          (offered_both _ _ _ _ _ _ _ _ p.child o.engine);
     }

@@ -1,4 +1,4 @@
 pub mod Appends
 pub mod Stays
 mod ReadSteps
-mod LoopSteps
+pub mod LoopSteps

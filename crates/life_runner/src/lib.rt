@@ -5,6 +5,6 @@ mod life;
 mod looping;
 mod reading;
 
-pub use life::one_life;
-pub use looping::{hear, offer_all, wait_for_ever};
+pub use life::{LifeRun, one_life};
+pub use looping::{MarkedLog, RevivalLoop, hear, offer_all, wait_for_ever};
 pub use reading::read_life;

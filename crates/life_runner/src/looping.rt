@@ -1,18 +1,16 @@
 // The loop of a life: each event that comes is heard by the revival, whose lines go up, to the life
 // and into the log.
-ghost use Rattle.std.specs.Prelude.{◌≡◌, ◌≤◌, List, is_some, true, false};
-ghost use Rattle.line_io.specs.Event.{Event as AnyEvent, event_of};
+ghost use Rattle.std.specs.Prelude.{◌≡◌, ◌≤◌, is_some, true, false};
+ghost use Rattle.line_io.specs.Event.{event_of};
+ghost use Rattle.line_io.specs.Source.{Received};
 ghost use Rattle.script_lines.specs.StepText.{step_marks};
 ghost use Rattle.engine_revival.specs.Marks.{HaveRoom};
-ghost use Rattle.engine_revival.specs.declared.state.RevivalState.{RevivalState};
 ghost use Rattle.engine_revival.specs.Script.{may_happen, state_after, event_text};
 ghost use Rattle.engine_revival.specs.Steps.{is_alive};
 ghost use Rattle.engine_revival.specs.declared.script.TheConstants.{EVENT_ROOM};
-ghost use Rattle.event_pipe.specs.Ends.{IsTaker, KeepsTaker, taken};
 ghost use Rattle.event_pipe.specs.Message.{is_good};
-ghost use Rattle.sink_offers.specs.Streams.{Sinks, sinks, log_state};
-ghost use Rattle.sink_offers.specs.declared.offering.LoopEnd.{LoopEnd};
-ghost use Rattle.life_runner.specs.Looped.{Offers, Going, GoesOrEnds, LoopedLife};
+ghost use Rattle.sink_offers.specs.Streams.{sinks, log_state};
+ghost use Rattle.life_runner.specs.Looped.{IsReadyLoop, KeepsLoop, KeepsMarks, Offers, Shown, shown, Going, GoesOrEnds, LoopedLife};
 ghost use Rattle.life_runner.specs.Played.{event_up, event_child, is_heard};
 
 use child_engine::LetGo;
@@ -23,6 +21,23 @@ use sink_offers::{LoopEnd, offer, offer_log};
 use std::sync::Wait;
 use std::thread;
 
+/// A log that may be missing, and the room for the marks of an event.
+#[derive(Drop)]
+pub struct MarkedLog<L> {
+    pub log: Option<L>,
+    pub text: Out,
+}
+
+/// What hears the lives of an engine: the revival, the end of the channel that it hears by, the log,
+/// and which sinks have failed.
+#[derive(Drop)]
+pub struct RevivalLoop<L> {
+    pub revival: Revival,
+    pub from: PipeTake,
+    pub marks: MarkedLog<L>,
+    pub failed: LoopEnd,
+}
+
 /// Offers the lines that a call gave for an event to the life and to the interface, and then the
 /// marks of both to the log, which nobody waits for; each unless it failed before.
 pub fn offer_all<K: Sink, O: Sink, L: Sink>(
@@ -30,21 +45,20 @@ pub fn offer_all<K: Sink, O: Sink, L: Sink>(
     both: RevivalStep,
     child: &mut K,
     output: &mut O,
-    log: &mut Option<L>,
+    marks: &mut MarkedLog<L>,
     failed: LoopEnd,
-    text: &mut Out,
 ) -> LoopEnd
     requires good { is_good (event_of event.now) ≡ true }
     requires marks { HaveRoom both.up.now both.child.now }
-    requires room { EVENT_ROOM ≤ text.old.room }
+    requires room { EVENT_ROOM ≤ marks.old.text.room }
     ensures offers { Offers both.entry.up.now both.entry.child.now
         (step_marks (event_of event.now) both.entry.up.now both.entry.child.now)
-        (sinks (O.state output.old) (K.state child.old) (log_state L.state log.old))
-        (sinks (O.state output.new) (K.state child.new) (log_state L.state log.new))
+        (sinks (O.state output.old) (K.state child.old) (log_state L.state marks.old.log))
+        (sinks (O.state output.new) (K.state child.new) (log_state L.state marks.new.log))
         failed result }
-    ensures room { text.new.room ≡ text.old.room }
-    ensures kept { is_some log.new ≡ is_some log.old }
+    ensures keeps { KeepsMarks marks.old marks.new }
 {
+    let MarkedLog { log, text } = marks;
     text.clear();
     put_marks(event, both, text);
     LoopEnd {
@@ -60,72 +74,48 @@ pub fn hear<K: Sink, O: Sink, L: Sink>(
     event: &Event,
     child: &mut K,
     output: &mut O,
-    log: &mut Option<L>,
+    marks: &mut MarkedLog<L>,
     failed: LoopEnd,
-    text: &mut Out,
 ) -> LoopEnd
     requires may { may_happen revival.old.state (event_of event.now) ≡ true }
     requires heard { is_heard (event_of event.now) ≡ true }
     requires good { is_good (event_of event.now) ≡ true }
-    requires room { EVENT_ROOM ≤ text.old.room }
+    requires room { EVENT_ROOM ≤ marks.old.text.room }
     ensures state { revival.new.state ≡ state_after revival.old.state (event_of event.now) }
     ensures offers { Offers (event_up revival.old.state (event_of event.now))
         (event_child revival.old.state (event_of event.now))
         (event_text revival.old.state (event_of event.now))
-        (sinks (O.state output.old) (K.state child.old) (log_state L.state log.old))
-        (sinks (O.state output.new) (K.state child.new) (log_state L.state log.new))
+        (sinks (O.state output.old) (K.state child.old) (log_state L.state marks.old.log))
+        (sinks (O.state output.new) (K.state child.new) (log_state L.state marks.new.log))
         failed result }
-    ensures room { text.new.room ≡ text.old.room }
-    ensures kept { is_some log.new ≡ is_some log.old }
+    ensures keeps { KeepsMarks marks.old marks.new }
 {
     match event {
         Event::Iface(line) => {
             let both = revival.order(line);
-            offer_all(event, both, child, output, log, failed, text)
+            offer_all(event, both, child, output, marks, failed)
         }
         Event::IfaceEnd => {
             let both = revival.order(b"quit");
-            offer_all(event, both, child, output, log, failed, text)
+            offer_all(event, both, child, output, marks, failed)
         }
         Event::Engine(line) => {
             let both = revival.heard(line);
-            offer_all(event, both, child, output, log, failed, text)
+            offer_all(event, both, child, output, marks, failed)
         }
         _ => failed,
     }
 }
 
-// The same. Once `quit` was accepted nothing more is written to the life: its input is let go, so
-// that it can end also if it got no order.
-fn hear_to_quit<K: LetGo, O: Sink, L: Sink>(
-    revival: &mut Revival,
-    event: &Event,
-    child: &mut K,
-    output: &mut O,
-    log: &mut Option<L>,
-    failed: LoopEnd,
-    text: &mut Out,
-) -> LoopEnd
-    requires may { may_happen revival.old.state (event_of event.now) ≡ true }
-    requires heard { is_heard (event_of event.now) ≡ true }
-    requires good { is_good (event_of event.now) ≡ true }
-    requires room { EVENT_ROOM ≤ text.old.room }
-    ensures state { revival.new.state ≡ state_after revival.old.state (event_of event.now) }
-    ensures offers { Offers (event_up revival.old.state (event_of event.now))
-        (event_child revival.old.state (event_of event.now))
-        (event_text revival.old.state (event_of event.now))
-        (sinks (O.state output.old) (K.state child.old) (log_state L.state log.old))
-        (sinks (O.state output.new) (K.state child.new) (log_state L.state log.new))
-        failed result }
-    ensures room { text.new.room ≡ text.old.room }
-    ensures kept { is_some log.new ≡ is_some log.old }
-    ensures let_go { revival.new.state.quit ≡ true → K.is_let_go child.new }
+// Once `quit` was accepted nothing more is written to the life: its input is let go, so that it can
+// end also if it got no order.
+fn let_go_at_quit<K: LetGo>(revival: &Revival, child: &mut K)
+    ensures shown { K.state child.new ≡ K.state child.old }
+    ensures let_go { revival.now.state.quit ≡ true → K.is_let_go child.new }
 {
-    let end = hear(revival, event, child, output, log, failed, text);
     if revival.has_quit() {
         child.let_go();
     }
-    end
 }
 
 /// Waits for what never comes.
@@ -148,35 +138,32 @@ fn is_heard(event: &Event) -> bool
 // Takes an event and has the revival hear it. It reports whether the life goes on.
 fn hear_next<K: LetGo, O: Sink, L: Sink, R: Wait>(
     rt: &R,
-    revival: &mut Revival,
-    from: &mut PipeTake,
+    looping: &mut RevivalLoop<L>,
     child: &mut K,
     output: &mut O,
-    log: &mut Option<L>,
-    failed: &mut LoopEnd,
-    text: &mut Out,
 ) -> bool
-    requires alive { is_alive revival.old.state.life ≡ true }
-    requires taker { IsTaker from.old }
-    requires room { EVENT_ROOM ≤ text.old.room }
-    ensures taker { KeepsTaker from.old from.new }
-    ensures room { text.new.room ≡ text.old.room }
-    ensures kept { is_some log.new ≡ is_some log.old }
-    ensures alive { is_alive revival.new.state.life ≡ true }
-    ensures let_go { (revival.old.state.quit ≡ true → K.is_let_go child.old)
-        → revival.new.state.quit ≡ true → K.is_let_go child.new }
-    ensures next { (s : RevivalState) (first : List AnyEvent) (before : Sinks) (failed0 : LoopEnd)
-        → Going s revival.old.state first (taken from.old) before
-        (sinks (O.state output.old) (K.state child.old) (log_state L.state log.old))
-        failed0 failed.old
-        → GoesOrEnds result s revival.new.state first (taken from.new) before
-        (sinks (O.state output.new) (K.state child.new) (log_state L.state log.new))
-        failed0 failed.new }
+    requires alive { is_alive looping.old.revival.state.life ≡ true }
+    requires ready { IsReadyLoop looping.old }
+    ensures keeps { KeepsLoop looping.old looping.new }
+    ensures alive { is_alive looping.new.revival.state.life ≡ true }
+    ensures let_go { (looping.old.revival.state.quit ≡ true → K.is_let_go child.old)
+        → looping.new.revival.state.quit ≡ true → K.is_let_go child.new }
+    ensures next { (first : Shown) (sink : Received)
+        → Going first (shown O.state L.state looping.old output.old) sink (K.state child.old)
+        → GoesOrEnds result first (shown O.state L.state looping.new output.new)
+        sink (K.state child.new) }
 {
+    let RevivalLoop {
+        revival,
+        from,
+        marks,
+        failed,
+    } = looping;
     let sent = from.take(rt);
     let event = sent.event();
     if is_heard(&event) {
-        *failed = hear_to_quit(revival, &event, child, output, log, *failed, text);
+        *failed = hear(revival, &event, child, output, marks, *failed);
+        let_go_at_quit(revival, child);
         return true;
     }
     match event {
@@ -194,33 +181,22 @@ fn hear_next<K: LetGo, O: Sink, L: Sink, R: Wait>(
 /// taken, which the reader of a life never sends, it does not return.
 pub(crate) fn life_loop<K: LetGo, O: Sink, L: Sink, R: Wait>(
     rt: &R,
-    revival: &mut Revival,
-    from: &mut PipeTake,
+    looping: &mut RevivalLoop<L>,
     child: &mut K,
     output: &mut O,
-    log: &mut Option<L>,
-    failed: LoopEnd,
-    text: &mut Out,
-) -> LoopEnd
-    requires alive { is_alive revival.old.state.life ≡ true }
-    requires taker { IsTaker from.old }
-    requires room { EVENT_ROOM ≤ text.old.room }
-    ensures taker { KeepsTaker from.old from.new }
-    ensures room { text.new.room ≡ text.old.room }
-    ensures kept { is_some log.new ≡ is_some log.old }
-    ensures alive { is_alive revival.new.state.life ≡ true }
-    ensures let_go { revival.old.state.quit ≡ false
-        → revival.new.state.quit ≡ true → K.is_let_go child.new }
-    ensures looped { LoopedLife revival.old.state revival.new.state
-        (taken from.old) (taken from.new)
-        (sinks (O.state output.old) (K.state child.old) (log_state L.state log.old))
-        (sinks (O.state output.new) (K.state child.new) (log_state L.state log.new))
-        failed result }
+)
+    requires alive { is_alive looping.old.revival.state.life ≡ true }
+    requires ready { IsReadyLoop looping.old }
+    ensures keeps { KeepsLoop looping.old looping.new }
+    ensures alive { is_alive looping.new.revival.state.life ≡ true }
+    ensures let_go { looping.old.revival.state.quit ≡ false
+        → looping.new.revival.state.quit ≡ true → K.is_let_go child.new }
+    ensures looped { LoopedLife (shown O.state L.state looping.old output.old)
+        (shown O.state L.state looping.new output.new) (K.state child.old) (K.state child.new) }
 {
-    let mut failed = failed;
     for _ in rt.forever() {
-        if !hear_next(rt, revival, from, child, output, log, &mut failed, text) {
-            return failed;
+        if !hear_next(rt, looping, child, output) {
+            return;
         }
     }
     unreachable!()

@@ -7,6 +7,8 @@ use Rattle.line_io.specs.Out.{Text}
 use Rattle.line_io.specs.Lines.{Piece, Whole, TooLong, is_feed, feed_at, piece_of}
 use Rattle.line_io.proofs.Parts.{items_first}
 use Rattle.event_pipe.specs.declared.message.Peer.TheVariants as peers
+use Rattle.event_pipe.specs.Ends.{KeepsTaker, taken}
+use Rattle.event_pipe.specs.declared.pipe.PipeTake.{PipeTake}
 use Rattle.event_pipe.specs.Message.{role_of_event, is_end, is_good}
 use Rattle.event_pipe.specs.Rule.{is_of, of, ended, Follows}
 use Rattle.event_pipe.specs.Arrivals.{piece_event, piece_events, line_limit}
@@ -87,6 +89,14 @@ opened_first means m0 m first taken held held' b a to t e o f =
       are = sym (append-nil (first_events first)) ∙ ap (λ (es : List Event). first_events first ++ es) (sym e);
       none = λ n. e;
     }
+
+-- the taker was left as it was
+pub kept_by : (t0 t t' : PipeTake) → t' ≡ t → KeepsTaker t0 t → KeepsTaker t0 t'
+kept_by t0 t t' e k = subst (λ (x : PipeTake). KeepsTaker t0 x) (sym e) k
+
+pub none_taken : {M : Type 0} (means : Meaning M) (m0 m : M) (first rest : List ℕ) (t t' : PipeTake) (sides : Sides) (b a : Sinks) (at : LoopEnd) → t' ≡ t → Opened means m0 m first rest (taken t) sides b a at
+    → Opened means m0 m first rest (taken t') sides b a at
+none_taken means m0 m first rest t t' sides b a at e x = subst (λ (y : PipeTake). Opened means m0 m first rest (taken y) sides b a at) (sym e) x
 
 module _ {M : Type 0} (means : Meaning M) (m0 m : M) (first rest : List ℕ) (taken : List Event) (sides : Sides) (b s : Sinks) (at : LoopEnd) (x : Opened means m0 m first rest taken sides b s at) where
   pub still : (m' : M) (a : Sinks) (to : LoopEnd) → Reached means m0 m' x.events sides b a to → Opened means m0 m' first rest taken sides b a to

@@ -5,9 +5,11 @@
 mod laws;
 mod looping;
 mod mediator;
+mod parts;
 mod run;
 
 pub use laws::first_lines_join;
 pub use looping::mediate;
 pub use mediator::{Mediator, TURN_ROOM};
-pub use run::{Channel, HandedStreams, RunEnd, run_pipes};
+pub use parts::{MediatorParts, Turns};
+pub use run::{MediatorRun, RunEnd, run_pipes};

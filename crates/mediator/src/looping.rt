@@ -6,17 +6,17 @@ ghost use Rattle.event_pipe.specs.Arrivals.{line_limit, piece_event};
 ghost use Rattle.event_pipe.specs.Ends.{IsFreshTaker, KeepsTaker, taken};
 ghost use Rattle.event_pipe.specs.Message.{is_good};
 ghost use Rattle.event_pipe.specs.declared.message.Peer.TheVariants as peers;
-ghost use Rattle.sink_offers.specs.Streams.{sinks, log_state};
+ghost use Rattle.sink_offers.specs.Streams.{sinks_of};
 ghost use Rattle.mediator.specs.First.{AreOpening, first_events};
 ghost use Rattle.mediator.specs.Looped.{Looped};
 ghost use Rattle.mediator.specs.Meaning.{Allows};
 ghost use Rattle.mediator.specs.Reached.{AllOffered, Receives, Stepped, ended_by};
 ghost use Rattle.mediator.specs.declared.mediator.TheConstants.{TURN_ROOM};
 
-use crate::Mediator;
+use crate::{Mediator, Turns};
 use cecp_lines::is_quit;
-use event_pipe::{Peer, PipeTake};
-use line_io::{Event, Out, PEER_LINE, Sink, split_line};
+use event_pipe::Peer;
+use line_io::{Event, PEER_LINE, Sink, split_line};
 use sink_offers::{LoopEnd, offer, offer_log};
 use std::sync::Wait;
 
@@ -56,26 +56,24 @@ impl Sides {
     }
 }
 
-// What the last turn gave is offered, with this text for the log: to the log, to the interface and
-// to the engine.
+// What the last turn gave is offered: to the log, to the interface and to the engine.
 fn offer_turn<M: Mediator, O: Sink, E: Sink, L: Sink>(
-    mediator: &M,
+    turns: &Turns<M>,
     output: &mut O,
     engine: &mut E,
     log: &mut Option<L>,
-    text: &Out,
     at: LoopEnd,
 ) -> LoopEnd
-    ensures offered { AllOffered (M.means.gave mediator.now peers.Iface)
-        (M.means.gave mediator.now peers.Engine) text.now.text
-        (sinks (O.state output.old) (E.state engine.old) (log_state L.state log.old))
-        (sinks (O.state output.new) (E.state engine.new) (log_state L.state log.new))
+    ensures offered { AllOffered (M.means.gave turns.now.mediator peers.Iface)
+        (M.means.gave turns.now.mediator peers.Engine) turns.now.text.text
+        (sinks_of O.state E.state L.state output.old engine.old log.old)
+        (sinks_of O.state E.state L.state output.new engine.new log.new)
         at result }
     ensures kept { is_some log.new ≡ is_some log.old }
 {
-    let log_failed = offer_log(log, text.bytes(), at.log);
-    let output_failed = offer(output, mediator.given(Peer::Iface), at.output);
-    let engine_failed = offer(engine, mediator.given(Peer::Engine), at.engine);
+    let log_failed = offer_log(log, turns.text.bytes(), at.log);
+    let output_failed = offer(output, turns.mediator.given(Peer::Iface), at.output);
+    let engine_failed = offer(engine, turns.mediator.given(Peer::Engine), at.engine);
     LoopEnd {
         output: output_failed,
         engine: engine_failed,
@@ -85,53 +83,53 @@ fn offer_turn<M: Mediator, O: Sink, E: Sink, L: Sink>(
 
 // The mediator takes an event, and what it gives is offered.
 fn loop_step<M: Mediator, O: Sink, E: Sink, L: Sink>(
-    mediator: &mut M,
+    turns: &mut Turns<M>,
     event: &Event,
     output: &mut O,
     engine: &mut E,
     log: &mut Option<L>,
-    text: &mut Out,
     at: LoopEnd,
 ) -> LoopEnd
-    requires may { M.means.may mediator.old (event_of event.now) ≡ true }
+    requires may { M.means.may turns.old.mediator (event_of event.now) ≡ true }
     requires good { is_good (event_of event.now) ≡ true }
-    requires room { TURN_ROOM ≤ text.old.room }
-    ensures step { Stepped M.means (event_of event.now) mediator.old mediator.new
-        (sinks (O.state output.old) (E.state engine.old) (log_state L.state log.old))
-        (sinks (O.state output.new) (E.state engine.new) (log_state L.state log.new))
+    requires room { TURN_ROOM ≤ turns.old.text.room }
+    ensures step { Stepped M.means (event_of event.now) turns.old.mediator turns.new.mediator
+        (sinks_of O.state E.state L.state output.old engine.old log.old)
+        (sinks_of O.state E.state L.state output.new engine.new log.new)
         at result }
-    ensures room { text.new.room ≡ text.old.room }
+    ensures room { turns.new.text.room ≡ turns.old.text.room }
+    ensures taker { turns.new.taker ≡ turns.old.taker }
     ensures kept { is_some log.new ≡ is_some log.old }
 {
-    text.clear();
-    mediator.step(event, text);
-    offer_turn(mediator, output, engine, log, text, at)
+    turns.text.clear();
+    turns.mediator.step(event, &mut turns.text);
+    offer_turn(turns, output, engine, log, at)
 }
 
 // A received event: the mediator takes it, if it takes such events.
 fn receive<M: Mediator, O: Sink, E: Sink, L: Sink>(
-    mediator: &mut M,
+    turns: &mut Turns<M>,
     event: &Event,
     output: &mut O,
     engine: &mut E,
     log: &mut Option<L>,
-    text: &mut Out,
     at: LoopEnd,
 ) -> LoopEnd
     requires good { is_good (event_of event.now) ≡ true }
-    requires room { TURN_ROOM ≤ text.old.room }
-    ensures allows { Allows M.means mediator.old (event_of event.now) }
-    ensures came { Receives M.means (event_of event.now) mediator.old mediator.new
-        (sinks (O.state output.old) (E.state engine.old) (log_state L.state log.old))
-        (sinks (O.state output.new) (E.state engine.new) (log_state L.state log.new))
+    requires room { TURN_ROOM ≤ turns.old.text.room }
+    ensures allows { Allows M.means turns.old.mediator (event_of event.now) }
+    ensures came { Receives M.means (event_of event.now) turns.old.mediator turns.new.mediator
+        (sinks_of O.state E.state L.state output.old engine.old log.old)
+        (sinks_of O.state E.state L.state output.new engine.new log.new)
         at result }
-    ensures room { text.new.room ≡ text.old.room }
+    ensures room { turns.new.text.room ≡ turns.old.text.room }
+    ensures taker { turns.new.taker ≡ turns.old.taker }
     ensures kept { is_some log.new ≡ is_some log.old }
 {
-    if !mediator.may(event) {
+    if !turns.mediator.may(event) {
         return at;
     }
-    loop_step(mediator, event, output, engine, log, text, at)
+    loop_step(turns, event, output, engine, log, at)
 }
 
 // The write to this side failed, and the mediator has not taken that event yet.
@@ -158,57 +156,55 @@ fn line_event(line: &[u8]) -> Event<'_>
 /// both sides have ended.
 pub fn mediate<M: Mediator, O: Sink, E: Sink, L: Sink, R: Wait>(
     rt: &R,
-    mediator: &mut M,
+    turns: &mut Turns<M>,
     first: &[u8],
-    from: &mut PipeTake,
     output: &mut O,
     engine: &mut E,
     log: &mut Option<L>,
-    text: &mut Out,
 ) -> LoopEnd
-    requires mediator { M.means.fresh mediator.old }
+    requires mediator { M.means.fresh turns.old.mediator }
     requires first { AreOpening first.now }
-    requires taker { IsFreshTaker from.old }
-    requires room { TURN_ROOM ≤ text.old.room }
-    ensures taker { KeepsTaker from.old from.new }
+    requires taker { IsFreshTaker turns.old.taker }
+    requires room { TURN_ROOM ≤ turns.old.text.room }
+    ensures taker { KeepsTaker turns.old.taker turns.new.taker }
     ensures kept { is_some log.new ≡ is_some log.old }
-    ensures looped { Looped M.means mediator.old mediator.new
-        (first_events first.now ++ taken from.new)
-        (sinks (O.state output.old) (E.state engine.old) (log_state L.state log.old))
-        (sinks (O.state output.new) (E.state engine.new) (log_state L.state log.new))
+    ensures looped { Looped M.means turns.old.mediator turns.new.mediator
+        (first_events first.now ++ taken turns.new.taker)
+        (sinks_of O.state E.state L.state output.old engine.old log.old)
+        (sinks_of O.state E.state L.state output.new engine.new log.new)
         result }
 {
-    text.clear();
-    mediator.begin(text);
+    turns.text.clear();
+    turns.mediator.begin(&mut turns.text);
     let none_failed = LoopEnd {
         output: false,
         engine: false,
         log: false,
     };
-    let mut at = offer_turn(mediator, output, engine, log, text, none_failed);
+    let mut at = offer_turn(turns, output, engine, log, none_failed);
     let mut sides = Sides {
         iface: false,
         engine: false,
     };
     let mut rest = first;
     for _ in rt.forever() {
-        if owes(at.output, mediator, &Event::IfaceLost) {
-            at = loop_step(mediator, &Event::IfaceLost, output, engine, log, text, at);
-        } else if owes(at.engine, mediator, &Event::EngineLost) {
-            at = loop_step(mediator, &Event::EngineLost, output, engine, log, text, at);
+        if owes(at.output, &turns.mediator, &Event::IfaceLost) {
+            at = loop_step(turns, &Event::IfaceLost, output, engine, log, at);
+        } else if owes(at.engine, &turns.mediator, &Event::EngineLost) {
+            at = loop_step(turns, &Event::EngineLost, output, engine, log, at);
         } else if !rest.is_empty() {
             let (line, after) = split_line(rest);
             let event = line_event(line);
             sides = sides.after(&event);
-            at = receive(mediator, &event, output, engine, log, text, at);
+            at = receive(turns, &event, output, engine, log, at);
             rest = after;
         } else if sides.have_both_ended() {
             return at;
         } else {
-            let sent = from.take(rt);
+            let sent = turns.taker.take(rt);
             let event = sent.event();
             sides = sides.after(&event);
-            at = receive(mediator, &event, output, engine, log, text, at);
+            at = receive(turns, &event, output, engine, log, at);
         }
     }
     unreachable!()

@@ -3,35 +3,19 @@ ghost use Rattle.std.specs.Prelude.{◌≡◌, ◌≤◌, ◌++◌, is_some};
 ghost use Rattle.event_pipe.specs.Arrivals.{Arrived};
 ghost use Rattle.event_pipe.specs.Ends.{IsFreshSender, IsFreshTaker, sent, taken};
 ghost use Rattle.event_pipe.specs.declared.message.Peer.TheVariants as peers;
-ghost use Rattle.sink_offers.specs.Streams.{sinks, streams, log_state};
+ghost use Rattle.sink_offers.specs.Streams.{sinks_of, streams_of};
 ghost use Rattle.mediator.specs.First.{AreOpening, first_events};
 ghost use Rattle.mediator.specs.Looped.{Looped};
-ghost use Rattle.mediator.specs.Ran.{Ran, IsFresh, Keeps};
+ghost use Rattle.mediator.specs.Ran.{AreReady, KeepsChannel, Ran};
 ghost use Rattle.mediator.specs.declared.mediator.TheConstants.{TURN_ROOM};
 
-use crate::{Mediator, mediate};
-use event_pipe::{Pipe, PipeSend, PipeTake, ReadEnd, join_three, read_pipe};
-use line_io::{Out, Sink, Source};
-use sink_offers::LoopEnd;
+use crate::{Mediator, MediatorParts, Turns, mediate};
+use event_pipe::{Pipe, ReadEnd, join_three, read_pipe};
+use line_io::{Sink, Source};
+use sink_offers::{HandedStreams, Interface, LoopEnd};
 use std::alloc::Global;
 use std::sync::Wait;
 use std::thread::Threads;
-
-/// The ends of the channel between the readers and the loop.
-#[derive(Drop)]
-pub struct Channel {
-    pub iface: PipeSend,
-    pub engine: PipeSend,
-    pub taker: PipeTake,
-}
-
-/// What a host handed out for a run: the engine's output and input, and a log that may be missing.
-#[derive(Drop)]
-pub struct HandedStreams<S, E, L> {
-    pub source: S,
-    pub engine: E,
-    pub log: Option<L>,
-}
 
 /// What the two readers and the loop answered.
 #[derive(Clone, Copy, Debug, PartialEq, Eq)]
@@ -39,6 +23,13 @@ pub struct RunEnd {
     pub iface: ReadEnd,
     pub engine: ReadEnd,
     pub done: LoopEnd,
+}
+
+/// A run that is over: what it answered, and what its mediator became.
+#[derive(Drop)]
+pub struct MediatorRun<M> {
+    pub mediator: M,
+    pub end: RunEnd,
 }
 
 // Both readers, each in a thread of its own, beside the loop.
@@ -53,35 +44,31 @@ fn run_beside<
 >(
     rt: &R,
     alloc: Global,
-    mediator: &mut M,
+    parts: &mut MediatorParts<M>,
     first: &[u8],
-    channel: &mut Channel,
-    input: &mut I,
-    output: &mut O,
+    interface: &mut Interface<I, O>,
     handed: &mut HandedStreams<S, E, L>,
-    text: &mut Out,
 ) -> RunEnd
-    requires mediator { M.means.fresh mediator.old }
+    requires ready { AreReady M.means parts.old }
     requires first { AreOpening first.now }
-    requires room { TURN_ROOM ≤ text.old.room }
-    requires channel { IsFresh channel.old }
-    ensures channel { Keeps channel.old channel.new }
-    ensures iface { Arrived peers.Iface (I.state input.old) (I.state input.new)
-        (sent channel.new.iface) result.iface }
+    ensures channel { KeepsChannel parts.old parts.new }
+    ensures iface { Arrived peers.Iface (I.state interface.old.input) (I.state interface.new.input)
+        (sent parts.new.iface) result.iface }
     ensures engine { Arrived peers.Engine (S.state handed.old.source)
-        (S.state handed.new.source) (sent channel.new.engine) result.engine }
+        (S.state handed.new.source) (sent parts.new.engine) result.engine }
     ensures kept { is_some handed.new.log ≡ is_some handed.old.log }
-    ensures looped { Looped M.means mediator.old mediator.new
-        (first_events first.now ++ taken channel.new.taker)
-        (sinks (O.state output.old) (E.state handed.old.engine) (log_state L.state handed.old.log))
-        (sinks (O.state output.new) (E.state handed.new.engine) (log_state L.state handed.new.log))
+    ensures looped { Looped M.means parts.old.turns.mediator parts.new.turns.mediator
+        (first_events first.now ++ taken parts.new.turns.taker)
+        (sinks_of O.state E.state L.state interface.old.output handed.old.engine handed.old.log)
+        (sinks_of O.state E.state L.state interface.new.output handed.new.engine handed.new.log)
         result.done }
 {
-    let Channel {
+    let MediatorParts {
         iface,
         engine: child,
-        taker,
-    } = channel;
+        turns,
+    } = parts;
+    let Interface { input, output } = interface;
     let HandedStreams {
         source,
         engine,
@@ -96,9 +83,9 @@ fn run_beside<
             requires { IsFreshSender child.now peers.Engine }
         { read_pipe(rt, alloc, source, child) },
         &mut ||
-            requires { M.means.fresh mediator.now × AreOpening first.now × IsFreshTaker taker.now
-                × (TURN_ROOM ≤ text.now.room) }
-        { mediate(rt, mediator, first, taker, output, engine, log, text) },
+            requires { M.means.fresh turns.now.mediator × AreOpening first.now
+                × IsFreshTaker turns.now.taker × (TURN_ROOM ≤ turns.now.text.room) }
+        { mediate(rt, turns, first, output, engine, log) },
     );
     RunEnd {
         iface: iface_end,
@@ -120,43 +107,31 @@ pub fn run_pipes<
 >(
     rt: &R,
     alloc: Global,
-    mediator: &mut M,
+    parts: MediatorParts<M>,
     first: &[u8],
-    channel: Channel,
-    input: &mut I,
-    output: &mut O,
+    interface: &mut Interface<I, O>,
     handed: &mut HandedStreams<S, E, L>,
-    text: &mut Out,
-) -> RunEnd
-    requires mediator { M.means.fresh mediator.old }
+) -> MediatorRun<M>
+    requires ready { AreReady M.means parts }
     requires first { AreOpening first.now }
-    requires room { TURN_ROOM ≤ text.old.room }
-    requires channel { IsFresh channel }
     ensures kept { is_some handed.new.log ≡ is_some handed.old.log }
-    ensures ran { Ran M.means mediator.old mediator.new first.now
-        (streams (I.state input.old) (S.state handed.old.source)
-        (sinks (O.state output.old) (E.state handed.old.engine) (log_state L.state handed.old.log)))
-        (streams (I.state input.new) (S.state handed.new.source)
-        (sinks (O.state output.new) (E.state handed.new.engine) (log_state L.state handed.new.log)))
-        result }
+    ensures ran { Ran M.means parts.turns.mediator result.mediator first.now
+        (streams_of I.state O.state S.state E.state L.state interface.old handed.old)
+        (streams_of I.state O.state S.state E.state L.state interface.new handed.new)
+        result.end }
 {
-    let mut channel = channel;
-    let end = run_beside(
-        rt,
-        alloc,
-        mediator,
-        first,
-        &mut channel,
-        input,
-        output,
-        handed,
-        text,
-    );
-    let Channel {
+    let mut parts = parts;
+    let end = run_beside(rt, alloc, &mut parts, first, interface, handed);
+    let MediatorParts {
         iface,
         engine,
+        turns,
+    } = parts;
+    let Turns {
+        mediator,
         taker,
-    } = channel;
+        text: _,
+    } = turns;
     Pipe::finish(iface, engine, taker);
-    end
+    MediatorRun { mediator, end }
 }

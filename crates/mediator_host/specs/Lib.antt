@@ -1,3 +1,2 @@
-pub mod Parts
 pub mod Mediated
 pub mod Recorded

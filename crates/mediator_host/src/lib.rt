@@ -2,6 +2,8 @@
 #![tactic(auto)]
 
 mod parts;
+mod request;
 mod run;
 
+pub use request::RunRequest;
 pub use run::run_mediator;

@@ -4,19 +4,21 @@ ghost use Rattle.child_engine.specs.Asked.{and_engines};
 ghost use Rattle.child_engine.specs.Hosts.{IsUnused, IsStarted, fresh_source, fresh_sink, with_run};
 ghost use Rattle.host_run.specs.Asked.{AsksFor, OpensLogs, engines_asked_by};
 ghost use Rattle.host_run.specs.Early.{AreEarly};
-ghost use Rattle.host_run.specs.Outside.{outside};
+ghost use Rattle.host_run.specs.Outside.{outside_of};
 ghost use Rattle.mediator.specs.First.{AreOpening};
+ghost use Rattle.mediator.specs.Ran.{AreReady};
 ghost use Rattle.mediator_host.specs.Mediated.{Leaves};
-ghost use Rattle.mediator_host.specs.Parts.{AreReady};
 
-use crate::parts::{MediatorParts, make_parts};
+use crate::RunRequest;
+use crate::parts::make_parts;
 use child_engine::{Host, Started};
 use host_run::{
     Failures, Opened, close_log, either, has_failed, has_lacked_memory, is_open_failure,
     is_open_memory, only_memory, open_log, start_engine,
 };
 use line_io::{Sink, Source};
-use mediator::{HandedStreams, Mediator, run_pipes};
+use mediator::{Mediator, MediatorParts, MediatorRun, run_pipes};
+use sink_offers::{HandedStreams, Interface};
 use std::alloc::Global;
 use std::sync::Wait;
 use std::thread::Threads;
@@ -38,54 +40,52 @@ fn run_started<
     rt: &R,
     alloc: Global,
     ready: ReadyMediator<M, H::EngineSource, H::EngineSink, H::ChildProcess>,
-    first: &[u8],
-    log_name: &str,
-    input: &mut I,
-    output: &mut O,
+    request: &RunRequest,
+    interface: &mut Interface<I, O>,
     host: &mut H,
 ) -> Failures
     requires parts { AreReady M.means ready.parts }
-    requires first { AreOpening first.now }
-    requires source { H.EngineSource.state ready.run.src ≡ fresh_source (H.books host.old).says }
-    requires sink { H.EngineSink.state ready.run.snk ≡ fresh_sink (H.books host.old).tells }
+    requires first { AreOpening request.now.first.now }
+    requires source { H.EngineSource.state ready.run.source ≡ fresh_source (H.books host.old).says }
+    requires sink { H.EngineSink.state ready.run.sink ≡ fresh_sink (H.books host.old).tells }
     requires books { IsStarted (H.books host.old) }
-    ensures leaves { Leaves M.means ready.parts.mediator first.now
-        (outside (I.state input.old) (O.state output.old) (H.faults host.old) (H.books host.old))
-        (outside (I.state input.new) (O.state output.new) (H.faults host.new) (H.books host.new))
+    ensures leaves { Leaves M.means ready.parts.turns.mediator request.now.first.now
+        (outside_of I.state O.state H.faults H.books interface.old host.old)
+        (outside_of I.state O.state H.faults H.books interface.new host.new)
         result }
-    ensures asked { OpensLogs log_name.now (H.asked host.old) (H.asked host.new)
+    ensures asked { OpensLogs request.now.log_name.now (H.asked host.old) (H.asked host.new)
         (H.books host.old) (H.books host.new) result }
 {
     let ReadyMediator { parts, run } = ready;
-    let MediatorParts {
-        mut mediator,
-        mut text,
-        channel,
-    } = parts;
-    let Started { src, snk, kid } = run;
-    let Opened { log, fault } = open_log(host, alloc, log_name);
+    let Started {
+        source,
+        sink,
+        process,
+    } = run;
+    let Opened { log, fault } = open_log(host, alloc, request.log_name);
     let mut handed = HandedStreams {
-        source: src,
-        engine: snk,
+        source,
+        engine: sink,
         log,
     };
-    let end = run_pipes(
+    let MediatorRun { mediator: _, end } = run_pipes(
         rt,
         alloc,
-        &mut mediator,
-        first,
-        channel,
-        input,
-        output,
+        parts,
+        request.first,
+        interface,
         &mut handed,
-        &mut text,
     );
     let HandedStreams {
-        source: src,
-        engine: snk,
+        source,
+        engine: sink,
         log,
     } = handed;
-    let waited = host.close(Started { src, snk, kid });
+    let waited = host.close(Started {
+        source,
+        sink,
+        process,
+    });
     close_log(host, log);
     Failures {
         memory: either(
@@ -114,11 +114,11 @@ fn start<M: Mediator + Drop, H: Host, R: Threads>(
     requires words { 0 < length words.now }
     requires unused { IsUnused (H.books host.old) }
     ensures parts { IfOk result (λ ready. AreReady M.means ready.parts) }
-    ensures same { IfOk result (λ ready. ready.parts.mediator ≡ mediator) }
+    ensures same { IfOk result (λ ready. ready.parts.turns.mediator ≡ mediator) }
     ensures source { IfOk result (λ ready.
-        H.EngineSource.state ready.run.src ≡ fresh_source (H.books host.old).says) }
+        H.EngineSource.state ready.run.source ≡ fresh_source (H.books host.old).says) }
     ensures sink { IfOk result (λ ready.
-        H.EngineSink.state ready.run.snk ≡ fresh_sink (H.books host.old).tells) }
+        H.EngineSink.state ready.run.sink ≡ fresh_sink (H.books host.old).tells) }
     ensures books { OnOk result (H.books host.new ≡ with_run (H.books host.old)) }
     ensures faults { OnOk result (H.faults host.new ≡ H.faults host.old) }
     ensures unstarted { OnErr result (H.books host.new ≡ H.books host.old) }
@@ -148,26 +148,23 @@ pub fn run_mediator<
     rt: &R,
     alloc: Global,
     mediator: M,
-    first: &[u8],
-    log_name: &str,
-    words: &[String],
-    input: &mut I,
-    output: &mut O,
+    request: &RunRequest,
+    interface: &mut Interface<I, O>,
     host: &mut H,
 ) -> Failures
     requires fresh { M.means.fresh mediator }
-    requires first { AreOpening first.now }
-    requires words { 0 < length words.now }
+    requires first { AreOpening request.now.first.now }
+    requires words { 0 < length request.now.engine.now }
     requires unused { IsUnused (H.books host.old) }
-    ensures leaves { Leaves M.means mediator first.now
-        (outside (I.state input.old) (O.state output.old) (H.faults host.old) (H.books host.old))
-        (outside (I.state input.new) (O.state output.new) (H.faults host.new) (H.books host.new))
+    ensures leaves { Leaves M.means mediator request.now.first.now
+        (outside_of I.state O.state H.faults H.books interface.old host.old)
+        (outside_of I.state O.state H.faults H.books interface.new host.new)
         result }
-    ensures asked { AsksFor (map string_bytes words.now) log_name.now
+    ensures asked { AsksFor (map string_bytes request.now.engine.now) request.now.log_name.now
         (H.asked host.old) (H.asked host.new) (H.books host.new) result }
 {
-    match start(rt, alloc, mediator, words, host) {
-        Ok(ready) => run_started(rt, alloc, ready, first, log_name, input, output, host),
+    match start(rt, alloc, mediator, request.engine, host) {
+        Ok(ready) => run_started(rt, alloc, ready, request, interface, host),
         Err(failures) => failures,
     }
 }

@@ -17,6 +17,10 @@ has_diag closed = not (is_some closed.diag)
 abbrev pub is_open : {S : Type 0} → IfOpen S → Bool
 is_open s = s.is_open
 
+-- how many calls were refused
+abbrev pub refusals : {S : Type 0} → IfOpen S → ℕ
+refusals s = s.refusals
+
 -- of a stream that failed so often itself
 abbrev pub with_refusals : {S : Type 0} → IfOpen S → ℕ → ℕ
 with_refusals s faults = if s.is_open then faults else s.refusals

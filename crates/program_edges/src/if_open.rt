@@ -23,6 +23,7 @@ impl<S> IfOpen<S> {
     pub(crate) fn over(stream: S, is_open: bool) -> IfOpen<S>
         ensures stream { result.stream ≡ stream }
         ensures open { result.is_open ≡ is_open }
+        ensures refusals { result.refusals ≡ 0 }
     {
         IfOpen {
             stream,

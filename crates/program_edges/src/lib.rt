@@ -1,4 +1,4 @@
-//! The edges that the programs share: the words behind a program's name, and standard streams that
+//! The edges that the programs share: the words after a program's name, and standard streams that
 //! may be closed when it starts.
 #![tactic(auto)]
 

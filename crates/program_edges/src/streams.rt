@@ -1,6 +1,6 @@
 // Standard streams that may be closed when the program starts.
 ghost use Rattle.std.specs.Prelude.{◌≡◌};
-ghost use Rattle.program_edges.specs.Streams.{has_input, has_output, has_diag, is_open};
+ghost use Rattle.program_edges.specs.Streams.{has_input, has_output, has_diag, is_open, refusals};
 
 use crate::IfOpen;
 use std::fs::{File, Files};
@@ -70,6 +70,7 @@ impl ClosedStreams {
     pub fn input<S>(&self, stream: S) -> IfOpen<S>
         ensures stream { result.stream ≡ stream }
         ensures open { is_open result ≡ has_input self.now }
+        ensures refusals { refusals result ≡ 0 }
     {
         IfOpen::over(stream, self.input.is_none())
     }
@@ -78,6 +79,7 @@ impl ClosedStreams {
     pub fn output<S>(&self, stream: S) -> IfOpen<S>
         ensures stream { result.stream ≡ stream }
         ensures open { is_open result ≡ has_output self.now }
+        ensures refusals { refusals result ≡ 0 }
     {
         IfOpen::over(stream, self.output.is_none())
     }
@@ -107,6 +109,7 @@ impl ClosedStreams {
     pub fn diag<S>(&self, stream: S) -> IfOpen<S>
         ensures stream { result.stream ≡ stream }
         ensures open { is_open result ≡ has_diag self.now }
+        ensures refusals { refusals result ≡ 0 }
     {
         IfOpen::over(stream, self.diag.is_none())
     }

@@ -1,4 +1,4 @@
-// The words behind a program's name.
+// The words after a program's name.
 ghost use Rattle.std.specs.Prelude.{◌≡◌, ◌+◌, ◌≤◌, IfOk};
 ghost use Rattle.program_edges.specs.Room.{words_room};
 
@@ -45,7 +45,7 @@ fn put_word(word: Vec<u8>, left: usize, words: &mut Vec<Vec<u8>>) -> Result<usiz
     Ok(left)
 }
 
-/// The words behind the program's name, of any bytes. The system reports nothing of them that a
+/// The words after the program's name, of any bytes. The system reports nothing of them that a
 /// contract could say. More of them than the room holds are out of memory.
 pub fn words_of<R: Env>(rt: &R, alloc: Global, room: usize) -> Result<Vec<Vec<u8>>, AllocError>
     ensures room { IfOk result (λ words. words_room words.items ≤ room) }

@@ -3,7 +3,7 @@ ghost use Rattle.std.specs.Prelude.{◌≡◌, drop, true, IfSome};
 ghost use Rattle.child_engine.specs.Hosts.{IsUnused};
 ghost use Rattle.host_run.specs.Endings.{code_of, diagnostic};
 ghost use Rattle.host_run.specs.Asked.{AsksByWords};
-ghost use Rattle.host_run.specs.Outside.{outside};
+ghost use Rattle.host_run.specs.Outside.{outside_of};
 ghost use Rattle.host_run.specs.Program.{Answers, Ends, IsToldTo, StatusSays};
 ghost use Rattle.host_run.specs.declared.ending.ProgramEnding.TheVariants as endings;
 ghost use Rattle.program_words.specs.Words.{bytes_of};
@@ -12,9 +12,11 @@ ghost use Rattle.reviver_app.specs.Words.{AreTaken};
 
 use crate::{ReviverRequest, read_words};
 use child_engine::{Host, LetGo};
-use host_run::{ProgramEnding, tell};
+use host_run::{ProgramEnding, finish};
 use line_io::{Sink, Source, Status};
+use program_words::EngineRequest;
 use reviver_runner::revive_run;
+use sink_offers::Interface;
 use std::alloc::Global;
 use std::sync::Wait;
 use std::thread::Threads;
@@ -24,8 +26,7 @@ fn end_of<I: Source + Send, O: Sink + Send, H: Host + Send, R: Threads + Wait + 
     rt: &R,
     alloc: Global,
     words: &[Vec<u8>],
-    input: &mut I,
-    output: &mut O,
+    interface: &mut Interface<I, O>,
     host: &mut H,
 ) -> ProgramEnding
 where
@@ -34,10 +35,10 @@ where
     H::ChildProcess: Drop + Send,
     requires { IsUnused (H.books host.old) }
     ensures ends { Ends (AreTaken (bytes_of words.now)) (LeavesFor (bytes_of words.now)
-        (outside (I.state input.old) (O.state output.old) (H.faults host.old) (H.books host.old))
-        (outside (I.state input.new) (O.state output.new) (H.faults host.new) (H.books host.new)))
-        (outside (I.state input.old) (O.state output.old) (H.faults host.old) (H.books host.old))
-        (outside (I.state input.new) (O.state output.new) (H.faults host.new) (H.books host.new))
+        (outside_of I.state O.state H.faults H.books interface.old host.old)
+        (outside_of I.state O.state H.faults H.books interface.new host.new))
+        (outside_of I.state O.state H.faults H.books interface.old host.old)
+        (outside_of I.state O.state H.faults H.books interface.new host.new)
         result }
     ensures asked { AsksByWords (drop 1 (bytes_of words.now))
         (H.asked host.old) (H.asked host.new)
@@ -50,16 +51,8 @@ where
                 log_name,
                 engine,
             } = request;
-            ProgramEnding::of(revive_run(
-                rt,
-                alloc,
-                lives,
-                log_name.as_str(),
-                engine,
-                input,
-                output,
-                host,
-            ))
+            let request = EngineRequest { log_name, engine };
+            ProgramEnding::of(revive_run(rt, alloc, lives, request, interface, host))
         }
         Err(refusal) => ProgramEnding::from(refusal),
     }
@@ -71,10 +64,7 @@ pub fn refuse_for_memory<D: Sink>(diag: &mut D) -> Status
     ensures told { IsToldTo (D.state diag.old) (D.state diag.new)
         (diagnostic program endings.NoMemory) }
 {
-    tell(b"reviver", ProgramEnding::NoMemory, diag);
-    Status {
-        code: ProgramEnding::NoMemory.code(),
-    }
+    host_run::refuse_for_memory(b"reviver", diag)
 }
 
 /// The program: between a UCI interface, whose orders come from `input` and whose answers go to
@@ -91,8 +81,7 @@ pub fn revive_main<
     rt: &R,
     alloc: Global,
     words: &[Vec<u8>],
-    input: &mut I,
-    output: &mut O,
+    interface: &mut Interface<I, O>,
     host: &mut H,
     diag: &mut D,
 ) -> Status
@@ -102,26 +91,23 @@ where
     H::ChildProcess: Drop + Send,
     requires { IsUnused (H.books host.old) }
     ensures answers { Answers program (AreTaken (bytes_of words.now)) (LeavesFor (bytes_of words.now)
-        (outside (I.state input.old) (O.state output.old) (H.faults host.old) (H.books host.old))
-        (outside (I.state input.new) (O.state output.new) (H.faults host.new) (H.books host.new)))
-        (outside (I.state input.old) (O.state output.old) (H.faults host.old) (H.books host.old))
-        (outside (I.state input.new) (O.state output.new) (H.faults host.new) (H.books host.new))
+        (outside_of I.state O.state H.faults H.books interface.old host.old)
+        (outside_of I.state O.state H.faults H.books interface.new host.new))
+        (outside_of I.state O.state H.faults H.books interface.old host.old)
+        (outside_of I.state O.state H.faults H.books interface.new host.new)
         (D.state diag.old) (D.state diag.new) result.code }
     ensures status { StatusSays (AreTaken (bytes_of words.now))
-        (outside (I.state input.old) (O.state output.old) (H.faults host.old) (H.books host.old))
-        (outside (I.state input.new) (O.state output.new) (H.faults host.new) (H.books host.new))
+        (outside_of I.state O.state H.faults H.books interface.old host.old)
+        (outside_of I.state O.state H.faults H.books interface.new host.new)
         result.code }
     ensures whole { result.code ≡ 0 → (H.books host.old).tells ≡ true
         → IfSome (H.books host.old).says (λ bytes. RunsWhole (bytes_of words.now) bytes
-        (outside (I.state input.old) (O.state output.old) (H.faults host.old) (H.books host.old))
-        (outside (I.state input.new) (O.state output.new) (H.faults host.new) (H.books host.new))) }
+        (outside_of I.state O.state H.faults H.books interface.old host.old)
+        (outside_of I.state O.state H.faults H.books interface.new host.new)) }
     ensures asked { AsksByWords (drop 1 (bytes_of words.now))
         (H.asked host.old) (H.asked host.new)
         (H.faults host.old) (H.faults host.new) (H.books host.new) }
 {
-    let ending = end_of(rt, alloc, words, input, output, host);
-    tell(b"reviver", ending, diag);
-    Status {
-        code: ending.code(),
-    }
+    let ending = end_of(rt, alloc, words, interface, host);
+    finish(b"reviver", ending, diag)
 }

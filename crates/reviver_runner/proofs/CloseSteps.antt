@@ -2,7 +2,7 @@
 use Rattle.std.proofs.Common.{◌≡◌, ◌∙◌, ℕ, ◌+◌, List, [], ◌∷◌, ◌++◌, length, refl, sym, ap, arith, append_assoc, append-nil}
 use Rattle.line_io.specs.Source.{Supplied, Received}
 use Rattle.child_engine.specs.Hosts.{Books, Told, told_by, with_closed_run}
-use Rattle.reviver_runner.specs.declared.lives.LifeRun.{LifeRun}
+use Rattle.life_runner.specs.declared.life.LifeRun.{LifeRun}
 use Rattle.reviver_runner.specs.Closing.{HasClosed, told_of_runs}
 
 length_last : {T : Type 0} (xs : List T) (x : T) → length (xs ++ x ∷ []) ≡ length xs + 1
@@ -19,10 +19,10 @@ closed_count b b' source sink x xs ys e h c =
 
 -- what the host is told of the next one
 pub closed_told : {S K : Type 0} (source : S → Supplied) (sink : K → Received) (b b' : Books) (xs ys : List (LifeRun S K)) (x : LifeRun S K)
-    → b' ≡ with_closed_run b (source x.src) (sink x.snk) → xs ≡ x ∷ ys → b'.runs ++ told_of_runs source sink ys ≡ b.runs ++ told_of_runs source sink xs
+    → b' ≡ with_closed_run b (source x.source) (sink x.sink) → xs ≡ x ∷ ys → b'.runs ++ told_of_runs source sink ys ≡ b.runs ++ told_of_runs source sink xs
 closed_told source sink b b' xs ys x e h =
     ap (λ (y : Books). y.runs ++ told_of_runs source sink ys) e
-    ∙ append_assoc b.runs (told_by (source x.src) (sink x.snk) ∷ []) (told_of_runs source sink ys)
+    ∙ append_assoc b.runs (told_by (source x.source) (sink x.sink) ∷ []) (told_of_runs source sink ys)
     ∙ ap (λ (l : List (LifeRun _ _)). b.runs ++ told_of_runs source sink l) (sym h)
 
 pub none_told : {S K : Type 0} (source : S → Supplied) (sink : K → Received) (told told' : List Told) (xs : List (LifeRun S K)) → xs ≡ [] → told ++ told_of_runs source sink xs ≡ told' → told ≡ told'
@@ -32,14 +32,14 @@ pub all_closed : {T : Type 0} (m n : ℕ) (xs : List T) → xs ≡ [] → m + le
 all_closed m n xs e h = let none = ap (λ (l : List _). length l) e in omega (arith, none, h)
 
 -- each run has what it is waited for by
-pub fewer_kids : {A B : Type 0} (xs xs' : List A) (ys ys' : List B) (x : A) (y : B) → length xs ≡ length ys → xs ≡ x ∷ xs' → ys ≡ y ∷ ys' → length xs' ≡ length ys'
-fewer_kids xs xs' ys ys' x y e f g =
+pub fewer_processes : {A B : Type 0} (xs xs' : List A) (ys ys' : List B) (x : A) (y : B) → length xs ≡ length ys → xs ≡ x ∷ xs' → ys ≡ y ∷ ys' → length xs' ≡ length ys'
+fewer_processes xs xs' ys ys' x y e f g =
     let a = ap (λ (l : List _). length l) f in
     let b = ap (λ (l : List _). length l) g in
     omega (arith, e, a, b)
 
-pub no_kid : {A B : Type 0} (xs : List A) (ys ys' : List B) (y : B) → xs ≡ [] → length xs ≡ length ys → ys ≡ y ∷ ys' → ⊥
-no_kid xs ys ys' y e f g =
+pub no_process : {A B : Type 0} (xs : List A) (ys ys' : List B) (y : B) → xs ≡ [] → length xs ≡ length ys → ys ≡ y ∷ ys' → ⊥
+no_process xs ys ys' y e f g =
     let a = ap (λ (l : List _). length l) e in
     let b = ap (λ (l : List _). length l) g in
     absurd (omega (arith, a, b, f))

@@ -5,7 +5,7 @@ use Rattle.line_io.specs.Causes.{Rose, HasCause}
 use Rattle.line_io.specs.Source.{Supplied, Received}
 use Rattle.event_pipe.specs.Counts.{Tells}
 use Rattle.child_engine.specs.Hosts.{RisesBy}
-use Rattle.reviver_runner.specs.declared.lives.LifeRun.{LifeRun}
+use Rattle.life_runner.specs.declared.life.LifeRun.{LifeRun}
 use Rattle.reviver_runner.specs.declared.lives.LivesTally.{LivesTally}
 use Rattle.reviver_runner.specs.Closing.{read_faults, write_faults}
 use Rattle.reviver_runner.specs.Lives.{AreTallied}
@@ -56,21 +56,21 @@ cause_more a b c false y (Err v) t h e =
 
 -- ONE MORE RUN
 
-reads_last : {S K : Type 0} (source : S → Supplied) (runs : List (LifeRun S K)) (run : LifeRun S K) → read_faults source (runs ++ run ∷ []) ≡ read_faults source runs + (source run.src).faults
+reads_last : {S K : Type 0} (source : S → Supplied) (runs : List (LifeRun S K)) (run : LifeRun S K) → read_faults source (runs ++ run ∷ []) ≡ read_faults source runs + (source run.source).faults
 reads_last source [] run = omega arith
 reads_last source (x ∷ runs) run = let more = reads_last source runs run in omega (arith, more)
 
-writes_last : {S K : Type 0} (sink : K → Received) (runs : List (LifeRun S K)) (run : LifeRun S K) → write_faults sink (runs ++ run ∷ []) ≡ write_faults sink runs + (sink run.snk).faults
+writes_last : {S K : Type 0} (sink : K → Received) (runs : List (LifeRun S K)) (run : LifeRun S K) → write_faults sink (runs ++ run ∷ []) ≡ write_faults sink runs + (sink run.sink).faults
 writes_last sink [] run = omega arith
 writes_last sink (x ∷ runs) run = let more = writes_last sink runs run in omega (arith, more)
 
 pub tallied_more : {S K : Type 0} (source : S → Supplied) (sink : K → Received) (runs runs' : List (LifeRun S K)) (run : LifeRun S K) (tally tally' : LivesTally) (read write : Bool)
-    → runs' ≡ runs ++ run ∷ [] → Tells 0 (source run.src).faults read → Tells 0 (sink run.snk).faults write
+    → runs' ≡ runs ++ run ∷ [] → Tells 0 (source run.source).faults read → Tells 0 (sink run.sink).faults write
     → tally'.engine_read ≡ (tally.engine_read || read) → tally'.engine_write ≡ (tally.engine_write || write)
     → AreTallied source sink runs tally → AreTallied source sink runs' tally'
 tallied_more source sink runs runs' run tally tally' read write e r w er ew t =
-    let rs : read_faults source runs' ≡ read_faults source runs + (source run.src).faults = ap (λ (x : List (LifeRun _ _)). read_faults source x) e ∙ reads_last source runs run in
-    let ws : write_faults sink runs' ≡ write_faults sink runs + (sink run.snk).faults = ap (λ (x : List (LifeRun _ _)). write_faults sink x) e ∙ writes_last sink runs run in
+    let rs : read_faults source runs' ≡ read_faults source runs + (source run.source).faults = ap (λ (x : List (LifeRun _ _)). read_faults source x) e ∙ reads_last source runs run in
+    let ws : write_faults sink runs' ≡ write_faults sink runs + (sink run.sink).faults = ap (λ (x : List (LifeRun _ _)). write_faults sink x) e ∙ writes_last sink runs run in
     record {
       reads = subst (λ b. Tells 0 (read_faults source runs') b) (sym er) (subst (λ n. Tells 0 n (tally.engine_read || read)) (sym rs) (tells_sum _ _ _ _ t.reads r));
       writes = subst (λ b. Tells 0 (write_faults sink runs') b) (sym ew) (subst (λ n. Tells 0 n (tally.engine_write || write)) (sym ws) (tells_sum _ _ _ _ t.writes w));

@@ -1,10 +1,9 @@
 -- Behind the last life.
-use Rattle.std.proofs.Common.{◌≡◌, ℕ, List, [], ◌∷◌, ◌++◌, map, codes, Bool, true, false, cond, not, ◌||◌, Option, Some, None, refl, sym, ap, ◌∙◌, arith, append-nil, append_assoc}
+use Rattle.std.proofs.Common.{◌≡◌, ℕ, List, [], ◌∷◌, ◌++◌, map, codes, Bool, true, false, cond, not, ◌||◌, Option, Some, None, refl, sym, ap, subst, ◌∙◌, arith, append-nil, append_assoc}
 use Rattle.std.proofs.lemmas.List.{map-append}
 use Rattle.std.proofs.lemmas.List.Elements.{filter-append}
 use Rattle.std.proofs.lemmas.List.Folds.{list_any-append}
 use Rattle.line_io.specs.Event.{Event, Iface, IfaceLong, IfaceEnd}
-use Rattle.line_io.specs.Source.{Received}
 use Rattle.cecp_lines.specs.Quit.{is_quit}
 use Rattle.engine_revival.specs.Orders.{RevivalOrder as AnyOrder}
 use Rattle.engine_revival.specs.Asked.{asked}
@@ -16,7 +15,7 @@ use Rattle.engine_revival.specs.Lists.{batch_text}
 use Rattle.engine_revival.specs.Steps.{is_ended, quit_to, read_at_once, accepted_at_once, accepted, at_once, due_to, due_orders, settled_orders, ordering, reading, accepting, with_quit, after_at_once}
 use Rattle.engine_revival.specs.Calls.{Order, after, child_of}
 use Rattle.engine_revival.specs.Script.{may_happen, state_after, state_behind, event_text}
-use Rattle.sink_offers.specs.declared.offering.LoopEnd.{LoopEnd}
+use Rattle.life_runner.specs.Looped.{Shown, PlayedUp}
 use Rattle.sink_offers.specs.Streams.{Offered}
 use Rattle.life_runner.specs.Played.{event_up, event_child, lines_to_child, is_heard, is_order, is_close, has_close, as_long, is_told, told_of, ends_in}
 use Rattle.reviver_runner.specs.Drained.{Drained}
@@ -95,6 +94,10 @@ event_over s e o h = cc
 
 -- ONE EVENT OF THE INTERFACE
 
+-- nothing was heard
+passed_by : (a b : Shown) → b ≡ record a { events = b.events } → PlayedUp a b []
+passed_by a b same = let none = up_none a in subst (λ (s : Shown). PlayedUp a s []) (sym same) (record { may = none.may; state_is = none.state_is; up = none.up; marks = none.marks })
+
 order_open : (e : Event) → is_order e ≡ true → has_close (e ∷ []) ≡ false
 order_open (Iface line) h = refl
 order_open IfaceEnd h = refl
@@ -110,66 +113,65 @@ order_ends (Iface line) h = refl
 order_ends IfaceEnd h = refl
 order_ends e h = cc
 
-pub drained_order : (s s' : RevivalState) (taken taken' : List Event) (e : Event) (o o' l l' : Received) (f g : LoopEnd) → is_order e ≡ true → s.life ≡ life.Over → taken' ≡ taken ++ e ∷ [] → s' ≡ state_after s e
-    → Offered f.output g.output o o' (event_up s e) → Offered f.log g.log l l' (event_text s e) → Drained s s' taken taken' o o' l l' f g
-drained_order s s' taken taken' e o o' l l' f g h over t z u v =
+pub drained_order : (a b : Shown) (e : Event) → is_order e ≡ true → a.state.life ≡ life.Over → b.events ≡ a.events ++ e ∷ [] → b.state ≡ state_after a.state e
+    → Offered a.failed.output b.failed.output a.output b.output (event_up a.state e) → Offered a.failed.log b.failed.log a.log b.log (event_text a.state e) → Drained a b
+drained_order a b e order over took z u v =
     record {
       events = e ∷ [];
-      played = up_one s s' e o o' l l' f g (may_order s e over h) z u v;
-      over = ap (λ (x : RevivalState). x.life) z ∙ event_over s e h over;
-      begun = ap (λ (x : RevivalState). x.begun) z ∙ (event_stays s e (order_heard e h)).begun;
-      open_ended = order_open e h;
-      unwritten = append-nil (event_child s e) ∙ event_child_over s e h over;
+      played = up_one a b e (may_order a.state e over order) z u v;
+      over = ap (λ (x : RevivalState). x.life) z ∙ event_over a.state e order over;
+      begun = ap (λ (x : RevivalState). x.begun) z ∙ (event_stays a.state e (order_heard e order)).begun;
+      open_ended = order_open e order;
+      unwritten = append-nil (event_child a.state e) ∙ event_child_over a.state e order over;
       got = e ∷ [];
-      taken_is = t;
-      got_are = order_told e h;
-      ends = order_ends e h;
+      taken_is = took;
+      got_are = order_told e order;
+      ends = order_ends e order;
     }
 
-pub drained_passed : (s : RevivalState) (taken taken' : List Event) (o l : Received) (f : LoopEnd) → s.life ≡ life.Over → taken' ≡ taken ++ IfaceLong ∷ [] → Drained s s taken taken' o o l l f f
-drained_passed s taken taken' o l f over t =
+pub drained_passed : (a b : Shown) → a.state.life ≡ life.Over → b ≡ record a { events = b.events } → b.events ≡ a.events ++ IfaceLong ∷ [] → Drained a b
+drained_passed a b over same took =
     record {
       events = [];
-      played = up_none s o l f;
-      over = over;
-      begun = refl;
+      played = passed_by a b same;
+      over = ap (λ (x : Shown). x.state.life) same ∙ over;
+      begun = ap (λ (x : Shown). x.state.begun) same;
       open_ended = refl;
       unwritten = refl;
       got = IfaceLong ∷ [];
-      taken_is = t;
+      taken_is = took;
       got_are = refl;
       ends = refl;
     }
 
-pub drained_none : (s : RevivalState) (taken : List Event) (o l : Received) (f : LoopEnd) → s.life ≡ life.Over → Drained s s taken taken o o l l f f
-drained_none s taken o l f over =
+pub drained_none : (a : Shown) → a.state.life ≡ life.Over → Drained a a
+drained_none a over =
     record {
       events = [];
-      played = up_none s o l f;
+      played = up_none a;
       over = over;
       begun = refl;
       open_ended = refl;
       unwritten = refl;
       got = [];
-      taken_is = sym (append-nil taken);
+      taken_is = sym (append-nil a.events);
       got_are = refl;
       ends = refl;
     }
 
-pub drained_both : (s s' s'' : RevivalState) (taken taken' taken'' : List Event) (o o' o'' l l' l'' : Received) (f g h : LoopEnd) → Drained s s' taken taken' o o' l l' f g → Drained s' s'' taken' taken'' o' o'' l' l'' g h
-    → Drained s s'' taken taken'' o o'' l l'' f h
-drained_both s s' s'' taken taken' taken'' o o' o'' l l' l'' f g h x y =
+pub drained_both : (a b c : Shown) → Drained a b → Drained b c → Drained a c
+drained_both a b c x y =
     record {
       events = x.events ++ y.events;
-      played = up_both _ _ _ _ _ _ _ _ _ _ _ _ _ _ x.played y.played;
+      played = up_both a b c x.events y.events x.played y.played;
       over = y.over;
       begun = y.begun ∙ x.begun;
       open_ended = list_any-append is_close x.events y.events ∙ ap (λ (b : Bool). b || has_close y.events) x.open_ended ∙ y.open_ended;
       unwritten =
-          child_append s x.events y.events ∙ ap (λ (t : List ℕ). t ++ lines_to_child (state_behind s x.events) y.events) x.unwritten
+          child_append a.state x.events y.events ∙ ap (λ (t : List ℕ). t ++ lines_to_child (state_behind a.state x.events) y.events) x.unwritten
           ∙ ap (λ (z : RevivalState). lines_to_child z y.events) (sym x.played.state_is) ∙ y.unwritten;
       got = x.got ++ y.got;
-      taken_is = y.taken_is ∙ ap (λ (t : List Event). t ++ y.got) x.taken_is ∙ append_assoc taken x.got y.got;
+      taken_is = y.taken_is ∙ ap (λ (t : List Event). t ++ y.got) x.taken_is ∙ append_assoc a.events x.got y.got;
       got_are = map-append as_long x.events y.events ∙ ap (λ (t : List Event). t ++ map as_long y.events) x.got_are ∙ ap (λ (t : List Event). told_of x.got ++ t) y.got_are ∙ sym (filter-append is_told x.got y.got);
       ends = let all = ends_append x.got y.got in let one = x.ends in let two = y.ends in omega (arith, all, one, two);
     }

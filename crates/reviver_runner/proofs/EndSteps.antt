@@ -1,5 +1,5 @@
 -- What was heard of both sides, once both readers have ended.
-use Rattle.std.proofs.Common.{◌≡◌, ◌∙◌, ℕ, suc, ◌≤◌, List, [], ◌∷◌, ◌++◌, map, codes, length, Bool, true, false, cond, ◌||◌, ◌&&◌, Option, Some, None, refl, sym, ap, arith, append-nil}
+use Rattle.std.proofs.Common.{◌≡◌, ◌∙◌, ℕ, suc, ◌≤◌, List, [], ◌∷◌, ◌++◌, map, codes, length, Bool, true, false, cond, ◌||◌, ◌&&◌, Option, Some, None, refl, sym, ap, subst, arith, append-nil}
 use mathlib.Core.Bool.{or-false, or-true}
 use Rattle.line_io.specs.Event.{Event, Iface, IfaceLong, IfaceEnd, Engine, EngineLong, EngineEnd}
 use Rattle.line_io.specs.Lines.{Piece, Whole, TooLong, items}
@@ -15,7 +15,7 @@ use Rattle.engine_revival.specs.Dialogue.{said_in}
 use Rattle.engine_revival.specs.Lists.{can_join}
 use Rattle.engine_revival.specs.Steps.{opening, ending, beginning, closing, may_begin, keeping, with_value, with_button, accepting, accepted, reading, ordering, with_quit, hearing, settled}
 use Rattle.engine_revival.specs.Calls.{Begin, Over, after}
-use Rattle.engine_revival.specs.Script.{state_after, state_behind}
+use Rattle.engine_revival.specs.Script.{AllMayHappen, state_after, state_behind, texts_from}
 use Rattle.engine_revival.proofs.Talks.{always_lawful}
 use Rattle.event_pipe.specs.declared.message.Peer.TheVariants as peers
 use Rattle.event_pipe.specs.declared.reader.ReadEnd.{ReadEnd}
@@ -27,11 +27,12 @@ use Rattle.event_pipe.specs.Arrivals.{Arrived, line_limit}
 use Rattle.event_pipe.proofs.Keeps.{of-append}
 use Rattle.event_pipe.proofs.Reading.{any_append}
 use Rattle.child_engine.specs.Hosts.{fresh_source}
-use Rattle.host_run.specs.Outside.{Outside}
 use Rattle.sink_offers.specs.declared.offering.LoopEnd.{LoopEnd}
-use Rattle.life_runner.specs.Played.{as_long, told_of, ends_in}
+use Rattle.sink_offers.specs.Streams.{Offered}
+use Rattle.life_runner.specs.Looped.{Shown}
+use Rattle.life_runner.specs.Played.{lines_up, as_long, told_of, ends_in}
 use Rattle.life_runner.specs.Reading.{line_events, LinesOf}
-use Rattle.reviver_runner.specs.Lives.{Life, AreLives, life_events, Lived}
+use Rattle.reviver_runner.specs.Lives.{Life, AreLives, life_events, Lived, to_none, to_lives}
 use Rattle.reviver_runner.specs.Ran.{Heard}
 use Rattle.reviver_runner.proofs.LifeSteps.{ends_append}
 use Rattle.reviver_runner.proofs.SettledSteps.{settled_quit}
@@ -198,32 +199,56 @@ quit_behind s (e ∷ es) =
 
 -- BOTH SIDES HAVE ENDED
 
-module _ (number : ℕ) (says : Option (List ℕ)) (tells : Bool) (s : RevivalState) (sent sent_up taken : List Event) (lives : List Life) (refused : Bool) (o o' l l' : Received) (f f' : LoopEnd)
-    (lived : Lived says tells (opening number) s sent taken lives [] refused o o' l l' f f') (up : Came peers.Iface taken sent_up) (engine : Came peers.Engine taken sent) (some : 1 ≤ length lives) (quit : s.quit ≡ true) where
+-- the same, from the state in which the lives begin
+abbrev pub opened : ℕ → Shown → Shown
+opened number a = record { state = opening number; events = a.events; output = a.output; log = a.log; failed = a.failed }
+
+pub lived_from : (number : ℕ) (says : Option (List ℕ)) (tells : Bool) (a b : Shown) (sent : List Event) (lives : List Life) (text : List ℕ) (refused : Bool)
+    → a.state ≡ opening number → Lived says tells a b sent lives text refused → Lived says tells (opened number a) b sent lives text refused
+lived_from number says tells a b sent lives text refused e x =
+    let es = x.events in
+    record {
+      events = es;
+      played = record {
+        may = subst (λ (z : RevivalState). AllMayHappen z es) e x.played.may;
+        state_is = subst (λ (z : RevivalState). b.state ≡ state_behind z es) e x.played.state_is;
+        up = subst (λ (z : RevivalState). Offered a.failed.output b.failed.output a.output b.output (lines_up z es)) e x.played.up;
+        marks = subst (λ (z : RevivalState). Offered a.failed.log b.failed.log a.log b.log (texts_from z es)) e x.played.marks;
+      };
+      given = subst (λ (z : RevivalState). to_lives to_none z es ≡ record { ended = map (λ (l : Life). l.text) lives; present = text }) e x.given;
+      refusal = x.refusal;
+      taken_are = x.taken_are;
+      ends = x.ends;
+      sent_are = x.sent_are;
+      lived = x.lived;
+    }
+
+module _ (number : ℕ) (says : Option (List ℕ)) (tells : Bool) (es : List Event) (o l : Received) (f : LoopEnd) (b : Shown) (sent sent_up : List Event) (lives : List Life) (refused : Bool)
+    (lived : Lived says tells (record { state = opening number; events = es; output = o; log = l; failed = f }) b sent lives [] refused) (up : Came peers.Iface b.events sent_up) (engine : Came peers.Engine b.events sent) (some : 1 ≤ length lives) (quit : b.state.quit ≡ true) where
   last : (ls : List Life) → 1 ≤ length ls → ends_long (life_events ls) ≡ true
   last [] h = absurd (omega (arith, h))
   last (x ∷ ls) h = last_of_lives x ls
 
-  all_taken : sent ≡ of 2 taken
+  all_taken : sent ≡ of 2 b.events
   all_taken =
-      let none = nothing_left sent (of 2 taken) engine.left engine.front (ap ends_long lived.sent_are ∙ last lives some)
-      (ap ends_in lived.sent_are ∙ lives_ends says tells lives lived.lived ∙ sym lived.ends ∙ sym (ends_of taken)) in
-      engine.front ∙ ap (λ (x : List Event). of 2 taken ++ x) none ∙ append-nil (of 2 taken)
+      let none = nothing_left sent (of 2 b.events) engine.left engine.front (ap ends_long lived.sent_are ∙ last lives some)
+      (ap ends_in lived.sent_are ∙ lives_ends says tells lives lived.lived ∙ sym lived.ends ∙ sym (ends_of b.events)) in
+      engine.front ∙ ap (λ (x : List Event). of 2 b.events ++ x) none ∙ append-nil (of 2 b.events)
 
   pub marks : map as_long (of 2 lived.events) ≡ life_events lives
-  marks = engine_marks lived.events ∙ ap (λ (x : List Event). of 2 x) lived.taken_are ∙ engine_told taken ∙ sym all_taken ∙ lived.sent_are
+  marks = engine_marks lived.events ∙ ap (λ (x : List Event). of 2 x) lived.taken_are ∙ engine_told b.events ∙ sym all_taken ∙ lived.sent_are
 
-  told_up : of 1 lived.events ≡ told_of (of 1 taken)
-  told_up = sym (iface_marks lived.events) ∙ ap (λ (x : List Event). of 1 x) lived.taken_are ∙ iface_told taken
+  told_up : of 1 lived.events ≡ told_of (of 1 b.events)
+  told_up = sym (iface_marks lived.events) ∙ ap (λ (x : List Event). of 1 x) lived.taken_are ∙ iface_told b.events
 
-  over : ended (of 1 taken) ≡ true
-  over = sym (ended_told (of 1 taken)) ∙ ap ended (sym told_up) ∙ sym (quit_behind (opening number) lived.events) ∙ ap (λ (x : RevivalState). x.quit) (sym lived.played.state_is) ∙ quit
+  over : ended (of 1 b.events) ≡ true
+  over = sym (ended_told (of 1 b.events)) ∙ ap ended (sym told_up) ∙ sym (quit_behind (opening number) lived.events) ∙ ap (λ (x : RevivalState). x.quit) (sym lived.played.state_is) ∙ quit
 
   pub orders_are : of 1 lived.events ≡ told_of sent_up
-  orders_are = told_up ∙ ap told_of (sym (up.front ∙ ap (λ (x : List Event). of 1 taken ++ x) (up.whole over) ∙ append-nil (of 1 taken)))
+  orders_are = told_up ∙ ap told_of (sym (up.front ∙ ap (λ (x : List Event). of 1 b.events ++ x) (up.whole over) ∙ append-nil (of 1 b.events)))
 
-  pub heard : (before after : Outside) (upper : ReadEnd) → Arrived peers.Iface before.input after.input sent_up upper → s.begun ≡ length lives → Heard number before after upper lives lived.events
-  heard before after upper arrived begun = record {
+  pub heard : (input input' : Supplied) (upper : ReadEnd) → Arrived peers.Iface input input' sent_up upper → b.state.begun ≡ length lives → Heard number input input' upper lives lived.events
+  heard input input' upper arrived begun = record {
     may = lived.played.may;
     lawful = always_lawful number lived.events lived.played.may;
     arrived = sent_up;

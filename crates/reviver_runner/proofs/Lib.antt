@@ -4,6 +4,7 @@ mod DrainSteps
 mod CountSteps
 mod CloseSteps
 mod TurnSteps
+mod LoopSteps
 mod EndSteps
 mod Records
 mod RunSteps

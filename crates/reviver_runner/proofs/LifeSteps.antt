@@ -9,26 +9,27 @@ use Rattle.std.proofs.lemmas.Bool.{or_parts}
 use mathlib.Core.Bool.{or-false}
 use Rattle.line_io.specs.Event.{Event, Open, Iface, IfaceEnd, Engine, EngineLong, EngineEnd}
 use Rattle.line_io.specs.Source.{Supplied, Received}
-use Rattle.child_engine.specs.Hosts.{Books, fresh_sink}
+use Rattle.child_engine.specs.Hosts.{fresh_source, fresh_sink}
 use Rattle.child_engine.specs.declared.host.HostFault.{HostFault}
 use Rattle.engine_revival.specs.declared.state.RevivalState.{RevivalState}
 use Rattle.engine_revival.specs.Script.{state_after, state_behind}
 use Rattle.event_pipe.specs.Arrivals.{failed}
 use Rattle.event_pipe.specs.declared.reader.ReadEnd.{ReadEnd}
 use Rattle.host_run.specs.Readers.{lacked_memory}
-use Rattle.sink_offers.specs.declared.offering.LoopEnd.{LoopEnd}
-use Rattle.sink_offers.specs.Streams.{Sinks, Offered}
-use Rattle.reviver_runner.specs.declared.lives.LifeRun.{LifeRun}
+use Rattle.sink_offers.specs.Streams.{Offered}
+use Rattle.life_runner.specs.declared.life.LifeRun.{LifeRun}
 use Rattle.reviver_runner.specs.declared.lives.LivesTally.{LivesTally}
 use Rattle.reviver_runner.specs.declared.turns.NextLife.{NextLife}
 use Rattle.reviver_runner.specs.declared.turns.NextLife.TheVariants as nexts
 use Rattle.life_runner.specs.Played.{event_child, lines_to_child, heard_of, is_close, has_close, is_refusal, has_refusal, as_long, is_told, told_of, ends_in}
-use Rattle.life_runner.specs.Looped.{LoopedLife}
+use Rattle.life_runner.specs.Looped.{Shown, LoopedLife}
 use Rattle.life_runner.specs.Reading.{ReadLife, LinesOf}
-use Rattle.reviver_runner.specs.Lives.{IsBegun, Life, IsLife, life_events, ToLives, to_none, to_next, to_lives, Lived, HasLived, GoesOn, LivesOn, mark_of, is_refused, IsNext, Ended}
+use Rattle.reviver_runner.specs.Lives.{AreTallied, Follows, Life, IsLife, life_events, ToLives, to_none, to_next, to_lives, Lived, HasLived, GoesOn, LivesOn, mark_of, is_refused, IsNext, Ended}
 use Rattle.reviver_runner.specs.Closing.{told_of_runs}
 use Rattle.reviver_runner.specs.Drained.{Drained}
-use Rattle.life_runner.proofs.Appends.{offered_both, took, up_of_all, up_both}
+use Rattle.life_runner.proofs.Appends.{offered_both, took, up_both}
+use Rattle.life_runner.proofs.Stays.{events_stay}
+use Rattle.reviver_runner.proofs.CountSteps.{tallied_more}
 
 -- MORE EVENTS
 
@@ -128,116 +129,113 @@ got_told es next h =
 pub got_one : (es : List Event) → has_close es ≡ false → ends_in (es ++ EngineLong ∷ []) ≡ 1
 got_one es h = let none = no_ends es h in let more = ends_append es (EngineLong ∷ []) in omega (arith, none, more)
 
-next_from : {S K : Type 0} (source : S → Supplied) (sink : K → Received) (says : Option (List ℕ)) (tells : Bool) (s s' : RevivalState) (next : NextLife S K) (o o' l l' : Received) (f g : LoopEnd) (z : RevivalState) → s ≡ z → Ended source sink says tells s s' next o o' l l' f g
-    → IsNext source sink says tells (event_child z (mark_of next)) next g.engine
-next_from source sink says tells s s' next o o' l l' f g z e x = subst (λ (y : RevivalState). IsNext source sink says tells (event_child y (mark_of next)) next g.engine) e x.next_is
+next_from : {S K : Type 0} (source : S → Supplied) (sink : K → Received) (says : Option (List ℕ)) (tells : Bool) (a b : Shown) (next : NextLife S K) (z : RevivalState) → a.state ≡ z → Ended source sink says tells a b next
+    → IsNext source sink says tells (event_child z (mark_of next)) next b.failed.engine
+next_from source sink says tells a b next z e x = subst (λ (y : RevivalState). IsNext source sink says tells (event_child y (mark_of next)) next b.failed.engine) e x.next_is
+
+pub follows_lives : {S K : Type 0} (s s' : RevivalState) (x : NextLife S K) → Follows s s' x → s'.lives ≡ s.lives
+follows_lives s s' (nexts.Life run) h = h.2
+follows_lives s s' nexts.Over h = h.0
+follows_lives s s' (nexts.Refused fault) h = h.0
 
 -- a life, and what follows of its end
-pub lives_on : {S K : Type 0} (source : S → Supplied) (sink : K → Received) (says : Option (List ℕ)) (tells : Bool) (s s1 s2 : RevivalState) (sent sent' taken taken' : List Event) (run last : LifeRun S K) (runs runs' : List (LifeRun S K)) (tally tally' : LivesTally) (next : NextLife S K)
-    (b a : Sinks) (o l : Received) (f f1 f2 : LoopEnd) (end : ReadEnd) → LoopedLife s s1 taken taken' b a f f1 → Ended source sink says tells s1 s2 next a.output o a.log l f1 f2
-    → ReadLife (source run.src) (source last.src) sent sent' end → runs' ≡ runs ++ last ∷ [] → b.engine ≡ sink run.snk → a.engine ≡ sink last.snk
-    → tally'.engine_read ≡ (tally.engine_read || failed end) → tally'.engine_write ≡ (tally.engine_write || f1.engine) → tally'.memory ≡ (tally.memory || lacked_memory end)
-    → LivesOn source sink says tells s s2 sent sent' taken taken' run runs runs' tally tally' next b.output o b.log l f f2
-lives_on source sink says tells s s1 s2 sent sent' taken taken' run last runs runs' tally tally' next b a o l f f1 f2 end looped ended read more first written reads writes memory =
-    record {
-      events = heard_of looped.events;
-      unended = no_mark_heard looped.events;
-      played = up_both s s1 s2 (heard_of looped.events) (mark_of next ∷ []) b.output a.output o b.log a.log l f f1 f2 (up_of_all s s1 (heard_of looped.events) b a f f1 looped.played) ended.played;
-      got = looped.events ++ EngineLong ∷ [];
-      taken_is = looped.taken_is;
-      got_are = got_told looped.events next looped.unended;
-      ends = got_one looped.events looped.unended;
-      last = last;
-      runs_are = more;
-      lines = read.lines;
-      end = end;
-      sent_is = read.sent_is;
-      read = read.read;
-      broken = f1.engine;
-      offered =
-          subst (λ (x : Received). Offered f.engine f1.engine x (sink last.snk) (lines_to_child s (heard_of looped.events))) first
-          (subst (λ (x : Received). Offered f.engine f1.engine b.engine x (lines_to_child s (heard_of looped.events))) written looped.played.offers.engine);
-      reads = reads;
-      writes = writes;
-      memory = memory;
-      next_is = next_from source sink says tells s1 s2 next a.output o a.log l f1 f2 (state_behind s (heard_of looped.events)) looped.played.state_is ended;
-    }
+module _ {S K : Type 0} (source : S → Supplied) (sink : K → Received) (says : Option (List ℕ)) (tells : Bool) (a b c : Shown) (sent sent' : List Event) (runs runs' : List (LifeRun S K)) (tally tally' : LivesTally)
+    (run last : LifeRun S K) (next : NextLife S K) (end : ReadEnd)
+    (looped : LoopedLife a b (sink run.sink) (sink last.sink)) (over : Ended source sink says tells b c next) (read : ReadLife (source run.source) (source last.source) sent sent' end) where
+  lives_stay : c.state.lives ≡ a.state.lives
+  lives_stay = follows_lives b.state c.state next over.follows ∙ ap (λ (y : RevivalState). y.lives) looped.played.up.state_is ∙ (events_stay a.state looped.events).lives
 
--- a host's books of more runs tell as much
-pub lives_as : {S K : Type 0} (source : S → Supplied) (sink : K → Received) (b0 b : Books) (s s' : RevivalState) (sent sent' taken taken' : List Event) (run : LifeRun S K) (runs runs' : List (LifeRun S K)) (tally tally' : LivesTally) (next : NextLife S K) (o o' l l' : Received) (f g : LoopEnd) (n : ℕ)
-    → b ≡ record b0 { runs_out = n } → LivesOn source sink b.says b.tells s s' sent sent' taken taken' run runs runs' tally tally' next o o' l l' f g
-    → LivesOn source sink b0.says b0.tells s s' sent sent' taken taken' run runs runs' tally tally' next o o' l l' f g
-lives_as source sink b0 b s s' sent sent' taken taken' run runs runs' tally tally' next o o' l l' f g n e x =
-    subst (λ (y : Books). LivesOn source sink y.says y.tells s s' sent sent' taken taken' run runs runs' tally tally' next o o' l l' f g) e x
-
-pub begun_as : (b0 b : Books) (source : Supplied) (sink : Received) (failed : Bool) (text : List ℕ) (n : ℕ) → b ≡ record b0 { runs_out = n } → IsBegun b0.says b0.tells source sink failed text
-    → IsBegun b.says b.tells source sink failed text
-begun_as b0 b source sink failed text n e x = subst (λ (y : Books). IsBegun y.says y.tells source sink failed text) (sym e) x
+  pub lives_on : runs' ≡ runs ++ last ∷ [] → tally'.engine_read ≡ (tally.engine_read || failed end) → tally'.engine_write ≡ (tally.engine_write || b.failed.engine) → tally'.memory ≡ (tally.memory || lacked_memory end)
+      → LivesOn source sink says tells a c sent sent' runs runs' tally tally' run next
+  lives_on more reads writes memory = record {
+    events = heard_of looped.events;
+    unended = no_mark_heard looped.events;
+    played = up_both a b c (heard_of looped.events) (mark_of next ∷ []) looped.played.up over.played;
+    got = looped.events ++ EngineLong ∷ [];
+    taken_is = over.same ∙ looped.taken_is;
+    got_are = got_told looped.events next looped.unended;
+    ends = got_one looped.events looped.unended;
+    last = last;
+    runs_are = more;
+    lines = read.lines;
+    end = end;
+    sent_is = read.sent_is;
+    read = read.read;
+    broken = b.failed.engine;
+    offered = looped.played.child;
+    reads = reads;
+    writes = writes;
+    memory = memory;
+    lives = lives_stay;
+    next_is = next_from source sink says tells b c next (state_behind a.state (heard_of looped.events)) looped.played.up.state_is over;
+  }
 
 -- ONE MORE LIFE
 
-module _ {S K : Type 0} (source : S → Supplied) (sink : K → Received) (says : Option (List ℕ)) (tells : Bool) (s0 s s' : RevivalState) (sent sent' taken taken' : List Event) (run : LifeRun S K) (runs runs' : List (LifeRun S K))
-    (tally tally' : LivesTally) (next : NextLife S K) (o o' o'' l l' l'' : Received) (f0 f g : LoopEnd)
-    (goes : GoesOn source sink says tells s0 s sent taken runs run tally o o' l l' f0 f)
-    (more : LivesOn source sink says tells s s' sent sent' taken taken' run runs runs' tally tally' next o' o'' l' l'' f g) where
+module _ {S K : Type 0} (source : S → Supplied) (sink : K → Received) (says : Option (List ℕ)) (tells : Bool) (a b c : Shown) (sent sent' : List Event) (runs runs' : List (LifeRun S K)) (tally tally' : LivesTally)
+    (run : LifeRun S K) (next : NextLife S K)
+    (goes : GoesOn source sink says tells a b sent runs tally run) (more : LivesOn source sink says tells b c sent sent' runs runs' tally tally' run next) where
   abbrev pub text : List ℕ
-  text = goes.text ++ lines_to_child s more.events
+  text = goes.text ++ lines_to_child b.state more.events
 
   abbrev pub life_now : Life
   life_now = record {
-    read = source more.last.src;
-    written = sink more.last.snk;
+    read = source more.last.source;
+    written = sink more.last.sink;
     lines = more.lines;
     text = text;
     end = more.end;
     broken = more.broken;
   }
 
+  offered_all : Offered false more.broken (fresh_sink tells) (sink more.last.sink) text
+  offered_all = offered_both false b.failed.engine more.broken _ _ _ goes.text (lines_to_child b.state more.events) goes.begun.offered more.offered
+
+  lines_now : LinesOf (fresh_source says) (source more.last.source) more.lines more.end
+  lines_now = subst (λ (x : Supplied). LinesOf x (source more.last.source) more.lines more.end) goes.begun.unread more.read
+
   is_life : IsLife says tells life_now
-  is_life = record {
-    lines = subst (λ (x : Supplied). LinesOf x (source more.last.src) more.lines more.end) goes.begun.unread more.read;
-    text = took more.broken (fresh_sink tells) (sink more.last.snk) text (offered_both false f.engine more.broken _ _ _ goes.text (lines_to_child s more.events) goes.begun.offered more.offered);
-  }
+  is_life = record { lines = lines_now; text = took more.broken (fresh_sink tells) (sink more.last.sink) text offered_all }
 
   abbrev pub lives : List Life
   lives = goes.lived.lives
 
-  abbrev pub so_far : Lived says tells s0 s sent taken goes.lived.lives goes.text false o o' l l' f0 f
+  abbrev pub so_far : Lived says tells a b sent goes.lived.lives goes.text false
   so_far = goes.lived.so_far
 
   abbrev pub events' : List Event
   events' = more.events ++ mark_of next ∷ []
 
   abbrev pub next_text : List ℕ
-  next_text = event_child (state_behind s more.events) (mark_of next)
+  next_text = event_child (state_behind b.state more.events) (mark_of next)
 
   abbrev pub to_now : ToLives
   to_now = record { ended = map (λ (x : Life). x.text) lives; present = goes.text }
 
-  given_next : to_lives to_none s0 (so_far.events ++ events') ≡ record { ended = map (λ (x : Life). x.text) (lives ++ life_now ∷ []); present = next_text }
+  given_next : to_lives to_none a.state (so_far.events ++ events') ≡ record { ended = map (λ (x : Life). x.text) (lives ++ life_now ∷ []); present = next_text }
   given_next =
-      to_append to_none s0 so_far.events events'
-      ∙ ap (λ (to : ToLives). to_lives to (state_behind s0 so_far.events) events') so_far.given
+      to_append to_none a.state so_far.events events'
+      ∙ ap (λ (to : ToLives). to_lives to (state_behind a.state so_far.events) events') so_far.given
       ∙ ap (λ (x : RevivalState). to_lives to_now x events') (sym so_far.played.state_is)
-      ∙ to_append to_now s more.events (mark_of next ∷ [])
-      ∙ ap (λ (to : ToLives). to_lives to (state_behind s more.events) (mark_of next ∷ [])) (present_text to_now s more.events more.unended)
-      ∙ ap (λ (b : Bool). to_next b (record { ended = map (λ (x : Life). x.text) lives; present = text }) next_text) (mark_closes next)
+      ∙ to_append to_now b.state more.events (mark_of next ∷ [])
+      ∙ ap (λ (to : ToLives). to_lives to (state_behind b.state more.events) (mark_of next ∷ [])) (present_text to_now b.state more.events more.unended)
+      ∙ ap (λ (x : Bool). to_next x (record { ended = map (λ (x : Life). x.text) lives; present = text }) next_text) (mark_closes next)
       ∙ ap (λ (ts : List (List ℕ)). record { ended = ts; present = next_text }) (sym (map-append (λ (x : Life). x.text) lives (life_now ∷ [])))
 
   refusal_next : has_refusal (so_far.events ++ events') ≡ is_refused next
   refusal_next =
-      list_any-append is_refusal so_far.events events' ∙ ap (λ (b : Bool). b || has_refusal events') so_far.refusal
-      ∙ list_any-append is_refusal more.events (mark_of next ∷ []) ∙ ap (λ (b : Bool). b || has_refusal (mark_of next ∷ [])) (no_refusal more.events more.unended)
+      list_any-append is_refusal so_far.events events' ∙ ap (λ (x : Bool). x || has_refusal events') so_far.refusal
+      ∙ list_any-append is_refusal more.events (mark_of next ∷ []) ∙ ap (λ (x : Bool). x || has_refusal (mark_of next ∷ [])) (no_refusal more.events more.unended)
       ∙ mark_refuses next
 
-  taken_next : map as_long (so_far.events ++ events') ≡ told_of taken'
+  taken_next : map as_long (so_far.events ++ events') ≡ told_of c.events
   taken_next =
-      map-append as_long so_far.events events' ∙ ap (λ (x : List Event). x ++ map as_long events') so_far.taken_are ∙ ap (λ (x : List Event). told_of taken ++ x) more.got_are
-      ∙ sym (filter-append is_told taken more.got) ∙ ap told_of (sym more.taken_is)
+      map-append as_long so_far.events events' ∙ ap (λ (x : List Event). x ++ map as_long events') so_far.taken_are ∙ ap (λ (x : List Event). told_of b.events ++ x) more.got_are
+      ∙ sym (filter-append is_told b.events more.got) ∙ ap told_of (sym more.taken_is)
 
-  ends_next : ends_in taken' ≡ length (lives ++ life_now ∷ [])
+  ends_next : ends_in c.events ≡ length (lives ++ life_now ∷ [])
   ends_next =
-      let all = ap ends_in more.taken_is ∙ ends_append taken more.got in
+      let all = ap ends_in more.taken_is ∙ ends_append b.events more.got in
       let was = so_far.ends in
       let one = more.ends in
       let long = length-append lives (life_now ∷ []) in
@@ -249,10 +247,10 @@ module _ {S K : Type 0} (source : S → Supplied) (sink : K → Received) (says 
       ∙ ap (λ (x : List Event). life_events lives ++ x) (sym (append-nil (more.lines ++ EngineLong ∷ [])))
       ∙ sym (flat_map-append (λ (x : Life). x.lines ++ EngineLong ∷ []) lives (life_now ∷ []))
 
-  lived_next : Lived says tells s0 s' sent' taken' (lives ++ life_now ∷ []) next_text (is_refused next) o o'' l l'' f0 g
+  lived_next : Lived says tells a c sent' (lives ++ life_now ∷ []) next_text (is_refused next)
   lived_next = record {
     events = so_far.events ++ events';
-    played = up_both _ _ _ _ _ _ _ _ _ _ _ _ _ _ so_far.played more.played;
+    played = up_both a b c so_far.events events' so_far.played more.played;
     given = given_next;
     refusal = refusal_next;
     taken_are = taken_next;
@@ -261,64 +259,68 @@ module _ {S K : Type 0} (source : S → Supplied) (sink : K → Received) (says 
     lived = all_append (IsLife says tells) lives life_now so_far.lived is_life;
   }
 
-  pub has_lived_next : HasLived source sink says tells s0 s' sent' taken' runs' tally' next_text (is_refused next) o o'' l l'' f0 g
+  tallied_next : AreTallied source sink runs' tally'
+  tallied_next = tallied_more source sink runs runs' more.last tally tally' (failed more.end) more.broken more.runs_are lines_now.count (offered_all.count refl) more.reads more.writes goes.lived.tallied
+
+  pub has_lived_next : HasLived source sink says tells a c sent' runs' tally' next_text (is_refused next)
   has_lived_next = record {
     lives = lives ++ life_now ∷ [];
     told =
         ap (told_of_runs source sink) more.runs_are ∙ map-append _ runs (more.last ∷ [])
         ∙ ap (λ (x : List _). x ++ told_of_runs source sink (more.last ∷ [])) goes.lived.told ∙ sym (map-append _ lives (life_now ∷ []));
     tallies = record {
-      reads = more.reads ∙ ap (λ (b : Bool). b || failed more.end) goes.lived.tallies.reads ∙ sym (any_last (λ (x : Life). failed x.end) lives life_now);
-      writes = more.writes ∙ ap (λ (b : Bool). b || more.broken) goes.lived.tallies.writes ∙ sym (any_last (λ (x : Life). x.broken) lives life_now);
-      memory = more.memory ∙ ap (λ (b : Bool). b || lacked_memory more.end) goes.lived.tallies.memory ∙ sym (any_last (λ (x : Life). lacked_memory x.end) lives life_now);
+      reads = more.reads ∙ ap (λ (x : Bool). x || failed more.end) goes.lived.tallies.reads ∙ sym (any_last (λ (x : Life). failed x.end) lives life_now);
+      writes = more.writes ∙ ap (λ (x : Bool). x || more.broken) goes.lived.tallies.writes ∙ sym (any_last (λ (x : Life). x.broken) lives life_now);
+      memory = more.memory ∙ ap (λ (x : Bool). x || lacked_memory more.end) goes.lived.tallies.memory ∙ sym (any_last (λ (x : Life). lacked_memory x.end) lives life_now);
     };
+    tallied = tallied_next;
     so_far = lived_next;
   }
 
-  pub goes_next : (begun : LifeRun S K) → next ≡ nexts.Life begun → GoesOn source sink says tells s0 s' sent' taken' runs' begun tally' o o'' l l'' f0 g
+  pub goes_next : (begun : LifeRun S K) → next ≡ nexts.Life begun → GoesOn source sink says tells a c sent' runs' tally' begun
   goes_next begun e = record {
     text = next_text;
-    lived = subst (λ (b : Bool). HasLived source sink says tells s0 s' sent' taken' runs' tally' next_text b o o'' l l'' f0 g) (ap is_refused e) has_lived_next;
-    begun = subst (λ (n : NextLife S K). IsNext source sink says tells next_text n g.engine) e more.next_is;
+    lived = subst (λ (x : Bool). HasLived source sink says tells a c sent' runs' tally' next_text x) (ap is_refused e) has_lived_next;
+    begun = subst (λ (n : NextLife S K). IsNext source sink says tells next_text n c.failed.engine) e more.next_is;
   }
 
-  pub is_over : next_text ≡ [] → (refused : Bool) → is_refused next ≡ refused → HasLived source sink says tells s0 s' sent' taken' runs' tally' [] refused o o'' l l'' f0 g
+  is_over : next_text ≡ [] → (refused : Bool) → is_refused next ≡ refused → HasLived source sink says tells a c sent' runs' tally' [] refused
   is_over z refused e =
-      subst (λ (t : List ℕ). HasLived source sink says tells s0 s' sent' taken' runs' tally' t refused o o'' l l'' f0 g) z
-      (subst (λ (b : Bool). HasLived source sink says tells s0 s' sent' taken' runs' tally' next_text b o o'' l l'' f0 g) e has_lived_next)
+      subst (λ (t : List ℕ). HasLived source sink says tells a c sent' runs' tally' t refused) z
+      (subst (λ (x : Bool). HasLived source sink says tells a c sent' runs' tally' next_text x) e has_lived_next)
 
-  pub ends_over : next ≡ nexts.Over → HasLived source sink says tells s0 s' sent' taken' runs' tally' [] false o o'' l l'' f0 g
-  ends_over e = is_over (subst (λ (n : NextLife S K). IsNext source sink says tells next_text n g.engine) e more.next_is) false (ap is_refused e)
+  pub ends_over : next ≡ nexts.Over → HasLived source sink says tells a c sent' runs' tally' [] false
+  ends_over e = is_over (subst (λ (n : NextLife S K). IsNext source sink says tells next_text n c.failed.engine) e more.next_is) false (ap is_refused e)
 
-  pub ends_refused : (fault : HostFault) → next ≡ nexts.Refused fault → HasLived source sink says tells s0 s' sent' taken' runs' tally' [] true o o'' l l'' f0 g
-  ends_refused fault e = is_over (subst (λ (n : NextLife S K). IsNext source sink says tells next_text n g.engine) e more.next_is) true (ap is_refused e)
+  pub ends_refused : (fault : HostFault) → next ≡ nexts.Refused fault → HasLived source sink says tells a c sent' runs' tally' [] true
+  ends_refused fault e = is_over (subst (λ (n : NextLife S K). IsNext source sink says tells next_text n c.failed.engine) e more.next_is) true (ap is_refused e)
 
 -- BEHIND THE LAST LIFE
 
-pub lived_drained : {S K : Type 0} (source : S → Supplied) (sink : K → Received) (says : Option (List ℕ)) (tells : Bool) (s0 s s' : RevivalState) (sent taken taken' : List Event) (runs : List (LifeRun S K)) (tally : LivesTally) (refused : Bool)
-    (o o' o'' l l' l'' : Received) (f0 f g : LoopEnd) → HasLived source sink says tells s0 s sent taken runs tally [] refused o o' l l' f0 f → Drained s s' taken taken' o' o'' l' l'' f g
-    → HasLived source sink says tells s0 s' sent taken' runs tally [] refused o o'' l l'' f0 g
-lived_drained source sink says tells s0 s s' sent taken taken' runs tally refused o o' o'' l l' l'' f0 f g x d =
+pub lived_drained : {S K : Type 0} (source : S → Supplied) (sink : K → Received) (says : Option (List ℕ)) (tells : Bool) (a b c : Shown) (sent : List Event) (runs : List (LifeRun S K)) (tally : LivesTally) (refused : Bool)
+    → HasLived source sink says tells a b sent runs tally [] refused → Drained b c → HasLived source sink says tells a c sent runs tally [] refused
+lived_drained source sink says tells a b c sent runs tally refused x d =
     let was = x.so_far in
     let to : ToLives = record { ended = map (λ (x : Life). x.text) x.lives; present = [] } in
     record {
       lives = x.lives;
       told = x.told;
       tallies = x.tallies;
+      tallied = x.tallied;
       so_far = record {
         events = was.events ++ d.events;
-        played = up_both _ _ _ _ _ _ _ _ _ _ _ _ _ _ was.played d.played;
+        played = up_both a b c was.events d.events was.played d.played;
         given =
-            to_append to_none s0 was.events d.events ∙ ap (λ (t : ToLives). to_lives t (state_behind s0 was.events) d.events) was.given
-            ∙ ap (λ (z : RevivalState). to_lives to z d.events) (sym was.played.state_is) ∙ present_text to s d.events d.open_ended
+            to_append to_none a.state was.events d.events ∙ ap (λ (t : ToLives). to_lives t (state_behind a.state was.events) d.events) was.given
+            ∙ ap (λ (z : RevivalState). to_lives to z d.events) (sym was.played.state_is) ∙ present_text to b.state d.events d.open_ended
             ∙ ap (λ (t : List ℕ). record { ended = map (λ (x : Life). x.text) x.lives; present = t }) d.unwritten;
         refusal =
-            list_any-append is_refusal was.events d.events ∙ ap (λ (b : Bool). has_refusal was.events || b) (no_refusal d.events d.open_ended)
-            ∙ ap (λ (b : Bool). b || false) was.refusal ∙ or-false refused;
+            list_any-append is_refusal was.events d.events ∙ ap (λ (x : Bool). has_refusal was.events || x) (no_refusal d.events d.open_ended)
+            ∙ ap (λ (x : Bool). x || false) was.refusal ∙ or-false refused;
         taken_are =
-            map-append as_long was.events d.events ∙ ap (λ (z : List Event). z ++ map as_long d.events) was.taken_are ∙ ap (λ (z : List Event). told_of taken ++ z) d.got_are
-            ∙ sym (filter-append is_told taken d.got) ∙ ap told_of (sym d.taken_is);
-        ends = let all = ap ends_in d.taken_is ∙ ends_append taken d.got in let before = was.ends in let none = d.ends in omega (arith, all, before, none);
+            map-append as_long was.events d.events ∙ ap (λ (z : List Event). z ++ map as_long d.events) was.taken_are ∙ ap (λ (z : List Event). told_of b.events ++ z) d.got_are
+            ∙ sym (filter-append is_told b.events d.got) ∙ ap told_of (sym d.taken_is);
+        ends = let all = ap ends_in d.taken_is ∙ ends_append b.events d.got in let before = was.ends in let none = d.ends in omega (arith, all, before, none);
         sent_are = was.sent_are;
         lived = was.lived;
       };

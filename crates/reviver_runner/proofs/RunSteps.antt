@@ -1,40 +1,25 @@
 -- What a run of all lives leaves.
-use Rattle.std.proofs.Common.{◌≡◌, ◌∙◌, ◌⊎◌, ℕ, suc, ◌+◌, ◌<◌, ◌≤◌, List, [], ◌∷◌, ◌++◌, map, length, Bool, true, false, ◌||◌, Option, Some, None, is_some, refl, sym, ap, subst, arith, inl, inr}
+use Rattle.std.proofs.Common.{◌≡◌, ◌∙◌, ◌⊎◌, ℕ, suc, ◌+◌, ◌≤◌, List, [], ◌∷◌, ◌++◌, map, length, Bool, true, false, ◌||◌, Option, Some, None, is_some, refl, sym, ap, subst, arith, inl, inr}
 use mathlib.Core.Bool.{or-true}
 use Rattle.line_io.specs.Source.{Supplied, Received}
 use Rattle.event_pipe.specs.Counts.{Tells}
-use Rattle.child_engine.specs.Asked.{Asked}
 use Rattle.child_engine.specs.Hosts.{Books, Told, RisesBy, IsUnused, IsStarted, with_run, told_by}
 use Rattle.child_engine.specs.declared.host.Faults.{Faults}
 use Rattle.child_engine.specs.declared.host.HostFault.{HostFault}
 use Rattle.host_run.specs.declared.failures.Failures.{Failures}
-use Rattle.host_run.specs.Asked.{StartsEngines}
 use Rattle.host_run.specs.Early.{AreEarly, only_memory, only_start}
 use Rattle.host_run.specs.Logs.{is_failed, fresh_log}
 use Rattle.sink_offers.specs.Took.{LogTook}
 use Rattle.host_run.specs.Outside.{Outside, outside, AreTold}
-use Rattle.host_run.proofs.Counts.{told_by as counts_told_by, log_told, same_told}
-use Rattle.line_io.specs.Event.{Event}
+use Rattle.host_run.proofs.Counts.{told_by as counts_told_by, log_told}
 use Rattle.child_engine.specs.declared.host.HostFault.TheVariants as faults
-use Rattle.engine_revival.specs.declared.state.RevivalState.{RevivalState}
 use Rattle.host_run.specs.Logs.{is_no_memory}
 use Rattle.host_run.proofs.Early.{early_told}
-use Rattle.event_pipe.specs.Ends.{IsSender, KeepsSender, KeepsTaker, sent}
-use Rattle.event_pipe.specs.Rule.{ended}
-use Rattle.event_pipe.specs.declared.pipe.PipeSend.{PipeSend}
-use Rattle.engine_revival.specs.declared.script.TheConstants.{EVENT_ROOM}
-use Rattle.sink_offers.specs.declared.offering.LoopEnd.{LoopEnd}
-use Rattle.reviver_runner.specs.declared.lives.LifeRun.{LifeRun}
-use Rattle.reviver_runner.specs.declared.lives.LivesTally.{LivesTally}
-use Rattle.reviver_runner.specs.declared.parts.ReviverParts.{ReviverParts}
-use Rattle.reviver_runner.specs.declared.turns.NextLife.{NextLife}
-use Rattle.reviver_runner.specs.declared.turns.NextLife.TheVariants as nexts
+use Rattle.life_runner.specs.declared.life.LifeRun.{LifeRun}
 use Rattle.reviver_runner.specs.Closing.{ClosesAll, HasClosed, told_of_runs}
-use Rattle.life_runner.specs.Looped.{PlayedUp}
-use Rattle.life_runner.specs.Played.{told_of, ends_in}
-use Rattle.reviver_runner.specs.Lives.{AreReady, AreTallied, Life, AreLives, told_of_lives, IsBegun, Tallies, HasLived, GoesOn, Continues, Hands, is_failed_start, lives_in, none_failed}
-use Rattle.life_runner.proofs.Appends.{up_none}
-use Rattle.reviver_runner.specs.Ran.{HandsOut, HasFirst, KeepsEnds, Revived, Leaves}
+use Rattle.reviver_runner.specs.Lives.{Life, AreLives, told_of_lives}
+use Rattle.reviver_runner.specs.declared.lives.AllRuns.{AllRuns}
+use Rattle.reviver_runner.specs.Ran.{HandsOut, HasFirst, MayRun, Revived, Leaves}
 use Rattle.reviver_runner.proofs.Records.{leaves_by}
 
 moved : (a b c d : ℕ) (f : Bool) → b ≡ a → d ≡ c → Tells b c f → Tells a d f
@@ -95,16 +80,7 @@ revived_from lives i o f f' b after failures x =
       upper = x.upper;
       runs = x.runs;
       events = x.events;
-      heard = record {
-        may = x.heard.may;
-        lawful = x.heard.lawful;
-        arrived = x.heard.arrived;
-        did_arrive = x.heard.did_arrive;
-        orders = x.heard.orders;
-        marks = x.heard.marks;
-        texts = x.heard.texts;
-        begun = x.heard.begun;
-      };
+      heard = x.heard;
       told = x.told;
       each = x.each;
       refused = x.refused;
@@ -154,48 +130,13 @@ unstarted lives i o f f' b b' failures early u e =
     (λ _. (refl, refl))
     (λ some. absurd (omega (arith, none, some)))
 
--- THE LIVES
+-- BEHIND THE LIVES
 
--- none followed, and the host was not asked
-pub hands_none : (lives d d' : ℕ) (b0 b b' : Books) (h0 h h' : Faults) → b' ≡ b → h' ≡ h → b.runs_out ≡ d + 1 → d' ≡ d + 1 → b ≡ record b0 { runs_out = b.runs_out } → h ≡ h0 → suc d ≤ lives → HandsOut lives d' b0 b' h0 h' None
-hands_none lives d d' b0 b b' h0 h h' e f out more books counts few =
-    let all : h' ≡ h0 = f ∙ counts in
-    record {
-      out = ap (λ (x : Books). x.runs_out) e ∙ out ∙ sym more;
-      some = omega (arith, more);
-      few = omega (arith, more, few);
-      others = subst (λ (x : Books). x ≡ record b0 { runs_out = x.runs_out }) (sym e) books;
-      starts = same_told h0.starts h'.starts (ap (λ (x : Faults). x.starts) all);
-      other_counts = subst (λ (x : Faults). x ≡ record h0 { starts = x.starts }) (sym all) refl;
-    }
-
--- none followed, since the host did not start it
-pub hands_refused : (lives d d' : ℕ) (b0 b b' : Books) (h0 h h' : Faults) (fault : HostFault) → b' ≡ b → Tells h.starts h'.starts (is_failed (Some fault)) → h' ≡ record h { starts = h'.starts }
-    → b.runs_out ≡ d + 1 → d' ≡ d + 1 → b ≡ record b0 { runs_out = b.runs_out } → h ≡ h0 → suc d ≤ lives → HandsOut lives d' b0 b' h0 h' (Some fault)
-hands_refused lives d d' b0 b b' h0 h h' fault e t f out more books counts few =
-    record {
-      out = ap (λ (x : Books). x.runs_out) e ∙ out ∙ sym more;
-      some = omega (arith, more);
-      few = omega (arith, more, few);
-      others = subst (λ (x : Books). x ≡ record b0 { runs_out = x.runs_out }) (sym e) books;
-      starts = subst (λ (x : Faults). Tells x.starts h'.starts (is_failed (Some fault))) counts t;
-      other_counts = subst (λ (x : Faults). h' ≡ record x { starts = h'.starts }) counts f;
-    }
-
--- another one was handed out
-pub one_more : (b0 b b' : Books) (d d' : ℕ) → b' ≡ with_run b → b.runs_out ≡ d + 1 → d' ≡ d + 1 → b ≡ record b0 { runs_out = b.runs_out } → (b'.runs_out ≡ d' + 1) × (b' ≡ record b0 { runs_out = b'.runs_out })
-one_more b0 b b' d d' e out more books =
-    let runs : b'.runs_out ≡ b.runs_out + 1 = ap (λ (x : Books). x.runs_out) e in
-    (omega (arith, runs, out, more), subst (λ (x : Books). x ≡ record b0 { runs_out = x.runs_out }) (sym e) (ap (λ (x : Books). record x { runs_out = b.runs_out + 1 }) books))
-
--- BEFORE AND BEHIND THE LIVES
-
-pub close_may : (lives n d : ℕ) (runs_len : ℕ) (b0 b1 b2 : Books) (h1 h2 : Faults) (start : Option HostFault) → IsStarted b0 → b1 ≡ record b0 { logs_out = n } → HandsOut lives d b1 b2 h1 h2 start
-    → d ≡ runs_len → length b2.runs + runs_len ≡ b2.runs_out
-close_may lives n d runs_len b0 b1 b2 h1 h2 start e f x k =
+pub close_may : (lives n d : ℕ) (b0 b1 b2 : Books) (h1 h2 : Faults) (start : Option HostFault) → IsStarted b0 → b1 ≡ record b0 { logs_out = n } → HandsOut lives d b1 b2 h1 h2 start → length b2.runs + d ≡ b2.runs_out
+close_may lives n d b0 b1 b2 h1 h2 start e f x =
     let runs : length b2.runs ≡ 0 = ap (λ (b : Books). length b.runs) x.others ∙ ap (λ (b : Books). length b.runs) f ∙ ap (λ (b : Books). length b.runs) e in
     let out = x.out in
-    omega (arith, runs, out, k)
+    omega (arith, runs, out)
 
 pub log_may : (lives n d count : ℕ) (b0 b1 b2 : Books) (h1 h2 : Faults) (start : Option HostFault) → IsStarted b0 → b1 ≡ record b0 { logs_out = n } → HandsOut lives d b1 b2 h1 h2 start
     → count ≡ n → length b2.logs + count ≡ b2.logs_out
@@ -203,56 +144,6 @@ log_may lives n d count b0 b1 b2 h1 h2 start e f x k =
     let logs : length b2.logs ≡ 0 = ap (λ (b : Books). length b.logs) x.others ∙ ap (λ (b : Books). length b.logs) f ∙ ap (λ (b : Books). length b.logs) e in
     let out : b2.logs_out ≡ n = ap (λ (b : Books). b.logs_out) x.others ∙ ap (λ (b : Books). b.logs_out) f in
     omega (arith, logs, out, k)
-
--- THE LIVES
-
-pub keeps_both : (a b c : ReviverParts) → KeepsEnds a b → KeepsEnds b c → KeepsEnds a c
-keeps_both a b c x y = record {
-  ready = y.ready;
-  sender = (y.sender.0, y.sender.1 ∙ x.sender.1, y.sender.2 ∙ x.sender.2);
-  taker = (y.taker.0, y.taker.1 ∙ x.taker.1);
-}
-
-pub keeps_same : (a : ReviverParts) → AreReady a → KeepsEnds a a
-keeps_same a r = record { ready = r; sender = (r.sender, refl, refl); taker = (r.taker, refl) }
-
-pub empty : {T : Type 0} (xs : List T) (n : ℕ) → n ≡ length xs → n ≡ 0 → xs ≡ []
-empty [] n e z = refl
-empty (x ∷ xs) n e z = absurd (omega (arith, e, z))
-
--- before the first life has ended
-pub goes_first : {S K : Type 0} (source : S → Supplied) (sink : K → Received) (says : Option (List ℕ)) (tells : Bool) (s : RevivalState) (sent taken : List Event) (runs : List (LifeRun S K)) (run : LifeRun S K) (tally : LivesTally) (o l : Received) (f : LoopEnd)
-    → sent ≡ [] → taken ≡ [] → runs ≡ [] → Tallies [] tally → IsBegun says tells (source run.src) (sink run.snk) false [] → f ≡ none_failed → GoesOn source sink says tells s s sent taken runs run tally o o l l none_failed f
-goes_first source sink says tells s sent taken runs run tally o l f e t r ts b z =
-    record {
-      text = [];
-      lived = record {
-        lives = [];
-        told = ap (told_of_runs source sink) r;
-        tallies = ts;
-        so_far = record {
-          events = [];
-          played = subst (λ (x : LoopEnd). PlayedUp s s [] o o l l none_failed x) (sym z) (up_none s o l none_failed);
-          given = refl;
-          refusal = refl;
-          taken_are = sym (ap told_of t);
-          ends = ap ends_in t;
-          sent_are = e;
-          lived = tt;
-        };
-      };
-      begun = subst (λ (x : LoopEnd). IsBegun says tells (source run.src) (sink run.snk) x.engine []) (sym z) b;
-    }
-
-pub next_as : {S K : Type 0} (s : RevivalState) (n : ℕ) (x y : NextLife S K) → x ≡ y → Continues s n x → Continues s n y
-next_as s n x y e c = subst (λ (z : NextLife _ _). Continues s n z) e c
-
-pub hands_as : {S K : Type 0} (b b' : Books) (h h' : Faults) (x y : NextLife S K) → x ≡ y → Hands b b' h h' x → Hands b b' h h' y
-hands_as b b' h h' x y e c = subst (λ (z : NextLife _ _). Hands b b' h h' z) e c
-
-pub starts_as : {S K : Type 0} (words : List (List ℕ)) (a a' : Asked) (b b' : Books) (x y : NextLife S K) → x ≡ y → StartsEngines words a a' b b' (is_failed_start x)
-    → StartsEngines words a a' b b' (is_failed_start y)
-starts_as words a a' b b' x y e s = subst (λ (z : NextLife _ _). StartsEngines words a a' b b' (is_failed_start z)) e s
 
 -- why there was no start
 pub why_refused : (start : Option HostFault) (refused engine_start memory : Bool) → refused ≡ is_some start → refused ≡ true → engine_start ≡ is_failed start → (is_no_memory start ≡ true → memory ≡ true)
@@ -268,32 +159,6 @@ or_left x false b e h = cc
 pub or_right : (x a b : Bool) → x ≡ (a || b) → b ≡ true → x ≡ true
 or_right x a b e h = e ∙ ap (λ (c : Bool). a || c) h ∙ or-true a
 
-pub few_as : (d n m : ℕ) → suc d ≤ n → n ≡ m → suc d ≤ m
-few_as d n m few e = subst (λ (k : ℕ). suc d ≤ k) e few
-
--- no life has ended
-pub none_tallied : {S K : Type 0} (source : S → Supplied) (sink : K → Received) (runs : List (LifeRun S K)) (tally : LivesTally) → runs ≡ [] → tally.engine_read ≡ false → tally.engine_write ≡ false → AreTallied source sink runs tally
-none_tallied source sink runs tally e r w =
-    subst (λ (l : List (LifeRun _ _)). AreTallied source sink l tally) (sym e)
-    (record {
-      reads = subst (λ (b : Bool). Tells 0 0 b) (sym r) (same_told 0 0 refl);
-      writes = subst (λ (b : Bool). Tells 0 0 b) (sym w) (same_told 0 0 refl);
-    })
-
--- the ends of the channel behind the last life
-pub keeps_drained : (a b c : ReviverParts) → KeepsEnds a b → c.to ≡ b.to → KeepsTaker b.from c.from → c.text.room ≡ b.text.room → KeepsEnds a c
-keeps_drained a b c k to taker room = record {
-  ready = record {
-    room = subst (λ (n : ℕ). EVENT_ROOM ≤ n) (sym room) k.ready.room;
-    sender = subst IsSender (sym to) k.ready.sender;
-    engine = ap (λ (s : PipeSend). s.peer) to ∙ k.ready.engine;
-    going = ap (λ (s : PipeSend). ended (sent s)) to ∙ k.ready.going;
-    taker = taker.0;
-  };
-  sender = subst (λ (s : PipeSend). KeepsSender a.to s) (sym to) k.sender;
-  taker = (taker.0, taker.1 ∙ k.taker.1);
-}
-
 -- as many lives as runs
 length-map : {A B : Type 0} (f : A → B) (xs : List A) → length (map f xs) ≡ length xs
 length-map f [] = refl
@@ -301,32 +166,19 @@ length-map f (x ∷ xs) = ap suc (length-map f xs)
 
 pub lives_count : {S K : Type 0} (source : S → Supplied) (sink : K → Received) (runs : List (LifeRun S K)) (lives : List Life) (n : ℕ) → n ≡ length runs → told_of_runs source sink runs ≡ told_of_lives lives → n ≡ length lives
 lives_count source sink runs lives n e t =
-    e ∙ sym (length-map (λ (r : LifeRun _ _). told_by (source r.src) (sink r.snk)) runs) ∙ ap length t ∙ length-map (λ (l : Life). told_by l.read l.written) lives
-
--- one more is waited for, or none
-pub more_kids : {S K : Type 0} (k k' d d' : ℕ) (x : NextLife S K) {run : LifeRun S K} → x ≡ nexts.Life run → k' ≡ k + lives_in x → k ≡ d + 1 → d' ≡ d + 1 → k' ≡ d' + 1
-more_kids k k' d d' x e more was next = let one = ap lives_in e in omega (arith, more, one, was, next)
-
-pub same_kids : {S K : Type 0} (k k' d d' : ℕ) (x : NextLife S K) {y : NextLife S K} → x ≡ y → lives_in y ≡ 0 → k' ≡ k + lives_in x → k ≡ d + 1 → d' ≡ d + 1 → k' ≡ d'
-same_kids k k' d d' x e none more was next = let same = ap lives_in e ∙ none in omega (arith, more, same, was, next)
-
--- there is room for one more
-pub room_for : (k room room0 d lives lives0 : ℕ) → k ≡ d + 1 → room ≡ room0 → 10 ≤ room0 → suc d ≤ lives → lives ≡ lives0 → lives0 ≤ 9 → k < room
-room_for k room room0 d lives lives0 e f g h i j = omega (arith, e, f, g, h, i, j)
-
--- the same of a state that is the first one
-pub lived_from : {S K : Type 0} (source : S → Supplied) (sink : K → Received) (says : Option (List ℕ)) (tells : Bool) (s0 z s : RevivalState) (sent taken : List Event) (runs : List (LifeRun S K)) (tally : LivesTally) (text : List ℕ) (refused : Bool) (o o' l l' : Received) (f0 f : LoopEnd)
-    → s0 ≡ z → HasLived source sink says tells s0 s sent taken runs tally text refused o o' l l' f0 f → HasLived source sink says tells z s sent taken runs tally text refused o o' l l' f0 f
-lived_from source sink says tells s0 z s sent taken runs tally text refused o o' l l' f0 f e x = subst (λ (y : RevivalState). HasLived source sink says tells y s sent taken runs tally text refused o o' l l' f0 f) e x
+    e ∙ sym (length-map (λ (r : LifeRun _ _). told_by (source r.source) (sink r.sink)) runs) ∙ ap length t ∙ length-map (λ (l : Life). told_by l.read l.written) lives
 
 -- of as many lives, seen from before the engine was started
 pub ran_as : (n m : ℕ) (i : Supplied) (o : Received) (f f' : Faults) (b b' : Books) (after : Outside) (failures : Failures) → f' ≡ f → b' ≡ with_run b → n ≡ m → Leaves n (outside i o f' b') after failures → Leaves m (outside i o f b) after failures
 ran_as n m i o f f' b b' after failures e w h x = ran_from m i o f f' b b' after failures e w (subst (λ (k : ℕ). Leaves k (outside i o f' b') after failures) h x)
 
 -- the log's books tell as much
-pub first_as : {S K : Type 0} (source : S → Supplied) (sink : K → Received) (b0 b : Books) (first : Option (LifeRun S K)) (n : ℕ) → b ≡ record b0 { logs_out = n } → HasFirst source sink b0.says b0.tells first
-    → HasFirst source sink b.says b.tells first
-first_as source sink b0 b first n e x = subst (λ (y : Books). HasFirst source sink y.says y.tells first) (sym e) x
+pub may_as : {S K : Type 0} (source : S → Supplied) (sink : K → Received) (b0 b : Books) (runs : AllRuns S K) (n : ℕ) → b ≡ record b0 { logs_out = n } → MayRun source sink b0 runs → MayRun source sink b runs
+may_as source sink b0 b runs n e x =
+    record {
+      may = record { words = x.may.words; none = x.may.none; space = x.may.space; tally = x.may.tally; out = ap (λ (y : Books). y.runs_out) e ∙ x.may.out };
+      first = subst (λ (y : Books). HasFirst source sink y.says y.tells runs.first) (sym e) x.first;
+    }
 
 pub each_as : (b0 b : Books) (lives : List Life) (n : ℕ) → b ≡ record b0 { logs_out = n } → AreLives b.says b.tells lives → AreLives b0.says b0.tells lives
 each_as b0 b lives n e x = subst (λ (y : Books). AreLives y.says y.tells lives) e x

@@ -1,13 +1,19 @@
 -- From one life to the next.
-use Rattle.std.proofs.Common.{◌≡◌, ◌∙◌, ℕ, suc, ◌<◌, ◌+◌, List, true, ◌&&◌, not, nat_lt, sym, ap, subst, arith}
+use Rattle.std.proofs.Common.{◌≡◌, ◌∙◌, ℕ, suc, ◌<◌, ◌+◌, List, true, false, ◌&&◌, not, nat_lt, sym, ap, subst, arith}
 use Rattle.std.proofs.lemmas.Bool.{ltb-true, and_parts}
 use Rattle.line_io.specs.Event.{Event}
 use Rattle.engine_revival.specs.declared.state.RevivalState.{RevivalState}
 use Rattle.engine_revival.specs.Steps.{may_begin, is_alive}
 use Rattle.engine_revival.specs.Script.{state_behind}
-use Rattle.event_pipe.specs.Counts.{Tells}
-use Rattle.event_pipe.specs.Arrivals.{failed}
-use Rattle.event_pipe.specs.declared.reader.ReadEnd.{ReadEnd}
+use Rattle.std.specs.VecDeque.{deque_capacity}
+use Rattle.event_pipe.specs.Ends.{KeepsSender, KeepsTaker, sent}
+use Rattle.event_pipe.specs.Rule.{ended}
+use Rattle.event_pipe.specs.declared.pipe.PipeTake.{PipeTake}
+use Rattle.life_runner.specs.declared.looping.RevivalLoop.{RevivalLoop}
+use Rattle.life_runner.specs.Looped.{KeepsLoop, KeepsMarks}
+use Rattle.life_runner.proofs.LoopSteps.{ready_still}
+use Rattle.reviver_runner.specs.declared.parts.ReviverParts.{ReviverParts}
+use Rattle.reviver_runner.specs.Parts.{AreReady, KeepsEnds}
 use Rattle.life_runner.specs.Played.{heard_of}
 use Rattle.life_runner.proofs.Stays.{events_stay}
 use Rattle.reviver_runner.specs.declared.turns.NextLife.{NextLife}
@@ -15,11 +21,6 @@ use Rattle.reviver_runner.specs.declared.turns.NextLife.TheVariants as nexts
 use Rattle.reviver_runner.specs.Lives.{Goes, Follows, Continues}
 
 -- ONE MORE LIFE HAS ENDED
-
-pub follows_lives : {S K : Type 0} (s s' : RevivalState) (x : NextLife S K) → Follows s s' x → s'.lives ≡ s.lives
-follows_lives s s' (nexts.Life run) h = h.2
-follows_lives s s' nexts.Over h = h.0
-follows_lives s s' (nexts.Refused fault) h = h.0
 
 below : (s : RevivalState) → may_begin s ≡ true → s.begun < s.lives
 below s may = ltb-true s.begun s.lives (and_parts (nat_lt s.begun s.lives) (not s.quit) (and_parts (nat_lt s.begun s.lives && not s.quit) (not s.full) may).0).0
@@ -47,8 +48,17 @@ continues n n' s s' s'' es (nexts.Refused fault) m g e h =
     let same = h.1 in
     (omega (arith, same, begun, first, m), h.2)
 
-pub lives_stay : (s s' s'' : RevivalState) (es : List Event) → s' ≡ state_behind s (heard_of es) → s''.lives ≡ s'.lives → s''.lives ≡ s.lives
-lives_stay s s' s'' es e h = h ∙ ap (λ (y : RevivalState). y.lives) e ∙ (events_stay s es).lives
-
-pub reads_told : (a b : ℕ) (end : ReadEnd) → a ≡ 0 → Tells a b (failed end) → Tells 0 b (failed end)
-reads_told a b end z t = subst (λ n. Tells n b (failed end)) z t
+-- the ends of the channel behind a life and what follows of it
+pub keeps_turn : {L P : Type 0} (old new : ReviverParts L P) (mid : RevivalLoop L) → AreReady old → KeepsSender old.to new.to → ended (sent new.to) ≡ false → KeepsLoop old.looping mid → new.looping.from ≡ mid.from
+    → KeepsMarks mid.marks new.looping.marks → deque_capacity new.processes ≡ deque_capacity old.processes → KeepsEnds old new
+keeps_turn old new mid ready sender going keeps from marks room =
+    let looping : KeepsLoop old.looping new.looping = record {
+      taker = subst (λ (t : PipeTake). KeepsTaker old.looping.from t) (sym from) keeps.taker;
+      marks = record { room = marks.room ∙ keeps.marks.room; log = marks.log ∙ keeps.marks.log };
+    } in
+    record {
+      ready = record { looping = ready_still old.looping new.looping ready.looping looping; sender = sender.0; engine = sender.1 ∙ ready.engine; going = going };
+      sender = sender;
+      looping = looping;
+      processes = room;
+    }

@@ -4,20 +4,20 @@ use Rattle.line_io.specs.Source.{Supplied, Received}
 use Rattle.event_pipe.specs.Counts.{Tells}
 use Rattle.child_engine.specs.Hosts.{Books, Told, RisesBy, told_by}
 use Rattle.child_engine.specs.declared.host.Faults.{Faults}
-use Rattle.reviver_runner.specs.declared.lives.LifeRun.{LifeRun}
+use Rattle.life_runner.specs.declared.life.LifeRun.{LifeRun}
 
 -- how often the runs' sources failed, and their sinks
 abbrev pub read_faults : {S K : Type 0} → (S → Supplied) → List (LifeRun S K) → ℕ
 read_faults source [] = 0
-read_faults source (run ∷ runs) = (source run.src).faults + read_faults source runs
+read_faults source (run ∷ runs) = (source run.source).faults + read_faults source runs
 
 abbrev pub write_faults : {S K : Type 0} → (K → Received) → List (LifeRun S K) → ℕ
 write_faults sink [] = 0
-write_faults sink (run ∷ runs) = (sink run.snk).faults + write_faults sink runs
+write_faults sink (run ∷ runs) = (sink run.sink).faults + write_faults sink runs
 
 -- what the host is shown of the runs
 abbrev pub told_of_runs : {S K : Type 0} → (S → Supplied) → (K → Received) → List (LifeRun S K) → List Told
-told_of_runs source sink runs = map (λ run. told_by (source run.src) (sink run.snk)) runs
+told_of_runs source sink runs = map (λ run. told_by (source run.source) (sink run.sink)) runs
 
 -- runs were closed whose sources and sinks had failed so often
 pub record ClosesAll (before now : Faults) (source sink : ℕ) (failed : Bool) : Type 0 where

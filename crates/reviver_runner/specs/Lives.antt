@@ -3,45 +3,30 @@ use Rattle.std.specs.Prelude.{◌≡◌, ℕ, suc, ◌+◌, ◌≤◌, List, [],
 use Rattle.std.specs.List.{AllByRecursion, flat_map, list_any}
 use Rattle.line_io.specs.Event.{Event, EngineLong, EngineEnd}
 use Rattle.line_io.specs.Source.{Supplied, Received}
-use Rattle.event_pipe.specs.declared.message.Peer.TheVariants as peers
 use Rattle.event_pipe.specs.declared.reader.ReadEnd.{ReadEnd}
 use Rattle.event_pipe.specs.Arrivals.{failed as failed_of}
 use Rattle.event_pipe.specs.Counts.{Tells}
-use Rattle.event_pipe.specs.Ends.{IsSender, IsTaker, sent}
-use Rattle.event_pipe.specs.Rule.{ended}
+use Rattle.child_engine.specs.Asked.{Asked}
 use Rattle.child_engine.specs.Hosts.{Books, Told, fresh_source, fresh_sink, told_by, with_run}
 use Rattle.child_engine.specs.declared.host.Faults.{Faults}
 use Rattle.engine_revival.specs.declared.state.RevivalState.{RevivalState}
 use Rattle.engine_revival.specs.declared.words.LifeState.TheVariants as life
-use Rattle.engine_revival.specs.Steps.{opening, may_begin, is_alive}
+use Rattle.engine_revival.specs.Steps.{may_begin, is_alive}
 use Rattle.engine_revival.specs.Script.{state_after, state_behind}
-use Rattle.engine_revival.specs.declared.script.TheConstants.{EVENT_ROOM}
+use Rattle.host_run.specs.Asked.{StartsEngines}
 use Rattle.host_run.specs.Logs.{is_failed}
 use Rattle.host_run.specs.Readers.{lacked_memory}
 use Rattle.sink_offers.specs.declared.offering.LoopEnd.{LoopEnd}
 use Rattle.sink_offers.specs.Streams.{Offered}
 use Rattle.sink_offers.specs.Took.{LogTook}
-use Rattle.reviver_runner.specs.declared.lives.LifeRun.{LifeRun}
+use Rattle.life_runner.specs.declared.life.LifeRun.{LifeRun}
 use Rattle.reviver_runner.specs.declared.lives.LivesTally.{LivesTally}
-use Rattle.reviver_runner.specs.declared.parts.ReviverParts.{ReviverParts}
 use Rattle.reviver_runner.specs.declared.turns.NextLife.{NextLife}
 use Rattle.reviver_runner.specs.declared.turns.NextLife.TheVariants as nexts
 use Rattle.reviver_runner.specs.Closing.{read_faults, write_faults, told_of_runs}
-use Rattle.life_runner.specs.Looped.{PlayedUp}
+use Rattle.life_runner.specs.Looped.{Shown, PlayedUp}
 use Rattle.life_runner.specs.Played.{event_child, lines_to_child, is_close, has_close, has_refusal, as_long, told_of, ends_in}
 use Rattle.life_runner.specs.Reading.{LinesOf}
-
--- the ends of the channel, and room for the text of an event
-pub record AreReady (parts : ReviverParts) : Type 0 where
-  pub room : EVENT_ROOM ≤ parts.text.room
-  pub sender : IsSender parts.to
-  pub engine : parts.to.peer ≡ peers.Engine
-  pub going : ended (sent parts.to) ≡ false
-  pub taker : IsTaker parts.from
-
--- the first of so many lives goes on
-abbrev pub begins : ℕ → RevivalState → Type 0
-begins lives s = s ≡ opening lives
 
 -- A life goes on after so many have ended: it is one more, and one of those that may be begun.
 pub record Goes (s : RevivalState) (ended : ℕ) : Type 0 where
@@ -89,6 +74,9 @@ life_events lives = flat_map (λ l. l.lines ++ EngineLong ∷ []) lives
 abbrev pub told_of_lives : List Life → List Told
 told_of_lives lives = map (λ l. told_by l.read l.written) lives
 
+abbrev pub empty_tally : LivesTally
+empty_tally = record { engine_read = false; engine_write = false; memory = false }
+
 -- the tally counts these lives
 pub record Tallies (lives : List Life) (tally : LivesTally) : Type 0 where
   pub reads : tally.engine_read ≡ list_any (λ l. failed_of l.end) lives
@@ -116,15 +104,16 @@ to_lives to s (event ∷ events) = to_lives (to_next (is_close event) to (event_
 
 -- SO FAR
 
--- So many lives have ended since this state, and the next one, if there is one, was offered this text.
-pub record Lived (says : Option (List ℕ)) (tells : Bool) (s0 s : RevivalState) (sent taken : List Event) (lives : List Life) (text : List ℕ) (refused : Bool)
-    (output output' log log' : Received) (failed failed' : LoopEnd) : Type 0 where
+-- So many lives have ended since, and the next one, if there is one, was offered this text. Of the engine these events were
+-- sent.
+pub record Lived (says : Option (List ℕ)) (tells : Bool) (before after : Shown) (sent : List Event)
+    (lives : List Life) (text : List ℕ) (refused : Bool) : Type 0 where
   pub events : List Event
-  pub played : PlayedUp s0 s events output output' log log' failed failed'
-  pub given : to_lives to_none s0 events ≡ record { ended = map (λ l. l.text) lives; present = text }
+  pub played : PlayedUp before after events
+  pub given : to_lives to_none before.state events ≡ record { ended = map (λ l. l.text) lives; present = text }
   pub refusal : has_refusal events ≡ refused
-  pub taken_are : map as_long events ≡ told_of taken
-  pub ends : ends_in taken ≡ length lives
+  pub taken_are : map as_long events ≡ told_of after.events
+  pub ends : ends_in after.events ≡ length lives
   pub sent_are : sent ≡ life_events lives
   pub lived : AreLives says tells lives
 
@@ -132,21 +121,22 @@ abbrev pub none_failed : LoopEnd
 none_failed = record { output = false; engine = false; log = false }
 
 -- the same of the runs of the lives that have ended
-pub record HasLived {S K : Type 0} (source : S → Supplied) (sink : K → Received) (says : Option (List ℕ)) (tells : Bool) (s0 s : RevivalState) (sent taken : List Event)
-    (runs : List (LifeRun S K)) (tally : LivesTally) (text : List ℕ) (refused : Bool)
-    (output output' log log' : Received) (failed failed' : LoopEnd) : Type 0 where
+pub record HasLived {S K : Type 0} (source : S → Supplied) (sink : K → Received) (says : Option (List ℕ)) (tells : Bool)
+    (before after : Shown) (sent : List Event) (runs : List (LifeRun S K)) (tally : LivesTally) (text : List ℕ)
+    (refused : Bool) : Type 0 where
   pub lives : List Life
   pub told : told_of_runs source sink runs ≡ told_of_lives lives
   pub tallies : Tallies lives tally
-  pub so_far : Lived says tells s0 s sent taken lives text refused output output' log log' failed failed'
+  pub tallied : AreTallied source sink runs tally
+  pub so_far : Lived says tells before after sent lives text refused
 
 -- the same, if another life goes on
-pub record GoesOn {S K : Type 0} (source : S → Supplied) (sink : K → Received) (says : Option (List ℕ)) (tells : Bool) (s0 s : RevivalState) (sent taken : List Event)
-    (runs : List (LifeRun S K)) (run : LifeRun S K) (tally : LivesTally)
-    (output output' log log' : Received) (failed failed' : LoopEnd) : Type 0 where
+pub record GoesOn {S K : Type 0} (source : S → Supplied) (sink : K → Received) (says : Option (List ℕ)) (tells : Bool)
+    (before after : Shown) (sent : List Event) (runs : List (LifeRun S K)) (tally : LivesTally)
+    (run : LifeRun S K) : Type 0 where
   pub text : List ℕ
-  pub lived : HasLived source sink says tells s0 s sent taken runs tally text false output output' log log' failed failed'
-  pub begun : IsBegun says tells (source run.src) (sink run.snk) failed'.engine text
+  pub lived : HasLived source sink says tells before after sent runs tally text false
+  pub begun : IsBegun says tells (source run.source) (sink run.sink) after.failed.engine text
 
 -- FROM ONE LIFE TO THE NEXT
 
@@ -176,26 +166,27 @@ lives_in next = 0
 
 -- the next life was offered this text, or there is none and no text
 abbrev pub IsNext : {S K : Type 0} → (S → Supplied) → (K → Received) → Option (List ℕ) → Bool → List ℕ → NextLife S K → Bool → Type 0
-IsNext source sink says tells text (nexts.Life run) failed = IsBegun says tells (source run.src) (sink run.snk) failed text
+IsNext source sink says tells text (nexts.Life run) failed = IsBegun says tells (source run.source) (sink run.sink) failed text
 IsNext source sink says tells text next failed = text ≡ []
 
--- what follows of a life's end
-pub record Ended {S K : Type 0} (source : S → Supplied) (sink : K → Received) (says : Option (List ℕ)) (tells : Bool) (s s' : RevivalState) (next : NextLife S K)
-    (output output' log log' : Received) (failed failed' : LoopEnd) : Type 0 where
-  pub played : PlayedUp s s' (mark_of next ∷ []) output output' log log' failed failed'
-  pub next_is : IsNext source sink says tells (event_child s (mark_of next)) next failed'.engine
-  pub follows : Follows s s' next
+-- What follows of a life's end, at which nothing is taken from the channel.
+pub record Ended {S K : Type 0} (source : S → Supplied) (sink : K → Received) (says : Option (List ℕ)) (tells : Bool)
+    (before after : Shown) (next : NextLife S K) : Type 0 where
+  pub same : after.events ≡ before.events
+  pub played : PlayedUp before after (mark_of next ∷ [])
+  pub next_is : IsNext source sink says tells (event_child before.state (mark_of next)) next after.failed.engine
+  pub follows : Follows before.state after.state next
 
--- One life that went on in this state, on a run that was offered a text: it ended, and this follows.
-pub record LivesOn {S K : Type 0} (source : S → Supplied) (sink : K → Received) (says : Option (List ℕ)) (tells : Bool) (s s' : RevivalState) (sent sent' taken taken' : List Event)
-    (run : LifeRun S K) (runs runs' : List (LifeRun S K)) (tally tally' : LivesTally) (next : NextLife S K)
-    (output output' log log' : Received) (failed failed' : LoopEnd) : Type 0 where
+-- One life that went on, on a run that was offered a text: it ended, and this follows.
+pub record LivesOn {S K : Type 0} (source : S → Supplied) (sink : K → Received) (says : Option (List ℕ)) (tells : Bool)
+    (before after : Shown) (sent sent' : List Event) (runs runs' : List (LifeRun S K)) (tally tally' : LivesTally)
+    (run : LifeRun S K) (next : NextLife S K) : Type 0 where
   -- what the revival heard of it
   pub events : List Event
   pub unended : has_close events ≡ false
-  pub played : PlayedUp s s' (events ++ mark_of next ∷ []) output output' log log' failed failed'
+  pub played : PlayedUp before after (events ++ mark_of next ∷ [])
   pub got : List Event
-  pub taken_is : taken' ≡ taken ++ got
+  pub taken_is : after.events ≡ before.events ++ got
   pub got_are : map as_long (events ++ mark_of next ∷ []) ≡ told_of got
   pub ends : ends_in got ≡ 1
   -- its run
@@ -204,23 +195,42 @@ pub record LivesOn {S K : Type 0} (source : S → Supplied) (sink : K → Receiv
   pub lines : List Event
   pub end : ReadEnd
   pub sent_is : sent' ≡ sent ++ (lines ++ EngineLong ∷ [])
-  pub read : LinesOf (source run.src) (source last.src) lines end
+  pub read : LinesOf (source run.source) (source last.source) lines end
   pub broken : Bool
-  pub offered : Offered failed.engine broken (sink run.snk) (sink last.snk) (lines_to_child s events)
+  pub offered : Offered before.failed.engine broken (sink run.sink) (sink last.sink) (lines_to_child before.state events)
   pub reads : tally'.engine_read ≡ (tally.engine_read || failed_of end)
   pub writes : tally'.engine_write ≡ (tally.engine_write || broken)
   pub memory : tally'.memory ≡ (tally.memory || lacked_memory end)
   -- the next one
-  pub next_is : IsNext source sink says tells (event_child (state_behind s events) (mark_of next)) next failed'.engine
+  pub lives : after.state.lives ≡ before.state.lives
+  pub next_is : IsNext source sink says tells (event_child (state_behind before.state events) (mark_of next)) next after.failed.engine
 
 -- one more life has ended
 abbrev pub Continues : {S K : Type 0} → RevivalState → ℕ → NextLife S K → Type 0
 Continues s ended (nexts.Life run) = Goes s ended
 Continues s ended next = (s.begun ≡ ended) × (s.life ≡ life.Over)
 
+-- what a host shows
+pub record HostShown : Type 0 where
+  pub books : Books
+  pub counts : Faults
+  pub asked : Asked
+
+abbrev pub host_shown : {H : Type 0} → (H → Books) → (H → Faults) → (H → Asked) → H → HostShown
+host_shown books counts asked host =
+    record { books = books host; counts = counts host; asked = asked host }
+
 -- the host handed out a run for another life, or refused it, or was not asked
-abbrev pub Hands : {S K : Type 0} → Books → Books → Faults → Faults → NextLife S K → Type 0
-Hands books books' counts counts' (nexts.Life run) = (books' ≡ with_run books) × (counts' ≡ counts)
-Hands books books' counts counts' nexts.Over = (books' ≡ books) × (counts' ≡ counts)
-Hands books books' counts counts' (nexts.Refused fault) =
-    (books' ≡ books) × Tells counts.starts counts'.starts (is_failed (Some fault)) × (counts' ≡ record counts { starts = counts'.starts })
+abbrev pub Hands : {S K : Type 0} → HostShown → HostShown → NextLife S K → Type 0
+Hands host host' (nexts.Life run) = (host'.books ≡ with_run host.books) × (host'.counts ≡ host.counts)
+Hands host host' nexts.Over = (host'.books ≡ host.books) × (host'.counts ≡ host.counts)
+Hands host host' (nexts.Refused fault) =
+    (host'.books ≡ host.books) × Tells host.counts.starts host'.counts.starts (is_failed (Some fault))
+    × (host'.counts ≡ record host.counts { starts = host'.counts.starts })
+
+-- So many lives have ended, and another goes on: its run and theirs were handed out, and the host refused nothing.
+pub record HostGoes (words : List (List ℕ)) (first now : HostShown) (ended : ℕ) : Type 0 where
+  pub out : now.books.runs_out ≡ ended + 1
+  pub books : now.books ≡ record first.books { runs_out = now.books.runs_out }
+  pub counts : now.counts ≡ first.counts
+  pub asked : StartsEngines words first.asked now.asked first.books now.books false

@@ -1,5 +1,5 @@
 -- What a run of all lives leaves.
-use Rattle.std.specs.Prelude.{◌≡◌, ◌⊎◌, ℕ, ◌<◌, ◌≤◌, List, [], map, length, Option, Some, None, IfSome, Bool, true, false}
+use Rattle.std.specs.Prelude.{◌≡◌, ◌⊎◌, ℕ, ◌<◌, ◌≤◌, List, [], map, length, Option, Some, None, IfSome, is_some, Bool, true, false}
 use Rattle.std.specs.List.{list_any}
 use Rattle.std.specs.VecDeque.{deque_len, deque_capacity}
 use Rattle.line_io.specs.Event.{Event}
@@ -8,7 +8,7 @@ use Rattle.event_pipe.specs.declared.message.Peer.TheVariants as peers
 use Rattle.event_pipe.specs.declared.reader.ReadEnd.{ReadEnd}
 use Rattle.event_pipe.specs.Arrivals.{Arrived, failed}
 use Rattle.event_pipe.specs.Counts.{Tells}
-use Rattle.event_pipe.specs.Ends.{KeepsSender, KeepsTaker, sent, taken}
+use Rattle.event_pipe.specs.Ends.{sent, taken}
 use Rattle.event_pipe.specs.Rule.{sent_by}
 use Rattle.child_engine.specs.Hosts.{Books}
 use Rattle.child_engine.specs.declared.host.Faults.{Faults}
@@ -16,17 +16,23 @@ use Rattle.child_engine.specs.declared.host.HostFault.{HostFault}
 use Rattle.engine_revival.specs.Script.{AllMayHappen, state_behind, revival_script}
 use Rattle.engine_revival.specs.Steps.{opening}
 use Rattle.engine_revival.specs.Talk.{IsAlwaysLawful}
+use Rattle.host_run.specs.Asked.{StartsEngines}
 use Rattle.host_run.specs.Early.{no_failure}
 use Rattle.host_run.specs.Logs.{is_failed, fresh_log, closed_logs}
 use Rattle.host_run.specs.Readers.{lacked_memory}
 use Rattle.host_run.specs.Outside.{Outside, AreTold}
 use Rattle.host_run.specs.declared.failures.Failures.{Failures}
 use Rattle.sink_offers.specs.Took.{LogTook}
-use Rattle.reviver_runner.specs.declared.lives.LifeRun.{LifeRun}
-use Rattle.reviver_runner.specs.declared.parts.ReviverParts.{ReviverParts}
-use Rattle.reviver_runner.specs.declared.run.AllRuns.{AllRuns}
-use Rattle.reviver_runner.specs.Lives.{AreReady, Goes, IsBegun, Life, AreLives, life_events, told_of_lives, to_none, to_lives}
+use Rattle.life_runner.specs.declared.life.LifeRun.{LifeRun}
+use Rattle.life_runner.specs.Looped.{Shown}
 use Rattle.life_runner.specs.Played.{lines_up, as_long, told_of, has_refusal}
+use Rattle.reviver_runner.specs.declared.lives.AllRuns.{AllRuns}
+use Rattle.reviver_runner.specs.declared.lives.LivesTally.{LivesTally}
+use Rattle.reviver_runner.specs.declared.parts.ReviverParts.{ReviverParts}
+use Rattle.reviver_runner.specs.declared.outcome.LivesEnd.{LivesEnd}
+use Rattle.reviver_runner.specs.Lives.{IsBegun, HasLived, HostShown, Life, AreLives, Tallies, AreTallied, life_events, told_of_lives, to_none, to_lives, empty_tally, none_failed}
+use Rattle.reviver_runner.specs.Closing.{told_of_runs}
+use Rattle.reviver_runner.specs.Parts.{AreReady}
 use Rattle.reviver_runner.specs.Recorded.{Recorded, IsWhole}
 
 -- Runs were handed out, one for each of these lives that have ended, and the last start may have been refused.
@@ -40,30 +46,43 @@ pub record HandsOut (lives ended : ℕ) (books books' : Books) (counts counts' :
 
 -- the run of the first life is there, and was not touched yet
 abbrev pub HasFirst : {S K : Type 0} → (S → Supplied) → (K → Received) → Option (List ℕ) → Bool → Option (LifeRun S K) → Type 0
-HasFirst source sink says tells (Some run) = IsBegun says tells (source run.src) (sink run.snk) false []
+HasFirst source sink says tells (Some run) = IsBegun says tells (source run.source) (sink run.sink) false []
 HasFirst source sink says tells None = ⊥
 
--- The first of at most nine lives may go on, none has ended, nothing was sent or taken yet, and there is room for what all of
--- them are waited for by.
-pub record MayRun {S K : Type 0} (source : S → Supplied) (sink : K → Received) (books : Books) (parts : ReviverParts) (runs : AllRuns S K) (kids room : ℕ) : Type 0 where
+-- no life has ended, and there is room for nine
+pub record MayGoOn {S K : Type 0} (books : Books) (runs : AllRuns S K) : Type 0 where
   pub words : 0 < length runs.words.items
-  pub few : parts.revival.state.lives ≤ 9
-  pub ready : AreReady parts
-  pub unsent : sent parts.to ≡ []
-  pub untaken : taken parts.from ≡ []
-  pub goes : Goes parts.revival.state 0
-  pub first : HasFirst source sink books.says books.tells runs.first
   pub none : deque_len runs.ended ≡ 0
   pub space : 9 ≤ deque_capacity runs.ended
-  pub one_kid : kids ≡ 1
-  pub kids_room : 10 ≤ room
+  pub tally : runs.tally ≡ empty_tally
   pub out : books.runs_out ≡ 1
 
--- the ends of the channel are those of before
-pub record KeepsEnds (old new : ReviverParts) : Type 0 where
-  pub ready : AreReady new
-  pub sender : KeepsSender old.to new.to
-  pub taker : KeepsTaker old.from new.from
+-- the same, and the run of the first life is there
+pub record MayRun {S K : Type 0} (source : S → Supplied) (sink : K → Received) (books : Books) (runs : AllRuns S K) : Type 0 where
+  pub may : MayGoOn books runs
+  pub first : HasFirst source sink books.says books.tells runs.first
+
+-- The first of so many lives, nine at most, goes on, nothing was sent or taken yet, no sink has failed, and there is room
+-- for what all of them are waited for by.
+pub record MayGo {L P : Type 0} (lives : ℕ) (parts : ReviverParts L P) : Type 0 where
+  pub some : 1 ≤ lives
+  pub few : lives ≤ 9
+  pub begins : parts.looping.revival.state ≡ opening lives
+  pub ready : AreReady parts
+  pub unsent : sent parts.to ≡ []
+  pub untaken : taken parts.looping.from ≡ []
+  pub unfailed : parts.looping.failed ≡ none_failed
+  pub process : deque_len parts.processes ≡ 1
+  pub room : 10 ≤ deque_capacity parts.processes
+
+-- What the lives leave, once none follows: why no other was started, if one might have begun, and what the host was asked.
+pub record RanLives {S K : Type 0} (source : S → Supplied) (sink : K → Received) (words : List (List ℕ))
+    (host host' : HostShown) (before after : Shown) (sent : List Event) (ended : List (LifeRun S K))
+    (tally : LivesTally) (refused : Option HostFault) : Type 0 where
+  pub begun : after.state.begun ≡ length ended
+  pub lived : HasLived source sink host.books.says host.books.tells before after sent ended tally [] (is_some refused)
+  pub handed : HandsOut before.state.lives (length ended) host.books host'.books host.counts host'.counts refused
+  pub asked : StartsEngines words host.asked host'.asked host.books host'.books (is_failed refused)
 
 -- why there was no memory: a reader of a life or of the interface had none, or a log or a life was not opened
 pub record TellsRun (upper : ReadEnd) (lives : List Life) (failures : Failures) : Type 0 where
@@ -75,17 +94,35 @@ pub record TellsRun (upper : ReadEnd) (lives : List Life) (failures : Failures) 
 
 -- The revival of so many lives heard these events, in the order in which they came. Its orders are what arrived of the interface,
 -- without long lines; and of each life there are its lines, and a mark of its end.
-pub record Heard (lives : ℕ) (before after : Outside) (upper : ReadEnd) (runs : List Life) (events : List Event) : Type 0 where
+pub record Heard (lives : ℕ) (input input' : Supplied) (upper : ReadEnd) (runs : List Life) (events : List Event) : Type 0 where
   pub may : AllMayHappen (opening lives) events
   -- and the talk that they bring about is lawful up to each of them
   pub lawful : IsAlwaysLawful lives events
   pub arrived : List Event
-  pub did_arrive : Arrived peers.Iface before.input after.input arrived upper
+  pub did_arrive : Arrived peers.Iface input input' arrived upper
   pub orders : sent_by peers.Iface events ≡ told_of arrived
   pub marks : map as_long (sent_by peers.Engine events) ≡ life_events runs
   -- what is written to each life, and behind the last one nothing is
   pub texts : to_lives to_none (opening lives) events ≡ record { ended = map (λ l. l.text) runs; present = [] }
   pub begun : (state_behind (opening lives) events).begun ≡ length runs
+
+-- A run of so many lives whose runs and log are not closed yet: what the revival heard of both sides, what each life shows,
+-- and what was offered to the interface and to the log.
+pub record HasRun {S K : Type 0} (source : S → Supplied) (sink : K → Received) (lives : ℕ) (words : List (List ℕ))
+    (input input' : Supplied) (output output' log log' : Received) (host host' : HostShown)
+    (ended : List (LifeRun S K)) (end : LivesEnd) : Type 0 where
+  pub runs : List Life
+  pub events : List Event
+  pub heard : Heard lives input input' end.upper runs events
+  pub up : LogTook (lines_up (opening lives) events) end.failed.output output output'
+  pub logged : LogTook (revival_script lives events) end.failed.log log log'
+  pub refusal : has_refusal events ≡ is_some end.start
+  pub each : AreLives host.books.says host.books.tells runs
+  pub told : told_of_runs source sink ended ≡ told_of_lives runs
+  pub tallies : Tallies runs end.tally
+  pub tallied : AreTallied source sink ended end.tally
+  pub handed : HandsOut lives (length ended) host.books host'.books host.counts host'.counts end.start
+  pub asked : StartsEngines words host.asked host'.asked host.books host'.books (is_failed end.start)
 
 -- One run of the lives: the log is the script of the events, up went what is given for them, and to each life what is written to it.
 -- A sink that failed took a front of that.
@@ -93,7 +130,7 @@ pub record Revived (lives : ℕ) (before after : Outside) (failures : Failures) 
   pub upper : ReadEnd
   pub runs : List Life
   pub events : List Event
-  pub heard : Heard lives before after upper runs events
+  pub heard : Heard lives before.input after.input upper runs events
   pub told : TellsRun upper runs failures
   pub each : AreLives before.books.says before.books.tells runs
   pub refused : has_refusal events ≡ true → (failures.engine_start ≡ true) ⊎ (failures.memory ≡ true)

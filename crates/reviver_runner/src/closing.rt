@@ -4,22 +4,22 @@ ghost use Rattle.host_run.specs.Logs.{log_count, logs_told};
 ghost use Rattle.sink_offers.specs.Streams.{log_state};
 ghost use Rattle.reviver_runner.specs.Closing.{ClosesAll, ClosesEverything, HasClosed, read_faults, write_faults, told_of_runs};
 
-use crate::lives::LifeRun;
 use child_engine::{Host, Started};
 use host_run::{close_log, either};
+use life_runner::LifeRun;
 use std::collections::VecDeque;
 
 // Closes the runs in their order, and reports whether waiting for one failed.
 fn close_all<H: Host>(
     host: &mut H,
     runs: VecDeque<LifeRun<H::EngineSource, H::EngineSink>>,
-    kids: VecDeque<H::ChildProcess>,
+    processes: VecDeque<H::ChildProcess>,
 ) -> bool
 where
     H::EngineSource: Drop,
     H::EngineSink: Drop,
     H::ChildProcess: Drop,
-    requires kids { length kids.items ≡ length runs.items }
+    requires processes { length processes.items ≡ length runs.items }
     requires out { length (H.books host.old).runs + length runs.items ≡ (H.books host.old).runs_out }
     ensures books { HasClosed (H.books host.old) (H.books host.new)
         (told_of_runs H.EngineSource.state H.EngineSink.state runs.items) }
@@ -29,14 +29,18 @@ where
     ensures asked { H.asked host.new ≡ H.asked host.old }
 {
     let mut left = runs;
-    let mut kids = kids;
+    let mut processes = processes;
     let mut failed = false;
     while let Some(run) = left.pop_front() {
-        let Some(kid) = kids.pop_front() else {
+        let Some(process) = processes.pop_front() else {
             unreachable!()
         };
-        let LifeRun { src, snk } = run;
-        let waited = host.close(Started { src, snk, kid });
+        let LifeRun { source, sink } = run;
+        let waited = host.close(Started {
+            source,
+            sink,
+            process,
+        });
         failed = either(failed, waited.is_err());
     }
     failed
@@ -47,14 +51,14 @@ where
 pub(crate) fn close_everything<H: Host>(
     host: &mut H,
     runs: VecDeque<LifeRun<H::EngineSource, H::EngineSink>>,
-    kids: VecDeque<H::ChildProcess>,
+    processes: VecDeque<H::ChildProcess>,
     log: Option<H::Log>,
 ) -> bool
 where
     H::EngineSource: Drop,
     H::EngineSink: Drop,
     H::ChildProcess: Drop,
-    requires kids { length kids.items ≡ length runs.items }
+    requires processes { length processes.items ≡ length runs.items }
     requires out { length (H.books host.old).runs + length runs.items ≡ (H.books host.old).runs_out }
     requires logs { length (H.books host.old).logs + log_count log ≡ (H.books host.old).logs_out }
     ensures closes { ClosesEverything (H.books host.old) (H.books host.new)
@@ -64,7 +68,7 @@ where
         (log_state H.Log.state log).faults (logs_told H.Log.state log) result }
     ensures asked { H.asked host.new ≡ H.asked host.old }
 {
-    let failed = close_all(host, runs, kids);
+    let failed = close_all(host, runs, processes);
     close_log(host, log);
     failed
 }

@@ -5,6 +5,7 @@ mod closing;
 mod drain;
 mod laws;
 mod lives;
+mod outcome;
 mod parts;
 mod run;
 mod starting;

@@ -1,17 +1,13 @@
 // The lives that have ended.
-ghost use Rattle.std.specs.Prelude.{◌≡◌, ◌||◌, false};
+ghost use Rattle.std.specs.Prelude.{◌≡◌, ◌||◌};
 ghost use Rattle.event_pipe.specs.Arrivals.{failed};
 ghost use Rattle.host_run.specs.Readers.{lacked_memory};
+ghost use Rattle.reviver_runner.specs.Lives.{empty_tally};
 
 use event_pipe::ReadEnd;
 use host_run::{has_failed, has_lacked_memory};
-
-/// The streams of an engine that was started, until it is closed.
-#[derive(Drop)]
-pub(crate) struct LifeRun<S, K> {
-    pub src: S,
-    pub snk: K,
-}
+use life_runner::LifeRun;
+use std::collections::VecDeque;
 
 /// What failed in the lives so far: reading or writing in one of them, or memory for a line.
 #[derive(Clone, Copy)]
@@ -24,9 +20,7 @@ pub(crate) struct LivesTally {
 impl LivesTally {
     /// Nothing failed.
     pub(crate) fn none() -> LivesTally
-        ensures read { result.engine_read ≡ false }
-        ensures write { result.engine_write ≡ false }
-        ensures memory { result.memory ≡ false }
+        ensures { result ≡ empty_tally }
     {
         LivesTally {
             engine_read: false,
@@ -47,4 +41,14 @@ impl LivesTally {
             memory: self.memory || has_lacked_memory(end),
         }
     }
+}
+
+/// The words that start an engine, the run of the first life, before it goes on, the runs of the
+/// lives that have ended, and what failed in these.
+#[derive(Drop)]
+pub(crate) struct AllRuns<S, K> {
+    pub words: Vec<String>,
+    pub first: Option<LifeRun<S, K>>,
+    pub ended: VecDeque<LifeRun<S, K>>,
+    pub tally: LivesTally,
 }

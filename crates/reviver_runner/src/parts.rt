@@ -1,52 +1,53 @@
 // What a run of the lives needs beside its host.
-ghost use Rattle.std.specs.Prelude.{◌≡◌, [], IfOk};
-ghost use Rattle.event_pipe.specs.Ends.{IsFreshSender, AreOne, sent, taken};
-ghost use Rattle.event_pipe.specs.declared.message.Peer.TheVariants as peers;
-ghost use Rattle.reviver_runner.specs.Lives.{AreReady, begins};
+ghost use Rattle.std.specs.Prelude.{IfOk};
+ghost use Rattle.reviver_runner.specs.Parts.{IsMade};
 
 use engine_revival::{EVENT_ROOM, Revival};
 use event_pipe::{Pipe, PipeSend, PipeTake};
+use life_runner::RevivalLoop;
 use line_io::{NoMemory, Out};
 use std::alloc::Global;
+use std::collections::VecDeque;
 
-/// The revival, the room for the marks of an event, the ends of the channel but the interface's, and where the lives get their
-/// memory from.
+/// The revival, the room for the marks of an event, and the ends of the channel.
 #[derive(Drop)]
-pub(crate) struct ReviverParts {
-    pub alloc: Global,
+pub(crate) struct MadeParts {
     pub revival: Revival,
     pub text: Out,
+    pub iface: PipeSend,
     pub to: PipeSend,
     pub from: PipeTake,
 }
 
-/// The same, and the interface's end.
+/// What the lives work on: where their readers get memory from and send to, what hears them, and
+/// what they are waited for by.
 #[derive(Drop)]
-pub(crate) struct MadeParts {
-    pub parts: ReviverParts,
+pub(crate) struct ReviverParts<L, P> {
+    pub alloc: Global,
+    pub to: PipeSend,
+    pub looping: RevivalLoop<L>,
+    pub processes: VecDeque<P>,
+}
+
+/// What the interface's reader needs: where it gets memory from, and its end of the channel.
+#[derive(Drop)]
+pub(crate) struct UpperReader {
+    pub alloc: Global,
     pub iface: PipeSend,
 }
 
 /// Takes the memory of a run of so many lives.
 pub(crate) fn make_parts(alloc: Global, lives: u32) -> Result<MadeParts, NoMemory>
-    ensures ready { IfOk result (λ made. AreReady made.parts) }
-    ensures begins { IfOk result (λ made. begins lives made.parts.revival.state) }
-    ensures iface { IfOk result (λ made. IsFreshSender made.iface peers.Iface) }
-    ensures unsent { IfOk result (λ made. sent made.parts.to ≡ []) }
-    ensures untaken { IfOk result (λ made. taken made.parts.from ≡ []) }
-    ensures one { IfOk result (λ made. AreOne made.iface made.parts.to made.parts.from) }
+    ensures { IfOk result (IsMade lives) }
 {
     let revival = Revival::make(alloc, lives)?;
     let text = Out::make(alloc, EVENT_ROOM)?;
     let (iface, to, from) = Pipe::make(alloc)?;
     Ok(MadeParts {
-        parts: ReviverParts {
-            alloc,
-            revival,
-            text,
-            to,
-            from,
-        },
+        revival,
+        text,
         iface,
+        to,
+        from,
     })
 }

@@ -1,20 +1,18 @@
 // The start of a run: its memory, and the first engine.
-ghost use Rattle.std.specs.Prelude.{◌≡◌, ◌≤◌, ◌<◌, [], length, map, string_bytes, IfOk, IfErr, OnOk, OnErr};
+ghost use Rattle.std.specs.Prelude.{◌≡◌, ◌≤◌, ◌<◌, length, map, string_bytes, IfOk, IfErr, OnOk, OnErr};
 ghost use Rattle.std.specs.VecDeque.{deque_len, deque_capacity};
 ghost use Rattle.child_engine.specs.Asked.{and_engines};
 ghost use Rattle.child_engine.specs.Hosts.{IsUnused, with_run};
-ghost use Rattle.event_pipe.specs.Ends.{IsFreshSender, AreOne, sent, taken};
-ghost use Rattle.event_pipe.specs.declared.message.Peer.TheVariants as peers;
 ghost use Rattle.host_run.specs.Asked.{engines_asked_by};
 ghost use Rattle.host_run.specs.Early.{AreEarly};
-ghost use Rattle.reviver_runner.specs.Lives.{AreReady, begins};
+ghost use Rattle.reviver_runner.specs.Parts.{IsMade};
 ghost use Rattle.reviver_runner.specs.Ran.{MayRun};
 
-use crate::lives::LifeRun;
+use crate::lives::{AllRuns, LivesTally};
 use crate::parts::{MadeParts, make_parts};
-use crate::run::AllRuns;
 use child_engine::{Host, LetGo, Started};
 use host_run::{Failures, only_memory, start_engine};
+use life_runner::LifeRun;
 use line_io::NoMemory;
 use std::alloc::Global;
 use std::collections::VecDeque;
@@ -24,14 +22,14 @@ use std::thread::Threads;
 pub(crate) struct ReadyLives<S, K, P> {
     pub made: MadeParts,
     pub runs: AllRuns<S, K>,
-    pub kids: VecDeque<P>,
+    pub processes: VecDeque<P>,
 }
 
 // The room of all lives, before an engine is started.
 struct LivesRoom<S, K, P> {
     made: MadeParts,
     ended: VecDeque<LifeRun<S, K>>,
-    kids: VecDeque<P>,
+    processes: VecDeque<P>,
 }
 
 // Takes the memory of a run.
@@ -39,21 +37,20 @@ fn make_room<S: Drop, K: Drop, P: Drop>(
     alloc: Global,
     lives: u32,
 ) -> Result<LivesRoom<S, K, P>, NoMemory>
-    ensures iface { IfOk result (λ room. IsFreshSender room.made.iface peers.Iface) }
-    ensures one { IfOk result (λ room. AreOne room.made.iface room.made.parts.to room.made.parts.from) }
-    ensures ready { IfOk result (λ room. AreReady room.made.parts) }
-    ensures begins { IfOk result (λ room. begins lives room.made.parts.revival.state) }
-    ensures unsent { IfOk result (λ room. sent room.made.parts.to ≡ []) }
-    ensures untaken { IfOk result (λ room. taken room.made.parts.from ≡ []) }
+    ensures made { IfOk result (λ room. IsMade lives room.made) }
     ensures none { IfOk result (λ room. deque_len room.ended ≡ 0) }
     ensures space { IfOk result (λ room. 9 ≤ deque_capacity room.ended) }
-    ensures no_kids { IfOk result (λ room. deque_len room.kids ≡ 0) }
-    ensures kids_room { IfOk result (λ room. 10 ≤ deque_capacity room.kids) }
+    ensures no_process { IfOk result (λ room. deque_len room.processes ≡ 0) }
+    ensures room { IfOk result (λ room. 10 ≤ deque_capacity room.processes) }
 {
     let ended = VecDeque::with_capacity(alloc, 9)?;
-    let kids = VecDeque::with_capacity(alloc, 10)?;
+    let processes = VecDeque::with_capacity(alloc, 10)?;
     let made = make_parts(alloc, lives)?;
-    Ok(LivesRoom { made, ended, kids })
+    Ok(LivesRoom {
+        made,
+        ended,
+        processes,
+    })
 }
 
 // Takes the memory of a run, and starts the first engine.
@@ -69,17 +66,13 @@ where
     H::EngineSink: LetGo + Drop,
     H::ChildProcess: Drop,
     requires words { 0 < length words.items }
-    requires some { 1 ≤ lives }
-    requires few { lives ≤ 9 }
     requires unused { IsUnused (H.books host.old) }
-    ensures iface { IfOk result (λ ready. IsFreshSender ready.made.iface peers.Iface) }
-    ensures one { IfOk result (λ ready. AreOne ready.made.iface ready.made.parts.to ready.made.parts.from) }
-    ensures begins { IfOk result (λ ready. begins lives ready.made.parts.revival.state) }
-    ensures lives { IfOk result (λ ready. ready.made.parts.revival.state.lives ≡ lives) }
+    ensures made { IfOk result (λ ready. IsMade lives ready.made) }
     ensures may { IfOk result (λ ready. MayRun H.EngineSource.state H.EngineSink.state
-        (H.books host.new)
-        ready.made.parts ready.runs (deque_len ready.kids) (deque_capacity ready.kids)) }
+        (H.books host.new) ready.runs) }
     ensures words { IfOk result (λ ready. ready.runs.words ≡ words) }
+    ensures process { IfOk result (λ ready. deque_len ready.processes ≡ 1) }
+    ensures room { IfOk result (λ ready. 10 ≤ deque_capacity ready.processes) }
     ensures books { OnOk result (H.books host.new ≡ with_run (H.books host.old)) }
     ensures faults { OnOk result (H.faults host.new ≡ H.faults host.old) }
     ensures unstarted { OnErr result (H.books host.new ≡ H.books host.old) }
@@ -93,21 +86,26 @@ where
     let LivesRoom {
         made,
         ended,
-        mut kids,
+        mut processes,
     } = room;
     match start_engine(rt, alloc, words.as_slice(), host) {
         Ok(run) => {
-            let Started { src, snk, kid } = run;
-            kids.push_back_reserved(kid);
-            let first = Some(LifeRun { src, snk });
+            let Started {
+                source,
+                sink,
+                process,
+            } = run;
+            processes.push_back_reserved(process);
+            let first = Some(LifeRun { source, sink });
             Ok(ReadyLives {
                 made,
                 runs: AllRuns {
                     words,
                     first,
                     ended,
+                    tally: LivesTally::none(),
                 },
-                kids,
+                processes,
             })
         }
         Err(failures) => Err(failures),

@@ -1,26 +1,25 @@
 // From one life to the next.
-ghost use Rattle.std.specs.Prelude.{◌≡◌, ℕ, ◌≤◌, ◌<◌, ◌+◌, List, length, map, string_bytes, is_some, true};
+ghost use Rattle.std.specs.Prelude.{◌≡◌, ◌≤◌, ◌<◌, ◌+◌, length, map, string_bytes, true, false};
 ghost use Rattle.std.specs.VecDeque.{deque_len, deque_capacity};
 ghost use Rattle.line_io.specs.Event.{event_of, EngineLong};
-ghost use Rattle.engine_revival.specs.declared.script.TheConstants.{EVENT_ROOM};
 ghost use Rattle.engine_revival.specs.Calls as calls;
 ghost use Rattle.engine_revival.specs.Calls.{may, after, up_of, child_of};
+ghost use Rattle.engine_revival.specs.Steps.{is_alive};
+ghost use Rattle.engine_revival.specs.declared.script.TheConstants.{EVENT_ROOM};
+ghost use Rattle.event_pipe.specs.Ends.{sent};
+ghost use Rattle.event_pipe.specs.Message.{is_good};
 ghost use Rattle.host_run.specs.Asked.{StartsEngines};
 ghost use Rattle.script_lines.specs.StepText.{step_marks};
-ghost use Rattle.event_pipe.specs.Message.{is_good};
-ghost use Rattle.engine_revival.specs.Steps.{is_alive};
 ghost use Rattle.sink_offers.specs.Streams.{sinks, log_state, Offered};
-ghost use Rattle.life_runner.specs.Looped.{Offers};
-ghost use Rattle.event_pipe.specs.Ends.{sent, taken};
-ghost use Rattle.reviver_runner.specs.Lives.{AreReady, AreTallied, Goes, IsBegun, Ended, LivesOn, Continues, Hands, is_failed_start, lives_in};
-ghost use Rattle.reviver_runner.specs.Ran.{KeepsEnds};
+ghost use Rattle.life_runner.specs.Looped.{KeepsMarks, Offers, shown};
+ghost use Rattle.reviver_runner.specs.Lives.{Goes, Ended, LivesOn, Continues, Hands, host_shown, is_failed_start, lives_in};
+ghost use Rattle.reviver_runner.specs.Parts.{AreReady, KeepsEnds};
 
-use crate::lives::{LifeRun, LivesTally};
+use crate::lives::AllRuns;
 use crate::parts::ReviverParts;
 use child_engine::{Host, HostFault, LetGo, Started};
-use engine_revival::Revival;
-use life_runner::{offer_all, one_life};
-use line_io::{Event, NullSink, Out, Sink};
+use life_runner::{LifeRun, RevivalLoop, offer_all, one_life};
+use line_io::{Event, NullSink, Sink};
 use sink_offers::LoopEnd;
 use std::alloc::Global;
 use std::collections::VecDeque;
@@ -36,56 +35,63 @@ pub(crate) enum NextLife<S, K> {
     Refused(HostFault),
 }
 
-// Begins another life, and offers what its beginning gives.
+// Begins another life, and offers what its beginning gives. Nothing was written to it before.
 fn offer_begin<K: Sink, O: Sink, L: Sink>(
-    revival: &mut Revival,
+    looping: &mut RevivalLoop<L>,
     child: &mut K,
     output: &mut O,
-    log: &mut Option<L>,
-    failed: LoopEnd,
-    text: &mut Out,
-) -> LoopEnd
-    requires may { may revival.old.state calls.Begin ≡ true }
-    requires room { EVENT_ROOM ≤ text.old.room }
-    ensures state { revival.new.state ≡ after revival.old.state calls.Begin }
-    ensures offers { Offers (up_of revival.old.state calls.Begin) (child_of revival.old.state calls.Begin)
-        (step_marks EngineLong (up_of revival.old.state calls.Begin)
-        (child_of revival.old.state calls.Begin))
-        (sinks (O.state output.old) (K.state child.old) (log_state L.state log.old))
-        (sinks (O.state output.new) (K.state child.new) (log_state L.state log.new))
-        failed result }
-    ensures room { text.new.room ≡ text.old.room }
-    ensures kept { is_some log.new ≡ is_some log.old }
+)
+    requires may { may looping.old.revival.state calls.Begin ≡ true }
+    requires room { EVENT_ROOM ≤ looping.old.marks.text.room }
+    ensures from { looping.new.from ≡ looping.old.from }
+    ensures marks { KeepsMarks looping.old.marks looping.new.marks }
+    ensures state { looping.new.revival.state ≡ after looping.old.revival.state calls.Begin }
+    ensures offers { Offers (up_of looping.old.revival.state calls.Begin)
+        (child_of looping.old.revival.state calls.Begin)
+        (step_marks EngineLong (up_of looping.old.revival.state calls.Begin)
+        (child_of looping.old.revival.state calls.Begin))
+        (sinks (O.state output.old) (K.state child.old) (log_state L.state looping.old.marks.log))
+        (sinks (O.state output.new) (K.state child.new) (log_state L.state looping.new.marks.log))
+        (record looping.old.failed { engine = false }) looping.new.failed }
 {
+    let RevivalLoop {
+        revival,
+        from: _,
+        marks,
+        failed,
+    } = looping;
+    let fresh = LoopEnd {
+        engine: false,
+        ..*failed
+    };
     let both = revival.begin();
-    offer_all(&Event::EngineLong, both, child, output, log, failed, text)
+    *failed = offer_all(&Event::EngineLong, both, child, output, marks, fresh);
 }
 
 // Ends the lives, and offers what follows of it. The mark is that of the last life's end.
-fn offer_over<O: Sink, L: Sink>(
-    revival: &mut Revival,
-    mark: &Event,
-    output: &mut O,
-    log: &mut Option<L>,
-    failed: LoopEnd,
-    text: &mut Out,
-) -> LoopEnd
-    requires may { may revival.old.state calls.Over ≡ true }
+fn offer_over<O: Sink, L: Sink>(looping: &mut RevivalLoop<L>, mark: &Event, output: &mut O)
+    requires may { may looping.old.revival.state calls.Over ≡ true }
     requires good { is_good (event_of mark.now) ≡ true }
-    requires room { EVENT_ROOM ≤ text.old.room }
-    ensures state { revival.new.state ≡ after revival.old.state calls.Over }
-    ensures output { Offered failed.output result.output (O.state output.old) (O.state output.new)
-        (up_of revival.old.state calls.Over) }
-    ensures log { Offered failed.log result.log
-        (log_state L.state log.old) (log_state L.state log.new)
-        (step_marks (event_of mark.now) (up_of revival.old.state calls.Over)
-        (child_of revival.old.state calls.Over)) }
-    ensures room { text.new.room ≡ text.old.room }
-    ensures kept { is_some log.new ≡ is_some log.old }
+    requires room { EVENT_ROOM ≤ looping.old.marks.text.room }
+    ensures from { looping.new.from ≡ looping.old.from }
+    ensures marks { KeepsMarks looping.old.marks looping.new.marks }
+    ensures state { looping.new.revival.state ≡ after looping.old.revival.state calls.Over }
+    ensures output { Offered looping.old.failed.output looping.new.failed.output
+        (O.state output.old) (O.state output.new) (up_of looping.old.revival.state calls.Over) }
+    ensures log { Offered looping.old.failed.log looping.new.failed.log
+        (log_state L.state looping.old.marks.log) (log_state L.state looping.new.marks.log)
+        (step_marks (event_of mark.now) (up_of looping.old.revival.state calls.Over)
+        (child_of looping.old.revival.state calls.Over)) }
 {
+    let RevivalLoop {
+        revival,
+        from: _,
+        marks,
+        failed,
+    } = looping;
     let both = revival.over();
     let mut nobody = NullSink::new();
-    offer_all(mark, both, &mut nobody, output, log, failed, text)
+    *failed = offer_all(mark, both, &mut nobody, output, marks, *failed);
 }
 
 // What follows of a life's end: another life, or none.
@@ -94,50 +100,45 @@ fn after_life<O: Sink, H: Host>(
     alloc: Global,
     words: &[String],
     host: &mut H,
-    kids: &mut VecDeque<H::ChildProcess>,
-    revival: &mut Revival,
+    processes: &mut VecDeque<H::ChildProcess>,
+    looping: &mut RevivalLoop<H::Log>,
     output: &mut O,
-    log: &mut Option<H::Log>,
-    failed: &mut LoopEnd,
-    text: &mut Out,
 ) -> NextLife<H::EngineSource, H::EngineSink>
-    requires alive { is_alive revival.old.state.life ≡ true }
+    requires alive { is_alive looping.old.revival.state.life ≡ true }
     requires words { 0 < length words.now }
     requires few { (H.books host.old).runs_out < 10 }
-    requires space { deque_len kids.old < deque_capacity kids.old }
-    requires room { EVENT_ROOM ≤ text.old.room }
-    ensures space { deque_capacity kids.new ≡ deque_capacity kids.old }
-    ensures kids { deque_len kids.new ≡ deque_len kids.old + lives_in result }
-    ensures room { text.new.room ≡ text.old.room }
-    ensures kept { is_some log.new ≡ is_some log.old }
+    requires room { EVENT_ROOM ≤ looping.old.marks.text.room }
+    requires space { deque_len processes.old < deque_capacity processes.old }
+    ensures space { deque_capacity processes.new ≡ deque_capacity processes.old }
+    ensures processes { deque_len processes.new ≡ deque_len processes.old + lives_in result }
+    ensures from { looping.new.from ≡ looping.old.from }
+    ensures marks { KeepsMarks looping.old.marks looping.new.marks }
     ensures ended { Ended H.EngineSource.state H.EngineSink.state
         (H.books host.old).says (H.books host.old).tells
-        revival.old.state revival.new.state result
-        (O.state output.old) (O.state output.new)
-        (log_state H.Log.state log.old) (log_state H.Log.state log.new)
-        failed.old failed.new }
-    ensures host { Hands (H.books host.old) (H.books host.new)
-        (H.faults host.old) (H.faults host.new) result }
+        (shown O.state H.Log.state looping.old output.old)
+        (shown O.state H.Log.state looping.new output.new) result }
+    ensures host { Hands (host_shown H.books H.faults H.asked host.old)
+        (host_shown H.books H.faults H.asked host.new) result }
     ensures asked { StartsEngines (map string_bytes words.now) (H.asked host.old) (H.asked host.new)
         (H.books host.old) (H.books host.new) (is_failed_start result) }
 {
-    if !revival.ended() {
-        *failed = offer_over(revival, &Event::EngineLong, output, log, *failed, text);
+    if !looping.revival.ended() {
+        offer_over(looping, &Event::EngineLong, output);
         return NextLife::Over;
     }
     match host.start(alloc, words) {
         Ok(run) => {
-            let Started { src, mut snk, kid } = run;
-            kids.push_back_reserved(kid);
-            let fresh = LoopEnd {
-                engine: false,
-                ..*failed
-            };
-            *failed = offer_begin(revival, &mut snk, output, log, fresh, text);
-            NextLife::Life(LifeRun { src, snk })
+            let Started {
+                source,
+                mut sink,
+                process,
+            } = run;
+            processes.push_back_reserved(process);
+            offer_begin(looping, &mut sink, output);
+            NextLife::Life(LifeRun { source, sink })
         }
         Err(fault) => {
-            *failed = offer_over(revival, &Event::EngineEnd, output, log, *failed, text);
+            offer_over(looping, &Event::EngineEnd, output);
             NextLife::Refused(fault)
         }
     }
@@ -146,79 +147,55 @@ fn after_life<O: Sink, H: Host>(
 // One life, and what follows of its end.
 pub(crate) fn life_turn<O: Sink + Send, H: Host, R: Threads + Wait + Sync>(
     rt: &R,
-    alloc: Global,
-    words: &[String],
     host: &mut H,
     run: LifeRun<H::EngineSource, H::EngineSink>,
-    runs: &mut VecDeque<LifeRun<H::EngineSource, H::EngineSink>>,
-    kids: &mut VecDeque<H::ChildProcess>,
-    tally: &mut LivesTally,
-    parts: &mut ReviverParts,
+    runs: &mut AllRuns<H::EngineSource, H::EngineSink>,
+    parts: &mut ReviverParts<H::Log, H::ChildProcess>,
     output: &mut O,
-    log: &mut Option<H::Log>,
-    failed: &mut LoopEnd,
 ) -> NextLife<H::EngineSource, H::EngineSink>
 where
     H::EngineSource: Drop,
     H::EngineSink: LetGo + Drop,
     H::ChildProcess: Drop,
-    requires words { 0 < length words.now }
+    requires words { 0 < length runs.old.words.items }
     requires few { (H.books host.old).runs_out < 10 }
-    requires space { deque_len runs.old < deque_capacity runs.old }
-    requires kids { deque_len kids.old < deque_capacity kids.old }
+    requires space { deque_len runs.old.ended < deque_capacity runs.old.ended }
     requires ready { AreReady parts.old }
-    requires goes { Goes parts.old.revival.state (deque_len runs.old) }
+    requires room { deque_len parts.old.processes < deque_capacity parts.old.processes }
+    requires goes { Goes parts.old.looping.revival.state (deque_len runs.old.ended) }
     ensures keeps { KeepsEnds parts.old parts.new }
-    ensures lives { parts.new.revival.state.lives ≡ parts.old.revival.state.lives }
-    ensures kept { is_some log.new ≡ is_some log.old }
-    ensures space { deque_capacity runs.new ≡ deque_capacity runs.old }
-    ensures more { deque_len runs.new ≡ deque_len runs.old + 1 }
-    ensures kids_space { deque_capacity kids.new ≡ deque_capacity kids.old }
-    ensures kids { deque_len kids.new ≡ deque_len kids.old + lives_in result }
-    ensures tallied { (text : List ℕ)
-        → IsBegun (H.books host.old).says (H.books host.old).tells
-        (H.EngineSource.state run.src) (H.EngineSink.state run.snk) failed.old.engine text
-        → AreTallied H.EngineSource.state H.EngineSink.state runs.old.items tally.old
-        → AreTallied H.EngineSource.state H.EngineSink.state runs.new.items tally.new }
+    ensures processes { deque_len parts.new.processes
+        ≡ deque_len parts.old.processes + lives_in result }
+    ensures words { runs.new.words ≡ runs.old.words }
+    ensures space { deque_capacity runs.new.ended ≡ deque_capacity runs.old.ended }
     ensures lived { LivesOn H.EngineSource.state H.EngineSink.state
         (H.books host.old).says (H.books host.old).tells
-        parts.old.revival.state parts.new.revival.state
-        (sent parts.old.to) (sent parts.new.to) (taken parts.old.from) (taken parts.new.from)
-        run runs.old.items runs.new.items tally.old tally.new result
-        (O.state output.old) (O.state output.new)
-        (log_state H.Log.state log.old) (log_state H.Log.state log.new)
-        failed.old failed.new }
-    ensures next { Continues parts.new.revival.state (deque_len runs.new) result }
-    ensures host { Hands (H.books host.old) (H.books host.new)
-        (H.faults host.old) (H.faults host.new) result }
-    ensures asked { StartsEngines (map string_bytes words.now) (H.asked host.old) (H.asked host.new)
+        (shown O.state H.Log.state parts.old.looping output.old)
+        (shown O.state H.Log.state parts.new.looping output.new)
+        (sent parts.old.to) (sent parts.new.to) runs.old.ended.items runs.new.ended.items
+        runs.old.tally runs.new.tally run result }
+    ensures next { Continues parts.new.looping.revival.state (deque_len runs.new.ended) result }
+    ensures host { Hands (host_shown H.books H.faults H.asked host.old)
+        (host_shown H.books H.faults H.asked host.new) result }
+    ensures asked { StartsEngines (map string_bytes runs.old.words.items)
+        (H.asked host.old) (H.asked host.new)
         (H.books host.old) (H.books host.new) (is_failed_start result) }
 {
-    let LifeRun { mut src, mut snk } = run;
-    let end = one_life(
-        rt,
+    let ReviverParts {
         alloc,
-        &mut parts.revival,
-        &mut src,
-        &mut parts.to,
-        &mut parts.from,
-        &mut snk,
-        output,
-        log,
-        failed,
-        &mut parts.text,
-    );
-    *tally = tally.with(end, failed.engine);
-    runs.push_back_reserved(LifeRun { src, snk });
-    after_life(
-        alloc,
+        to,
+        looping,
+        processes,
+    } = parts;
+    let AllRuns {
         words,
-        host,
-        kids,
-        &mut parts.revival,
-        output,
-        log,
-        failed,
-        &mut parts.text,
-    )
+        first: _,
+        ended,
+        tally,
+    } = runs;
+    let mut run = run;
+    let end = one_life(rt, *alloc, looping, to, &mut run, output);
+    *tally = tally.with(end, looping.failed.engine);
+    ended.push_back_reserved(run);
+    after_life(*alloc, words.as_slice(), host, processes, looping, output)
 }

@@ -3,6 +3,8 @@ use Rattle.std.specs.Prelude.{◌≡◌, ◌≢◌, ℕ, List, [], ◌++◌, Boo
 use Rattle.std.specs.Io.KnownBytes.{Appends}
 use Rattle.line_io.specs.Source.{Supplied, Received}
 use Rattle.event_pipe.specs.Counts.{Tells}
+use Rattle.sink_offers.specs.declared.streams.Interface.{Interface}
+use Rattle.sink_offers.specs.declared.streams.HandedStreams.{HandedStreams}
 
 -- what the sinks of a loop show: `output` goes to the interface
 pub record Sinks : Type 0 where
@@ -26,6 +28,17 @@ streams input source into = record { input = input; source = source; into = into
 abbrev pub log_state : {L : Type 0} → (L → Received) → Option L → Received
 log_state state None = record { taken = None; faults = 0 }
 log_state state (Some log) = state log
+
+-- the sinks of a loop, by what each shows
+abbrev pub sinks_of : {O E L : Type 0} → (O → Received) → (E → Received) → (L → Received) → O → E → Option L → Sinks
+sinks_of to_output to_engine to_log output engine log =
+    sinks (to_output output) (to_engine engine) (log_state to_log log)
+
+-- the interface's streams and those that were handed out, by what each shows
+abbrev pub streams_of : {I O S E L : Type 0} → (I → Supplied) → (O → Received) → (S → Supplied) → (E → Received) → (L → Received) → Interface I O → HandedStreams S E L → Streams
+streams_of input output source engine log interface handed =
+    streams (input interface.input) (source handed.source)
+    (sinks_of output engine log interface.output handed.engine handed.log)
 
 -- a sink took a front of a text
 pub record TookFront (text : List ℕ) (old new : Option (List ℕ)) : Type 0 where

@@ -6,6 +6,7 @@ use line_io::{ReadAdapter, WriteAdapter};
 use os::FromRawFd;
 use program_edges::{ClosedStreams, NO_MEMORY, WORDS_ROOM, words_of};
 use program_texts::{About, answer_about};
+use sink_offers::Interface;
 use std::os::fd::OwnedFd;
 use std::process::{ChildStdin, ExitCode};
 use tap_app::{refuse_for_memory, tap_main};
@@ -35,19 +36,25 @@ fn main(rt: HostRuntime) -> ExitCode {
     let Some(closed) = ClosedStreams::fill(&rt) else {
         return ExitCode::from(NO_MEMORY);
     };
-    let mut output = own_output(&closed);
-    let mut input = closed.input(ReadAdapter::new(rt.stdin()));
+    let mut interface = Interface {
+        input: closed.input(ReadAdapter::new(rt.stdin())),
+        output: own_output(&closed),
+    };
     let mut diag = closed.diag(WriteAdapter::new(rt.stderr()));
     let mut host = RealHost::<_, Closing<ChildStdin>>::new(&rt, closed.has_diag());
     let status = match words_of(&rt, rt.alloc(), WORDS_ROOM) {
-        Ok(words) => match answer_about(rt.alloc(), words.as_slice(), &ABOUT, &mut output) {
+        Ok(words) => match answer_about(
+            rt.alloc(),
+            words.as_slice(),
+            &ABOUT,
+            &mut interface.output,
+        ) {
             Some(status) => status,
             None => tap_main(
                 &rt,
                 rt.alloc(),
                 words.as_slice(),
-                &mut input,
-                &mut output,
+                &mut interface,
                 &mut host,
                 &mut diag,
             ),

@@ -3,7 +3,7 @@ ghost use Rattle.std.specs.Prelude.{◌≡◌, true, IfSome};
 ghost use Rattle.child_engine.specs.Hosts.{IsUnused, WasLetGo};
 ghost use Rattle.host_run.specs.Endings.{code_of, diagnostic};
 ghost use Rattle.host_run.specs.Asked.{AsksByWords};
-ghost use Rattle.host_run.specs.Outside.{outside};
+ghost use Rattle.host_run.specs.Outside.{outside_of};
 ghost use Rattle.host_run.specs.Program.{Answers, Ends, IsToldTo, StatusSays};
 ghost use Rattle.host_run.specs.declared.ending.ProgramEnding.TheVariants as endings;
 ghost use Rattle.program_words.specs.Words.{AreTaken, bytes_of};
@@ -12,9 +12,10 @@ ghost use Rattle.tap_runner.specs.Recorded.{IsWhole};
 ghost use Rattle.tap_runner.specs.Tapped.{Leaves};
 
 use child_engine::{Host, LetGo};
-use host_run::{ProgramEnding, tell};
+use host_run::{ProgramEnding, finish};
 use line_io::{Sink, Source, Status};
 use program_words::read_words;
+use sink_offers::Interface;
 use std::alloc::Global;
 use std::sync::Wait;
 use std::thread::Threads;
@@ -25,34 +26,25 @@ fn end_of<I: Source + Send, O: LetGo + Send, H: Host, R: Threads + Wait + Sync>(
     rt: &R,
     alloc: Global,
     words: &[Vec<u8>],
-    input: &mut I,
-    output: &mut O,
+    interface: &mut Interface<I, O>,
     host: &mut H,
 ) -> ProgramEnding
 where
     H::EngineSink: LetGo,
     requires { IsUnused (H.books host.old) }
     ensures ends { Ends (AreTaken (bytes_of words.now))
-        (Leaves (O.is_let_go output.new) (WasLetGo H.EngineSink.state H.EngineSink.is_let_go)
-        (outside (I.state input.old) (O.state output.old) (H.faults host.old) (H.books host.old))
-        (outside (I.state input.new) (O.state output.new) (H.faults host.new) (H.books host.new)))
-        (outside (I.state input.old) (O.state output.old) (H.faults host.old) (H.books host.old))
-        (outside (I.state input.new) (O.state output.new) (H.faults host.new) (H.books host.new))
+        (Leaves (O.is_let_go interface.new.output) (WasLetGo H.EngineSink.state H.EngineSink.is_let_go)
+        (outside_of I.state O.state H.faults H.books interface.old host.old)
+        (outside_of I.state O.state H.faults H.books interface.new host.new))
+        (outside_of I.state O.state H.faults H.books interface.old host.old)
+        (outside_of I.state O.state H.faults H.books interface.new host.new)
         result }
     ensures asked { AsksByWords (bytes_of words.now)
         (H.asked host.old) (H.asked host.new)
         (H.faults host.old) (H.faults host.new) (H.books host.new) }
 {
     match read_words(alloc, words) {
-        Ok(request) => ProgramEnding::of(tap_run(
-            rt,
-            alloc,
-            request.log_name.as_str(),
-            request.engine.as_slice(),
-            input,
-            output,
-            host,
-        )),
+        Ok(request) => ProgramEnding::of(tap_run(rt, alloc, &request, interface, host)),
         Err(refusal) => ProgramEnding::from(refusal),
     }
 }
@@ -63,10 +55,7 @@ pub fn refuse_for_memory<D: Sink>(diag: &mut D) -> Status
     ensures told { IsToldTo (D.state diag.old) (D.state diag.new)
         (diagnostic program endings.NoMemory) }
 {
-    tell(b"tap", ProgramEnding::NoMemory, diag);
-    Status {
-        code: ProgramEnding::NoMemory.code(),
-    }
+    host_run::refuse_for_memory(b"tap", diag)
 }
 
 /// The program: it stands between a bridge, which writes to `input` and reads from `output`, and the
@@ -77,8 +66,7 @@ pub fn tap_main<I: Source + Send, O: LetGo + Send, H: Host, D: Sink, R: Threads 
     rt: &R,
     alloc: Global,
     words: &[Vec<u8>],
-    input: &mut I,
-    output: &mut O,
+    interface: &mut Interface<I, O>,
     host: &mut H,
     diag: &mut D,
 ) -> Status
@@ -86,29 +74,27 @@ where
     H::EngineSink: LetGo,
     requires { IsUnused (H.books host.old) }
     ensures answers { Answers program (AreTaken (bytes_of words.now))
-        (Leaves (O.is_let_go output.new) (WasLetGo H.EngineSink.state H.EngineSink.is_let_go)
-        (outside (I.state input.old) (O.state output.old) (H.faults host.old) (H.books host.old))
-        (outside (I.state input.new) (O.state output.new) (H.faults host.new) (H.books host.new)))
-        (outside (I.state input.old) (O.state output.old) (H.faults host.old) (H.books host.old))
-        (outside (I.state input.new) (O.state output.new) (H.faults host.new) (H.books host.new))
+        (Leaves (O.is_let_go interface.new.output) (WasLetGo H.EngineSink.state H.EngineSink.is_let_go)
+        (outside_of I.state O.state H.faults H.books interface.old host.old)
+        (outside_of I.state O.state H.faults H.books interface.new host.new))
+        (outside_of I.state O.state H.faults H.books interface.old host.old)
+        (outside_of I.state O.state H.faults H.books interface.new host.new)
         (D.state diag.old) (D.state diag.new) result.code }
     ensures status { StatusSays (AreTaken (bytes_of words.now))
-        (outside (I.state input.old) (O.state output.old) (H.faults host.old) (H.books host.old))
-        (outside (I.state input.new) (O.state output.new) (H.faults host.new) (H.books host.new))
+        (outside_of I.state O.state H.faults H.books interface.old host.old)
+        (outside_of I.state O.state H.faults H.books interface.new host.new)
         result.code }
     ensures whole { result.code ≡ 0 → (H.books host.old).tells ≡ true
         → IfSome (H.books host.old).says (λ bytes. IsWhole bytes
-        (outside (I.state input.old) (O.state output.old) (H.faults host.old) (H.books host.old))
-        (outside (I.state input.new) (O.state output.new) (H.faults host.new) (H.books host.new))) }
+        (outside_of I.state O.state H.faults H.books interface.old host.old)
+        (outside_of I.state O.state H.faults H.books interface.new host.new)) }
     ensures asked { AsksByWords (bytes_of words.now)
         (H.asked host.old) (H.asked host.new)
         (H.faults host.old) (H.faults host.new) (H.books host.new) }
     ensures unstarted { result.code ≡ 8
-        → (I.state input.new ≡ I.state input.old) × (O.state output.new ≡ O.state output.old) }
+        → (I.state interface.new.input ≡ I.state interface.old.input)
+        × (O.state interface.new.output ≡ O.state interface.old.output) }
 {
-    let ending = end_of(rt, alloc, words, input, output, host);
-    tell(b"tap", ending, diag);
-    Status {
-        code: ending.code(),
-    }
+    let ending = end_of(rt, alloc, words, interface, host);
+    finish(b"tap", ending, diag)
 }

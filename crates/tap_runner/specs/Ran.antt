@@ -8,7 +8,7 @@ use Rattle.event_pipe.specs.Ends.{IsFreshSender}
 use Rattle.event_pipe.specs.Rule.{sent_by}
 use Rattle.sink_offers.specs.Streams.{Streams}
 use Rattle.sink_offers.specs.Took.{LogTook}
-use Rattle.tap_runner.specs.declared.run.Direction.{Direction}
+use Rattle.tap_runner.specs.declared.passing.Direction.{Direction}
 use Rattle.tap_runner.specs.declared.run.TapEnd.{TapEnd}
 use Rattle.tap_runner.specs.Hearing.{Open, fresh}
 use Rattle.tap_runner.specs.Marks.{log_text}

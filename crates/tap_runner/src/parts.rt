@@ -15,7 +15,7 @@ const READ_ROOM: usize = 65_536;
 
 /// Both directions, the end of the channel that the log takes from, and the room for a mark.
 #[derive(Drop)]
-pub(crate) struct TapParts {
+pub struct TapParts {
     pub down: Direction,
     pub up: Direction,
     pub taker: PipeTake,

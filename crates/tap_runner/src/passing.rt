@@ -13,6 +13,15 @@ use sink_offers::offer;
 use std::alloc::Global;
 use std::sync::Wait;
 
+/// What one direction needs: where the marks of its lines go, its open line, and the room for what
+/// is read at a time.
+#[derive(Drop)]
+pub struct Direction {
+    pub to: PipeSend,
+    pub part: OpenLine,
+    pub buf: Vec<u8>,
+}
+
 /// How one direction ended.
 #[derive(Clone, Copy)]
 pub struct PassEnd {
@@ -57,19 +66,18 @@ fn pass_turn<S: Source, K: Sink, R: Wait>(
     alloc: Global,
     source: &mut S,
     sink: &mut K,
-    buf: &mut Vec<u8>,
-    part: &mut OpenLine,
-    to: &mut PipeSend,
+    way: &mut Direction,
 ) -> PassingTurn
-    requires room { 0 < vec_len buf.old }
-    requires sender { IsSender to.old }
-    requires peer { to.old.peer ≡ part.old.peer }
-    requires going { ended (sent to.old) ≡ false }
-    ensures room { vec_len buf.new ≡ vec_len buf.old }
-    ensures keeps { KeepsSender to.old to.new }
-    ensures turned { Turned part.old part.new (S.state source.old) (S.state source.new)
-        (K.state sink.old) (K.state sink.new) (sent to.old) (sent to.new) result }
+    requires room { 0 < vec_len way.old.buf }
+    requires sender { IsSender way.old.to }
+    requires peer { way.old.to.peer ≡ way.old.part.peer }
+    requires going { ended (sent way.old.to) ≡ false }
+    ensures room { vec_len way.new.buf ≡ vec_len way.old.buf }
+    ensures keeps { KeepsSender way.old.to way.new.to }
+    ensures turned { Turned way.old.part way.new.part (S.state source.old) (S.state source.new)
+        (K.state sink.old) (K.state sink.new) (sent way.old.to) (sent way.new.to) result }
 {
+    let Direction { to, part, buf } = way;
     match source.read(buf.as_mut_slice()) {
         Err(_) => PassingTurn::ReadFailed,
         Ok(0) => PassingTurn::Ended,
@@ -87,21 +95,16 @@ fn pass_turn<S: Source, K: Sink, R: Wait>(
 
 // Ends a direction: a last line and the end go to the log, and then the sink is let go, so that
 // whoever reads there meets the end too.
-fn end_pass<K: LetGo, R: Wait>(
-    rt: &R,
-    alloc: Global,
-    sink: &mut K,
-    part: &mut OpenLine,
-    to: &mut PipeSend,
-)
-    requires sender { IsSender to.old }
-    requires peer { to.old.peer ≡ part.old.peer }
-    requires going { ended (sent to.old) ≡ false }
-    ensures keeps { KeepsSender to.old to.new }
-    ensures ends { EndsHearing part.old part.new (sent to.old) (sent to.new) }
+fn end_pass<K: LetGo, R: Wait>(rt: &R, alloc: Global, sink: &mut K, way: &mut Direction)
+    requires sender { IsSender way.old.to }
+    requires peer { way.old.to.peer ≡ way.old.part.peer }
+    requires going { ended (sent way.old.to) ≡ false }
+    ensures keeps { KeepsSender way.old.to way.new.to }
+    ensures ends { EndsHearing way.old.part way.new.part (sent way.old.to) (sent way.new.to) }
     ensures shown { K.state sink.new ≡ K.state sink.old }
     ensures gone { K.is_let_go sink.new }
 {
+    let Direction { to, part, buf: _ } = way;
     part.end(rt, alloc, to);
     sink.let_go();
 }
@@ -113,27 +116,25 @@ pub fn hand_on<S: Source, K: LetGo, R: Wait>(
     alloc: Global,
     source: &mut S,
     sink: &mut K,
-    buf: &mut Vec<u8>,
-    part: &mut OpenLine,
-    to: &mut PipeSend,
+    way: &mut Direction,
 ) -> PassEnd
-    requires room { 0 < vec_len buf.old }
-    requires sender { IsSender to.old }
-    requires part { part.old ≡ fresh to.old.peer }
-    requires unsent { sent to.old ≡ [] }
-    ensures keeps { KeepsSender to.old to.new }
-    ensures passed { Passed to.old.peer (S.state source.old) (S.state source.new)
-        (K.state sink.old) (K.state sink.new) (sent to.new) result }
+    requires room { 0 < vec_len way.old.buf }
+    requires sender { IsSender way.old.to }
+    requires part { way.old.part ≡ fresh way.old.to.peer }
+    requires unsent { sent way.old.to ≡ [] }
+    ensures keeps { KeepsSender way.old.to way.new.to }
+    ensures passed { Passed way.old.to.peer (S.state source.old) (S.state source.new)
+        (K.state sink.old) (K.state sink.new) (sent way.new.to) result }
     ensures gone { K.is_let_go sink.new }
 {
     for _ in rt.forever() {
-        let turn = pass_turn(rt, alloc, source, sink, buf, part, to);
+        let turn = pass_turn(rt, alloc, source, sink, way);
         if turn.is_last() {
-            end_pass(rt, alloc, sink, part, to);
+            end_pass(rt, alloc, sink, way);
             return PassEnd {
                 read_failed: turn.has_failed_to_read(),
                 write_failed: turn.has_failed_to_write(),
-                has_lacked_memory: part.has_lacked_memory(),
+                has_lacked_memory: way.part.has_lacked_memory(),
             };
         }
     }

@@ -4,18 +4,20 @@ ghost use Rattle.child_engine.specs.Asked.{and_engines};
 ghost use Rattle.child_engine.specs.Hosts.{IsUnused, IsStarted, fresh_source, fresh_sink, WasLetGo, with_run};
 ghost use Rattle.host_run.specs.Asked.{AsksFor, OpensLogs, engines_asked_by};
 ghost use Rattle.host_run.specs.Early.{AreEarly};
-ghost use Rattle.host_run.specs.Outside.{outside};
+ghost use Rattle.host_run.specs.Outside.{outside_of};
 ghost use Rattle.tap_runner.specs.Parts.{AreReady};
 ghost use Rattle.tap_runner.specs.Tapped.{Leaves};
 
-use crate::parts::{TapParts, make_parts};
-use crate::run_tap;
+use crate::parts::make_parts;
+use crate::{TapParts, run_tap};
 use child_engine::{Host, LetGo, Started};
 use host_run::{
     Failures, Opened, close_log, either, is_open_failure, is_open_memory, only_memory, open_log,
     start_engine,
 };
 use line_io::Source;
+use program_words::EngineRequest;
+use sink_offers::{HandedStreams, Interface};
 use std::alloc::Global;
 use std::sync::Wait;
 use std::thread::Threads;
@@ -32,43 +34,46 @@ fn run_started<I: Source + Send, O: LetGo + Send, H: Host, R: Threads + Wait + S
     alloc: Global,
     ready: ReadyTap<H::EngineSource, H::EngineSink, H::ChildProcess>,
     log_name: &str,
-    input: &mut I,
-    output: &mut O,
+    interface: &mut Interface<I, O>,
     host: &mut H,
 ) -> Failures
 where
     H::EngineSink: LetGo,
     requires parts { AreReady ready.parts }
-    requires source { H.EngineSource.state ready.run.src ≡ fresh_source (H.books host.old).says }
-    requires sink { H.EngineSink.state ready.run.snk ≡ fresh_sink (H.books host.old).tells }
+    requires source { H.EngineSource.state ready.run.source ≡ fresh_source (H.books host.old).says }
+    requires sink { H.EngineSink.state ready.run.sink ≡ fresh_sink (H.books host.old).tells }
     requires books { IsStarted (H.books host.old) }
-    ensures leaves { Leaves (O.is_let_go output.new)
+    ensures leaves { Leaves (O.is_let_go interface.new.output)
         (WasLetGo H.EngineSink.state H.EngineSink.is_let_go)
-        (outside (I.state input.old) (O.state output.old) (H.faults host.old)
-        (H.books host.old))
-        (outside (I.state input.new) (O.state output.new) (H.faults host.new)
-        (H.books host.new))
+        (outside_of I.state O.state H.faults H.books interface.old host.old)
+        (outside_of I.state O.state H.faults H.books interface.new host.new)
         result }
     ensures asked { OpensLogs log_name.now (H.asked host.old) (H.asked host.new)
         (H.books host.old) (H.books host.new) result }
 {
     let ReadyTap { parts, run } = ready;
-    let TapParts {
-        down,
-        up,
-        taker,
-        mut text,
-    } = parts;
     let Started {
-        mut src,
-        mut snk,
-        kid,
+        source,
+        sink,
+        process,
     } = run;
-    let Opened { mut log, fault } = open_log(host, alloc, log_name);
-    let end = run_tap(
-        rt, alloc, down, up, taker, input, &mut src, output, &mut snk, &mut log, &mut text,
-    );
-    let waited = host.close(Started { src, snk, kid });
+    let Opened { log, fault } = open_log(host, alloc, log_name);
+    let mut handed = HandedStreams {
+        source,
+        engine: sink,
+        log,
+    };
+    let end = run_tap(rt, alloc, parts, interface, &mut handed);
+    let HandedStreams {
+        source,
+        engine,
+        log,
+    } = handed;
+    let waited = host.close(Started {
+        source,
+        sink: engine,
+        process,
+    });
     close_log(host, log);
     Failures {
         memory: either(
@@ -96,9 +101,9 @@ fn start<H: Host, R: Threads>(
     requires unused { IsUnused (H.books host.old) }
     ensures parts { IfOk result (λ ready. AreReady ready.parts) }
     ensures source { IfOk result (λ ready.
-        H.EngineSource.state ready.run.src ≡ fresh_source (H.books host.old).says) }
+        H.EngineSource.state ready.run.source ≡ fresh_source (H.books host.old).says) }
     ensures sink { IfOk result (λ ready.
-        H.EngineSink.state ready.run.snk ≡ fresh_sink (H.books host.old).tells) }
+        H.EngineSink.state ready.run.sink ≡ fresh_sink (H.books host.old).tells) }
     ensures books { OnOk result (H.books host.new ≡ with_run (H.books host.old)) }
     ensures faults { OnOk result (H.faults host.new ≡ H.faults host.old) }
     ensures unstarted { OnErr result (H.books host.new ≡ H.books host.old) }
@@ -120,28 +125,25 @@ fn start<H: Host, R: Threads>(
 pub fn tap_run<I: Source + Send, O: LetGo + Send, H: Host, R: Threads + Wait + Sync>(
     rt: &R,
     alloc: Global,
-    log_name: &str,
-    words: &[String],
-    input: &mut I,
-    output: &mut O,
+    request: &EngineRequest,
+    interface: &mut Interface<I, O>,
     host: &mut H,
 ) -> Failures
 where
     H::EngineSink: LetGo,
-    requires words { 0 < length words.now }
+    requires words { 0 < length request.now.engine.items }
     requires unused { IsUnused (H.books host.old) }
-    ensures leaves { Leaves (O.is_let_go output.new)
+    ensures leaves { Leaves (O.is_let_go interface.new.output)
         (WasLetGo H.EngineSink.state H.EngineSink.is_let_go)
-        (outside (I.state input.old) (O.state output.old) (H.faults host.old)
-        (H.books host.old))
-        (outside (I.state input.new) (O.state output.new) (H.faults host.new)
-        (H.books host.new))
+        (outside_of I.state O.state H.faults H.books interface.old host.old)
+        (outside_of I.state O.state H.faults H.books interface.new host.new)
         result }
-    ensures asked { AsksFor (map string_bytes words.now) log_name.now
+    ensures asked { AsksFor (map string_bytes request.now.engine.items)
+        (string_bytes request.now.log_name)
         (H.asked host.old) (H.asked host.new) (H.books host.new) result }
 {
-    match start(rt, alloc, words, host) {
-        Ok(ready) => run_started(rt, alloc, ready, log_name, input, output, host),
+    match start(rt, alloc, request.engine.as_slice(), host) {
+        Ok(ready) => { run_started(rt, alloc, ready, request.log_name.as_str(), interface, host) }
         Err(failures) => failures,
     }
 }

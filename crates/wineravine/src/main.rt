@@ -2,17 +2,21 @@
 #![tactic(auto)]
 
 use child_engine::{EngineInput, RealHost};
+use host_run::refuse_for_memory;
 use line_io::{ReadAdapter, WriteAdapter};
 use program_edges::{ClosedStreams, NO_MEMORY, WORDS_ROOM, words_of};
+use sink_offers::Interface;
 use std::process::{ChildStdin, ExitCode};
-use wineravine_app::{refuse_for_memory, wineravine_main};
+use wineravine_app::wineravine_main;
 
 fn main(rt: HostRuntime) -> ExitCode {
     let Some(closed) = ClosedStreams::fill(&rt) else {
         return ExitCode::from(NO_MEMORY);
     };
-    let mut input = closed.input(ReadAdapter::new(rt.stdin()));
-    let mut output = closed.output(WriteAdapter::new(rt.stdout()));
+    let mut interface = Interface {
+        input: closed.input(ReadAdapter::new(rt.stdin())),
+        output: closed.output(WriteAdapter::new(rt.stdout())),
+    };
     let mut diag = closed.diag(WriteAdapter::new(rt.stderr()));
     let mut host = RealHost::<_, EngineInput<ChildStdin>>::new(&rt, closed.has_own_diag(&rt));
     let status = match words_of(&rt, rt.alloc(), WORDS_ROOM) {
@@ -20,12 +24,11 @@ fn main(rt: HostRuntime) -> ExitCode {
             &rt,
             rt.alloc(),
             words.as_slice(),
-            &mut input,
-            &mut output,
+            &mut interface,
             &mut host,
             &mut diag,
         ),
-        Err(_) => refuse_for_memory(&mut diag),
+        Err(_) => refuse_for_memory(b"wineravine", &mut diag),
     };
     ExitCode::from(status.code)
 }

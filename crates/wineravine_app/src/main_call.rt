@@ -4,35 +4,24 @@ ghost use Rattle.child_engine.specs.Hosts.{IsUnused};
 ghost use Rattle.program_words.specs.Words.{bytes_of};
 ghost use Rattle.host_run.specs.Endings.{code_of, diagnostic};
 ghost use Rattle.host_run.specs.Asked.{AsksAsTold};
-ghost use Rattle.host_run.specs.Outside.{outside};
+ghost use Rattle.host_run.specs.Outside.{outside_of};
 ghost use Rattle.host_run.specs.Program.{IsToldTo, StatusSays};
-ghost use Rattle.host_run.specs.declared.ending.ProgramEnding.TheVariants as endings;
-ghost use Rattle.bridge_app.specs.Program.{RunsWhole};
+ghost use Rattle.bridge_app.specs.Program.{RunsAsAsked, RunsWhole};
 ghost use Rattle.wineravine_words.specs.Words.{AreAsked, AreTaken, IsRunnable, engine_words, first_lines, log_named, values_found};
 ghost use Rattle.wineravine_app.specs.Program.{Did, Does, Fit, engine_named, not_started, program};
 
 use crate::telling::{not_started_line, refuse, show, write_once};
 use bridge_app::run_bridge;
 use child_engine::Host;
-use host_run::{ProgramEnding, tell};
+use host_run::{Failures, ProgramEnding, finish, refuse_for_memory};
 use line_io::{Sink, Source, Status};
+use mediator_host::RunRequest;
 use program_texts::version_line;
+use sink_offers::Interface;
 use std::alloc::Global;
 use std::sync::Wait;
 use std::thread::Threads;
 use wineravine_words::{AskedProgram, HELP, WineravineRequest, WrongWords, read_words};
-
-/// How a program ends that has no memory for its words.
-pub fn refuse_for_memory<D: Sink>(diag: &mut D) -> Status
-    ensures status { result.code ≡ code_of endings.NoMemory }
-    ensures told { IsToldTo (D.state diag.old) (D.state diag.new)
-        (diagnostic program endings.NoMemory) }
-{
-    tell(b"wineravine", ProgramEnding::NoMemory, diag);
-    Status {
-        code: ProgramEnding::NoMemory.code(),
-    }
-}
 
 // Reports how a run ended. If its engine was not started, the interface shows that to its user.
 fn report<O: Sink, D: Sink>(
@@ -47,52 +36,40 @@ fn report<O: Sink, D: Sink>(
         → IsToldTo (O.state output.old) (O.state output.new) line.now }
     ensures quiet { result.code ≢ 8 → output.new ≡ output.old }
 {
-    tell(b"wineravine", ending, diag);
-    let code = ending.code();
-    if code == 8 {
+    let status = finish(b"wineravine", ending, diag);
+    if status.code == 8 {
         write_once(line, output);
     }
-    Status { code }
+    status
 }
 
-// Makes the run that the words ask for, and reports it.
-#[tactic(auto, using(host_run::proofs::Asked::asks_refused))]
-fn run_asked<I: Source + Send, O: Sink + Send, H: Host, D: Sink, R: Threads + Wait + Sync>(
+// Makes the run that the words ask for.
+fn run_asked<I: Source + Send, O: Sink + Send, H: Host, R: Threads + Wait + Sync>(
     rt: &R,
     alloc: Global,
     words: &[Vec<u8>],
     request: &WineravineRequest,
-    input: &mut I,
-    output: &mut O,
+    interface: &mut Interface<I, O>,
     host: &mut H,
-    diag: &mut D,
-) -> Status
+) -> Failures
     requires runnable { IsRunnable (bytes_of words.now) request.now }
     requires unused { IsUnused (H.books host.old) }
-    ensures did { Did (bytes_of words.now)
-        (outside (I.state input.old) (O.state output.old) (H.faults host.old) (H.books host.old))
-        (outside (I.state input.new) (O.state output.new) (H.faults host.new) (H.books host.new))
-        (D.state diag.old) (D.state diag.new) result.code }
+    ensures runs { RunsAsAsked (AreAsked (values_found (bytes_of words.now)))
+        (first_lines (values_found (bytes_of words.now)))
+        (outside_of I.state O.state H.faults H.books interface.old host.old)
+        (outside_of I.state O.state H.faults H.books interface.new host.new)
+        result }
     ensures asked { AsksAsTold (engine_words (values_found (bytes_of words.now)))
         (log_named (values_found (bytes_of words.now)))
         (H.asked host.old) (H.asked host.new)
         (H.faults host.old) (H.faults host.new) (H.books host.new) }
 {
-    let Ok(line) = not_started_line(alloc, request.engine[0].as_str()) else {
-        return refuse_for_memory(diag);
+    let run = RunRequest {
+        first: request.first.as_slice(),
+        log_name: request.log_name.as_str(),
+        engine: request.engine.as_slice(),
     };
-    let failures = run_bridge(
-        rt,
-        alloc,
-        &request.settings,
-        request.first.as_slice(),
-        request.log_name.as_str(),
-        request.engine.as_slice(),
-        input,
-        output,
-        host,
-    );
-    report(ProgramEnding::of(failures), line.as_slice(), output, diag)
+    run_bridge(rt, alloc, &request.settings, &run, interface, host)
 }
 
 // Does what the words ask for.
@@ -101,15 +78,14 @@ fn answer<I: Source + Send, O: Sink + Send, H: Host, D: Sink, R: Threads + Wait 
     rt: &R,
     alloc: Global,
     words: &[Vec<u8>],
-    input: &mut I,
-    output: &mut O,
+    interface: &mut Interface<I, O>,
     host: &mut H,
     diag: &mut D,
 ) -> Status
     requires unused { IsUnused (H.books host.old) }
     ensures did { Did (bytes_of words.now)
-        (outside (I.state input.old) (O.state output.old) (H.faults host.old) (H.books host.old))
-        (outside (I.state input.new) (O.state output.new) (H.faults host.new) (H.books host.new))
+        (outside_of I.state O.state H.faults H.books interface.old host.old)
+        (outside_of I.state O.state H.faults H.books interface.new host.new)
         (D.state diag.old) (D.state diag.new) result.code }
     ensures asked { AsksAsTold (engine_words (values_found (bytes_of words.now)))
         (log_named (values_found (bytes_of words.now)))
@@ -118,15 +94,20 @@ fn answer<I: Source + Send, O: Sink + Send, H: Host, D: Sink, R: Threads + Wait 
 {
     match read_words(alloc, words) {
         Ok(AskedProgram::Run(request)) => {
-            run_asked(rt, alloc, words, &request, input, output, host, diag)
+            let Ok(line) = not_started_line(alloc, request.engine[0].as_str()) else {
+                return refuse_for_memory(b"wineravine", diag);
+            };
+            let failures = run_asked(rt, alloc, words, &request, interface, host);
+            let ending = ProgramEnding::of(failures);
+            report(ending, line.as_slice(), &mut interface.output, diag)
         }
-        Ok(AskedProgram::Help) => show(HELP.as_bytes(), output, diag),
+        Ok(AskedProgram::Help) => show(HELP.as_bytes(), &mut interface.output, diag),
         Ok(AskedProgram::Version) => match version_line(alloc, "wineravine") {
-            Ok(line) => show(line.as_slice(), output, diag),
-            Err(_) => refuse_for_memory(diag),
+            Ok(line) => show(line.as_slice(), &mut interface.output, diag),
+            Err(_) => refuse_for_memory(b"wineravine", diag),
         },
-        Err(WrongWords::Words(reason)) => refuse(reason.as_str(), output, diag),
-        Err(WrongWords::NoMemory) => refuse_for_memory(diag),
+        Err(WrongWords::Words(reason)) => refuse(reason.as_str(), &mut interface.output, diag),
+        Err(WrongWords::NoMemory) => refuse_for_memory(b"wineravine", diag),
     }
 }
 
@@ -144,32 +125,34 @@ pub fn wineravine_main<
     rt: &R,
     alloc: Global,
     words: &[Vec<u8>],
-    input: &mut I,
-    output: &mut O,
+    interface: &mut Interface<I, O>,
     host: &mut H,
     diag: &mut D,
 ) -> Status
     requires { IsUnused (H.books host.old) }
     ensures does { Does (bytes_of words.now)
-        (outside (I.state input.old) (O.state output.old) (H.faults host.old) (H.books host.old))
-        (outside (I.state input.new) (O.state output.new) (H.faults host.new) (H.books host.new))
+        (outside_of I.state O.state H.faults H.books interface.old host.old)
+        (outside_of I.state O.state H.faults H.books interface.new host.new)
         (D.state diag.old) (D.state diag.new) result.code }
     ensures status { StatusSays (Fit (bytes_of words.now))
-        (outside (I.state input.old) (O.state output.old) (H.faults host.old) (H.books host.old))
-        (outside (I.state input.new) (O.state output.new) (H.faults host.new) (H.books host.new))
+        (outside_of I.state O.state H.faults H.books interface.old host.old)
+        (outside_of I.state O.state H.faults H.books interface.new host.new)
         result.code }
-    ensures unstarted { result.code ≡ 8 → (I.state input.new ≡ I.state input.old)
-        × IsToldTo (O.state output.old) (O.state output.new)
+    ensures unstarted { result.code ≡ 8
+        → (I.state interface.new.input ≡ I.state interface.old.input)
+        × IsToldTo (O.state interface.old.output) (O.state interface.new.output)
         (not_started (engine_named (bytes_of words.now))) }
-    ensures whole { result.code ≡ 0 → AreTaken (bytes_of words.now) → (H.books host.old).tells ≡ true
+    ensures whole { result.code ≡ 0 → AreTaken (bytes_of words.now)
+        → (H.books host.old).tells ≡ true
         → IfSome (H.books host.old).says (λ bytes. RunsWhole
-        (AreAsked (values_found (bytes_of words.now))) (first_lines (values_found (bytes_of words.now))) bytes
-        (outside (I.state input.old) (O.state output.old) (H.faults host.old) (H.books host.old))
-        (outside (I.state input.new) (O.state output.new) (H.faults host.new) (H.books host.new))) }
+        (AreAsked (values_found (bytes_of words.now)))
+        (first_lines (values_found (bytes_of words.now))) bytes
+        (outside_of I.state O.state H.faults H.books interface.old host.old)
+        (outside_of I.state O.state H.faults H.books interface.new host.new)) }
     ensures asked { AsksAsTold (engine_words (values_found (bytes_of words.now)))
         (log_named (values_found (bytes_of words.now)))
         (H.asked host.old) (H.asked host.new)
         (H.faults host.old) (H.faults host.new) (H.books host.new) }
 {
-    answer(rt, alloc, words, input, output, host, diag)
+    answer(rt, alloc, words, interface, host, diag)
 }

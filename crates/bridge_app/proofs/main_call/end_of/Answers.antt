@@ -10,7 +10,7 @@ returns-in-Ok-clause-ends g c =
       failures = c.run_bridge.result;
       first = c.of.ensures;
       told = c.run_bridge.ensures.runs.leaves.told;
-      left = record { settings = c.in-Ok.request.settings; asked = c.in-Ok.ensures.asked.settings; proper = c.in-Ok.ensures.proper; runs = c.run_bridge.ensures.runs };
+      left = record { settings = c.in-Ok.asked.settings; asked = c.in-Ok.ensures.asked.settings; proper = c.in-Ok.ensures.proper; runs = c.run_bridge.ensures.runs };
     })
 
 pub returns-in-Ok-clause-asked : goal.returns-in-Ok-clause-asked

@@ -4,19 +4,14 @@ use Rattle.driver_app.proofs.main_call.drive_main.Goals as goal
 
 pub returns-clause-answers : goal.returns-clause-answers
 returns-clause-answers g c =
-    record {
-      ending = c.end_of-ending.result;
-      ends = c.end_of-ending.ensures.ends;
-      code_is = c.code.ensures;
-      diagnosed = c.tell.ensures;
-    }
+    causes.answers _ _ _ _ _ _ _ _ _ c.finish.ensures.status c.finish.ensures.told c.end_of-ending.ensures.ends
 
 pub returns-clause-status : goal.returns-clause-status
-returns-clause-status g c = causes.status_says _ _ _ _ _ _ c.code.ensures c.end_of-ending.ensures.ends
+returns-clause-status g c = causes.status_says _ _ _ _ _ _ c.finish.ensures.status c.end_of-ending.ensures.ends
 
 pub returns-clause-whole : goal.returns-clause-whole
-returns-clause-whole g c z tells = causes.fine _ _ _ _ _ c.end_of-ending.ensures.ends (sym c.code.ensures ∙ z) (λ f left e. left.whole e tells)
+returns-clause-whole g c z tells = causes.fine _ _ _ _ _ c.end_of-ending.ensures.ends (sym c.finish.ensures.status ∙ z) (λ f left e. left.whole e tells)
 
 pub returns-clause-unstarted : goal.returns-clause-unstarted
 returns-clause-unstarted g c z =
-    causes.unstarted _ _ _ _ _ c.end_of-ending.ensures.ends (sym c.code.ensures ∙ z) (λ f left e. left.nothing (left.unstarted e))
+    causes.unstarted _ _ _ _ _ c.end_of-ending.ensures.ends (sym c.finish.ensures.status ∙ z) (λ f left e. left.nothing (left.unstarted e))

@@ -1,7 +1,8 @@
 use Rattle.std.proofs.Common.{◌∙◌, refl, ap, sym}
 use Rattle.line_io.specs.Out.{Text}
 use Rattle.mediator.proofs.Loops.{after_iface_lost, after_engine_lost}
-use Rattle.mediator.proofs.Opens.{opened_first, still, first_came, took, opened_looped, some_left, none_left, good_first}
+use Rattle.event_pipe.specs.Ends.{taken}
+use Rattle.mediator.proofs.Opens.{opened_first, kept_by, none_taken, still, first_came, took, opened_looped, some_left, none_left, good_first}
 use Rattle.mediator.proofs.looping.mediate.Goals as goal
 
 pub loop-init : goal.loop-init
@@ -14,58 +15,61 @@ loop-init g c = record {
 
 pub loop-preserved-then-owes : goal.loop-preserved-then-owes
 loop-preserved-then-owes g c = record {
-  taker = c.loop.invariant.taker;
+  taker = kept_by c.args.turns.now.taker _ _ c.loop_step-at.ensures.taker c.loop.invariant.taker;
   room = c.loop_step-at.ensures.room ∙ c.loop.invariant.room;
   kept = c.loop_step-at.ensures.kept ∙ c.loop.invariant.kept;
   opened =
-      still _ _ _ _ _ _ _ _ _ _ c.loop.invariant.opened _ _ _
-      (after_iface_lost _ _ _ _ _ _ _ _ c.loop.invariant.opened.reached _ _ _ c.owes.ensures.allows (sym c.owes.ensures.is ∙ c.if-owes.true) c.loop_step-at.ensures.step);
+      none_taken _ _ _ _ _ _ _ _ _ _ _ c.loop_step-at.ensures.taker
+      (still _ _ _ _ _ _ _ _ _ _ c.loop.invariant.opened _ _ _
+      (after_iface_lost _ _ _ _ _ _ _ _ c.loop.invariant.opened.reached _ _ _ c.owes.ensures.allows (sym c.owes.ensures.is ∙ c.if-owes.true) c.loop_step-at.ensures.step));
 }
 
 pub loop-preserved-then-owes-2 : goal.loop-preserved-then-owes-2
 loop-preserved-then-owes-2 g c = record {
-  taker = c.loop.invariant.taker;
+  taker = kept_by c.args.turns.now.taker _ _ c.loop_step-at-then-owes-2.ensures.taker c.loop.invariant.taker;
   room = c.loop_step-at-then-owes-2.ensures.room ∙ c.loop.invariant.room;
   kept = c.loop_step-at-then-owes-2.ensures.kept ∙ c.loop.invariant.kept;
   opened =
-      still _ _ _ _ _ _ _ _ _ _ c.loop.invariant.opened _ _ _
+      none_taken _ _ _ _ _ _ _ _ _ _ _ c.loop_step-at-then-owes-2.ensures.taker
+      (still _ _ _ _ _ _ _ _ _ _ c.loop.invariant.opened _ _ _
       (after_engine_lost _ _ _ _ _ _ _ _ c.loop.invariant.opened.reached _ _ _ c.owes.ensures.allows (sym c.owes.ensures.is ∙ c.if-owes.false)
-      c.owes-else-owes.ensures.allows (sym c.owes-else-owes.ensures.is ∙ c.if-owes-2.true) c.loop_step-at-then-owes-2.ensures.step);
+      c.owes-else-owes.ensures.allows (sym c.owes-else-owes.ensures.is ∙ c.if-owes-2.true) c.loop_step-at-then-owes-2.ensures.step));
 }
 
 pub loop-preserved-then-not-is_empty : goal.loop-preserved-then-not-is_empty
 loop-preserved-then-not-is_empty g c = record {
-  taker = c.loop.invariant.taker;
+  taker = kept_by c.args.turns.now.taker _ _ c.receive-at.ensures.taker c.loop.invariant.taker;
   room = c.receive-at.ensures.room ∙ c.loop.invariant.room;
   kept = c.receive-at.ensures.kept ∙ c.loop.invariant.kept;
   opened =
-      first_came _ _ _ _ _ _ _ _ _ _ c.loop.invariant.opened
+      none_taken _ _ _ _ _ _ _ _ _ _ _ c.receive-at.ensures.taker
+      (first_came _ _ _ _ _ _ _ _ _ _ c.loop.invariant.opened
       c.owes.ensures.allows (sym c.owes.ensures.is ∙ c.if-owes.false) c.owes-else-owes.ensures.allows (sym c.owes-else-owes.ensures.is ∙ c.if-owes-2.false)
       c.requires.first (some_left _ _ c.is_empty.ensures c.if-not-is_empty.true) _ _ c.split_line.ensures.line c.split_line.ensures.rest _ c.line_event-event.ensures
-      c.receive-at.ensures.allows _ _ _ c.receive-at.ensures.came _ c.after-sides.ensures;
+      c.receive-at.ensures.allows _ _ _ c.receive-at.ensures.came _ c.after-sides.ensures);
 }
 
 pub loop-preserved-else-have_both_ended : goal.loop-preserved-else-have_both_ended
 loop-preserved-else-have_both_ended g c = record {
-  taker = (c.take-sent.ensures.keeps.0, c.take-sent.ensures.keeps.1 ∙ c.loop.invariant.taker.1);
+  taker = kept_by c.args.turns.now.taker _ _ c.receive-at-else-have_both_ended.ensures.taker (c.take-sent.ensures.keeps.0, c.take-sent.ensures.keeps.1 ∙ c.loop.invariant.taker.1);
   room = c.receive-at-else-have_both_ended.ensures.room ∙ c.loop.invariant.room;
   kept = c.receive-at-else-have_both_ended.ensures.kept ∙ c.loop.invariant.kept;
   opened =
       took _ _ _ _ _ _ _ _ _ _ c.loop.invariant.opened
       c.owes.ensures.allows (sym c.owes.ensures.is ∙ c.if-owes.false) c.owes-else-owes.ensures.allows (sym c.owes-else-owes.ensures.is ∙ c.if-owes-2.false)
-      c.requires.first (none_left _ _ c.is_empty.ensures c.if-not-is_empty.false) _ c.take-sent.ensures.follows _ c.event-event.ensures _ c.take-sent.ensures.gets
+      c.requires.first (none_left _ _ c.is_empty.ensures c.if-not-is_empty.false) _ c.take-sent.ensures.follows _ c.event-event.ensures _ (ap taken c.receive-at-else-have_both_ended.ensures.taker ∙ c.take-sent.ensures.gets)
       c.receive-at-else-have_both_ended.ensures.allows _ _ _ c.receive-at-else-have_both_ended.ensures.came _ c.after-sides-else-have_both_ended.ensures;
 }
 
 pub loop-preserved : goal.loop-preserved
 loop-preserved g c = record {
-  taker = (c.take-sent.ensures.keeps.0, c.take-sent.ensures.keeps.1 ∙ c.loop.invariant.taker.1);
+  taker = kept_by c.args.turns.now.taker _ _ c.receive-at-else-have_both_ended.ensures.taker (c.take-sent.ensures.keeps.0, c.take-sent.ensures.keeps.1 ∙ c.loop.invariant.taker.1);
   room = c.receive-at-else-have_both_ended.ensures.room ∙ c.loop.invariant.room;
   kept = c.receive-at-else-have_both_ended.ensures.kept ∙ c.loop.invariant.kept;
   opened =
       took _ _ _ _ _ _ _ _ _ _ c.loop.invariant.opened
       c.owes.ensures.allows (sym c.owes.ensures.is ∙ c.if-owes.false) c.owes-else-owes.ensures.allows (sym c.owes-else-owes.ensures.is ∙ c.if-owes-2.false)
-      c.requires.first (none_left _ _ c.is_empty.ensures c.if-not-is_empty.false) _ c.take-sent.ensures.follows _ c.event-event.ensures _ c.take-sent.ensures.gets
+      c.requires.first (none_left _ _ c.is_empty.ensures c.if-not-is_empty.false) _ c.take-sent.ensures.follows _ c.event-event.ensures _ (ap taken c.receive-at-else-have_both_ended.ensures.taker ∙ c.take-sent.ensures.gets)
       c.receive-at-else-have_both_ended.ensures.allows _ _ _ c.receive-at-else-have_both_ended.ensures.came _ c.after-sides-else-have_both_ended.ensures;
 }
 

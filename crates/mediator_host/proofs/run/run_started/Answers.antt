@@ -13,11 +13,11 @@ use Rattle.mediator_host.proofs.run.run_started.Goals as goal
 pub returns-clause-asked : goal.returns-clause-asked
 returns-clause-asked g c =
     let all = all_closed (g.H.Host.books c.args.host.now) (g.H.Host.books c.open_log-log.new.host) (g.H.Host.books c.close-waited.new.self) (g.H.Host.books c.close_log.new.host)
-    (g.H.EngineSource.Source.state c.run_pipes-end.new.handed.source) (g.H.EngineSink.Sink.state c.run_pipes-end.new.handed.engine) _ _ c.requires.books c.open_log-log.ensures.books c.close-waited.ensures.books c.close_log.ensures.books in
+    (g.H.EngineSource.Source.state c.run_pipes.new.handed.source) (g.H.EngineSink.Sink.state c.run_pipes.new.handed.engine) _ _ c.requires.books c.open_log-log.ensures.books c.close-waited.ensures.books c.close_log.ensures.books in
     opens_logs _ _ _ _ _ _ _ _ _ c.requires.books c.open_log-log.ensures.asked c.close-waited.ensures.asked c.close_log.ensures.asked
     (ap (λ (b : Books). b.runs_out) all)
-    (asked_logs g.H.Log.Sink.state c.open_log-log.result.log c.run_pipes-end.new.handed.log c.open_log-log.result.fault c.is_open_failure.result _ _ _
-    c.open_log-log.ensures.some c.open_log-log.ensures.none c.run_pipes-end.ensures.kept c.run_pipes-end.ensures.ran.looped.log.count
+    (asked_logs g.H.Log.Sink.state c.open_log-log.result.log c.run_pipes.new.handed.log c.open_log-log.result.fault c.is_open_failure.result _ _ _
+    c.open_log-log.ensures.some c.open_log-log.ensures.none c.run_pipes.ensures.kept c.run_pipes.ensures.ran.looped.log.count
     c.is_open_failure.ensures c.either-3.ensures (ap (λ (b : Books). b.logs_out) all))
     refl
 
@@ -28,12 +28,12 @@ returns-clause-leaves g c =
     let h2 = g.H.Host.faults c.close-waited.new.self in
     let h3 = g.H.Host.faults c.close_log.new.host in
     let b0 = g.H.Host.books c.args.host.now in
-    let ran = c.run_pipes-end.ensures.ran in
+    let ran = c.run_pipes.ensures.ran in
     let closed = c.close-waited.ensures.cause in
     let all = all_closed b0 (g.H.Host.books c.open_log-log.new.host) (g.H.Host.books c.close-waited.new.self) (g.H.Host.books c.close_log.new.host)
-    (g.H.EngineSource.Source.state c.run_pipes-end.new.handed.source) (g.H.EngineSink.Sink.state c.run_pipes-end.new.handed.engine) _ _ c.requires.books c.open_log-log.ensures.books c.close-waited.ensures.books c.close_log.ensures.books in
+    (g.H.EngineSource.Source.state c.run_pipes.new.handed.source) (g.H.EngineSink.Sink.state c.run_pipes.new.handed.engine) _ _ c.requires.books c.open_log-log.ensures.books c.close-waited.ensures.books c.close_log.ensures.books in
     let logs_out = ap (λ (b : Books). b.logs_out) all in
-    let same = same_count c.open_log-log.result.log c.run_pipes-end.new.handed.log c.run_pipes-end.ensures.kept in
+    let same = same_count c.open_log-log.result.log c.run_pipes.new.handed.log c.run_pipes.ensures.kept in
     record {
       told =
           record {
@@ -44,13 +44,13 @@ returns-clause-leaves g c =
             engine_write = writes_kept h0 h1 h2 h3 _ _ c.open_log-log.ensures.others c.close_log.ensures.others _
                 (told_by _ _ _ _ _ (ap (λ (x : Received). x.faults) c.requires.sink) ran.looped.engine.took.count closed.writes);
             engine_start = starts_kept h0 h1 h2 h3 _ _ c.open_log-log.ensures.others c.close_log.ensures.others closed.starts;
-            log = retold _ _ _ _ (c.either-3.ensures ∙ ap (λ (b : Bool). b || c.run_pipes-end.result.done.log) c.is_open_failure.ensures)
+            log = retold _ _ _ _ (c.either-3.ensures ∙ ap (λ (b : Bool). b || c.run_pipes.result.end.done.log) c.is_open_failure.ensures)
                 (log_told _ _ _ _ _ _ _ _ (fresh_faults _ _ _ c.open_log-log.ensures.fresh) c.open_log-log.ensures.cause closed.logs ran.looped.log.count c.close_log.ensures.cause);
             engine_wait = waits_kept h0 h1 h2 h3 _ _ c.open_log-log.ensures.others c.close_log.ensures.others _ c.close-waited.result c.is_err.ensures.value closed.waits;
           };
       closed =
           is_closed _ b0 _ _ _ _ all
-          (length_told g.H.Log.Sink.state c.run_pipes-end.new.handed.log ∙ same)
+          (length_told g.H.Log.Sink.state c.run_pipes.new.handed.log ∙ same)
           (few_logs c.open_log-log.result.log)
           (λ m l. log_opened c.open_log-log.result.log c.open_log-log.result.fault c.open_log-log.ensures.some
           (left_of _ _ _ _ c.either-3.ensures c.is_open_failure.ensures l) (left_of _ _ _ _ c.either-2.ensures c.is_open_memory.ensures m));
@@ -59,7 +59,7 @@ returns-clause-leaves g c =
       mediated = λ _.
           record {
             last = _;
-            end = c.run_pipes-end.result;
+            end = c.run_pipes.result.end;
             became = _;
             ran = ran_from _ _ _ _ _ _ _ _ _ _ _ _ _ _ _ c.requires.source c.requires.sink c.open_log-log.ensures.fresh logs_out ran;
             told = record {
@@ -77,7 +77,7 @@ returns-clause-leaves g c =
             input = refl;
             output = refl;
             run_told = ap (λ (b : Books). b.runs) all;
-            logs_told = ap (λ (b : Books). b.logs) all ∙ told_as g.H.Log.Sink.state c.run_pipes-end.new.handed.log
-                ∙ ap (λ (n : ℕ). closed_logs n (log_state g.H.Log.Sink.state c.run_pipes-end.new.handed.log)) (same ∙ sym logs_out);
+            logs_told = ap (λ (b : Books). b.logs) all ∙ told_as g.H.Log.Sink.state c.run_pipes.new.handed.log
+                ∙ ap (λ (n : ℕ). closed_logs n (log_state g.H.Log.Sink.state c.run_pipes.new.handed.log)) (same ∙ sym logs_out);
           };
     }

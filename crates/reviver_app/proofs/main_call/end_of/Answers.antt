@@ -23,7 +23,7 @@ returns-in-Ok-clause-ends g c =
 pub returns-in-Ok-clause-asked : goal.returns-in-Ok-clause-asked
 returns-in-Ok-clause-asked g c =
     asks_by _ _ _ _ _ _ _ _ (ap (λ (w : List (List ℕ)). drop 1 w) c.in-Ok.ensures.asked.words_are)
-    (asks_told _ _ _ _ _ _ _ _ _ _ refl c.as_str.ensures.value
+    (asks_told _ _ _ _ _ _ _ _ _ _ refl refl
     c.revive_run.ensures.leaves.told.engine_start c.revive_run.ensures.leaves.told.log c.revive_run.ensures.asked)
 
 pub returns-in-Err-clause-asked : goal.returns-in-Err-clause-asked

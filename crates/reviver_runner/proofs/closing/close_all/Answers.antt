@@ -1,8 +1,8 @@
 use Rattle.std.proofs.Common.{◌∙◌, List, Bool, ◌||◌, refl, ap, sym, subst, arith}
 use Rattle.child_engine.specs.Hosts.{Books, RisesBy}
-use Rattle.reviver_runner.specs.declared.lives.LifeRun.{LifeRun}
+use Rattle.life_runner.specs.declared.life.LifeRun.{LifeRun}
 use Rattle.reviver_runner.specs.Closing.{read_faults, write_faults}
-use Rattle.reviver_runner.proofs.CloseSteps.{closed_count, closed_told, all_closed, none_told, fewer_kids, no_kid}
+use Rattle.reviver_runner.proofs.CloseSteps.{closed_count, closed_told, all_closed, none_told, fewer_processes, no_process}
 use Rattle.reviver_runner.proofs.CountSteps.{cause_more, rises_both, rises_none, none_left}
 use Rattle.reviver_runner.proofs.closing.close_all.Goals as goal
 
@@ -13,8 +13,8 @@ loop-run-preserved g c =
     let cause = c.close-waited.ensures.cause in
     let first = c.in-Some.ensures.items in
     record {
-      count = closed_count _ _ (g.H.EngineSource.Source.state c.in-Some.run'.src) (g.H.EngineSink.Sink.state c.in-Some.run'.snk) _ _ _ books first was.count;
-      kids = fewer_kids _ _ _ _ _ _ was.kids c.in-Some-pop_front.ensures.items first;
+      count = closed_count _ _ (g.H.EngineSource.Source.state c.in-Some.run'.source) (g.H.EngineSink.Sink.state c.in-Some.run'.sink) _ _ _ books first was.count;
+      processes = fewer_processes _ _ _ _ _ _ was.processes c.in-Some-pop_front.ensures.items first;
       told = closed_told g.H.EngineSource.Source.state g.H.EngineSink.Sink.state _ _ _ _ c.in-Some.run' books first ∙ was.told;
       out = ap (λ (b : Books). b.runs_out) books ∙ was.out;
       logs_out = ap (λ (b : Books). b.logs_out) books ∙ was.logs_out;
@@ -52,12 +52,12 @@ returns-clause-books g c =
     }
 
 pub unreachable-requires : goal.unreachable-requires
-unreachable-requires g c = no_kid _ _ _ _ (none_left _ (c.in_default-pop_front.ensures.items ∙ c.in_default-pop_front.ensures.rest)) c.loop-run.invariant.kids c.in-Some.ensures.items
+unreachable-requires g c = no_process _ _ _ _ (none_left _ (c.in_default-pop_front.ensures.items ∙ c.in_default-pop_front.ensures.rest)) c.loop-run.invariant.processes c.in-Some.ensures.items
 
 pub loop-run-init : goal.loop-run-init
 loop-run-init g c = record {
   count = c.requires.out;
-  kids = c.requires.kids;
+  processes = c.requires.processes;
   told = refl;
   out = refl;
   logs_out = refl;

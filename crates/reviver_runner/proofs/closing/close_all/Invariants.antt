@@ -8,7 +8,7 @@ use Rattle.reviver_runner.proofs.closing.close_all.Given as goal
 abbrev pub invariant-loop-run : goal.invariant-loop-run
 invariant-loop-run g l = record {
   count : length (g.H.Host.books l.host).runs + length l.left.items ≡ (g.H.Host.books l.host).runs_out;
-  kids : length l.kids.items ≡ length l.left.items;
+  processes : length l.processes.items ≡ length l.left.items;
   told : (g.H.Host.books l.host).runs ++ told_of_runs g.H.EngineSource.Source.state g.H.EngineSink.Sink.state l.left.items
       ≡ (g.H.Host.books l.fn.host).runs ++ told_of_runs g.H.EngineSource.Source.state g.H.EngineSink.Sink.state l.fn.runs.items;
   out : (g.H.Host.books l.host).runs_out ≡ (g.H.Host.books l.fn.host).runs_out;

@@ -1,14 +1,15 @@
-use Rattle.std.proofs.Common.{◌∙◌, refl}
+use Rattle.life_runner.proofs.LoopSteps.{keeps_same, keeps_both, ready_still}
 use Rattle.reviver_runner.proofs.DrainSteps.{drained_none, drained_both}
 use Rattle.reviver_runner.proofs.drain.drain.Goals as goal
 
 pub loop-init : goal.loop-init
-loop-init g c = record { taker = (c.requires.taker, refl); room = refl; kept = refl; drained = drained_none _ _ _ _ _ c.requires.over }
+loop-init g c = record { keeps = keeps_same _ c.requires.ready; drained = drained_none _ c.requires.over }
+
+pub drain_next-requires-clause-ready : goal.drain_next-requires-clause-ready
+drain_next-requires-clause-ready g c = ready_still _ _ c.requires.ready c.loop.invariant.keeps
 
 pub loop-preserved : goal.loop-preserved
 loop-preserved g c = record {
-  taker = (c.drain_next.ensures.taker.0, c.drain_next.ensures.taker.1 ∙ c.loop.invariant.taker.1);
-  room = c.drain_next.ensures.room ∙ c.loop.invariant.room;
-  kept = c.drain_next.ensures.kept ∙ c.loop.invariant.kept;
-  drained = drained_both _ _ _ _ _ _ _ _ _ _ _ _ _ _ _ c.loop.invariant.drained c.drain_next.ensures.drained;
+  keeps = keeps_both _ _ _ c.loop.invariant.keeps c.drain_next.ensures.keeps;
+  drained = drained_both _ _ _ c.loop.invariant.drained c.drain_next.ensures.drained;
 }

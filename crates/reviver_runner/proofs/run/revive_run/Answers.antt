@@ -1,4 +1,4 @@
-use Rattle.std.proofs.Common.{◌∙◌, ap, map, refl, string_bytes, sym, vec_items}
+use Rattle.std.proofs.Common.{◌∙◌, ap, map, string_bytes, sym, vec_items}
 use Rattle.child_engine.specs.Asked.{and_engines}
 use Rattle.host_run.proofs.Asked.{asks_as, asks_early, asks_many}
 use Rattle.reviver_runner.proofs.RunSteps.{ran_as, unstarted}
@@ -6,17 +6,17 @@ use Rattle.reviver_runner.proofs.run.revive_run.Goals as goal
 
 pub returns-in-Ok-clause-leaves : goal.returns-in-Ok-clause-leaves
 returns-in-Ok-clause-leaves g c =
-    ran_as _ _ (g.I.Source.state c.args.input.now) (g.O.Sink.state c.args.output.now) (g.H.Host.faults c.args.host.now) (g.H.Host.faults c.start.new.host) (g.H.Host.books c.args.host.now) (g.H.Host.books c.start.new.host) _ _
-    c.in-Ok.ensures.faults c.in-Ok.ensures.books c.in-Ok.ensures.lives c.run_started.ensures.leaves
+    ran_as _ _ (g.I.Source.state c.args.interface.now.input) (g.O.Sink.state c.args.interface.now.output) (g.H.Host.faults c.args.host.now) (g.H.Host.faults c.start.new.host) (g.H.Host.books c.args.host.now) (g.H.Host.books c.start.new.host) _ _
+    c.in-Ok.ensures.faults c.in-Ok.ensures.books (ap (λ s. s.lives) c.in-Ok.ensures.made.begins) c.run_started.ensures.leaves
 
 pub returns-in-Ok-clause-asked : goal.returns-in-Ok-clause-asked
 returns-in-Ok-clause-asked g c =
-    asks_as _ _ _ _ _ _ _ _ (ap (λ v. map string_bytes (vec_items v)) c.in-Ok.ensures.words) refl
+    asks_as _ _ _ _ _ _ _ _ (ap (λ v. map string_bytes (vec_items v)) c.in-Ok.ensures.words) c.as_str.ensures.value
     (asks_many _ _ _ _ _ _ _ _ _ c.requires.unused c.in-Ok.ensures.books
     (c.in-Ok.ensures.asked ∙ ap (λ v. and_engines 1 (map string_bytes (vec_items v)) (g.H.Host.asked c.args.host.now)) (sym c.in-Ok.ensures.words)) c.run_started.ensures.asked)
 
-pub returns-in-Err-clause-asked : goal.returns-in-Err-clause-asked
-returns-in-Err-clause-asked g c = asks_early _ _ _ _ _ _ _ _ _ c.requires.unused c.in-Err.ensures.unstarted c.in-Err.ensures.asked c.in-Err.ensures.early
+pub returns-clause-asked : goal.returns-clause-asked
+returns-clause-asked g c = asks_early _ _ _ _ _ _ _ _ _ c.requires.unused c.in-Err.ensures.unstarted c.in-Err.ensures.asked c.in-Err.ensures.early
 
-pub returns-in-Err-clause-leaves : goal.returns-in-Err-clause-leaves
-returns-in-Err-clause-leaves g c = unstarted _ _ _ _ _ _ _ _ c.in-Err.ensures.early c.requires.unused c.in-Err.ensures.unstarted
+pub returns-clause-leaves : goal.returns-clause-leaves
+returns-clause-leaves g c = unstarted _ _ _ _ _ _ _ _ c.in-Err.ensures.early c.requires.unused c.in-Err.ensures.unstarted

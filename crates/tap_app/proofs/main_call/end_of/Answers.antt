@@ -1,4 +1,4 @@
-use Rattle.std.proofs.Common.{ap, map, string_bytes}
+use Rattle.std.proofs.Common.{refl}
 use Rattle.host_run.proofs.Asked.{asks_by, asks_refused, asks_told}
 use Rattle.host_run.proofs.Causes as causes
 use Rattle.tap_app.proofs.main_call.end_of.Goals as goal
@@ -11,7 +11,7 @@ returns-in-Ok-clause-ends g c =
 pub returns-in-Ok-clause-asked : goal.returns-in-Ok-clause-asked
 returns-in-Ok-clause-asked g c =
     asks_by _ _ _ _ _ _ _ _ c.in-Ok.ensures.asked.words_are
-    (asks_told _ _ _ _ _ _ _ _ _ _ (ap (map string_bytes) c.as_slice.ensures.value) c.as_str.ensures.value
+    (asks_told _ _ _ _ _ _ _ _ _ _ refl refl
     c.tap_run.ensures.leaves.told.engine_start c.tap_run.ensures.leaves.told.log c.tap_run.ensures.asked)
 
 pub returns-in-Err-clause-asked : goal.returns-in-Err-clause-asked

@@ -6,8 +6,8 @@ use Rattle.tap_runner.proofs.passing.hand_on.Given as goal
 
 abbrev pub invariant-loop : goal.invariant-loop
 invariant-loop g l = record {
-  keeps : KeepsSender l.fn.to l.to;
-  room : vec_len l.buf ≡ vec_len l.fn.buf;
-  passing : Passing l.fn.to.peer l.part (g.S.Source.state l.fn.source) (g.S.Source.state l.source)
-      (g.K.Sink.state l.fn.sink) (g.K.Sink.state l.sink) (sent l.to);
+  keeps : KeepsSender l.fn.way.to l.way.to;
+  room : vec_len l.way.buf ≡ vec_len l.fn.way.buf;
+  passing : Passing l.fn.way.to.peer l.way.part (g.S.Source.state l.fn.source) (g.S.Source.state l.source)
+      (g.K.Sink.state l.fn.sink) (g.K.Sink.state l.sink) (sent l.way.to);
 }

@@ -16,10 +16,10 @@ use Rattle.tap_runner.proofs.tap.run_started.Goals as goal
 pub returns-clause-asked : goal.returns-clause-asked
 returns-clause-asked g c =
     let all = all_closed (g.H.Host.books c.args.host.now) (g.H.Host.books c.open_log-log.new.host) (g.H.Host.books c.close-waited.new.self) (g.H.Host.books c.close_log.new.host)
-    (g.H.EngineSource.Source.state c.run_tap-end.new.source) (g.H.EngineSink.Sink.state c.run_tap-end.new.engine) _ _ c.requires.books c.open_log-log.ensures.books c.close-waited.ensures.books c.close_log.ensures.books in
+    (g.H.EngineSource.Source.state c.run_tap-end.new.handed.source) (g.H.EngineSink.Sink.state c.run_tap-end.new.handed.engine) _ _ c.requires.books c.open_log-log.ensures.books c.close-waited.ensures.books c.close_log.ensures.books in
     opens_logs _ _ _ _ _ _ _ _ _ c.requires.books c.open_log-log.ensures.asked c.close-waited.ensures.asked c.close_log.ensures.asked
     (ap (λ (b : Books). b.runs_out) all)
-    (asked_logs g.H.Log.Sink.state c.open_log-log.result.log c.run_tap-end.new.log c.open_log-log.result.fault c.is_open_failure.result _ _ _
+    (asked_logs g.H.Log.Sink.state c.open_log-log.result.log c.run_tap-end.new.handed.log c.open_log-log.result.fault c.is_open_failure.result _ _ _
     c.open_log-log.ensures.some c.open_log-log.ensures.none c.run_tap-end.ensures.kept c.run_tap-end.ensures.ran.to_log.count
     c.is_open_failure.ensures c.either-3.ensures (ap (λ (b : Books). b.logs_out) all))
     refl
@@ -34,13 +34,13 @@ returns-clause-leaves g c =
     let ran = c.run_tap-end.ensures.ran in
     let closed = c.close-waited.ensures.cause in
     let all = all_closed b0 (g.H.Host.books c.open_log-log.new.host) (g.H.Host.books c.close-waited.new.self) (g.H.Host.books c.close_log.new.host)
-    (g.H.EngineSource.Source.state c.run_tap-end.new.source) (g.H.EngineSink.Sink.state c.run_tap-end.new.engine) _ _ c.requires.books c.open_log-log.ensures.books c.close-waited.ensures.books c.close_log.ensures.books in
+    (g.H.EngineSource.Source.state c.run_tap-end.new.handed.source) (g.H.EngineSink.Sink.state c.run_tap-end.new.handed.engine) _ _ c.requires.books c.open_log-log.ensures.books c.close-waited.ensures.books c.close_log.ensures.books in
     let runs = ap (λ (b : Books). b.runs) all in
     let logs_out = ap (λ (b : Books). b.logs_out) all in
-    let same = same_count c.open_log-log.result.log c.run_tap-end.new.log c.run_tap-end.ensures.kept in
+    let same = same_count c.open_log-log.result.log c.run_tap-end.new.handed.log c.run_tap-end.ensures.kept in
     let logs =
-    ap (λ (b : Books). b.logs) all ∙ told_as g.H.Log.Sink.state c.run_tap-end.new.log
-    ∙ ap (λ (n : ℕ). closed_logs n (log_state g.H.Log.Sink.state c.run_tap-end.new.log)) (same ∙ sym logs_out) in
+    ap (λ (b : Books). b.logs) all ∙ told_as g.H.Log.Sink.state c.run_tap-end.new.handed.log
+    ∙ ap (λ (n : ℕ). closed_logs n (log_state g.H.Log.Sink.state c.run_tap-end.new.handed.log)) (same ∙ sym logs_out) in
     let begun = ran_from _ _ _ _ _ _ _ _ _ _ _ c.requires.source c.requires.sink c.open_log-log.ensures.fresh logs_out ran in
     let failures : Failures = record {
       memory = c.either-2.result;
@@ -75,7 +75,7 @@ returns-clause-leaves g c =
       engine_wait = waits_kept h0 h1 h2 h3 _ _ c.open_log-log.ensures.others c.close_log.ensures.others _ c.close-waited.result c.is_err.ensures.value closed.waits;
     })
     (is_closed _ b0 _ _ _ _ all
-    (length_told g.H.Log.Sink.state c.run_tap-end.new.log ∙ same_count c.open_log-log.result.log c.run_tap-end.new.log c.run_tap-end.ensures.kept)
+    (length_told g.H.Log.Sink.state c.run_tap-end.new.handed.log ∙ same_count c.open_log-log.result.log c.run_tap-end.new.handed.log c.run_tap-end.ensures.kept)
     (few_logs c.open_log-log.result.log)
     (λ m l. log_opened c.open_log-log.result.log c.open_log-log.result.fault c.open_log-log.ensures.some
     (left_of _ _ _ _ c.either-3.ensures c.is_open_failure.ensures l) (left_of _ _ _ _ c.either-2.ensures c.is_open_memory.ensures m)))
@@ -95,5 +95,5 @@ returns-clause-leaves g c =
       logs_told = logs;
       recorded = recorded_by _ _ b0 (g.H.Host.books c.close_log.new.host) _ _ _ begun told runs logs;
       output_gone = c.run_tap-end.ensures.output_gone;
-      engine_gone = (c.run_tap-end.new.engine, refl, c.run_tap-end.ensures.engine_gone);
+      engine_gone = (c.run_tap-end.new.handed.engine, refl, c.run_tap-end.ensures.engine_gone);
     })

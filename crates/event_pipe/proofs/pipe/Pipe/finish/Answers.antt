@@ -2,7 +2,8 @@ use Rattle.std.proofs.Common.{◌∙◌, ap}
 use Rattle.crossbeam_channel.specs.Claims.{view}
 use Rattle.event_pipe.specs.declared.pipe.KnownOfPass.{KnownOfPass}
 use Rattle.event_pipe.specs.Message.{role_of}
-use Rattle.event_pipe.proofs.Keeps.{merges_first, merges_second, totals, came_first, came_second, came_within}
+use Rattle.event_pipe.proofs.Keeps.{merges_first, merges_second}
+use Rattle.event_pipe.proofs.Arrivals.{totals, came_first, came_second, came_within}
 use Rattle.event_pipe.proofs.pipe.Pipe.finish.Goals as goal
 
 pub absorb-requires-clause-rule : goal.absorb-requires-clause-rule

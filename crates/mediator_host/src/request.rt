@@ -1,0 +1,11 @@
+// What a run is asked for.
+
+/// What a run is asked for.
+#[derive(Clone, Copy)]
+pub struct RunRequest<'a> {
+    /// Lines that the mediator takes as the interface's, before all that comes from either peer.
+    pub first: &'a [u8],
+    pub log_name: &'a str,
+    /// The engine's program and its arguments.
+    pub engine: &'a [String],
+}
