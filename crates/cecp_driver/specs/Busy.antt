@@ -20,7 +20,7 @@ IsCallOf EngineEnd v call = call ≡ calls.Ended
 IsCallOf event v call = ⊥
 
 -- An event after these calls is one call more. A search that is open then is one whose engine was set to think, an analysis that
--- was not stopped, or one that waits for the answer to a ping.
+-- goes on, or one that waits for a ping whose pong has not come.
 pub record Busies (event : Event) (v v' : DriverParts) (before : List DriverCall) : Type 0 where
   pub call : DriverCall
   pub is : IsCallOf event v call

@@ -1,5 +1,5 @@
 -- The ping that is awaited is the last that was written, and no search of the engine is begun before it is answered.
-use Rattle.std.proofs.Common.{◌≡◌, ℕ, Bool, true, false, cond, ◌&&◌, List, [], ◌∷◌, Option, Some, None, ◌∙◌, refl, arith}
+use Rattle.std.proofs.Common.{◌≡◌, ℕ, Bool, true, false, cond, ◌&&◌, List, [], ◌∷◌, Option, Some, None, ◌∙◌, refl, sym, subst, arith}
 use Rattle.std.specs.Prelude.{◌==◌}
 use Rattle.std.proofs.lemmas.Bool.Decides.{nat_tests}
 use Rattle.std.specs.Option.{option_or}
@@ -26,165 +26,178 @@ use Rattle.driver_talk.specs.Talk as talks
 use Rattle.driver_talk.specs.declared.words.ToIface.TheVariants as ups
 use Rattle.driver_talk.specs.declared.words.ToEngine.TheVariants as downs
 use Rattle.driver_talk.specs.declared.words.BoardChange.TheVariants as boards
-use Rattle.driver_talk.specs.Laws.{run, written_ping, last_ping, begins_search, IsAnswered, AwaitedWasWritten, PongsComeFirst}
+use Rattle.driver_talk.specs.Laws.{run, written_ping, last_ping, less_pong, unanswered, begins_search, IsAnswered, AwaitedWasWritten, AwaitedIsUnanswered, PongsComeFirst}
 
--- THE LAST PING
+-- THE PING THAT IS AWAITED
 
-abbrev IsLast : Option ℕ → Option ℕ → Type 0
-IsLast None last = Unit {0}
-IsLast (Some n) last = last ≡ Some n
+-- what is awaited after a turn, if this is left of what was awaited before
+abbrev Awaits : Option ℕ → DriverTurn → Type 0
+Awaits left r = r.talk.awaited ≡ option_or (written_ping r.deed.down) left
 
-abbrev Follows : Option ℕ → DriverTurn → Type 0
-Follows last r = IsLast r.talk.awaited (option_or (written_ping r.deed.down) last)
+stop_phase : (t : DriverTalk) (s : OpenSearch) (p : Phase) → Awaits t.awaited (stopped t s p)
+stop_phase t s (Thinks false) = refl
+stop_phase t s (Thinks true) = refl
+stop_phase t s Analyses = refl
+stop_phase t s Rests = refl
+stop_phase t s (Leaves Play) = refl
+stop_phase t s (Leaves Answer) = refl
+stop_phase t s (WaitsToThink false) = refl
+stop_phase t s (WaitsToThink true) = refl
+stop_phase t s (WaitsToAnalyse None) = refl
+stop_phase t s (WaitsToAnalyse (Some Play)) = refl
+stop_phase t s (WaitsToAnalyse (Some Answer)) = refl
 
-stop_phase : (last : Option ℕ) (t : DriverTalk) (s : OpenSearch) (p : Phase) → IsLast t.awaited last → Follows last (stopped t s p)
-stop_phase last t s (Thinks false) h = h
-stop_phase last t s (Thinks true) h = h
-stop_phase last t s Analyses h = refl
-stop_phase last t s Rests h = h
-stop_phase last t s (Leaves Play) h = h
-stop_phase last t s (Leaves Answer) h = h
-stop_phase last t s (WaitsToThink false) h = h
-stop_phase last t s (WaitsToThink true) h = h
-stop_phase last t s (WaitsToAnalyse None) h = h
-stop_phase last t s (WaitsToAnalyse (Some Play)) h = h
-stop_phase last t s (WaitsToAnalyse (Some Answer)) h = h
+stop_awaits : (t : DriverTalk) (search : Option OpenSearch) → Awaits t.awaited (stop_in search t)
+stop_awaits t None = refl
+stop_awaits t (Some s) = stop_phase t s s.phase
 
-stop_follows : (last : Option ℕ) (t : DriverTalk) (search : Option OpenSearch) → IsLast t.awaited last → Follows last (stop_in search t)
-stop_follows last t None h = h
-stop_follows last t (Some s) h = stop_phase last t s s.phase h
+play_awaits : (awaited : Option ℕ) (t : DriverTalk) (s : OpenSearch) (clocks : GoClocks) → Awaits t.awaited (played_by awaited t s clocks)
+play_awaits None t s clocks = refl
+play_awaits (Some n) t s clocks = refl
 
-play_follows : (last awaited : Option ℕ) (t : DriverTalk) (s : OpenSearch) (clocks : GoClocks) → IsLast t.awaited last → Follows last (played_by awaited t s clocks)
-play_follows last None t s clocks h = h
-play_follows last (Some n) t s clocks h = h
+open_awaits : (awaited : Option ℕ) (t : DriverTalk) (s : OpenSearch) (clocks : GoClocks) → Awaits t.awaited (opened_by awaited t s clocks)
+open_awaits None t s clocks = refl
+open_awaits (Some n) t s clocks = refl
 
-open_follows : (last awaited : Option ℕ) (t : DriverTalk) (s : OpenSearch) (clocks : GoClocks) → IsLast t.awaited last → Follows last (opened_by awaited t s clocks)
-open_follows last None t s clocks h = h
-open_follows last (Some n) t s clocks h = h
+hit_phase : (t : DriverTalk) (s : OpenSearch) (p : Phase) → Awaits t.awaited (hit t s p)
+hit_phase t s Analyses = refl
+hit_phase t s Rests = play_awaits t.awaited t s s.clocks
+hit_phase t s (WaitsToAnalyse None) = refl
+hit_phase t s p = refl
 
-hit_phase : (last : Option ℕ) (t : DriverTalk) (s : OpenSearch) (p : Phase) → IsLast t.awaited last → Follows last (hit t s p)
-hit_phase last t s Analyses h = refl
-hit_phase last t s Rests h = play_follows last t.awaited t s s.clocks h
-hit_phase last t s (WaitsToAnalyse None) h = h
-hit_phase last t s p h = h
+hit_kind : (t : DriverTalk) (s : OpenSearch) (kind : GoKind) → Awaits t.awaited (hit_by kind t s)
+hit_kind t s kinds.Ponder = hit_phase t s s.phase
+hit_kind t s kinds.Move = refl
+hit_kind t s kinds.Analyse = refl
 
-hit_kind : (last : Option ℕ) (t : DriverTalk) (s : OpenSearch) (kind : GoKind) → IsLast t.awaited last → Follows last (hit_by kind t s)
-hit_kind last t s kinds.Ponder h = hit_phase last t s s.phase h
-hit_kind last t s kinds.Move h = h
-hit_kind last t s kinds.Analyse h = h
+hit_awaits : (t : DriverTalk) (search : Option OpenSearch) → Awaits t.awaited (hit_in search t)
+hit_awaits t None = refl
+hit_awaits t (Some s) = hit_kind t s s.kind
 
-hit_follows : (last : Option ℕ) (t : DriverTalk) (search : Option OpenSearch) → IsLast t.awaited last → Follows last (hit_in search t)
-hit_follows last t None h = h
-hit_follows last t (Some s) h = hit_kind last t s s.kind h
+moved_awaits : (t : DriverTalk) (shown : Option Move) (b : Bool)
+    → Awaits t.awaited (cond b (record { talk = closed t; deed = record { up = ups.Best shown; down = downs.Nothing; board = board_of shown } }) (quiet t))
+moved_awaits t shown true = refl
+moved_awaits t shown false = refl
 
-moved_follows : (last : Option ℕ) (t : DriverTalk) (shown : Option Move) (b : Bool) → IsLast t.awaited last
-    → Follows last (cond b (record { talk = closed t; deed = record { up = ups.Best shown; down = downs.Nothing; board = board_of shown } }) (quiet t))
-moved_follows last t shown true h = h
-moved_follows last t shown false h = h
+resigned_awaits : (t : DriverTalk) (b : Bool)
+    → Awaits t.awaited (cond b (record { talk = pinged (closed t); deed = record { up = ups.Best None; down = downs.Retreat (next_ping t.pings); board = boards.Lost } }) (quiet t))
+resigned_awaits t true = refl
+resigned_awaits t false = refl
 
-resigned_follows : (last : Option ℕ) (t : DriverTalk) (b : Bool) → IsLast t.awaited last
-    → Follows last (cond b (record { talk = pinged (closed t); deed = record { up = ups.Best None; down = downs.Retreat (next_ping t.pings); board = boards.Lost } }) (quiet t))
-resigned_follows last t true h = refl
-resigned_follows last t false h = h
+resume_phase : (t : DriverTalk) (s : OpenSearch) (p : Phase) → Awaits None (resumed (unawaited t) s p)
+resume_phase t s (Leaves Answer) = refl
+resume_phase t s (Leaves Play) = refl
+resume_phase t s (WaitsToThink hurried) = refl
+resume_phase t s (WaitsToAnalyse None) = refl
+resume_phase t s (WaitsToAnalyse (Some next)) = refl
+resume_phase t s Analyses = refl
+resume_phase t s Rests = refl
+resume_phase t s (Thinks hurried) = refl
 
-resume_phase : (last : Option ℕ) (t : DriverTalk) (s : OpenSearch) (p : Phase) → Follows last (resumed (unawaited t) s p)
-resume_phase last t s (Leaves Answer) = tt
-resume_phase last t s (Leaves Play) = tt
-resume_phase last t s (WaitsToThink hurried) = tt
-resume_phase last t s (WaitsToAnalyse None) = tt
-resume_phase last t s (WaitsToAnalyse (Some next)) = refl
-resume_phase last t s Analyses = tt
-resume_phase last t s Rests = tt
-resume_phase last t s (Thinks hurried) = tt
+resume_awaits : (t : DriverTalk) (search : Option OpenSearch) → Awaits None (resume_in search (unawaited t))
+resume_awaits t None = refl
+resume_awaits t (Some s) = resume_phase t s s.phase
 
-resume_follows : (last : Option ℕ) (t : DriverTalk) (search : Option OpenSearch) → Follows last (resume_in search (unawaited t))
-resume_follows last t None = tt
-resume_follows last t (Some s) = resume_phase last t s s.phase
+pong_awaits : (t : DriverTalk) (b : Bool) → Awaits (cond b None t.awaited) (cond b (resume_in t.search (unawaited t)) (quiet t))
+pong_awaits t true = resume_awaits t t.search
+pong_awaits t false = refl
 
-pong_follows : (last : Option ℕ) (t : DriverTalk) (b : Bool) → IsLast t.awaited last → Follows last (cond b (resume_in t.search (unawaited t)) (quiet t))
-pong_follows last t true h = resume_follows last t t.search
-pong_follows last t false h = h
+keep_phase : (t : DriverTalk) (s : OpenSearch) (p : Phase) (thought : Thought) → Awaits t.awaited (kept t s p thought)
+keep_phase t s (Thinks hurried) thought = refl
+keep_phase t s Analyses thought = refl
+keep_phase t s Rests thought = refl
+keep_phase t s p thought = refl
 
-keep_phase : (last : Option ℕ) (t : DriverTalk) (s : OpenSearch) (p : Phase) (thought : Thought) → IsLast t.awaited last → Follows last (kept t s p thought)
-keep_phase last t s (Thinks hurried) thought h = h
-keep_phase last t s Analyses thought h = h
-keep_phase last t s Rests thought h = h
-keep_phase last t s p thought h = h
+thought_awaits : (t : DriverTalk) (search : Option OpenSearch) (thought : Thought) → Awaits t.awaited (thought_in search t thought)
+thought_awaits t None thought = refl
+thought_awaits t (Some s) thought = keep_phase t s s.phase thought
 
-thought_follows : (last : Option ℕ) (t : DriverTalk) (search : Option OpenSearch) (thought : Thought) → IsLast t.awaited last → Follows last (thought_in search t thought)
-thought_follows last t None thought h = h
-thought_follows last t (Some s) thought h = keep_phase last t s s.phase thought h
+ended_awaits : (t : DriverTalk) (search : Option OpenSearch) → Awaits t.awaited (ended_in search (gone t))
+ended_awaits t None = refl
+ended_awaits t (Some s) = refl
 
-ended_follows : (last : Option ℕ) (t : DriverTalk) (search : Option OpenSearch) → IsLast t.awaited last → Follows last (ended_in search (gone t))
-ended_follows last t None h = h
-ended_follows last t (Some s) h = h
+quit_pings : (awaited : Option ℕ) (b : Bool) → awaited ≡ option_or (written_ping (unless_gone b downs.Quit)) awaited
+quit_pings awaited true = refl
+quit_pings awaited false = refl
 
-quit_pings : (last awaited : Option ℕ) (b : Bool) → IsLast awaited last → IsLast awaited (option_or (written_ping (unless_gone b downs.Quit)) last)
-quit_pings last awaited true h = h
-quit_pings last awaited false h = h
+quit_awaits : (t : DriverTalk) (stage : DriverStage) → Awaits t.awaited (quit_at t stage)
+quit_awaits t stages.Over = refl
+quit_awaits t stages.Open = quit_pings t.awaited t.gone
+quit_awaits t stages.Fresh = quit_pings t.awaited t.gone
 
-quit_follows : (last : Option ℕ) (t : DriverTalk) (stage : DriverStage) → IsLast t.awaited last → Follows last (quit_at t stage)
-quit_follows last t stages.Over h = h
-quit_follows last t stages.Open h = quit_pings last t.awaited t.gone h
-quit_follows last t stages.Fresh h = quit_pings last t.awaited t.gone h
+uci_pings : (awaited : Option ℕ) (b : Bool) → awaited ≡ option_or (written_ping (unless_gone b downs.Greeting)) awaited
+uci_pings awaited true = refl
+uci_pings awaited false = refl
 
-uci_pings : (last awaited : Option ℕ) (b : Bool) → IsLast awaited last → IsLast awaited (option_or (written_ping (unless_gone b downs.Greeting)) last)
-uci_pings last awaited true h = h
-uci_pings last awaited false h = h
+uci_awaits : (t : DriverTalk) (stage : DriverStage) → Awaits t.awaited (uci_at t stage)
+uci_awaits t stages.Over = refl
+uci_awaits t stages.Open = refl
+uci_awaits t stages.Fresh = uci_pings t.awaited t.gone
 
-uci_follows : (last : Option ℕ) (t : DriverTalk) (stage : DriverStage) → IsLast t.awaited last → Follows last (uci_at t stage)
-uci_follows last t stages.Over h = h
-uci_follows last t stages.Open h = h
-uci_follows last t stages.Fresh h = uci_pings last t.awaited t.gone h
+ready_awaits : (t : DriverTalk) (stage : DriverStage) → Awaits t.awaited (ready_at t stage)
+ready_awaits t stages.Over = refl
+ready_awaits t stages.Open = refl
+ready_awaits t stages.Fresh = refl
 
-ready_follows : (last : Option ℕ) (t : DriverTalk) (stage : DriverStage) → IsLast t.awaited last → Follows last (ready_at t stage)
-ready_follows last t stages.Over h = h
-ready_follows last t stages.Open h = h
-ready_follows last t stages.Fresh h = h
+begin_awaits : (t : DriverTalk) (reach : Reach) (kind : GoKind) (s : OpenSearch) (clocks : GoClocks) → Awaits t.awaited (begin_by reach kind t s clocks)
+begin_awaits t reaches.Nothing kind s clocks = refl
+begin_awaits t reaches.Play kinds.Move s clocks = play_awaits t.awaited t s clocks
+begin_awaits t reaches.Play kinds.Ponder s clocks = refl
+begin_awaits t reaches.Play kinds.Analyse s clocks = refl
+begin_awaits t reaches.Analyse kinds.Move s clocks = play_awaits t.awaited t s clocks
+begin_awaits t reaches.Analyse kinds.Ponder s clocks = open_awaits t.awaited t s clocks
+begin_awaits t reaches.Analyse kinds.Analyse s clocks = open_awaits t.awaited t s clocks
 
-begin_follows : (last : Option ℕ) (t : DriverTalk) (reach : Reach) (kind : GoKind) (s : OpenSearch) (clocks : GoClocks) → IsLast t.awaited last → Follows last (begin_by reach kind t s clocks)
-begin_follows last t reaches.Nothing kind s clocks h = h
-begin_follows last t reaches.Play kinds.Move s clocks h = play_follows last t.awaited t s clocks h
-begin_follows last t reaches.Play kinds.Ponder s clocks h = h
-begin_follows last t reaches.Play kinds.Analyse s clocks h = h
-begin_follows last t reaches.Analyse kinds.Move s clocks h = play_follows last t.awaited t s clocks h
-begin_follows last t reaches.Analyse kinds.Ponder s clocks h = open_follows last t.awaited t s clocks h
-begin_follows last t reaches.Analyse kinds.Analyse s clocks h = open_follows last t.awaited t s clocks h
+first_awaits : (t : DriverTalk) (first : Option Move) (gone : Bool) (w : WantedSearch) → Awaits t.awaited (begin_from first gone t w)
+first_awaits t None gone w = refl
+first_awaits t (Some m) true w = refl
+first_awaits t (Some m) false w = begin_awaits t w.reach w.kind (talks.begun w m Rests) w.clocks
 
-first_follows : (last : Option ℕ) (t : DriverTalk) (first : Option Move) (gone : Bool) (w : WantedSearch) → IsLast t.awaited last → Follows last (begin_from first gone t w)
-first_follows last t None gone w h = h
-first_follows last t (Some m) true w h = h
-first_follows last t (Some m) false w h = begin_follows last t w.reach w.kind (talks.begun w m Rests) w.clocks h
+go_awaits : (t : DriverTalk) (w : WantedSearch) (b : Bool) → Awaits t.awaited (cond b (begin_from w.first t.gone t w) (quiet t))
+go_awaits t w true = first_awaits t w.first t.gone w
+go_awaits t w false = refl
 
-go_follows : (last : Option ℕ) (t : DriverTalk) (w : WantedSearch) (b : Bool) → IsLast t.awaited last → Follows last (cond b (begin_from w.first t.gone t w) (quiet t))
-go_follows last t w true h = first_follows last t w.first t.gone w h
-go_follows last t w false h = h
-
-call_follows : (last : Option ℕ) (t : DriverTalk) (c : DriverCall) → IsLast t.awaited last → Follows last (turn_of t c)
+call_awaits : (t : DriverTalk) (c : DriverCall) → Awaits (less_pong c t t.awaited) (turn_of t c)
 unfolding turn_of
-call_follows last t calls.Other h = h
-call_follows last t calls.Quit h = quit_follows last t t.stage h
-call_follows last t calls.Uci h = uci_follows last t t.stage h
-call_follows last t calls.IsReady h = ready_follows last t t.stage h
-call_follows last t (calls.Go w) h = go_follows last t w (is_free t) h
-call_follows last t calls.Stop h = stop_follows last t (open_search t) h
-call_follows last t calls.PonderHit h = hit_follows last t (open_search t) h
-call_follows last t (calls.Moved shown) h = moved_follows last t shown (is_thinking t) h
-call_follows last t calls.Resigned h = resigned_follows last t (is_thinking t) h
-call_follows last t (calls.Pong n) h = pong_follows last t (is_open_stage t.stage && is_awaited t.awaited n) h
-call_follows last t (calls.Thought thought) h = thought_follows last t (open_search t) thought h
-call_follows last t calls.Ended h = ended_follows last t (open_search t) h
+call_awaits t calls.Other = refl
+call_awaits t calls.Quit = quit_awaits t t.stage
+call_awaits t calls.Uci = uci_awaits t t.stage
+call_awaits t calls.IsReady = ready_awaits t t.stage
+call_awaits t (calls.Go w) = go_awaits t w (is_free t)
+call_awaits t calls.Stop = stop_awaits t (open_search t)
+call_awaits t calls.PonderHit = hit_awaits t (open_search t)
+call_awaits t (calls.Moved shown) = moved_awaits t shown (is_thinking t)
+call_awaits t calls.Resigned = resigned_awaits t (is_thinking t)
+call_awaits t (calls.Pong n) = pong_awaits t (is_open_stage t.stage && is_awaited t.awaited n)
+call_awaits t (calls.Thought thought) = thought_awaits t (open_search t) thought
+call_awaits t calls.Ended = ended_awaits t (open_search t)
 
-run_follows : (cs : List DriverCall) → IsLast (run cs).awaited (last_ping cs)
-run_follows [] = tt
-run_follows (c ∷ cs) = call_follows (last_ping cs) (run cs) c (run_follows cs)
+pub awaited_is_unanswered : AwaitedIsUnanswered
+awaited_is_unanswered [] = refl
+awaited_is_unanswered (c ∷ cs) =
+    subst (λ (x : Option ℕ). Awaits (less_pong c (run cs) x) (turn_of (run cs) c)) (awaited_is_unanswered cs) (call_awaits (run cs) c)
 
-told_last : (awaited last : Option ℕ) (n : ℕ) → IsLast awaited last → awaited ≡ Some n → last ≡ Some n
-told_last None last n h e = absurd (cc)
-told_last (Some m) last n h e = h ∙ e
+-- a ping that is left was there before
+less_cond : (b : Bool) (ping : Option ℕ) (n : ℕ) → cond b None ping ≡ Some n → ping ≡ Some n
+less_cond true ping n e = absurd (cc)
+less_cond false ping n e = e
+
+less_was : (c : DriverCall) (t : DriverTalk) (ping : Option ℕ) (n : ℕ) → less_pong c t ping ≡ Some n → ping ≡ Some n
+less_was (calls.Pong m) t ping n e = less_cond (is_open_stage t.stage && is_awaited ping m) ping n e
+less_was c t ping n e = e
+
+last_by : (written left last : Option ℕ) (n : ℕ) → (left ≡ Some n → last ≡ Some n) → option_or written left ≡ Some n → option_or written last ≡ Some n
+last_by (Some m) left last n h e = e
+last_by None left last n h e = h e
+
+unanswered_was_written : (cs : List DriverCall) (n : ℕ) → unanswered cs ≡ Some n → last_ping cs ≡ Some n
+unanswered_was_written [] n e = e
+unanswered_was_written (c ∷ cs) n e =
+    last_by (written_ping (turn_of (run cs) c).deed.down) (less_pong c (run cs) (unanswered cs)) (last_ping cs) n
+    (λ left. unanswered_was_written cs n (less_was c (run cs) (unanswered cs) n left)) e
 
 pub awaited_was_written : AwaitedWasWritten
-awaited_was_written cs n = told_last (run cs).awaited (last_ping cs) n (run_follows cs)
+awaited_was_written cs n e = unanswered_was_written cs n (sym (awaited_is_unanswered cs) ∙ e)
 
 -- PONGS COME FIRST
 

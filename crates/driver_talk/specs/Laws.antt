@@ -1,5 +1,5 @@
 -- Laws of every list of calls. The lists have the newest call first.
-use Rattle.std.specs.Prelude.{ℕ, ◌≡◌, ◌+◌, ◌⊎◌, if◌then◌else◌, Bool, true, false, ◌&&◌, ◌||◌, List, [], ◌∷◌, Option, Some, None, IsSome}
+use Rattle.std.specs.Prelude.{ℕ, ◌≡◌, ◌+◌, ◌⊎◌, if◌then◌else◌, Bool, true, false, not, ◌&&◌, ◌||◌, List, [], ◌∷◌, Option, Some, None, IsSome}
 use Rattle.std.specs.Option.{option_or}
 use Rattle.chess_board.specs.declared.board.Move.{Move}
 use Rattle.peer_words.specs.declared.kinds.GoKind.{GoKind}
@@ -14,7 +14,7 @@ use Rattle.driver_talk.specs.declared.talk.DriverTalk.{DriverTalk}
 use Rattle.driver_talk.specs.declared.talk.Reach.TheVariants as reaches
 use Rattle.driver_talk.specs.declared.talk.DriverCall.{DriverCall}
 use Rattle.driver_talk.specs.declared.talk.DriverCall.TheVariants as calls
-use Rattle.driver_talk.specs.Talk.{first_talk, turn_of, quiet, is_free, is_thinking, open_search, is_open_stage}
+use Rattle.driver_talk.specs.Talk.{first_talk, turn_of, quiet, is_free, is_thinking, is_awaited, open_search, is_open_stage}
 
 -- the talk after these calls
 abbrev pub run : List DriverCall → DriverTalk
@@ -57,6 +57,38 @@ open_count (Some s) = 1
 abbrev pub AnsweredOnce : Type 0
 AnsweredOnce = (cs : List DriverCall) → gos cs ≡ answers cs + open_count (run cs).search
 
+-- PINGS
+
+-- the number of the ping that is written
+abbrev pub written_ping : ToEngine → Option ℕ
+written_ping (downs.Analyse clocks ping) = ping
+written_ping (downs.Leave ping) = Some ping
+written_ping (downs.Retreat ping) = Some ping
+written_ping down = None
+
+-- the last ping that was written
+abbrev pub last_ping : List DriverCall → Option ℕ
+last_ping [] = None
+last_ping (c ∷ cs) = option_or (written_ping (deed_after cs c).down) (last_ping cs)
+
+-- a pong, before `quit`, takes away the ping that it answers
+abbrev pub less_pong : DriverCall → DriverTalk → Option ℕ → Option ℕ
+less_pong (calls.Pong n) t ping = if is_open_stage t.stage && is_awaited ping n then None else ping
+less_pong c t ping = ping
+
+-- the ping that was written last, if its pong has not come since
+abbrev pub unanswered : List DriverCall → Option ℕ
+unanswered [] = None
+unanswered (c ∷ cs) = option_or (written_ping (deed_after cs c).down) (less_pong c (run cs) (unanswered cs))
+
+-- A ping that is awaited was written, and none behind it.
+abbrev pub AwaitedWasWritten : Type 0
+AwaitedWasWritten = (cs : List DriverCall) (n : ℕ) → (run cs).awaited ≡ Some n → last_ping cs ≡ Some n
+
+-- A ping is awaited as long as its pong has not come.
+abbrev pub AwaitedIsUnanswered : Type 0
+AwaitedIsUnanswered = (cs : List DriverCall) → (run cs).awaited ≡ unanswered cs
+
 -- WHAT AN OPEN SEARCH DOES
 
 abbrev pub tells_to_think : ToEngine → Bool
@@ -83,15 +115,26 @@ abbrev pub stopped : List DriverCall → Bool
 stopped [] = false
 stopped (c ∷ cs) = if is_accepted (run cs) c then false else is_stop (run cs) c || stopped cs
 
-abbrev pub is_move : GoKind → Bool
-is_move kinds.Move = true
-is_move kinds.Ponder = false
-is_move kinds.Analyse = false
+-- a `ponderhit` that reaches an open search
+abbrev pub is_hit : DriverTalk → DriverCall → Bool
+is_hit t calls.PonderHit = is_open_stage t.stage && is_open t.search
+is_hit t c = false
 
--- An open search is one whose engine was set to think, an analysis that was not stopped, or one that waits for
--- the answer to a ping.
+-- a `ponderhit` came since the last `go` that was accepted
+abbrev pub hit : List DriverCall → Bool
+hit [] = false
+hit (c ∷ cs) = if is_accepted (run cs) c then false else is_hit (run cs) c || hit cs
+
+-- an analysis goes on until `stop`, and one that ponders until `ponderhit` too
+abbrev pub goes_on : GoKind → Bool → Bool → Bool
+goes_on kinds.Move stopped hit = false
+goes_on kinds.Ponder stopped hit = not stopped && not hit
+goes_on kinds.Analyse stopped hit = not stopped
+
+-- An open search is one whose engine was set to think, an analysis that goes on, or one that waits for a ping whose pong has
+-- not come.
 abbrev pub IsBusy : List DriverCall → OpenSearch → Type 0
-IsBusy cs s = (thinking cs ≡ true) ⊎ (((is_move s.kind ≡ false) × (stopped cs ≡ false)) ⊎ IsSome (run cs).awaited)
+IsBusy cs s = (thinking cs ≡ true) ⊎ ((goes_on s.kind (stopped cs) (hit cs) ≡ true) ⊎ IsSome (unanswered cs))
 
 abbrev pub OpenIsBusy : Type 0
 OpenIsBusy = (cs : List DriverCall) (s : OpenSearch) → (run cs).search ≡ Some s → IsBusy cs s
@@ -114,23 +157,7 @@ HasNoMove t c = ⊥
 abbrev pub NoMoveHasCause : Type 0
 NoMoveHasCause = (t : DriverTalk) (c : DriverCall) → (turn_of t c).deed.up ≡ ups.Best None → HasNoMove t c
 
--- PINGS
-
--- the number of the ping that is written
-abbrev pub written_ping : ToEngine → Option ℕ
-written_ping (downs.Analyse clocks ping) = ping
-written_ping (downs.Leave ping) = Some ping
-written_ping (downs.Retreat ping) = Some ping
-written_ping down = None
-
--- the last ping that was written
-abbrev pub last_ping : List DriverCall → Option ℕ
-last_ping [] = None
-last_ping (c ∷ cs) = option_or (written_ping (deed_after cs c).down) (last_ping cs)
-
--- A ping that is awaited was written, and none behind it.
-abbrev pub AwaitedWasWritten : Type 0
-AwaitedWasWritten = (cs : List DriverCall) (n : ℕ) → (run cs).awaited ≡ Some n → last_ping cs ≡ Some n
+-- PONGS
 
 abbrev pub begins_search : ToEngine → Bool
 begins_search (downs.Analyse clocks ping) = true

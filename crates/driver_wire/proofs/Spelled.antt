@@ -1,5 +1,5 @@
 -- Each line to an engine spells its message.
-use Rattle.std.proofs.Common.{◌≡◌, ℕ, ◌+◌, ◌*◌, ◌/◌, ◌%◌, ◌^◌, ◌<◌, ◌≤◌, List, [], ◌∷◌, ◌++◌, Bool, true, false, not, eqb, ltb, leb, cond, length, take, drop, Option, Some, None, Result, Ok, refl, sym, ap, ◌∙◌, subst, inl, inr, arith, append_assoc}
+use Rattle.std.proofs.Common.{◌≡◌, ℕ, ◌+◌, ◌*◌, ◌/◌, ◌%◌, ◌^◌, ◌<◌, ◌≤◌, List, [], ◌∷◌, ◌++◌, Bool, true, false, not, eqb, leb, cond, length, take, drop, Some, None, Ok, refl, sym, ap, ◌∙◌, subst, inl, inr, arith, append_assoc}
 use Rattle.std.specs.Prelude.{codes, pos}
 use Rattle.std.specs.Option.{option_map}
 use Rattle.std.specs.List.{list_all}
@@ -8,24 +8,21 @@ use Rattle.std.specs.Char.{is_ascii_digit}
 use Rattle.std.proofs.lemmas.Bool.Decides.{nat_tests}
 use Rattle.std.proofs.Math.Seq.{take-append_seam}
 use Rattle.chess_board.specs.declared.board.Move.{Move}
-use Rattle.chess_board.specs.declared.board.Kind.{Kind}
-use Rattle.chess_board.specs.declared.board.Kind.TheVariants.{Pawn, Knight, Bishop, Rook, Queen, King}
-use Rattle.chess_board.specs.Board.{file_of, rank_of}
 use Rattle.chess_board.specs.Position.{Position}
 use Rattle.chess_board.specs.Play.{IsPosition}
-use Rattle.chess_board.specs.Text.{text_of, promotion_text, IsOfficer}
+use Rattle.chess_board.specs.Text.{text_of, IsOfficer}
 use Rattle.chess_board.proofs.Texts.{reads-back}
-use Rattle.fen_text.specs.declared.fault.FenFault.{FenFault}
 use Rattle.fen_text.specs.Fen.{position_of, position_of_fields}
 use Rattle.fen_text.specs.Written.{written}
 use Rattle.fen_text.proofs.Back.{reads_back}
-use Rattle.game_record.specs.Game.{Ply, Game, begun, ply_of, with_ply}
+use Rattle.game_record.specs.Game.{Ply}
 use Rattle.game_record.specs.Line.{ply_text}
 use Rattle.peer_words.specs.Tokens.{is_white, is_token, first_token, rest, trimmed, tokens}
 use Rattle.peer_words.specs.Numbers.{centis, digits, number, seconds, seconds_at, milliseconds, is_point}
 use Rattle.peer_words.proofs.Runs.{token_first, token_rest, all_of}
 use Rattle.peer_words.proofs.TokenLists.{tokens_more, tokens_alone, tokens_trimmed}
 use Rattle.peer_words.proofs.Written.{decimal_token, decimal_digits, digits_decimal, number_decimal, centis_decimal_read, one_digit}
+use Rattle.uci_lines.proofs.MoveTokens.{move_token}
 use Rattle.cecp_lines.specs.Words.{is_ignored}
 use Rattle.cecp_lines.specs.Messages.{IfaceMsg}
 use Rattle.cecp_lines.specs.Messages as says
@@ -35,27 +32,9 @@ use Rattle.cecp_iface_side.proofs.Spoken.{one_word, black_over, longer_token}
 use Rattle.driver_lines.specs.Lines.{Line, XBoard, Protover, Quit, New, Force, Post, SetBoard, Played, St, Level, Time, Otim, Sd, Go, Analyze, Hurry, Exit, Ping, Accepted, Rejected, move_text, two_digits}
 use Rattle.cecp_driver.specs.Said.{CanBeSaid}
 use Rattle.driver_wire.proofs.Fed.{bare_fed}
-use Rattle.driver_wire.specs.Wire.{IsCecp, LinesAreCecp, at_position, bare_text, game_by}
+use Rattle.driver_wire.specs.Wire.{IsCecp, LinesAreCecp, bare_text}
 
 -- MOVES
-
-promotion_black : (p : Option Kind) → list_all (λ b. not (is_white b)) (promotion_text p) ≡ true
-promotion_black None = refl
-promotion_black (Some Pawn) = refl
-promotion_black (Some King) = refl
-promotion_black (Some Queen) = refl
-promotion_black (Some Rook) = refl
-promotion_black (Some Bishop) = refl
-promotion_black (Some Knight) = refl
-
-move_token : (m : Move) → is_token (text_of m) ≡ true
-move_token m =
-    let a = black_over (97 + file_of m.from.index) (omega arith) in
-    let b = black_over (49 + rank_of m.from.index) (omega arith) in
-    let c = black_over (97 + file_of m.to.index) (omega arith) in
-    let d = black_over (49 + rank_of m.to.index) (omega arith) in
-    let some : ltb 0 (length (text_of m)) ≡ true = grind (arith, nat_tests) in
-    rw (some, a, b, c, d, promotion_black m.promotion) refl
 
 pub move_spelled : (has_usermove : Bool) (m : Move) → IsOfficer m.promotion → HasMove (move_text has_usermove (text_of m)) m
 move_spelled true m o =
@@ -72,7 +51,6 @@ played_cecp has_usermove m s =
         no_feed = bare_fed (Played has_usermove m) s;
         spelled = subst (λ (t : List ℕ). HasMove (move_text has_usermove t) move) same (move_spelled has_usermove move s.1.1);
         is = (move, (s.1.0, refl));
-        sets = λ g. ap (with_ply g) (sym s.1.0);
       },
     )
 
@@ -152,7 +130,6 @@ level_cecp k s i h = (
       seconds_whole i h.2,
     );
     is = refl;
-    sets = λ g. refl;
   },
 )
 
@@ -171,51 +148,50 @@ board_cecp p h =
         no_feed = bare_fed (SetBoard p) h;
         spelled = (token_first (codes "setboard") (written p) 32 refl refl, sym (token_rest (codes "setboard") (written p) 32 refl refl));
         is = (trimmed (written p), (refl, read));
-        sets = λ g. sym (ap (at_position g) read);
       },
     )
 
 -- ALL
 
 pub cecp : LinesAreCecp
-cecp XBoard s = (says.Ignored (codes "xboard"), record { whole = refl; no_feed = bare_fed XBoard s; spelled = (refl, refl); is = (codes "xboard", refl); sets = λ g. refl })
-cecp Protover s = (says.Protover 2, record { whole = refl; no_feed = bare_fed Protover s; spelled = (one_word number (codes "protover") (codes "2") 2 refl refl refl, omega arith); is = refl; sets = λ g. refl })
-cecp Quit s = (says.Quit, record { whole = refl; no_feed = bare_fed Quit s; spelled = refl; is = refl; sets = λ g. refl })
-cecp New s = (says.New, record { whole = refl; no_feed = bare_fed New s; spelled = refl; is = refl; sets = λ g. refl })
-cecp Force s = (says.Force, record { whole = refl; no_feed = bare_fed Force s; spelled = refl; is = refl; sets = λ g. refl })
-cecp Post s = (says.Post, record { whole = refl; no_feed = bare_fed Post s; spelled = refl; is = refl; sets = λ g. refl })
+cecp XBoard s = (says.Ignored (codes "xboard"), record { whole = refl; no_feed = bare_fed XBoard s; spelled = (refl, refl); is = (codes "xboard", refl) })
+cecp Protover s = (says.Protover 2, record { whole = refl; no_feed = bare_fed Protover s; spelled = (one_word number (codes "protover") (codes "2") 2 refl refl refl, omega arith); is = refl })
+cecp Quit s = (says.Quit, record { whole = refl; no_feed = bare_fed Quit s; spelled = refl; is = refl })
+cecp New s = (says.New, record { whole = refl; no_feed = bare_fed New s; spelled = refl; is = refl })
+cecp Force s = (says.Force, record { whole = refl; no_feed = bare_fed Force s; spelled = refl; is = refl })
+cecp Post s = (says.Post, record { whole = refl; no_feed = bare_fed Post s; spelled = refl; is = refl })
 cecp (SetBoard p) s = board_cecp p s
 cecp (Played has_usermove m) s = played_cecp has_usermove m s
 cecp (St n) s = (
   says.St (n * 1000),
-  record { whole = refl; no_feed = bare_fed (St n) s; spelled = one_word seconds (codes "st") (decimal n) (n * 1000) refl (decimal_token n (omega (arith, s))) (seconds_whole n s); is = refl; sets = λ g. refl },
+  record { whole = refl; no_feed = bare_fed (St n) s; spelled = one_word seconds (codes "st") (decimal n) (n * 1000) refl (decimal_token n (omega (arith, s))) (seconds_whole n s); is = refl },
 )
 cecp (Level k n i) s = level_cecp k n i s
 cecp (Time n) s = (
   says.Time (pos n),
-  record { whole = refl; no_feed = bare_fed (Time n) s; spelled = one_word centis (codes "time") (decimal n) (pos n) refl (decimal_token n (omega (arith, s))) (centis_decimal_read (pos n) s); is = refl; sets = λ g. refl },
+  record { whole = refl; no_feed = bare_fed (Time n) s; spelled = one_word centis (codes "time") (decimal n) (pos n) refl (decimal_token n (omega (arith, s))) (centis_decimal_read (pos n) s); is = refl },
 )
 cecp (Otim n) s = (
   says.Otim (pos n),
-  record { whole = refl; no_feed = bare_fed (Otim n) s; spelled = one_word centis (codes "otim") (decimal n) (pos n) refl (decimal_token n (omega (arith, s))) (centis_decimal_read (pos n) s); is = refl; sets = λ g. refl },
+  record { whole = refl; no_feed = bare_fed (Otim n) s; spelled = one_word centis (codes "otim") (decimal n) (pos n) refl (decimal_token n (omega (arith, s))) (centis_decimal_read (pos n) s); is = refl },
 )
 cecp (Sd n) s = (
   says.Sd n,
-  record { whole = refl; no_feed = bare_fed (Sd n) s; spelled = one_word number (codes "sd") (decimal n) n refl (decimal_token n (omega (arith, s))) (number_decimal n s); is = refl; sets = λ g. refl },
+  record { whole = refl; no_feed = bare_fed (Sd n) s; spelled = one_word number (codes "sd") (decimal n) n refl (decimal_token n (omega (arith, s))) (number_decimal n s); is = refl },
 )
-cecp Go s = (says.Go, record { whole = refl; no_feed = bare_fed Go s; spelled = refl; is = refl; sets = λ g. refl })
-cecp Analyze s = (says.Analyze, record { whole = refl; no_feed = bare_fed Analyze s; spelled = refl; is = refl; sets = λ g. refl })
-cecp Hurry s = (says.MoveNow, record { whole = refl; no_feed = bare_fed Hurry s; spelled = refl; is = refl; sets = λ g. refl })
-cecp Exit s = (says.Exit, record { whole = refl; no_feed = bare_fed Exit s; spelled = refl; is = refl; sets = λ g. refl })
+cecp Go s = (says.Go, record { whole = refl; no_feed = bare_fed Go s; spelled = refl; is = refl })
+cecp Analyze s = (says.Analyze, record { whole = refl; no_feed = bare_fed Analyze s; spelled = refl; is = refl })
+cecp Hurry s = (says.MoveNow, record { whole = refl; no_feed = bare_fed Hurry s; spelled = refl; is = refl })
+cecp Exit s = (says.Exit, record { whole = refl; no_feed = bare_fed Exit s; spelled = refl; is = refl })
 cecp (Ping n) s = (
   says.Ping n,
-  record { whole = refl; no_feed = bare_fed (Ping n) s; spelled = one_word number (codes "ping") (decimal n) n refl (decimal_token n (omega (arith, s))) (number_decimal n s); is = refl; sets = λ g. refl },
+  record { whole = refl; no_feed = bare_fed (Ping n) s; spelled = one_word number (codes "ping") (decimal n) n refl (decimal_token n (omega (arith, s))) (number_decimal n s); is = refl },
 )
 cecp (Accepted name) s = (
   says.Ignored (trimmed (codes "accepted " ++ name)),
-  record { whole = refl; no_feed = bare_fed (Accepted name) s; spelled = (ap is_ignored (token_first (codes "accepted") name 32 refl refl), refl); is = (trimmed (codes "accepted " ++ name), refl); sets = λ g. refl },
+  record { whole = refl; no_feed = bare_fed (Accepted name) s; spelled = (ap is_ignored (token_first (codes "accepted") name 32 refl refl), refl); is = (trimmed (codes "accepted " ++ name), refl) },
 )
 cecp (Rejected name) s = (
   says.Ignored (trimmed (codes "rejected " ++ name)),
-  record { whole = refl; no_feed = bare_fed (Rejected name) s; spelled = (ap is_ignored (token_first (codes "rejected") name 32 refl refl), refl); is = (trimmed (codes "rejected " ++ name), refl); sets = λ g. refl },
+  record { whole = refl; no_feed = bare_fed (Rejected name) s; spelled = (ap is_ignored (token_first (codes "rejected") name 32 refl refl), refl); is = (trimmed (codes "rejected " ++ name), refl) },
 )
