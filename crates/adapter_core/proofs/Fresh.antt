@@ -95,7 +95,7 @@ over_stays : (h : Situation) (b : Bool) → Stays h.desk (record h.desk { mode =
 over_stays h true = Ends refl
 over_stays h false = Same refl refl
 
--- without a new epoch the game and the mode stay, unless the game is given up
+-- without a new epoch the game and the mode stay, unless the game is abandoned
 pub stays : (h : Situation) (d : Effect) → begins_epoch h d ≡ false → Stays h.desk (desk_after_effect h d)
 unfolding desk_after_effect
 stays h (Accepts m) r = line_stays h m r

@@ -7,6 +7,7 @@ pub mod Unique
 pub mod Ended
 pub mod Told
 pub mod Resigns
+pub mod SeenCalls
 pub mod Serving
 pub mod First
 pub mod Keeps

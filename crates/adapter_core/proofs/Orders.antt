@@ -54,7 +54,7 @@ batch_ready [] a = refl
 batch_ready (Setup ∷ ws) a = batch_ready ws a
 batch_ready x a = absurd a
 
--- `isready` stands in the batch alone
+-- `isready` is alone in the batch
 pub ready_words : (ws : List Word) (o : Orders) → AllSetup ws → has_ready (words ws o) ≡ is_batch_order o
 ready_words ws chosen.None a = refl
 ready_words ws chosen.Batch a = batch_ready ws a

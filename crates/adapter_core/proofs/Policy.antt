@@ -12,7 +12,7 @@ use Rattle.adapter_core.specs.Parts as parts
 use Rattle.adapter_core.specs.Trace.{State, situation}
 use Rattle.adapter_core.specs.Stands.{parts_of}
 
--- what stands is the same for both
+-- the situation is the same for both
 pub situation_kept : (s : State) (to_iface to_engine : Text) → IsProper s.settings → parts.situation (parts_of s to_iface to_engine) ≡ situation s
 situation_kept s to_iface to_engine p =
     ap (λ (b : Bool). let h : Situation = record (parts.situation (parts_of s to_iface to_engine)) { resigns = b } in h) ((counts_tell s.settings (s.desk.seen.score ∷ s.scores) p).0)

@@ -152,7 +152,7 @@ other_parts : (closed gone : Bool) (d : Desk) (pings : List ℕ) (early : List (
 unfolding call_of
 other_parts closed gone d pings early seen = refl
 
--- a game that is given up, answered pings and cleared values change no call
+-- a game that is abandoned, answered pings and cleared values change no call
 pub call_settled : (closed owes hits c : Bool) (h : Situation) (d : Effect)
     → call_of closed (is_gone h.engine || is_death d) (desk_after_effect h d) ≡ call_of closed (is_gone h.engine || is_death d) (desk_after c owes hits h d)
 call_settled closed owes hits c h d =

@@ -194,7 +194,7 @@ kept_pings true owes ps f = refl
 kept_pings false true ps f = refl
 kept_pings false false ps f = sym (f refl refl)
 
--- the game is given up, if that is so
+-- the game is abandoned, if that is so
 abbrev pub given_up : Bool → Commanded → Commanded
 given_up b c = record c { mode = over_where b c.mode }
 

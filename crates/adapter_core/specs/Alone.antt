@@ -36,7 +36,7 @@ commanded d = record { game = d.game; mode = d.mode; post = d.post; pondering = 
 
 -- THE INTERFACE ALONE
 
--- what stands if the engine never says anything: no move is shown, so the policy has no scores
+-- the situation if the engine never says anything: no move is shown, so the policy has no scores
 abbrev pub lone : Settings → Bool → Desk → Situation
 lone o closed d = record { settings = o; closed = closed; engine = states.Idle; spent = false; desk = d; resigns = false; accepts = does_accept o [] }
 

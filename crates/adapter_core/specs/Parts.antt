@@ -8,7 +8,10 @@ use Rattle.feature_talk.specs.Features.{reply_lines}
 use Rattle.policy_rules.specs.declared.settings.Settings.{Settings}
 use Rattle.policy_rules.specs.declared.scores.Scores.{Scores}
 use Rattle.policy_rules.specs.Scores.{Score, no_scores, after_shown, resigns_by, accepts_by}
+use Rattle.search_epochs.specs.declared.words.Call.{Call}
+use Rattle.search_epochs.specs.declared.words.Call.TheVariants as calls
 use Rattle.search_epochs.specs.declared.words.EngineState.{EngineState}
+use Rattle.search_epochs.specs.declared.words.EngineState.TheVariants as states
 use Rattle.search_epochs.specs.declared.words.Orders.{Orders}
 use Rattle.search_epochs.specs.declared.words.Orders.TheVariants as chosen
 use Rattle.search_epochs.specs.Tickets.{is_move, is_hurry}
@@ -64,6 +67,11 @@ none_held (order ∷ held) = false
 abbrev pub is_unsent : List Order → Effect → Bool
 is_unsent held d = is_boots d || not (none_held held)
 
+-- What counts of a call: in Idle the search that it asks for, and else whether it asks for a Move.
+abbrev pub seen_call : EngineState → Call → Call
+seen_call states.Idle call = call
+seen_call e call = if is_move call then calls.Move else calls.Nothing
+
 -- the orders that are chosen: none at Open and in a closed session
 abbrev pub choice : Bool → Bool → Situation → List Order → Effect → dialogues.Dialogue → Orders
 choice opens closed h held d mid =
@@ -117,7 +125,7 @@ pub record CanFollow (h : Situation) (d : Effect) : Type 0 where
   pub sound_then : IsSound (desk_after_effect h d)
   pub pings_then : length (desk_after_effect h d).pings ≤ MOST_PINGS + 1
 
--- What the core needs to take an event, if this stands and this comes of it.
+-- What the core needs to take an event, if this is the situation and this comes of it.
 pub record IsReadyFor (h : Situation) (v : CoreParts) (d : Effect) : Type 0 where
   pub follow : CanFollow h d
   pub fits : Fits h v.held d

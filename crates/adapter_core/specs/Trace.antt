@@ -57,7 +57,7 @@ opening o = record {
   dialogue = record { engine = dialogues.Boot; epoch = 0; last = None };
 }
 
--- what stands when an event comes
+-- the situation when an event comes
 abbrev pub situation : State → Situation
 situation s = record {
   settings = s.settings;

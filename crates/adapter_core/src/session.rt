@@ -13,7 +13,9 @@ ghost use Rattle.adapter_core.specs.declared.session.TheConstants.{ALL_REPLIES, 
 ghost use Rattle.desk_rules.specs.declared.sizes.TheConstants.{STEP_ORDERS};
 
 use crate::Ends;
-use crate::steps::{StepStage, choose, is_hit, is_move, is_open, is_unsent, put_orders, release};
+use crate::steps::{
+    StepStage, choose, is_hit, is_move, is_open, is_unsent, put_orders, release, seen_call,
+};
 use desk_rules::{Context, Desk, Effect, Ruling, STEP_REPLIES, is_gone};
 use game_record::Game;
 use line_io::{Event, NoMemory, Out, SCRIPT_LINE};
@@ -109,7 +111,7 @@ impl CoreParts {
         effect.count(&mut self.scores, self.desk.seen.score);
         self.desk
             .commit(context, ruling, stage.closed, &mut self.to_iface);
-        let call = self.desk.call(stage.closed, stage.gone);
+        let call = seen_call(&self.desk, self.dialogue.state(), stage);
         let owes = is_move(self.dialogue.owed(call));
         let unsent = is_unsent(&self.held, effect);
         let orders = choose(&mut self.dialogue, stage, call, unsent, effect);

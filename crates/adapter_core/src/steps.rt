@@ -6,17 +6,18 @@ ghost use Rattle.search_epochs.specs.Tickets.{is_move, is_hurry};
 ghost use Rattle.search_epochs.specs.Dialogue.{settle, after_settled, played_of, is_hit_order, is_batch_order};
 ghost use Rattle.search_epochs.specs.declared.words.Orders.TheVariants as chosen;
 ghost use Rattle.desk_rules.specs.Steps.{effect_of, what_of};
-ghost use Rattle.desk_rules.specs.Fits.{IsSound, CanWrite};
+ghost use Rattle.desk_rules.specs.Desk.{call_of};
+ghost use Rattle.desk_rules.specs.Fits.{IsHintPlayable, IsSound, CanWrite};
 ghost use Rattle.desk_rules.specs.Texts.{order_lines};
 ghost use Rattle.adapter_core.specs.Ends.{is_open};
-ghost use Rattle.adapter_core.specs.Parts.{is_unsent, orders_of};
+ghost use Rattle.adapter_core.specs.Parts.{is_unsent, orders_of, seen_call};
 ghost use Rattle.adapter_core.specs.declared.session.TheConstants.{ROOM};
 ghost use Rattle.desk_rules.specs.declared.sizes.TheConstants.{STEP_ORDERS};
 
 use desk_rules::{Desk, Effect, put_chosen, put_order};
 use line_io::{Event, Out};
 use option_map::HeldOrders;
-use search_epochs::{Call, Dialogue, Orders};
+use search_epochs::{Call, Dialogue, EngineState, Orders};
 use uci_lines::Order;
 
 /// Whether the event opens the session.
@@ -31,6 +32,23 @@ pub fn is_unsent(held: &HeldOrders, effect: &Effect) -> bool
     ensures { result ≡ is_unsent held.now (effect_of effect.now) }
 {
     effect.is_boots() || held.count() != 0
+}
+
+/// What counts of the desk's call: in Idle the search that it asks for, and else whether it asks for a Move.
+pub fn seen_call(desk: &Desk, engine: EngineState, stage: StepStage) -> Call
+    requires { IsHintPlayable desk.now }
+    ensures { result ≡ seen_call engine (call_of stage.closed stage.gone desk.now) }
+{
+    match engine {
+        EngineState::Idle => desk.call(stage.closed, stage.gone),
+        _ => {
+            if desk.calls_move(stage.closed, stage.gone) {
+                Call::Move
+            } else {
+                Call::Nothing
+            }
+        }
+    }
 }
 
 /// Whether a move of the engine is asked for.

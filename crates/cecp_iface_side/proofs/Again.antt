@@ -1,5 +1,5 @@
 -- The canonical spelling of each message that some line spells, spells it.
-use Rattle.std.proofs.Common.{◌≡◌, ℕ, ◌+◌, ◌-◌, ◌*◌, ◌/◌, ◌%◌, ◌^◌, ◌<◌, ◌≤◌, List, [], ◌∷◌, ◌++◌, Bool, true, false, not, ◌&&◌, eqb, ltb, leb, cond, length, take, drop, Option, Some, None, refl, sym, ap, ◌∙◌, subst, inl, arith, add_comm, add-one, append_assoc}
+use Rattle.std.proofs.Common.{◌≡◌, ℕ, ◌+◌, ◌*◌, ◌/◌, ◌%◌, ◌^◌, ◌<◌, ◌≤◌, List, [], ◌∷◌, ◌++◌, Bool, true, false, not, ◌&&◌, eqb, ltb, leb, cond, length, take, drop, Option, Some, None, refl, sym, ap, ◌∙◌, subst, inl, arith, add_comm, add-one, append_assoc}
 use Rattle.std.specs.Prelude.{codes, position}
 use Rattle.std.specs.Option.{option_map}
 use Rattle.std.specs.List.{list_all, position_or_len}
@@ -9,11 +9,9 @@ use Rattle.std.proofs.lemmas.Bool.Decides.{nat_tests}
 use Rattle.std.proofs.lemmas.Option.{cond_some}
 use Rattle.std.proofs.Math.Seq.{take-append_seam}
 use Rattle.chess_board.specs.declared.board.Move.{Move}
-use Rattle.chess_board.specs.declared.board.Kind.{Kind}
-use Rattle.chess_board.specs.declared.board.Kind.TheVariants.{Pawn, Knight, Bishop, Rook, Queen, King}
-use Rattle.chess_board.specs.Board.{file_of, rank_of}
-use Rattle.chess_board.specs.Text.{text_of, promotion_text}
+use Rattle.chess_board.specs.Text.{text_of}
 use Rattle.chess_board.proofs.Texts.{reads-back}
+use Rattle.chess_board.proofs.TextBytes.{text_high}
 use Rattle.peer_words.specs.Tokens.{is_white, is_token, is_blank, first_token, rest, trimmed, trim_left, trim_right, token_end, tokens}
 use Rattle.peer_words.specs.Numbers.{digits, seconds_text}
 use Rattle.peer_words.proofs.Trims.{trimmed_again, trim_left_trimmed, trim_right_again}
@@ -21,7 +19,7 @@ use Rattle.std.proofs.lemmas.List.{append-nil, append_cancel_left}
 use Rattle.std.proofs.lemmas.List.Folds.{list_all-append}
 use Rattle.std.proofs.lemmas.Bool.{and_parts}
 use mathlib.Core.Bool.{and-false}
-use Rattle.peer_words.proofs.Runs.{token_first, token_rest, all_of, starts_black}
+use Rattle.peer_words.proofs.Runs.{high_token, token_first, token_rest, all_of, starts_black}
 use Rattle.peer_words.proofs.TokenLists.{tokens_more, tokens_alone, tokens_trimmed, tokens_some, first_is_token, no_first}
 use Rattle.peer_words.proofs.Written.{decimal_token, decimal_digits, digits_decimal, seconds_read, one_digit}
 use Rattle.peer_words.proofs.Lengths.{trim_left_length}
@@ -39,23 +37,8 @@ use Rattle.cecp_iface_side.proofs.Spoken.{number_again, centis_again, seconds_ag
 
 -- MOVES
 
-promotion_black : (p : Option Kind) → list_all (λ b. not (is_white b)) (promotion_text p) ≡ true
-promotion_black None = refl
-promotion_black (Some Pawn) = refl
-promotion_black (Some King) = refl
-promotion_black (Some Queen) = refl
-promotion_black (Some Rook) = refl
-promotion_black (Some Bishop) = refl
-promotion_black (Some Knight) = refl
-
 move_token : (m : Move) → is_token (text_of m) ≡ true
-move_token m =
-    let a = black_over (97 + file_of m.from.index) (omega arith) in
-    let b = black_over (49 + rank_of m.from.index) (omega arith) in
-    let c = black_over (97 + file_of m.to.index) (omega arith) in
-    let d = black_over (49 + rank_of m.to.index) (omega arith) in
-    let some : ltb 0 (length (text_of m)) ≡ true = grind (arith, nat_tests) in
-    rw (some, a, b, c, d, promotion_black m.promotion) refl
+move_token m = let some : 0 < length (text_of m) = omega arith in high_token (text_of m) some (text_high m)
 
 move_again : (line : List ℕ) (m : Move) → HasMove line m → HasMove (codes "usermove " ++ text_of m) m
 move_again line m h = inl (text_of m, tokens_more (codes "usermove") (text_of m) 32 refl refl ∙ ap (λ ts. codes "usermove" ∷ ts) (tokens_alone (text_of m) (move_token m)), reads-back m (move_writable line m h))
@@ -188,7 +171,7 @@ level_again line mps base inc h =
       seconds_read inc low,
     )
 
--- WHAT STANDS TRIMMED
+-- WHAT IS TRIMMED
 
 blank_by : (xs : List ℕ) (b : Bool) → is_blank xs ≡ b → 0 < length xs → trim_right xs ≡ xs → is_blank xs ≡ false
 blank_by xs false e l h = e
@@ -201,7 +184,7 @@ blank_false xs l h = blank_by xs (is_blank xs) refl l h
 blank_more : (xs ys : List ℕ) → is_blank ys ≡ false → is_blank (xs ++ ys) ≡ false
 blank_more xs ys h = list_all-append is_white xs ys ∙ ap (λ b. is_blank xs && b) h ∙ and-false (is_blank xs)
 
--- what is not blank at the end keeps what stands before it
+-- what is not blank at the end keeps what is before it
 right_over : (xs ys : List ℕ) → is_blank ys ≡ false → trim_right (xs ++ ys) ≡ xs ++ trim_right ys
 right_over [] ys h = refl
 right_over (x ∷ xs) ys h = rw (ap (λ b. is_white x && b) (blank_more xs ys h) ∙ and-false (is_white x), right_over xs ys h) refl
@@ -283,7 +266,7 @@ cut_no k xs at h =
     let c = cond_some (ltb (position_or_len (λ b. eqb b k) xs) (length xs)) (position_or_len (λ b. eqb b k) xs) at h in
     subst (λ (n : ℕ). list_all (λ b. not (eqb b k)) (take n xs) ≡ true) c.1 (before_no k xs)
 
--- the value behind the first `=` of a trimmed text is trimmed at its end
+-- the value after the first `=` of a trimmed text is trimmed at its end
 value_right : (front value : List ℕ) → trim_right (front ++ (61 ∷ value)) ≡ front ++ (61 ∷ value) → trim_right (61 ∷ value) ≡ 61 ∷ value
 value_right front value h = append_cancel_left front (trim_right (61 ∷ value)) (61 ∷ value) (sym (right_over front (61 ∷ value) refl) ∙ h)
 

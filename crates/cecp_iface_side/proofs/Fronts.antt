@@ -1,4 +1,4 @@
--- What stands behind a front, and the parts of a text at its blanks.
+-- What follows a front, and the parts of a text at its blanks.
 use Rattle.std.proofs.Common.{◌≡◌, ℕ, suc, ltb, ◌+◌, ◌<◌, List, [], ◌∷◌, ◌++◌, Bool, true, false, not, ◌&&◌, eqb, cond, length, take, drop, Option, Some, None, refl, sym, ap, ◌∙◌, arith}
 use Rattle.std.specs.Prelude.{MatchOption, ◌≢◌, position}
 use Rattle.std.specs.Option.{option_map}

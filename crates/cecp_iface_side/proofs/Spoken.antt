@@ -11,7 +11,7 @@ use Rattle.std.proofs.lemmas.Option.{cond_some}
 use Rattle.std.proofs.lemmas.Int.Digits.{digits_value-lt}
 use Rattle.std.proofs.lemmas.List.Folds.{list_all-append}
 use Rattle.std.proofs.lemmas.Bool.{and_parts}
-use lib.IntN.{pos, negsuc, neg_ℤ}
+use lib.IntN.{pos, neg_ℤ}
 use Rattle.peer_words.specs.Tokens.{is_white, is_token}
 use Rattle.peer_words.specs.Numbers.{digits, number, centis, positive, negative, milliseconds, thousandths, seconds_at, seconds, is_point, seconds_text, three_digits, is_digits}
 use Rattle.peer_words.proofs.TokenLists.{tokens_more, tokens_alone}
@@ -87,7 +87,7 @@ seconds_below t ms h = seconds_by t (position is_point t) ms h
 pub black_over : (c : ℕ) → 33 ≤ c → not (is_white c) ≡ true
 black_over c h = grind (arith, nat_tests)
 
--- a token with black bytes behind it
+-- a token followed by black bytes
 pub longer_token : (t more : List ℕ) → is_token t ≡ true → list_all (λ b. not (is_white b)) more ≡ true → is_token (t ++ more) ≡ true
 longer_token [] more h k = absurd (cc)
 longer_token (x ∷ t) more h k =

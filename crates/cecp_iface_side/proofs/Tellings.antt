@@ -1,14 +1,14 @@
 -- A line that reads as a reply is the reply's text.
-use Rattle.std.proofs.Common.{◌≡◌, ℕ, ◌+◌, ◌^◌, ◌<◌, List, [], ◌∷◌, ◌++◌, map, Bool, true, false, ltb, cond, length, take, drop, Option, Some, None, refl, sym, ap, ◌∙◌, subst, arith, append_assoc}
+use Rattle.std.proofs.Common.{◌≡◌, ℕ, ◌+◌, ◌^◌, ◌<◌, List, [], ◌∷◌, ◌++◌, Bool, true, false, ltb, cond, take, drop, Option, Some, None, refl, sym, ap, ◌∙◌, subst, arith, append_assoc}
 use Rattle.std.specs.Prelude.{codes, position, is_some, IfSome}
 use Rattle.std.specs.Option.{option_map, option_and_then}
-use Rattle.std.specs.List.{list_all, slice_split, join_with_byte, AllByRecursion}
+use Rattle.std.specs.List.{list_all, slice_split, AllByRecursion}
 use Rattle.std.specs.Map.{lookup}
 use Rattle.std.specs.Str.{bytes_eq}
 use Rattle.std.specs.Fmt.{decimal, signed_decimal}
 use Rattle.std.proofs.lemmas.Bool.Decides.{nat_tests}
 use Rattle.std.proofs.lemmas.Option.{cond_some}
-use Rattle.std.proofs.lemmas.List.{take-append-drop, length-map, append-nil}
+use Rattle.std.proofs.lemmas.List.{take-append-drop, append-nil}
 use Rattle.std.proofs.lemmas.List.Splits.{join_with_byte-slice_split, length-slice_split}
 use Rattle.std.proofs.lemmas.Slice.Eq.{bytes_eq-Decides}
 use Rattle.std.proofs.lemmas.Bool.{and_parts}
@@ -107,7 +107,7 @@ last_by text (Some at) p e h =
     subst (λ (q : ℕ × Option AnyMove). (q.0 < 2 ^ 64) × IfSome q.1 IsWritable × (text ≡ decimal q.0 ++ current_text q.1)) d.2
     (w.1, m.1, at_byte 32 text at e ∙ ap (λ x. x ++ (32 ∷ drop (at + 1) text)) w.0 ∙ ap (λ x. decimal b.0 ++ (32 ∷ x)) m.0)
 
--- five numbers and a move, each behind a blank
+-- five numbers and a move, each after a blank
 pub stat_text : (front a b c d e f : List ℕ) → front ++ (a ++ (32 ∷ (b ++ (32 ∷ (c ++ (32 ∷ (d ++ (32 ∷ (e ++ f))))))))) ≡ front ++ field a ++ field b ++ field c ++ field d ++ e ++ f
 stat_text front a b c d e f = simp append_assoc
 

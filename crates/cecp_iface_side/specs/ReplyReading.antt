@@ -24,7 +24,7 @@ use Rattle.cecp_lines.specs.Replies as told
 use Rattle.cecp_lines.specs.Replies.{Reply, reply_of, is_feature_name}
 use Rattle.peer_words.specs.Bytes.{digit_zero, blank, right_parenthesis}
 
--- what stands behind a front
+-- what follows a front
 abbrev pub stripped : List ℕ → List ℕ → Option (List ℕ)
 stripped [] line = Some line
 stripped (f ∷ fs) [] = None
@@ -74,7 +74,7 @@ is_move_text San text = is_san text
 abbrev pub are_moves : Spelling → List ℕ → Bool
 are_moves spelling text = list_all (is_move_text spelling) (slice_split is_space text)
 
--- the parts of a text before and behind its first blank
+-- the parts of a text before and after its first blank
 abbrev pub cut_at : Option ℕ → List ℕ → Option (List ℕ × List ℕ)
 cut_at None text = None
 cut_at (Some at) text = Some (take at text, drop (at + 1) text)
@@ -212,7 +212,7 @@ thinking_in text =
     option_and_then (thinking_of depth.0 score.0 time.0 nodes.0) (hint_in nodes.1))
     (number_field time.1)) (number_field score.1)) (score_field depth.1)) (number_field text)
 
--- what is read behind a front, or else
+-- what is read after a front, or else
 abbrev pub behind : Option (List ℕ) → (List ℕ → Option Reply) → Option Reply → Option Reply
 behind None read other = other
 behind (Some text) read other = read text

@@ -4,9 +4,11 @@
 #![tactic(auto)]
 
 mod laws;
+mod move_texts;
 mod reply_read;
 mod san;
 mod write;
+mod written_numbers;
 
 pub use laws::written_messages_are_read_again;
 pub use reply_read::read_reply;

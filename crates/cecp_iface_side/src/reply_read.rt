@@ -1,15 +1,16 @@
 // The reply that a line spells.
-ghost use Rattle.std.specs.Prelude.{◌≡◌, ◌↔◌, Some, is_some, ◌+◌, ◌-◌, ◌*◌, ◌<◌, ◌≤◌, ◌^◌, length, position, IfSome};
+ghost use Rattle.std.specs.Prelude.{◌≡◌, ◌↔◌, Some, position};
 ghost use Rattle.std.specs.Option.{option_map};
 ghost use Rattle.std.specs.List.{list_all};
-ghost use Rattle.cecp_lines.specs.Replies.{Reply as AnyReply, reply_of, SpellsReply, IsWritable, is_feature_name, is_name_byte};
-ghost use Rattle.cecp_iface_side.specs.ReplyReading.{stripped, plain, written, written_signed, written_move, is_move_text, are_moves, is_hint, have_spelling, spelling_of, is_space, is_paren, is_plain, cut, number_field, score_field, fixed_of, reason_of, feature_in, is_repeated, error_in, pong_in, last_in, stat01_in, hint_in, thinking_in, reply_in, with_front};
+ghost use Rattle.cecp_lines.specs.Replies.{Reply as AnyReply, reply_of, SpellsReply, is_feature_name, is_name_byte};
 ghost use Rattle.cecp_lines.specs.Reading.{is_equals};
-ghost use Rattle.peer_words.specs.Bytes.{};
+ghost use Rattle.cecp_iface_side.specs.ReplyReading.{stripped, is_paren, fixed_of, reason_of, feature_in, is_repeated, error_in, pong_in};
+ghost use Rattle.cecp_iface_side.specs.ReplyReading.{last_in, stat01_in, hint_in, thinking_in, with_front, reply_in};
 
-use crate::san::is_san;
-use cecp_lines::{Outcome, Reason, Reply, Spelling, UserError};
-use chess_board::{Move, read_move, write_move};
+use crate::move_texts::{read_written_move, spelling_of};
+use crate::written_numbers::{read_number_field, read_score_field, read_written, space_at};
+use cecp_lines::{Outcome, Reason, Reply, UserError};
+use chess_board::Move;
 use peer_words::{is_white, named, trim};
 
 const FIXED: [(&[u8], Reply<'static>); 11] = [
@@ -44,7 +45,7 @@ const FIXED: [(&[u8], Reply<'static>); 11] = [
     ),
 ];
 
-const REASONS: [(&[u8], Reason); 10] = [
+static REASONS: [(&[u8], Reason); 10] = [
     (b"unknown command", Reason::UnknownCommand),
     (b"bad argument", Reason::BadArgument),
     (b"engine ended", Reason::EngineEnded),
@@ -69,137 +70,11 @@ fn reason_named(words: &[u8]) -> Option<Reason>
     named(&REASONS, words)
 }
 
-/// What stands behind a front.
+/// What follows a front.
 fn behind_front<'a>(front: &[u8], line: &'a [u8]) -> Option<&'a [u8]>
     ensures { option_map (λ t. t.now) result ≡ stripped front.now line.now }
 {
     line.strip_prefix(front)
-}
-
-/// The number that up to 20 digits without a leading zero write.
-fn read_plain(text: &[u8]) -> Option<u128>
-    ensures { result ≡ plain text.now }
-{
-    if text.is_empty() || text[0] == b'0' && text.len() != 1 || text.len() > 20 {
-        return None;
-    }
-    let mut n = 0u128;
-    for b in text {
-        if !b.is_ascii_digit() {
-            return None;
-        }
-        n = n * 10 + u128::from(*b - b'0');
-    }
-    Some(n)
-}
-
-/// A number of 64 bits as it is written.
-fn read_written(text: &[u8]) -> Option<u64>
-    ensures value { result ≡ written text.now }
-    ensures below { IfSome result (λ n. n < 2 ^ 64) }
-{
-    let n = read_plain(text)?;
-    if n < 0x1_0000_0000_0000_0000 {
-        Some(n as u64)
-    } else {
-        None
-    }
-}
-
-fn read_score(text: &[u8]) -> Option<i64>
-    ensures { result ≡ written_signed text.now }
-{
-    match text {
-        [b'-', digits @ ..] => {
-            let n = read_written(digits)?;
-            if n == 0x8000_0000_0000_0000 {
-                Some(i64::MIN)
-            } else if n == 0 || n > 0x8000_0000_0000_0000 {
-                None
-            } else {
-                Some(-(n as i64))
-            }
-        }
-        _ => {
-            let n = read_written(text)?;
-            if n < 0x8000_0000_0000_0000 {
-                Some(n as i64)
-            } else {
-                None
-            }
-        }
-    }
-}
-
-/// A move with its promotion letter in lower case.
-fn read_written_move(text: &[u8]) -> Option<Move>
-    ensures { result ≡ written_move text.now }
-{
-    let m = read_move(text)?;
-    if write_move(m).as_slice() == text {
-        Some(m)
-    } else {
-        None
-    }
-}
-
-/// Whether a text is a move in a spelling.
-fn is_move_text(spelling: Spelling, text: &[u8]) -> bool
-    ensures { result ≡ is_move_text spelling text.now }
-{
-    match spelling {
-        Spelling::Coordinates => read_written_move(text).is_some(),
-        Spelling::San => is_san(text),
-    }
-}
-
-fn space_at(text: &[u8]) -> Option<usize>
-    ensures { result ≡ position is_space text.now }
-{
-    text.iter().position(|b| *b == b' ')
-}
-
-/// Whether the text is moves in a spelling, with one blank between.
-fn is_move_list(spelling: Spelling, text: &[u8]) -> bool
-    ensures { result ≡ are_moves spelling text.now }
-{
-    let mut rest = text;
-    while let Some(at) = space_at(rest) {
-        if !is_move_text(spelling, &rest[..at]) {
-            return false;
-        }
-        (_, rest) = rest.split_at(at + 1);
-    }
-    is_move_text(spelling, rest)
-}
-
-/// Whether a hint, if there is one, is a move in a spelling.
-fn is_hint(spelling: Spelling, hint: Option<&[u8]>) -> bool
-    ensures { result ≡ is_hint spelling (option_map (λ h. h.now) hint.entry) }
-{
-    match hint {
-        Some(text) => is_move_text(spelling, text),
-        None => true,
-    }
-}
-
-fn have_spelling(spelling: Spelling, hint: Option<&[u8]>, pv: &[u8]) -> bool
-    ensures { result ≡ have_spelling spelling (option_map (λ h. h.now) hint.entry) pv.now }
-{
-    is_hint(spelling, hint) && is_move_list(spelling, pv)
-}
-
-/// The spelling of the hint and the moves of a thinking line.
-fn spelling_of(hint: Option<&[u8]>, pv: &[u8]) -> Option<Spelling>
-    ensures { result ≡ spelling_of (option_map (λ h. h.now) hint.entry) pv.now }
-{
-    if have_spelling(Spelling::Coordinates, hint, pv) {
-        Some(Spelling::Coordinates)
-    } else if have_spelling(Spelling::San, hint, pv) {
-        Some(Spelling::San)
-    } else {
-        None
-    }
 }
 
 fn paren_at(text: &[u8]) -> Option<usize>
@@ -212,21 +87,6 @@ fn equals_at(text: &[u8]) -> Option<usize>
     ensures { result ≡ position is_equals text.now }
 {
     text.iter().position(|b| *b == b'=')
-}
-
-/// A number before a blank, and what follows.
-fn read_number_field(text: &[u8]) -> Option<(u64, &[u8])>
-    ensures { option_map (λ p. (p.0, p.1.now)) result ≡ number_field text.now }
-{
-    let at = space_at(text)?;
-    Some((read_written(&text[..at])?, &text[at + 1..]))
-}
-
-fn read_score_field(text: &[u8]) -> Option<(i64, &[u8])>
-    ensures { option_map (λ p. (p.0, p.1.now)) result ≡ score_field text.now }
-{
-    let at = space_at(text)?;
-    Some((read_score(&text[..at])?, &text[at + 1..]))
 }
 
 fn may_be_named(byte: u8) -> bool

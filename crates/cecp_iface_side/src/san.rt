@@ -29,7 +29,7 @@ fn is_mark(text: &[u8]) -> bool
     }
 }
 
-/// Whether a text has a form, perhaps with a sign behind it.
+/// Whether a text has a form, perhaps followed by a sign.
 fn has_form(form: &[u8], text: &[u8]) -> bool
     ensures { result ≡ has_form form.now text.now }
 {

@@ -145,7 +145,7 @@ unknown_other line (c ∷ cs) e f h =
 unknown_by : (line : List ℕ) (c : Option Command) → command_of (first_token line) ≡ c → command_line c line ≡ Err UnknownCommand → IsUnknown line
 unknown_by line None e h = unknown_other line (first_token line) refl e h
 unknown_by line (Some Ignored) e h = absurd (cc)
-unknown_by line (Some (Bare msg)) e h = absurd (cc)
+unknown_by line (Some (Bare word)) e h = absurd (cc)
 unknown_by line (Some (With verb)) e h = absurd (bad_or (argument verb (rest line)) h)
 
 pub reading_unknown : (line : List ℕ) → reading line ≡ Err UnknownCommand → IsUnknown line

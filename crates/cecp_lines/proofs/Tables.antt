@@ -13,9 +13,8 @@ use Rattle.cecp_lines.specs.declared.words.Command.{Command}
 use Rattle.cecp_lines.specs.declared.words.Command.TheVariants.{Ignored, Bare, With}
 use Rattle.cecp_lines.specs.declared.words.Verb.{Verb}
 use Rattle.cecp_lines.specs.declared.words.Verb.TheVariants as verbs
-use Rattle.cecp_lines.specs.Messages.{message_of}
 use Rattle.cecp_lines.specs.Words.{commands, command_of, is_ignored, ignored_words}
-use Rattle.cecp_lines.specs.Reading.{Spells}
+use Rattle.cecp_lines.specs.Reading.{Spells, bare_message}
 
 looked_by : (P : List ℕ → Command → Type 0) (w a : List ℕ) (x c : Command) (b : Bool) (others : Option Command) → bytes_eq w a ≡ b → P a x → (others ≡ Some c → P w c) → cond b (Some x) others ≡ Some c → P w c
 looked_by P w a x c true others e p k h =
@@ -48,7 +47,7 @@ verb_text verbs.EgtPath = codes "egtpath"
 -- what a found word is
 abbrev pub Means : List ℕ → Command → Type 0
 Means w Ignored = is_ignored w ≡ true
-Means w (Bare msg) = (line : List ℕ) → first_token line ≡ w → Spells line (message_of msg)
+Means w (Bare word) = (line : List ℕ) → first_token line ≡ w → Spells line (bare_message word)
 Means w (With verb) = w ≡ verb_text verb
 
 pub found_means : (w : List ℕ) (c : Command) → command_of w ≡ Some c → Means w c
@@ -68,7 +67,7 @@ unfound m w (Some c) e h = absurd (no_word_moves m w c e h)
 pub move_no_command : (m : Move) (w : List ℕ) → MoveSpells w m → command_of w ≡ None
 move_no_command m w h = unfound m w (command_of w) refl h
 
--- a word of the ignored ones is found as such, with whatever rows behind them
+-- a word of the ignored ones is found as such, whatever rows follow them
 ignored_by : (w a : List ℕ) (b more : Bool) (others : Option Command) → (more ≡ true → others ≡ Some Ignored) → (b || more) ≡ true → cond b (Some Ignored) others ≡ Some Ignored
 ignored_by w a true more others k h = refl
 ignored_by w a false more others k h = k h

@@ -10,10 +10,12 @@ use Rattle.cecp_lines.specs.declared.iface.IfaceFault.{IfaceFault}
 use Rattle.cecp_lines.specs.declared.iface.IfaceFault.TheVariants.{UnknownCommand, BadArgument}
 use Rattle.cecp_lines.specs.declared.words.Command.{Command}
 use Rattle.cecp_lines.specs.declared.words.Command.TheVariants.{Ignored, Bare, With}
+use Rattle.cecp_lines.specs.declared.words.BareWord.{BareWord}
+use Rattle.cecp_lines.specs.declared.words.BareWord.TheVariants as bare
 use Rattle.cecp_lines.specs.declared.words.Verb.{Verb}
 use Rattle.cecp_lines.specs.declared.words.Verb.TheVariants as verbs
 use Rattle.cecp_lines.specs.Messages as says
-use Rattle.cecp_lines.specs.Messages.{IfaceMsg, message_of}
+use Rattle.cecp_lines.specs.Messages.{IfaceMsg}
 use Rattle.chess_board.specs.Spelling.{move_of}
 use Rattle.cecp_lines.specs.Words.{is_ignored, command_of}
 use Rattle.peer_words.specs.Bytes.{colon, equals}
@@ -80,6 +82,27 @@ setting text = setting_of (name_at (position is_equals text) text) (value_at (po
 abbrev pub egt_path : List ℕ → Option IfaceMsg
 egt_path text = if is_empty (rest text) then None else Some (says.EgtPath (first_token text) (rest text))
 
+-- the message of a command without arguments
+abbrev pub bare_message : BareWord → IfaceMsg
+bare_message bare.New = says.New
+bare_message bare.Quit = says.Quit
+bare_message bare.Force = says.Force
+bare_message bare.Go = says.Go
+bare_message bare.PlayOther = says.PlayOther
+bare_message bare.MoveNow = says.MoveNow
+bare_message bare.Draw = says.Draw
+bare_message bare.Hint = says.Hint
+bare_message bare.Undo = says.Undo
+bare_message bare.Remove = says.Remove
+bare_message bare.Hard = says.Hard
+bare_message bare.Easy = says.Easy
+bare_message bare.Post = says.Post
+bare_message bare.NoPost = says.NoPost
+bare_message bare.Analyze = says.Analyze
+bare_message bare.Exit = says.Exit
+bare_message bare.Dot = says.Dot
+bare_message bare.Result = says.Result
+
 -- the message of a command with arguments and the trimmed rest of its line
 abbrev pub argument : Verb → List ℕ → Option IfaceMsg
 argument verbs.Protover text = protover text
@@ -106,10 +129,10 @@ other_line word more =
     if is_empty word then Ok says.Blank
     else (if is_empty more then move_or_unknown (move_of word) else Err UnknownCommand)
 
--- what is read of a line by what its first token stands for
+-- what is read of a line by what its first token means
 abbrev pub command_line : Option Command → List ℕ → Result IfaceMsg IfaceFault
 command_line (Some Ignored) line = Ok (says.Ignored (trimmed line))
-command_line (Some (Bare msg)) line = Ok (message_of msg)
+command_line (Some (Bare word)) line = Ok (bare_message word)
 command_line (Some (With verb)) line = ok_or (argument verb (rest line)) BadArgument
 command_line None line = other_line (first_token line) (rest line)
 

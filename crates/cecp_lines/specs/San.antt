@@ -1,4 +1,4 @@
--- Texts of moves in standard algebraic notation, as they are written (PGN standard, 8.2.3), whatever stands on a board.
+-- Texts of moves in standard algebraic notation, as they are written (PGN standard, 8.2.3), whatever is on a board.
 use Rattle.std.specs.Prelude.{ℕ, List, [], ◌∷◌, Bool, true, false, ◌&&◌, ◌||◌, ◌==◌, nat_le, if◌then◌else◌, codes}
 use Rattle.std.specs.List.{list_any}
 
@@ -22,7 +22,7 @@ is_mark [] = true
 is_mark (b ∷ []) = b == 43 || b == 35
 is_mark _ = false
 
--- a text of this form, perhaps with a sign behind it
+-- a text of this form, perhaps followed by a sign
 abbrev pub has_form : List ℕ → List ℕ → Bool
 has_form [] text = is_mark text
 has_form (form ∷ forms) [] = false

@@ -3,7 +3,7 @@ use Rattle.std.specs.Prelude.{ℕ, List, [], ◌∷◌, codes, Bool, Option}
 use Rattle.std.specs.List.{list_any}
 use Rattle.std.specs.Str.{bytes_eq}
 use Rattle.std.specs.Map.{lookup}
-use Rattle.cecp_lines.specs.declared.iface.IfaceMsg.TheVariants as says
+use Rattle.cecp_lines.specs.declared.words.BareWord.TheVariants as bare
 use Rattle.cecp_lines.specs.declared.words.Command.{Command}
 use Rattle.cecp_lines.specs.declared.words.Command.TheVariants.{Ignored, Bare, With}
 use Rattle.cecp_lines.specs.declared.words.Verb.TheVariants as verbs
@@ -21,12 +21,12 @@ commands =
     (codes "xboard", Ignored) ∷ (codes "accepted", Ignored) ∷ (codes "rejected", Ignored)
     ∷ (codes "random", Ignored) ∷ (codes "computer", Ignored) ∷ (codes "name", Ignored)
     ∷ (codes "rating", Ignored) ∷ (codes "ics", Ignored) ∷ (codes "bk", Ignored)
-    ∷ (codes "new", Bare says.New) ∷ (codes "quit", Bare says.Quit) ∷ (codes "force", Bare says.Force)
-    ∷ (codes "go", Bare says.Go) ∷ (codes "playother", Bare says.PlayOther) ∷ (codes "?", Bare says.MoveNow)
-    ∷ (codes "draw", Bare says.Draw) ∷ (codes "hint", Bare says.Hint) ∷ (codes "undo", Bare says.Undo)
-    ∷ (codes "remove", Bare says.Remove) ∷ (codes "hard", Bare says.Hard) ∷ (codes "easy", Bare says.Easy)
-    ∷ (codes "post", Bare says.Post) ∷ (codes "nopost", Bare says.NoPost) ∷ (codes "analyze", Bare says.Analyze)
-    ∷ (codes "exit", Bare says.Exit) ∷ (codes ".", Bare says.Dot) ∷ (codes "result", Bare says.Result)
+    ∷ (codes "new", Bare bare.New) ∷ (codes "quit", Bare bare.Quit) ∷ (codes "force", Bare bare.Force)
+    ∷ (codes "go", Bare bare.Go) ∷ (codes "playother", Bare bare.PlayOther) ∷ (codes "?", Bare bare.MoveNow)
+    ∷ (codes "draw", Bare bare.Draw) ∷ (codes "hint", Bare bare.Hint) ∷ (codes "undo", Bare bare.Undo)
+    ∷ (codes "remove", Bare bare.Remove) ∷ (codes "hard", Bare bare.Hard) ∷ (codes "easy", Bare bare.Easy)
+    ∷ (codes "post", Bare bare.Post) ∷ (codes "nopost", Bare bare.NoPost) ∷ (codes "analyze", Bare bare.Analyze)
+    ∷ (codes "exit", Bare bare.Exit) ∷ (codes ".", Bare bare.Dot) ∷ (codes "result", Bare bare.Result)
     ∷ (codes "protover", With verbs.Protover) ∷ (codes "ping", With verbs.Ping) ∷ (codes "usermove", With verbs.UserMove)
     ∷ (codes "setboard", With verbs.SetBoard) ∷ (codes "level", With verbs.Level) ∷ (codes "st", With verbs.St)
     ∷ (codes "sd", With verbs.Sd) ∷ (codes "time", With verbs.Time) ∷ (codes "otim", With verbs.Otim)

@@ -3,10 +3,10 @@ ghost use Rattle.std.specs.Prelude.{◌≡◌, ◌↔◌, Ok, Err, ◌+◌, ◌*
 ghost use Rattle.std.specs.Option.{option_map, option_and_then};
 ghost use Rattle.cecp_lines.specs.Messages.{IfaceMsg as AnyIfaceMsg, message_of, read_as};
 ghost use Rattle.cecp_lines.specs.declared.iface.IfaceFault.TheVariants.{UnknownCommand, BadArgument};
-ghost use Rattle.cecp_lines.specs.Reading.{reading, Spells, IsUnknown, IsBad, only_token, argument, protover, base_time, level, setting, egt_path, other_line, is_colon, is_equals};
+ghost use Rattle.cecp_lines.specs.Reading.{reading, Spells, IsUnknown, IsBad, only_token, bare_message, argument, protover, base_time, level, setting, egt_path, other_line, is_colon, is_equals};
 
 use crate::iface::{IfaceFault, IfaceMsg};
-use crate::words::{Command, Verb, command_named};
+use crate::words::{BareWord, Command, Verb, command_named};
 use chess_board::read_move;
 use peer_words::{
     MINUTE, SECOND, read_centis, read_digits, read_number, read_seconds, split_token, trim,
@@ -115,6 +115,32 @@ fn read_egt_path(text: &[u8]) -> Option<IfaceMsg<'_>>
     }
 }
 
+/// The message of a command without arguments.
+fn bare_message<'a>(word: BareWord) -> IfaceMsg<'a>
+    ensures { message_of result ≡ bare_message word }
+{
+    match word {
+        BareWord::New => IfaceMsg::New,
+        BareWord::Quit => IfaceMsg::Quit,
+        BareWord::Force => IfaceMsg::Force,
+        BareWord::Go => IfaceMsg::Go,
+        BareWord::PlayOther => IfaceMsg::PlayOther,
+        BareWord::MoveNow => IfaceMsg::MoveNow,
+        BareWord::Draw => IfaceMsg::Draw,
+        BareWord::Hint => IfaceMsg::Hint,
+        BareWord::Undo => IfaceMsg::Undo,
+        BareWord::Remove => IfaceMsg::Remove,
+        BareWord::Hard => IfaceMsg::Hard,
+        BareWord::Easy => IfaceMsg::Easy,
+        BareWord::Post => IfaceMsg::Post,
+        BareWord::NoPost => IfaceMsg::NoPost,
+        BareWord::Analyze => IfaceMsg::Analyze,
+        BareWord::Exit => IfaceMsg::Exit,
+        BareWord::Dot => IfaceMsg::Dot,
+        BareWord::Result => IfaceMsg::Result,
+    }
+}
+
 /// The message of a command with arguments and the trimmed rest of its line.
 fn read_argument(verb: Verb, text: &[u8]) -> Option<IfaceMsg<'_>>
     ensures { option_map message_of result ≡ argument verb text.now }
@@ -152,14 +178,14 @@ fn read_other<'a>(word: &[u8], rest: &[u8]) -> Result<IfaceMsg<'a>, IfaceFault>
     }
 }
 
-/// The message that a line spells, by what its first token stands for.
+/// The message that a line spells, by what its first token means.
 fn read_message(line: &[u8]) -> Result<IfaceMsg<'_>, IfaceFault>
     ensures { read_as result ≡ reading line.now }
 {
     let (word, rest) = split_token(line);
     match command_named(word) {
         Some(Command::Ignored) => Ok(IfaceMsg::Ignored(trim(line))),
-        Some(Command::Bare(msg)) => Ok(msg),
+        Some(Command::Bare(word)) => Ok(bare_message(word)),
         Some(Command::With(verb)) => read_argument(verb, rest).ok_or(IfaceFault::BadArgument),
         None => read_other(word, rest),
     }

@@ -2,18 +2,40 @@
 ghost use Rattle.std.specs.Prelude.{◌≡◌};
 ghost use Rattle.cecp_lines.specs.Words.{command_of};
 
-use crate::iface::IfaceMsg;
 use peer_words::named;
 
-/// What a command word stands for.
+/// What a command word means.
 #[derive(Clone, Copy)]
 pub(crate) enum Command {
     /// The line asks for nothing.
     Ignored,
-    /// The message, whatever follows the word.
-    Bare(IfaceMsg<'static>),
+    /// The word is the message, whatever follows it.
+    Bare(BareWord),
     /// What follows the word is read.
     With(Verb),
+}
+
+/// A command that takes no arguments.
+#[derive(Clone, Copy)]
+pub(crate) enum BareWord {
+    New,
+    Quit,
+    Force,
+    Go,
+    PlayOther,
+    MoveNow,
+    Draw,
+    Hint,
+    Undo,
+    Remove,
+    Hard,
+    Easy,
+    Post,
+    NoPost,
+    Analyze,
+    Exit,
+    Dot,
+    Result,
 }
 
 /// A command that takes arguments.
@@ -34,7 +56,7 @@ pub(crate) enum Verb {
     EgtPath,
 }
 
-const COMMANDS: [(&[u8], Command); 40] = [
+static COMMANDS: [(&[u8], Command); 40] = [
     (b"xboard", Command::Ignored),
     (b"accepted", Command::Ignored),
     (b"rejected", Command::Ignored),
@@ -44,24 +66,24 @@ const COMMANDS: [(&[u8], Command); 40] = [
     (b"rating", Command::Ignored),
     (b"ics", Command::Ignored),
     (b"bk", Command::Ignored),
-    (b"new", Command::Bare(IfaceMsg::New)),
-    (b"quit", Command::Bare(IfaceMsg::Quit)),
-    (b"force", Command::Bare(IfaceMsg::Force)),
-    (b"go", Command::Bare(IfaceMsg::Go)),
-    (b"playother", Command::Bare(IfaceMsg::PlayOther)),
-    (b"?", Command::Bare(IfaceMsg::MoveNow)),
-    (b"draw", Command::Bare(IfaceMsg::Draw)),
-    (b"hint", Command::Bare(IfaceMsg::Hint)),
-    (b"undo", Command::Bare(IfaceMsg::Undo)),
-    (b"remove", Command::Bare(IfaceMsg::Remove)),
-    (b"hard", Command::Bare(IfaceMsg::Hard)),
-    (b"easy", Command::Bare(IfaceMsg::Easy)),
-    (b"post", Command::Bare(IfaceMsg::Post)),
-    (b"nopost", Command::Bare(IfaceMsg::NoPost)),
-    (b"analyze", Command::Bare(IfaceMsg::Analyze)),
-    (b"exit", Command::Bare(IfaceMsg::Exit)),
-    (b".", Command::Bare(IfaceMsg::Dot)),
-    (b"result", Command::Bare(IfaceMsg::Result)),
+    (b"new", Command::Bare(BareWord::New)),
+    (b"quit", Command::Bare(BareWord::Quit)),
+    (b"force", Command::Bare(BareWord::Force)),
+    (b"go", Command::Bare(BareWord::Go)),
+    (b"playother", Command::Bare(BareWord::PlayOther)),
+    (b"?", Command::Bare(BareWord::MoveNow)),
+    (b"draw", Command::Bare(BareWord::Draw)),
+    (b"hint", Command::Bare(BareWord::Hint)),
+    (b"undo", Command::Bare(BareWord::Undo)),
+    (b"remove", Command::Bare(BareWord::Remove)),
+    (b"hard", Command::Bare(BareWord::Hard)),
+    (b"easy", Command::Bare(BareWord::Easy)),
+    (b"post", Command::Bare(BareWord::Post)),
+    (b"nopost", Command::Bare(BareWord::NoPost)),
+    (b"analyze", Command::Bare(BareWord::Analyze)),
+    (b"exit", Command::Bare(BareWord::Exit)),
+    (b".", Command::Bare(BareWord::Dot)),
+    (b"result", Command::Bare(BareWord::Result)),
     (b"protover", Command::With(Verb::Protover)),
     (b"ping", Command::With(Verb::Ping)),
     (b"usermove", Command::With(Verb::UserMove)),
@@ -77,7 +99,7 @@ const COMMANDS: [(&[u8], Command); 40] = [
     (b"egtpath", Command::With(Verb::EgtPath)),
 ];
 
-/// What a word stands for. None if it is no command word.
+/// What a word means. None if it is no command word.
 pub(crate) fn command_named(word: &[u8]) -> Option<Command>
     ensures { result ≡ command_of word.now }
 {

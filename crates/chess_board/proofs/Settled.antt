@@ -1,4 +1,4 @@
--- The passant square stands exactly where a legal capture on it is possible.
+-- The passant square is kept exactly if a legal capture on it is possible.
 use Rattle.std.proofs.Common.{◌≡◌, ◌<◌, ℕ, true, false, ◌&&◌, cond, refl, ap, subst, sym, ◌∙◌, Option, Some, None}
 use Rattle.std.specs.Prelude.{◌↔◌}
 use Rattle.std.specs.Bool.{Decides}

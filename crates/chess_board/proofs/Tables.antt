@@ -2,7 +2,8 @@
 use Rattle.std.proofs.Common.{◌≡◌, ◌<◌, ◌+◌, ◌*◌, ◌/◌, ◌%◌, ℕ, suc, Bool, true, false, not, cond, List, refl, sym, subst, arith, get_or}
 use Rattle.chess_board.specs.declared.board.Kind.TheVariants.{Pawn, Knight, Bishop, Rook, Queen, King}
 use Rattle.chess_board.specs.declared.board.Side.TheVariants.{White, Black}
-use Rattle.chess_board.specs.declared.reach.TheConstants.{LINES, DIAGONALS, STRAIGHTS, JUMPS, KING_WAYS, WHITE_PAWN_WAYS, BLACK_PAWN_WAYS}
+use Rattle.chess_board.specs.declared.slides.TheConstants.{LINES, DIAGONALS, STRAIGHTS}
+use Rattle.chess_board.specs.declared.steps.TheConstants.{JUMPS, KING_WAYS, WHITE_PAWN_WAYS, BLACK_PAWN_WAYS}
 use Rattle.chess_board.specs.Board.{each_below}
 use Rattle.chess_board.specs.Reach.{form, has, IsSetOf}
 use Rattle.chess_board.proofs.Below.{each_below-at}

@@ -1,5 +1,5 @@
 -- What a move leaves, if it is legal.
-use Rattle.std.proofs.Common.{◌≡◌, Bool, true, false, cond, IsTrue, ◌↔◌, Option, Some, None, refl, sym, ap, ◌∙◌}
+use Rattle.std.proofs.Common.{◌≡◌, Bool, true, false, cond, IsTrue, ◌↔◌, Some, None, refl, sym, ap, ◌∙◌}
 use Rattle.chess_board.specs.declared.board.Kind.{Kind}
 use Rattle.chess_board.specs.declared.board.Move.{Move}
 use Rattle.chess_board.specs.declared.board.Side.{Side}

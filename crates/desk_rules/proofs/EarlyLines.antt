@@ -10,7 +10,7 @@ use Rattle.desk_rules.specs.Early.{fed, may_wait, AreEarly}
 
 -- LINE BY LINE
 
--- the first line of a text that is there, and the lines behind it
+-- the first line of a text that is there, and the lines after it
 pub some_lines : (text line others : List ℕ) → 0 < length text → line ≡ before_first is_feed text → others ≡ after_first is_feed text → parts text ≡ line ∷ parts others
 some_lines [] line others h e f = absurd (omega arith)
 some_lines (x ∷ xs) line others h e f = rw (e, f) (parts_first x xs)
@@ -23,7 +23,7 @@ parts_line (x ∷ xs) rest none =
       | false ↦ λ e. ap (onto_first x) (parts_line xs rest e)
     ]) none
 
--- no line feed stands in any of them
+-- there is no line feed in any of them
 abbrev AreBare : List (List ℕ) → Type 0
 AreBare ps = AllByRecursion (λ p. has_feed p ≡ false) ps
 

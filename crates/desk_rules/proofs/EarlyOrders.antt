@@ -57,7 +57,7 @@ split_short None text = omega arith
 split_short (Some at) text =
     omega (arith, trimmed_length (take at text), ap length (take-append-drop at text), length-append (take at text) (drop at text), length-drop at text, length-drop (at + 1) text)
 
--- what an order repeats of a message stands in the line
+-- what an order repeats of a message is in the line
 repeated_short : (line : List ℕ) (m : IfaceMsg) → Spells line m → repeated m ≤ length line
 repeated_short line (says.SetOption name None) s =
     omega (arith, ap length s.1.1, ap value_length s.1.2, split_short (position is_equals (rest line)) (rest line), rest_length line)

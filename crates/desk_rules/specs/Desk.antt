@@ -113,7 +113,7 @@ call_of closed gone d = if closed || gone || is_full d.game then calls.Nothing e
 
 -- HERE
 
--- What stands when an event comes: the settings, the desk, the engine (a search is stale if its ticket is not the epoch), whether the
+-- The situation when an event comes: the settings, the desk, the engine (a search is stale if its ticket is not the epoch), whether the
 -- call is spent, and what the policy says of the scores.
 pub record Situation : Type 0 where
   pub settings : Settings

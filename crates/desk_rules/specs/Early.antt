@@ -20,7 +20,7 @@ is_setting m = false
 abbrev pub fed : List (List ℕ) → List ℕ
 fed lines = flat_map (λ line. line ++ line_feed ∷ []) lines
 
--- one more line may wait, behind those that do
+-- one more line may wait, after those that do
 abbrev pub may_wait : List (List ℕ) → List ℕ → Bool
 may_wait early line = nat_le (length (early ++ line ∷ [])) MOST_EARLY && nat_le (length (fed (early ++ line ∷ []))) EARLY_BYTES
 

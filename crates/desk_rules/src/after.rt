@@ -23,7 +23,7 @@ use crate::answers::{
     named_hint, put_error, put_forfeit, put_pongs, put_refused, put_resign, put_shown,
     put_thinking, spelling_of,
 };
-use crate::call::{has_ended, is_boot, is_move};
+use crate::call::{has_ended, is_boot};
 use crate::{Context, Desk, Effect, Mode, Ruling};
 use cecp_lines::{IfaceMsg, Reason};
 use chess_board::{Move, Position};
@@ -82,7 +82,6 @@ impl Desk {
 
     // Whether `resign` is written when the engine ends.
     pub(crate) fn resigns_at_end(&self, context: Context) -> bool
-        requires { IsHintPlayable self.now }
         ensures { result ≡ resigns_at_end (at context self.now) }
     {
         self.owes_move(context) && !context.closed
@@ -165,7 +164,6 @@ impl Desk {
     }
 
     fn lose_engine(&mut self, context: Context, out: &mut Out)
-        requires hint { IsHintPlayable self.old }
         requires room { length out.old.text + ENGINE_END ≤ out.old.room }
         ensures desk { self.new
             ≡ record self.old {
@@ -246,7 +244,6 @@ impl Desk {
 
     /// Resigns for an engine that is gone and owes a move, if the settings say so.
     pub fn resign_when_gone(&mut self, settings: Settings, closed: bool, gone: bool, out: &mut Out)
-        requires hint { IsHintPlayable self.old }
         requires room { length out.old.text + SHORT_REPLY ≤ out.old.room }
         ensures lines { out.new
             ≡ with out.old
@@ -259,7 +256,7 @@ impl Desk {
                   self.old.mode;
             } }
     {
-        let resigns = settings.resign_when_gone && gone && is_move(self.call(closed, false));
+        let resigns = settings.resign_when_gone && gone && self.calls_move(closed, false);
         put_resign(resigns, out);
         self.mode = over_where(resigns, self.mode);
     }

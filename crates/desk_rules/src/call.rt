@@ -49,12 +49,6 @@ fn same_side(a: Side, b: Side) -> bool
     }
 }
 
-pub(crate) fn is_move(call: Call) -> bool
-    ensures { result ≡ is_move call }
-{
-    matches!(call, Call::Move)
-}
-
 fn is_there(text: Option<&[u8]>) -> bool
     ensures { result ≡ is_some (optional_now text.entry) }
 {
@@ -175,11 +169,30 @@ impl Desk {
         }
     }
 
+    // Whether a Move is called for in a mode.
+    fn calls_move_in(&self, mode: Mode) -> bool
+        ensures { result ≡ is_move (call_in self.now mode) }
+    {
+        match mode {
+            Mode::Plays(side) => {
+                !has_ended(self.game.ended()) && same_side(side, on_move(&self.game))
+            }
+            _ => false,
+        }
+    }
+
+    /// Whether the desk calls for a Move: `call` tells it too, but plays the hint to see whether the game goes on.
+    #[tactic(auto, unfolding(crate::specs::Desk::call_of))]
+    pub fn calls_move(&self, closed: bool, gone: bool) -> bool
+        ensures { result ≡ is_move (call_of closed gone self.now) }
+    {
+        !closed && !gone && !is_full(&self.game) && self.calls_move_in(self.mode)
+    }
+
     /// Whether a Move is owed when an event comes.
     pub fn owes_move(&self, context: Context) -> bool
-        requires { IsHintPlayable self.now }
         ensures { result ≡ owes_move (at context self.now) }
     {
-        !context.spent && is_move(self.call(context.closed, is_gone(context.engine)))
+        !context.spent && self.calls_move(context.closed, is_gone(context.engine))
     }
 }

@@ -55,7 +55,7 @@ fn feed_at(text: &[u8]) -> Option<usize>
     text.iter().position(|b| *b == b'\n')
 }
 
-// What stands before the first line feed, and what stands behind it.
+// What is before the first line feed, and what follows it.
 fn split_at_feed(text: &[u8]) -> (&[u8], &[u8])
     ensures line { result.0.now ≡ before_first is_feed text.now }
     ensures others { result.1.now ≡ after_first is_feed text.now }

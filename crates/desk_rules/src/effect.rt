@@ -1,4 +1,4 @@
-// What stands when an event comes, and what comes of it.
+// The situation when an event comes, and what comes of it.
 ghost use Rattle.std.specs.Prelude.{◌≡◌};
 ghost use Rattle.search_epochs.specs.Tickets.{is_hurry};
 ghost use Rattle.search_epochs.specs.Dialogue.{mid_dialogue, played_of};

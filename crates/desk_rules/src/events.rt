@@ -15,10 +15,9 @@ ghost use Rattle.desk_rules.specs.Early.{is_setting, may_wait};
 ghost use Rattle.desk_rules.specs.Lines.{is_early, deferred, judged, refusal, verdict, is_epoch_line};
 ghost use Rattle.desk_rules.specs.Steps.{Refuses, effect_of, line_effect, starts_from, shows, answers, engine_says, dies, classify, begins_epoch as epoch_begun, quits as event_quits};
 ghost use Rattle.desk_rules.specs.Orders.{orders_asked, asked_by_effect};
-ghost use Rattle.desk_rules.specs.Fits.{IsHintPlayable, IsNoLine, IsNoIfaceLine};
+ghost use Rattle.desk_rules.specs.Fits.{IsNoLine, IsNoIfaceLine};
 
 use crate::call::{is_boot, is_gone};
-use crate::refuse::set_up;
 use crate::{AskedOrders, Context, Decision, Desk, Effect, Refusal, Ruling};
 use cecp_lines::{IfaceFault, IfaceMsg, Reason, is_quit, read_iface};
 use chess_board::Move;
@@ -145,7 +144,6 @@ impl Desk {
     // Whether an accepted line begins an epoch; `asks` is what it asks for.
     #[tactic(auto, unfolding(crate::specs::Lines::is_epoch_line))]
     fn begins_epoch(&self, context: Context, message: &IfaceMsg, asks: &Option<SetupOrder>) -> bool
-        requires { IsHintPlayable self.now }
         ensures { result
             ≡ is_epoch_line (owes_move (at context self.now)) (option_map setup_seen asks.now)
             (message_of message.now) }
@@ -224,7 +222,6 @@ impl Desk {
         held: &HeldOrders,
         line: &'l [u8],
     ) -> Decision<'l, 's>
-        requires { IsHintPlayable self.now }
         ensures effect { effect_of result.ruling.effect
             ≡ line_effect (verdict (at context self.now) held.now line.now (reading line.now))
             line.now }
@@ -259,7 +256,6 @@ impl Desk {
         message: IfaceMsg<'l>,
         line: &'l [u8],
     ) -> Decision<'l, 's>
-        requires { IsHintPlayable self.now }
         ensures effect { effect_of result.ruling.effect
             ≡ line_effect (judged (message_of message.entry)
             (refusal (at context self.now) held.now (message_of message.entry))) line.now }
@@ -271,19 +267,17 @@ impl Desk {
         ensures quits { result.ruling.quits ≡ is_quit_message (Ok (message_of message.entry)) }
     {
         let quits = matches!(message, IfaceMsg::Quit);
-        let start = set_up(&message);
-        let answer = self.asked(&message);
-        let asks = self.asks(is_gone(context.engine), &message, answer);
-        if let Some(refusal) = self.refusal(context, held, &message, &start, &answer, &asks) {
+        let wish = self.wish(context.engine, &message);
+        if let Some(refusal) = self.refusal(context, held, &message, &wish) {
             return self.decision(Effect::Refuses { refusal, line }, quits);
         }
         let ruling = Ruling {
             effect: Effect::Accepts(message),
-            start,
-            begins_epoch: self.begins_epoch(context, &message, &asks),
+            start: wish.start,
+            begins_epoch: self.begins_epoch(context, &message, &wish.asks),
             quits,
         };
-        let asks = AskedOrders::One(asks);
+        let asks = AskedOrders::One(wish.asks);
         Decision { ruling, asks }
     }
 
@@ -312,7 +306,6 @@ impl Desk {
         held: &HeldOrders,
         event: &Event<'l>,
     ) -> Decision<'l, 's>
-        requires { IsHintPlayable self.now }
         ensures effect { effect_of result.ruling.effect
             ≡ classify (at context self.now) held.now (event_of event.now) }
         ensures start { result.ruling.start ≡ starts_from (effect_of result.ruling.effect) }

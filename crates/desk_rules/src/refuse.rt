@@ -6,7 +6,6 @@ ghost use Rattle.option_map.specs.Asked.{asked};
 ghost use Rattle.option_map.specs.Data.{setup_seen, answer_seen};
 ghost use Rattle.desk_rules.specs.Desk.{at, table, is_gone};
 ghost use Rattle.desk_rules.specs.Lines.{because, needs_engine, needs_analysis, lacks_moves, illegal_move, move_too_many, set_up, illegal_position, refused_option, does_not_fit, asks as asks_for, pings_too_often, refusal};
-ghost use Rattle.desk_rules.specs.Fits.{IsHintPlayable};
 
 use crate::call::{analyses, is_full, is_gone};
 use crate::pings::MOST_PINGS;
@@ -17,6 +16,18 @@ use fen_text::read_fen;
 use game_record::Game;
 use option_map::{AskedOption, HeldOrders, OptionFault, SetupOrder};
 use policy_rules::Settings;
+use search_epochs::EngineState;
+
+/// What a message wants of the desk.
+#[derive(Clone, Copy)]
+pub(crate) struct Wish<'a> {
+    /// The position that it sets up, if it sets one up.
+    pub(crate) start: Option<Position>,
+    /// What sets an option by it.
+    pub(crate) answer: Result<Option<AskedOption<'a>>, OptionFault>,
+    /// What it asks of the engine.
+    pub(crate) asks: Option<SetupOrder<'a>>,
+}
 
 fn because(reason: Reason) -> Option<Refusal>
     ensures { result ≡ because reason }
@@ -125,7 +136,6 @@ fn does_not_fit(held: &HeldOrders, asks: &Option<SetupOrder>) -> bool
 
 impl Desk {
     fn pings_too_often(&self, context: Context, message: &IfaceMsg) -> bool
-        requires { IsHintPlayable self.now }
         ensures { result ≡ pings_too_often (at context self.now) (message_of message.now) }
     {
         match message {
@@ -134,22 +144,38 @@ impl Desk {
         }
     }
 
-    // Why a message is refused, if it is: the first that applies. `start` is the position that it sets up, `answer`
-    // what sets an option by it, and `asks` what it asks for.
+    // What a message wants.
+    pub(crate) fn wish<'l: 's, 's>(
+        &'s self,
+        engine: EngineState,
+        message: &IfaceMsg<'l>,
+    ) -> Wish<'s>
+        ensures start { result.start ≡ set_up (message_of message.now) }
+        ensures answer { answer_seen result.answer ≡ asked (table self.now) (message_of message.now) }
+        ensures asks { option_map setup_seen result.asks
+            ≡ asks_for (is_gone engine) self.now (message_of message.now) }
+    {
+        let answer = self.asked(message);
+        Wish {
+            start: set_up(message),
+            answer,
+            asks: self.asks(is_gone(engine), message, answer),
+        }
+    }
+
+    // Why a message is refused, if it is: the first that applies.
     #[tactic(auto, unfolding(crate::specs::Lines::refusal))]
     pub(crate) fn refusal(
         &self,
         context: Context,
         held: &HeldOrders,
         message: &IfaceMsg,
-        start: &Option<Position>,
-        answer: &Result<Option<AskedOption>, OptionFault>,
-        asks: &Option<SetupOrder>,
+        wish: &Wish,
     ) -> Option<Refusal>
-        requires hint { IsHintPlayable self.now }
-        requires start { start.now ≡ set_up (message_of message.now) }
-        requires answer { answer_seen answer.now ≡ asked (table self.now) (message_of message.now) }
-        requires asks { option_map setup_seen asks.now
+        requires start { wish.now.start ≡ set_up (message_of message.now) }
+        requires answer { answer_seen wish.now.answer
+            ≡ asked (table self.now) (message_of message.now) }
+        requires asks { option_map setup_seen wish.now.asks
             ≡ asks_for (is_gone context.engine) self.now (message_of message.now) }
         ensures { result ≡ refusal (at context self.now) held.now (message_of message.now) }
     {
@@ -168,13 +194,13 @@ impl Desk {
         if let Some(refusal) = move_too_many(&self.game, message) {
             return Some(refusal);
         }
-        if let Some(refusal) = illegal_position(message, start) {
+        if let Some(refusal) = illegal_position(message, &wish.start) {
             return Some(refusal);
         }
-        if let Some(refusal) = refused_option(answer) {
+        if let Some(refusal) = refused_option(&wish.answer) {
             return Some(refusal);
         }
-        if does_not_fit(held, asks) {
+        if does_not_fit(held, &wish.asks) {
             return because(Reason::TooManySettings);
         }
         if self.pings_too_often(context, message) {

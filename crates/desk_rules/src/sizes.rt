@@ -11,7 +11,7 @@ pub const SHORT_REPLY: usize = 129;
 /// An error with the line that it is about.
 pub(crate) const ERROR_REPLY: usize = PEER_LINE + 64;
 
-/// A thinking line with moves in standard algebraic notation may be longer than the line of the engine behind it.
+/// A thinking line with moves in standard algebraic notation may be longer than the engine's line that it tells.
 pub(crate) const THINKING_LINE: usize = PEER_LINE * 8 / 5 + 164;
 
 pub(crate) const FEATURE_LIST: usize = FEATURE_BYTES + 1_464;

@@ -29,7 +29,7 @@ abbrev pub ponged : List Step → List ℕ
 ponged [] = []
 ponged (step ∷ trace) = ponged trace ++ pongs_told step.replies
 
--- Each accepted ping has one pong, in order, or is held: the pings are the pongs, and behind them those that the desk holds.
+-- Each accepted ping has one pong, in order, or is held: the pings are the pongs, and after them those that the desk holds.
 abbrev pub PingsHavePongs : Settings → Type 0
 PingsHavePongs o = (trace : List Step) → Lawful o trace → pinged o trace ≡ ponged trace ++ (state o trace).desk.pings
 

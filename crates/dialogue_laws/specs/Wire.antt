@@ -129,6 +129,6 @@ GoneGetsNothing o =
     (step : Step) (trace : List Step) (before behind : List Order) (order : Order) → Lawful o (step ∷ trace)
     → step.orders ≡ before ++ order ∷ behind → wire_at trace step before ≢ Gone
 
--- Each `go` stands directly after a `position`, and each `position` directly before a `go`.
+-- Each `go` comes directly after a `position`, and each `position` directly before a `go`.
 abbrev pub GoFollowsPosition : Settings → Type 0
 GoFollowsPosition o = (step : Step) (trace : List Step) → Lawful o (step ∷ trace) → Paired (map word_of step.orders)

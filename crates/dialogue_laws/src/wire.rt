@@ -15,7 +15,7 @@ pub fn engine_on_wire(settings: Settings)
 
 /// A law: in a lawful trace settings, `isready`, `position` and `go` reach only an engine that is idle on the wire,
 /// `stop` an open search that is not stopped, `ponderhit` an open Ponder search that is not stopped, and nothing
-/// reaches a gone engine. Each `go` stands directly after a `position`.
+/// reaches a gone engine. Each `go` comes directly after a `position`.
 pub fn order_places(settings: Settings)
     ensures idle { IdleGetsThem settings }
     ensures stop { SearchGetsStop settings }

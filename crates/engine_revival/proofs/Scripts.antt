@@ -197,7 +197,7 @@ feedless line h = let p = and_parts (nat_le (length line) 131070) (not (has_feed
     not_true true e = cc
     not_true false e = refl
 
--- a written line, and what stands behind it
+-- a written line, and what follows it
 line_parts : (line more : List ℕ) → is_written line ≡ true → AllWritten (parts more) → AllWritten (parts ((line ++ 10 ∷ []) ++ more))
 line_parts line more h k =
     let e : parts ((line ++ 10 ∷ []) ++ more) ≡ line ∷ parts more = ap parts (append_assoc line (10 ∷ []) more) ∙ parts_line line more (feedless line h) in

@@ -18,17 +18,17 @@ word_asked line =
     else (if is_word (codes "ponderhit") line then Some PonderHit
     else (if is_word (codes "quit") line then Some Quit else None)))))
 
--- a setting of the option that these tokens name, with a value if one of them behind the first is `value`
+-- a setting of the option that these tokens name, with a value if one of them after the first is `value`
 abbrev pub setting_of : Bool → List (List ℕ) → List ℕ → RevivalOrder
 setting_of true ts line = Value (name_in ts) line
 setting_of false ts line = Button (name_in ts) line
 
--- by the tokens behind `name`
+-- by the tokens after `name`
 abbrev pub named : List (List ℕ) → List ℕ → Option RevivalOrder
 named [] line = None
 named (t ∷ ts) line = Some (setting_of (has_word (codes "value") ts) (t ∷ ts) line)
 
--- by the tokens behind `setoption`
+-- by the tokens after `setoption`
 abbrev pub setting_asked : List (List ℕ) → List ℕ → Option RevivalOrder
 setting_asked [] line = None
 setting_asked (t ∷ ts) line = if is_word (codes "name") t then named ts line else None

@@ -41,7 +41,7 @@ first_orders s (Order line) = at_once s line
 first_orders s Begin = first_order s.upper
 first_orders s call = []
 
--- what it gives up by itself
+-- what it passes up by itself
 abbrev pub first_up : RevivalState → Call → List ℕ
 first_up s (Heard line) = given s line
 first_up s call = []

@@ -35,8 +35,8 @@ abbrev pub after_stop : DialogueState → Option DialogueState
 after_stop (Search kind false) = Some (Search kind true)
 after_stop state = None
 
--- After an order; nothing if it may not stand there. `uci` is the first and stands once. Settings, `isready` and `position` go to
--- an idle engine, `go` stands directly behind a `position`, and what stands behind a `position` is its `go`. `ponderhit` goes into a
+-- After an order; nothing if it may not come there. `uci` is the first and comes once. Settings, `isready` and `position` go to
+-- an idle engine, `go` comes directly after a `position`, and what follows a `position` is its `go`. `ponderhit` goes into a
 -- Ponder search that is not stopped, and `stop` into a search that is not stopped. Of `quit` it says nothing.
 abbrev pub after_order : RevivalOrder → DialogueState → Option DialogueState
 after_order orders.Uci state = where_true (is_before state) Boot

@@ -51,7 +51,7 @@ after_quit upper.Before = Broken
 after_quit upper.Placed = Broken
 after_quit state = Closed
 
--- After an order that is written. Nothing is written behind `quit`, nor to a life that has ended.
+-- After an order that is written. Nothing is written after `quit`, nor to a life that has ended.
 abbrev pub written : AnyOrder → Wire → Wire
 written orders.Quit (Open state) = after_quit state
 written order (Open state) = open_or_broken (after_order order state)
@@ -82,9 +82,9 @@ abbrev pub is_whole : Wire → Bool
 is_whole Broken = false
 is_whole wire = true
 
--- The lines to each life, with the lines heard from it, are a dialogue in order: `uci` is the first and stands once; settings,
--- `isready` and `position` reach only an idle engine; `go` stands directly behind a `position`; `ponderhit` and `stop` reach only
--- a search where they may stand; `quit` is the last; and nothing reaches a life that has ended.
+-- The lines to each life, with the lines heard from it, are a dialogue in order: `uci` is the first and comes once; settings,
+-- `isready` and `position` reach only an idle engine; `go` comes directly after a `position`; `ponderhit` and `stop` reach only
+-- a search where they may come; `quit` is the last; and nothing reaches a life that has ended.
 abbrev pub LivesAreInOrder : Type 0
 LivesAreInOrder = (lives : ℕ) (calls : List Call) → MayCome lives calls → is_whole (wire_of lives calls) ≡ true
 
@@ -94,7 +94,7 @@ abbrev pub is_search : DialogueState → Bool
 is_search (upper.Search kind stopped) = true
 is_search state = false
 
--- where a line up may stand in the upper dialogue
+-- where a line up may come in the upper dialogue
 abbrev pub FitsUp : LifeSaid → DialogueState → Type 0
 FitsUp said.Introduction state = state ≡ upper.Boot
 FitsUp said.UciOk state = state ≡ upper.Boot
@@ -103,7 +103,7 @@ FitsUp said.Report state = is_search state ≡ true
 FitsUp said.Best state = is_search state ≡ true
 FitsUp said.Nothing state = ⊥
 
--- A line of the engine is given up only if the upper dialogue waits for it. So a search gets one `bestmove` at most.
+-- A line of the engine is passed up only if the upper dialogue waits for it. So a search gets one `bestmove` at most.
 abbrev pub GivenFits : Type 0
 GivenFits =
     (lives : ℕ) (calls : List Call) (line : List ℕ) → MayCome lives calls → gives (state_of lives calls) (said_in line) ≡ true
@@ -149,7 +149,7 @@ is_awaited (Open (upper.Search kind stopped)) said.Report = true
 is_awaited (Open (upper.Search kind stopped)) said.Best = true
 is_awaited wire word = false
 
--- The `readyok` of a life that got `isready` is given up, and each `info` and the `bestmove` of one that got a `go`, until that
+-- The `readyok` of a life that got `isready` is passed up, and each `info` and the `bestmove` of one that got a `go`, until that
 -- `bestmove`.
 abbrev pub AwaitedIsGiven : Type 0
 AwaitedIsGiven =
@@ -208,7 +208,7 @@ abbrev pub life_orders : ℕ → List Call → List AnyOrder
 life_orders lives [] = []
 life_orders lives (call ∷ calls) = carried call (life_orders lives calls) ++ orders_of (state_of lives calls) call
 
--- an order behind those seen since the last `position`
+-- an order after those seen since the last `position`
 abbrev pub seen_then : AnyOrder → List AnyOrder → List AnyOrder
 seen_then (orders.Position line) seen = orders.Position line ∷ []
 seen_then order seen = seen ++ order ∷ []
@@ -218,7 +218,7 @@ abbrev pub since_position : List AnyOrder → List AnyOrder → List AnyOrder
 since_position [] seen = seen
 since_position (order ∷ list) seen = since_position list (seen_then order seen)
 
--- Wherever a life is given a search, the orders behind its settings are those of the open upper search: all that were accepted from
+-- Wherever a life is given a search, the orders after its settings are those of the open upper search: all that were accepted from
 -- the last `position` on, as they came. They lead from an idle engine to the state that the search is in. And unless a setting had no room, this life was given of each option the line that set
 -- it to a value last, whenever that was.
 pub record IsGiven (lives : ℕ) (call : Call) (calls : List Call) : Type 0 where

@@ -16,7 +16,7 @@ are_for_same _ _ = false
 abbrev pub staying_beside : RevivalOrder → List RevivalOrder → List RevivalOrder
 staying_beside order list = filter (λ o. not (are_for_same order o)) list
 
--- An order takes the place of one that is for the same, and stands last.
+-- An order takes the place of one that is for the same, and is the last.
 abbrev pub with_order : List RevivalOrder → RevivalOrder → List RevivalOrder
 with_order list order = staying_beside order list ++ order ∷ []
 

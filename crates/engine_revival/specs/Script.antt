@@ -15,8 +15,8 @@ may_happen s EngineLong = is_alive s.life
 may_happen s EngineEnd = is_alive s.life
 may_happen s event = false
 
--- The last call of an event: a line of the interface is an order, and its end is `quit`; behind the end of a life, which is the
--- mark of a long line of the engine, another begins or none follows; and none follows behind the engine's end.
+-- The last call of an event: a line of the interface is an order, and its end is `quit`; after the end of a life, which is the
+-- mark of a long line of the engine, another begins or none follows; and none follows after the engine's end.
 abbrev pub call_of : RevivalState → Event → Call
 call_of s (Iface line) = Order line
 call_of s IfaceEnd = Order (codes "quit")
@@ -43,12 +43,12 @@ abbrev pub AllMayHappen : RevivalState → List Event → Type 0
 AllMayHappen s [] = Unit {0}
 AllMayHappen s (event ∷ events) = (may_happen s event ≡ true) × AllMayHappen (state_after s event) events
 
--- the state behind them
+-- the state after them
 abbrev pub state_behind : RevivalState → List Event → RevivalState
 state_behind s [] = s
 state_behind s (event ∷ events) = state_behind (state_after s event) events
 
--- their texts, one behind the other
+-- their texts, one after the other
 abbrev pub texts_from : RevivalState → List Event → List ℕ
 texts_from s [] = []
 texts_from s (event ∷ events) = event_text s event ++ texts_from (state_after s event) events

@@ -22,7 +22,7 @@ use Rattle.line_io.specs.Lines.{line_feed}
 
 -- The state has the number of lives that may be begun and of those begun; whether `quit` was accepted, and whether a setting came
 -- that no list had room for; the upper state, that is the dialogue with who gives the orders, by the orders that were accepted and
--- the lines given up; and the state of the present life. Of the lists of orders, `kept` has what each option was set to last,
+-- the lines passed up; and the state of the present life. Of the lists of orders, `kept` has what each option was set to last,
 -- `unsent` what the present life did not get of the settings, and `search` the orders of the last search.
 
 -- the first life is begun
@@ -154,7 +154,7 @@ is_given s state up got_all = false
 abbrev pub gives : RevivalState → LifeSaid → Bool
 gives s word = is_given word s.life s.upper (is_nil s.unsent)
 
--- the line, if it is given up
+-- the line, if it is passed up
 abbrev pub given : RevivalState → List ℕ → List ℕ
 given s line = if gives s (said_in line) then line ++ line_feed ∷ [] else []
 
@@ -164,7 +164,7 @@ abbrev pub accepting : Option DialogueState → RevivalState → RevivalOrder �
 accepting None s order = s
 accepting (Some up) s order = record (keeping s order) { upper = up; life = after_at_once s.life order }
 
--- No order is accepted behind `quit`.
+-- No order is accepted after `quit`.
 abbrev pub accepted : RevivalState → RevivalOrder → Option DialogueState
 accepted s order = if s.quit then None else after_order order s.upper
 

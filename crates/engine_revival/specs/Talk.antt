@@ -26,13 +26,13 @@ calls_of lives events = calls_behind (opening lives) events []
 pub record IsLawfulTalk (lives : ℕ) (events : List Event) : Type 0 where
   -- The lines to each life, with those heard from it, are a dialogue in order.
   pub in_order : is_whole (wire_of lives (calls_of lives events)) ≡ true
-  -- A line of the engine is given up only if it is waited for,
+  -- A line of the engine is passed up only if it is waited for,
   pub waited_for : (line : List ℕ) → gives (state_behind (opening lives) events) (said_in line) ≡ true
       → FitsUp (said_in line) (state_behind (opening lives) events).upper
   -- and so is what stands in for it.
   pub stands_in : (call : Call) → IsAnswerIn (answer_of (turned (state_behind (opening lives) events) call))
       (turned (state_behind (opening lives) events) call)
-  -- An awaited `readyok`, `info` or `bestmove` of a living engine is given up,
+  -- An awaited `readyok`, `info` or `bestmove` of a living engine is passed up,
   pub given : (line : List ℕ) → is_awaited (wire_of lives (calls_of lives events)) (said_in line) ≡ true
       → gives (state_behind (opening lives) events) (said_in line) ≡ true
   -- and the engine was asked for it, unless it boots.

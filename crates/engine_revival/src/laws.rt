@@ -14,7 +14,7 @@ pub fn lines_up_are_waited_for()
     ensures answers { AnswersFit }
 {}
 
-/// No awaited `readyok`, `info` or `bestmove` of a living engine is lost: it is given up, and the engine was asked for it
+/// No awaited `readyok`, `info` or `bestmove` of a living engine is lost: it is passed up, and the engine was asked for it
 /// unless it boots.
 pub fn living_engines_are_heard()
     ensures given { AwaitedIsGiven }

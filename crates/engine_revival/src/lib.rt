@@ -2,6 +2,7 @@
 #![tactic(auto)]
 
 mod laws;
+mod life;
 mod names;
 mod order_list;
 mod orders;
@@ -9,6 +10,7 @@ mod revival;
 mod script;
 mod state;
 mod words;
+mod written_lines;
 
 pub use laws::{
     lines_up_are_waited_for, lives_are_in_order, living_engines_are_heard, no_life_idles,

@@ -5,7 +5,7 @@ ghost use Rattle.engine_revival.specs.Orders.{are_same_names, folded, name_in, w
 
 use peer_words::next_token;
 
-// The next word of a name, and what stands behind it. None at `value`, and at the end.
+// The next word of a name, and what follows it. None at `value`, and at the end.
 fn next_word(text: &[u8]) -> Option<(&[u8], &[u8])>
     ensures word { MatchOption result (words_before_value (tokens text.now) ≡ [])
         (λ p. words_before_value (tokens text.now)

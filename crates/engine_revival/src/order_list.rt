@@ -26,7 +26,7 @@ pub(crate) const LIST_ORDERS: usize = MOST_ORDERS + 1;
 
 pub(crate) const LIST_BYTES: usize = MOST_BYTES + 11;
 
-/// Where a line stands in a buffer, without its line feed.
+/// Where a line is in a buffer, without its line feed.
 #[derive(Clone, Copy, Default)]
 pub(crate) struct LineSpan {
     at: usize,
@@ -77,7 +77,7 @@ fn next_line(lines: &[LineSpan]) -> Option<(LineSpan, &[LineSpan])>
     }
 }
 
-// Puts a line behind the others.
+// Puts a line after the others.
 fn put_line(line: &[u8], lines: &mut ListedLines, texts: &mut Out)
     requires spells { Spells line.now }
     requires within { AreIn texts.old.text lines.old.items }

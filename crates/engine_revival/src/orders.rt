@@ -22,7 +22,7 @@ pub enum RevivalOrder<'a> {
     Stop,
     PonderHit,
     Quit,
-    /// A setting to a value, with what stands behind the word `name`.
+    /// A setting to a value, with what follows the word `name`.
     Value { name: &'a [u8], line: &'a [u8] },
     /// A setting without a value, as of a button.
     Button { name: &'a [u8], line: &'a [u8] },

@@ -19,7 +19,7 @@ pub(crate) const UP_ROOM: usize = PEER_LINE + 1_024;
 /// The room of the lines to the engine: all settings, and the orders of a search.
 pub(crate) const CHILD_ROOM: usize = 1_310_720;
 
-/// Room for the marks of the lines up and of those to the engine, each on a line behind its letter.
+/// Room for the marks of the lines up and of those to the engine, each on a line after its letter.
 pub const MARKS_ROOM: usize = 2_000_000;
 
 // The state, and the lines of the last call.
@@ -91,7 +91,7 @@ impl RevivalParts {
 ///
 /// A life of the engine begins and ends; up to nine are begun. What each call does is said by `after`, `up_of` and
 /// `child_of` (specs/Calls): the orders that are accepted, what the present life gets of them and when, which of its
-/// lines are given up, and what stands in for it once no life follows.
+/// lines are passed up, and what stands in for it once no life follows.
 #[derive(Drop)]
 pub struct Revival {
     parts: RevivalParts,
@@ -191,7 +191,7 @@ impl Revival {
     }
 
     /// Whether `quit` was accepted. No order is accepted from then on, and nothing is written to the
-    /// life behind it.
+    /// life after it.
     pub fn has_quit(&self) -> bool
         ensures { result ≡ self.now.state.quit }
     {

@@ -28,7 +28,7 @@ fn put_line(letter: u8, line: &[u8], text: &mut Out)
     text.put(b"\n");
 }
 
-// Puts the lines of a text, each behind the letter of its mark.
+// Puts the lines of a text, each after the letter of its mark.
 fn put_lines(letter: u8, lines: &[u8], text: &mut Out)
     requires { length text.old.text + length (lines_marked letter lines.now) ≤ text.old.room }
     ensures { text.new ≡ with text.old (lines_marked letter lines.now) }
@@ -102,8 +102,8 @@ impl Revival {
     /// `X` before those up, `U` before those to the engine.
     ///
     /// A line of the interface is an order, and its end is `quit`. A line of the engine is one of the
-    /// present life. The mark of a long line of the engine, `u!`, is the end of a life, behind which
-    /// another one begins if one may; the engine's end is the end of a life behind which none follows.
+    /// present life. The mark of a long line of the engine, `u!`, is the end of a life, after which
+    /// another one begins if one may; the engine's end is the end of a life after which none follows.
     pub fn play(&mut self, event: &Event, text: &mut Out)
         requires may { may_happen self.old.state (event_of event.now) ≡ true }
         requires spelled { IsSpelled (Happens (event_of event.now)) }

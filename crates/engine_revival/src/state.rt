@@ -1,9 +1,7 @@
 // What is kept between two calls.
-ghost use Rattle.std.specs.Prelude.{◌≡◌, ◌≤◌, ◌<◌, ◌+◌, ◌++◌, ◌∷◌, [], length, true, false, not, IfOk, if◌then◌else◌};
+ghost use Rattle.std.specs.Prelude.{◌≡◌, ◌≤◌, ◌<◌, ◌+◌, ◌++◌, ◌∷◌, [], length, false, IfOk};
 ghost use Rattle.line_io.specs.Out.{with};
-ghost use Rattle.peer_words.specs.Tokens.{trimmed};
 ghost use Rattle.engine_revival.specs.Orders.{order_of};
-ghost use Rattle.engine_revival.specs.Orders as orders;
 ghost use Rattle.engine_revival.specs.Asked.{order_in};
 ghost use Rattle.engine_revival.specs.Dialogue.{said_in};
 ghost use Rattle.engine_revival.specs.Kept.{Spells, spelled};
@@ -12,22 +10,21 @@ ghost use Rattle.engine_revival.specs.Rooms.{IsRoomy};
 ghost use Rattle.engine_revival.specs.Marks.{AreLines};
 ghost use Rattle.line_io.specs.Event.{has_feed};
 ghost use Rattle.engine_revival.specs.Steps.{opening, keeping, with_value, with_button, answer_text};
-ghost use Rattle.engine_revival.specs.Steps.{is_given, gives, is_served, is_alive, is_ended, takes_at_once};
-ghost use Rattle.engine_revival.specs.Steps.{after_at_once, life_after_said, due_to, answer_to};
+ghost use Rattle.engine_revival.specs.Steps.{is_alive, is_ended};
 ghost use Rattle.engine_revival.specs.Steps.{ordering, reading, at_once, read_at_once, with_quit};
 ghost use Rattle.engine_revival.specs.Steps.{hearing, beginning, first_order, closing, ending};
-ghost use Rattle.engine_revival.specs.Steps.{settled, settled_orders, answer_of, may_begin, due_of};
+ghost use Rattle.engine_revival.specs.Steps.{settled, settled_orders, answer_of, may_begin};
 ghost use Rattle.engine_revival.specs.Steps.{due_orders, after_due, after_answer};
-ghost use Rattle.line_io.specs.Lines.{line_feed};
 
+use crate::life::{answer_to, due_to, is_given};
 use crate::order_list::{LIST_ORDERS, OrderList};
 use crate::orders::{RevivalOrder, read_order};
-use crate::words::{DialogueState, DueOrders, LifeSaid, LifeState, StandInAnswer, said_in};
+use crate::words::{DialogueState, DueOrders, LifeState, StandInAnswer, said_in};
+use crate::written_lines::{put_answer, put_if, put_line, put_quit, put_ready, put_uci};
 use cecp_lines::is_quit;
 use line_io::{NoMemory, Out, PEER_LINE};
-use peer_words::{GoKind, trim};
+use peer_words::trim;
 use std::alloc::Global;
-use uci_lines::write_order;
 
 /// How many bytes a line may have.
 pub const MOST_LINE: usize = PEER_LINE;
@@ -50,165 +47,6 @@ pub(crate) struct RevivalState {
     kept: OrderList,
     unsent: OrderList,
     search: OrderList,
-}
-
-impl LifeState {
-    fn takes_at_once(self, order: &RevivalOrder) -> bool
-        ensures { result ≡ takes_at_once self (order_of order.now) }
-    {
-        matches!(
-            (self, order),
-            (LifeState::Fresh, RevivalOrder::Uci)
-                | (LifeState::Search, RevivalOrder::Stop)
-                | (LifeState::Search, RevivalOrder::PonderHit)
-        )
-    }
-
-    fn after_at_once(self, order: &RevivalOrder) -> LifeState
-        ensures { result ≡ after_at_once self (order_of order.now) }
-    {
-        match (self, order) {
-            (LifeState::Fresh, RevivalOrder::Uci) => LifeState::Boot,
-            _ => self,
-        }
-    }
-
-    // Whether it got `uci` and has not ended.
-    fn is_served(self) -> bool
-        ensures { result ≡ is_served self }
-    {
-        matches!(
-            self,
-            LifeState::Boot | LifeState::Getting | LifeState::Idle | LifeState::Search
-        )
-    }
-
-    fn after_said(self, said: LifeSaid) -> LifeState
-        ensures { result ≡ life_after_said self said }
-    {
-        match (self, said) {
-            (LifeState::Boot, LifeSaid::UciOk) => LifeState::Idle,
-            (LifeState::Getting, LifeSaid::ReadyOk) => LifeState::Idle,
-            (LifeState::Search, LifeSaid::Best) => LifeState::Idle,
-            _ => self,
-        }
-    }
-}
-
-fn due_to(life: LifeState, quit: bool, upper: DialogueState) -> DueOrders
-    ensures { result ≡ due_to life quit upper }
-{
-    match (life, quit, upper) {
-        (LifeState::Idle, false, DialogueState::Getting) => DueOrders::Settings,
-        (
-            LifeState::Idle,
-            false,
-            DialogueState::Search {
-                kind: _,
-                stopped: _,
-            },
-        ) => DueOrders::Search,
-        _ => DueOrders::Nothing,
-    }
-}
-
-fn answer_to(life: LifeState, upper: DialogueState) -> StandInAnswer
-    ensures { result ≡ answer_to life upper }
-{
-    match (life, upper) {
-        (LifeState::Over, DialogueState::Boot) => StandInAnswer::UciOk,
-        (LifeState::Over, DialogueState::Getting) => StandInAnswer::ReadyOk,
-        (
-            LifeState::Over,
-            DialogueState::Search {
-                kind: GoKind::Move,
-                stopped: _,
-            },
-        ) => StandInAnswer::NoMove,
-        (
-            LifeState::Over,
-            DialogueState::Search {
-                kind: _,
-                stopped: true,
-            },
-        ) => StandInAnswer::NoMove,
-        _ => StandInAnswer::Nothing,
-    }
-}
-
-fn is_given(said: LifeSaid, life: LifeState, upper: DialogueState, got_all: bool) -> bool
-    ensures { result ≡ is_given said life upper got_all }
-{
-    match (said, life, upper) {
-        (LifeSaid::Introduction, _, DialogueState::Boot) => true,
-        (LifeSaid::UciOk, _, DialogueState::Boot) => true,
-        (LifeSaid::ReadyOk, LifeState::Getting, DialogueState::Getting) => got_all,
-        (LifeSaid::Report, LifeState::Search, _) => true,
-        (LifeSaid::Best, LifeState::Search, _) => true,
-        _ => false,
-    }
-}
-
-fn put_line(line: &[u8], out: &mut Out)
-    requires { length out.old.text + length line.now < out.old.room }
-    ensures { out.new ≡ with out.old (line.now ++ line_feed ∷ []) }
-{
-    out.put(line);
-    out.put(b"\n");
-}
-
-// Puts the line of an order if it is to be written.
-fn put_if(is_written: bool, line: &[u8], out: &mut Out)
-    requires spells { Spells line.now }
-    requires room { length out.old.text + length line.now < out.old.room }
-    ensures out { out.new
-        ≡ with out.old (batch_text (if is_written then spelled line.now ∷ [] else [])) }
-    ensures short { length out.new.text ≤ length out.old.text + (length line.now + 1) }
-{
-    if is_written {
-        put_line(line, out);
-    }
-}
-
-#[tactic(auto, unfolding(crate::specs::Orders::order_text, uci_lines::specs::Orders::order_text))]
-fn put_uci(out: &mut Out)
-    requires { length out.old.text + 16 ≤ out.old.room }
-    ensures out { out.new ≡ with out.old (batch_text (orders.Uci ∷ [])) }
-    ensures short { length out.new.text ≤ length out.old.text + 16 }
-{
-    write_order(&uci_lines::Order::Uci, out);
-    out.put(b"\n");
-}
-
-#[tactic(auto, unfolding(crate::specs::Orders::order_text, uci_lines::specs::Orders::order_text))]
-fn put_ready(out: &mut Out)
-    requires { length out.old.text + 16 ≤ out.old.room }
-    ensures { out.new ≡ with out.old (batch_text (orders.IsReady ∷ [])) }
-{
-    write_order(&uci_lines::Order::IsReady, out);
-    out.put(b"\n");
-}
-
-#[tactic(auto, unfolding(crate::specs::Orders::order_text, uci_lines::specs::Orders::order_text))]
-fn put_quit(out: &mut Out)
-    requires { length out.old.text + 16 ≤ out.old.room }
-    ensures out { out.new ≡ with out.old (batch_text (orders.Quit ∷ [])) }
-    ensures short { length out.new.text ≤ length out.old.text + 16 }
-{
-    write_order(&uci_lines::Order::Quit, out);
-    out.put(b"\n");
-}
-
-fn put_answer(answer: StandInAnswer, up: &mut Out)
-    requires { length up.old.text + length (answer_text answer) ≤ up.old.room }
-    ensures { up.new ≡ with up.old (answer_text answer) }
-{
-    match answer {
-        StandInAnswer::Nothing => {}
-        StandInAnswer::UciOk => up.put(b"uciok\n"),
-        StandInAnswer::ReadyOk => up.put(b"readyok\n"),
-        StandInAnswer::NoMove => up.put(b"bestmove 0000\n"),
-    }
 }
 
 impl RevivalState {

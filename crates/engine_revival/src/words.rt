@@ -19,7 +19,7 @@ pub enum DialogueState {
     Getting,
     /// It waits for orders.
     Idle,
-    /// It waits for the `go` behind a `position`.
+    /// It waits for the `go` after a `position`.
     Placed,
     /// From `go` to `bestmove`. A `ponderhit` makes a Ponder search one for a Move.
     Search { kind: GoKind, stopped: bool },

@@ -67,7 +67,7 @@ by_bits o p q r os m s t h i j e f g =
     ∙ ap (λ x. with o (reply_lines (Feature (codes "memory") (bit (takes_memory os)) ∷ Feature (codes "smp") (bit x) ∷ tables t))) f
     ∙ ap (λ x. with o (reply_lines (Feature (codes "memory") (bit (takes_memory os)) ∷ Feature (codes "smp") (bit (takes_cores os)) ∷ tables x))) g
 
--- room for a piece behind others
+-- room for a piece after others
 pub room_for : (o p : Text) (before piece behind whole : List ℕ) → p ≡ with o before → whole ≡ (before ++ piece) ++ behind → length o.text + length whole ≤ o.room → length p.text + length piece ≤ p.room
 room_for o p before piece behind whole e f h =
     omega (arith, ap (λ (t : Text). length t.text) e, ap (λ (t : Text). t.room) e, length-append o.text before, ap length f, length-append (before ++ piece) behind, length-append before piece, h)

@@ -1,8 +1,12 @@
 -- Squares one after the other, and the men of ranks.
-use Rattle.std.proofs.Common.{◌≡◌, ℕ, suc, zero, ◌+◌, ◌-◌, ◌<◌, List, [], ◌∷◌, ◌++◌, false, eqb, length, drop, get_or, Option, Some, None, refl, ap, ◌∙◌, arith, append_assoc, length-append, append-nil}
+use Rattle.std.proofs.Common.{◌≡◌, ℕ, suc, zero, ◌+◌, ◌-◌, ◌<◌, ◌≤◌, List, [], ◌∷◌, ◌++◌, true, false, eqb, length, drop, get_or, Option, Some, None, refl, ap, ◌∙◌, arith, append_assoc, length-append, append-nil, sym, Result, Ok, Err}
 use Rattle.std.proofs.Math.Seq.{drop-cons}
 use Rattle.std.proofs.lemmas.Bool.Decides.{nat_tests}
 use Rattle.std.proofs.lemmas.Option.{get_or_from_slice_get}
+use Rattle.std.proofs.lemmas.Bool.{ne_eqb}
+use Rattle.std.proofs.lemmas.List.{drop_all}
+use Rattle.std.specs.Prelude.{◌↔◌, IsOk, IfOk}
+use Rattle.std.specs.Result.{result_ok}
 use Rattle.std.specs.List.{slice_get}
 use Rattle.chess_board.specs.Board.{Men}
 use Rattle.fen_text.specs.Squares.{joined, exactly, HasMoreThan, squares_of, squares_in, rank_of, men_of}
@@ -16,6 +20,10 @@ joined-assoc (Some x) (Some y) (Some z) = ap Some (append_assoc x y z)
 pub joined-none : (a : Option Men) → joined a None ≡ None
 joined-none None = refl
 joined-none (Some x) = refl
+
+pub joined-first : (a : Option Men) → joined (Some []) a ≡ a
+joined-first None = refl
+joined-first (Some x) = refl
 
 pub joined-nothing : (a : Option Men) → joined a (Some []) ≡ a
 joined-nothing None = refl
@@ -36,6 +44,34 @@ pub squares_first : (bytes : List ℕ) (i : ℕ) → i < length bytes → square
 squares_first bytes i h =
     let n : i + 1 ≡ suc i = omega arith in
     rw (n, drop-cons bytes i 0) refl
+
+-- the squares of one more byte
+pub row_more : (bytes : List ℕ) (i : ℕ) (old new : Men) → i < length bytes → joined (Some old) (squares_of (get_or bytes i 0)) ≡ Some new → joined (Some old) (squares_in (drop i bytes)) ≡ squares_in bytes → joined (Some new) (squares_in (drop (i + 1) bytes)) ≡ squares_in bytes
+row_more bytes i old new h put e =
+    ap (λ (row : Option Men). joined row (squares_in (drop (i + 1) bytes))) (sym put)
+    ∙ joined-assoc (Some old) (squares_of (get_or bytes i 0)) (squares_in (drop (i + 1) bytes))
+    ∙ ap (joined (Some old)) (sym (squares_first bytes i h))
+    ∙ e
+
+-- a byte whose squares are too many, or that stands for none
+pub row_lost : (bytes : List ℕ) (i : ℕ) (old : Men) → i < length bytes → HasMoreThan 8 (joined (Some old) (squares_of (get_or bytes i 0))) → joined (Some old) (squares_in (drop i bytes)) ≡ squares_in bytes → rank_of bytes ≡ None
+row_lost bytes i old h more e =
+    ap (exactly 8) (sym e ∙ ap (joined (Some old)) (squares_first bytes i h) ∙ sym (joined-assoc (Some old) (squares_of (get_or bytes i 0)) (squares_in (drop (i + 1) bytes))))
+    ∙ too_many 8 (joined (Some old) (squares_of (get_or bytes i 0))) (squares_in (drop (i + 1) bytes)) more
+
+-- once every byte is read
+pub row_done : (bytes : List ℕ) (i : ℕ) (row : Men) → length bytes ≤ i → joined (Some row) (squares_in (drop i bytes)) ≡ squares_in bytes → exactly 8 (Some row) ≡ rank_of bytes
+row_done bytes i row h e =
+    ap (exactly 8) (sym (joined-nothing (Some row)) ∙ ap (λ (rest : List ℕ). joined (Some row) (squares_in rest)) (sym (drop_all i bytes h)) ∙ e)
+
+-- a row is taken whole if it is full
+pub full_row : {E : Type 0} (row : Men) (taken : Result Men E) → (IsOk taken ↔ (length row ≡ 8)) → IfOk taken (λ whole. whole ≡ row) → result_ok taken ≡ exactly 8 (Some row)
+full_row row (Ok whole) full same =
+    let eight : length row ≡ 8 = full.0 refl in
+    rw eight (ap Some same)
+full_row row (Err other) full same =
+    let short : eqb (length row) 8 ≡ false = ne_eqb (length row) 8 (λ eight. let no : false ≡ true = full.1 eight in cc) in
+    rw short refl
 
 -- if the lower ranks have no men, the whole has none
 pub men_lost : (ranks : List (List ℕ)) (i : ℕ) → men_of (drop i ranks) ≡ None → men_of ranks ≡ None

@@ -21,7 +21,7 @@ kind_of letter =
     else (if letter == 81 then Some Queen
     else (if letter == 75 then Some King else None)))))
 
--- how far a small letter stands behind its capital one
+-- how far a small letter is from its capital one
 abbrev pub case_step : ℕ
 case_step = 32
 
@@ -73,7 +73,7 @@ is_slash byte = byte == slash
 abbrev pub ranks_in : List ℕ → List (List ℕ)
 ranks_in field = slice_split is_slash field
 
--- what stands where, by eight ranks
+-- what is where, by eight ranks
 abbrev pub placed : List ℕ → Option Men
 placed field = if length (ranks_in field) == 8 then men_of (ranks_in field) else None
 

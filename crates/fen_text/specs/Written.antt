@@ -30,7 +30,7 @@ letter_of Black kind = kind_letter kind + case_step
 abbrev pub run : ℕ → List ℕ
 run empty = if nat_lt 0 empty then (digit_zero + empty) ∷ [] else []
 
--- the squares of a rank, behind a run of empty ones: each run is one digit
+-- the squares of a rank, after a run of empty ones: each run is one digit
 abbrev pub rank_text : ℕ → Men → List ℕ
 rank_text empty [] = run empty
 rank_text empty (None ∷ squares) = rank_text (suc empty) squares
@@ -40,7 +40,7 @@ rank_text empty (Some man ∷ squares) = run empty ++ letter_of man.0 man.1 ∷ 
 abbrev pub row : Men → ℕ → Men
 row men rank = take 8 (drop (8 * rank) men)
 
--- the ranks below this one, each behind a slash, the upper one first
+-- the ranks below this one, each after a slash, the upper one first
 abbrev pub lower_ranks : Men → ℕ → List ℕ
 lower_ranks men zero = []
 lower_ranks men (suc rank) = slash ∷ (rank_text 0 (row men rank) ++ lower_ranks men rank)

@@ -39,7 +39,7 @@ fn man_of(letter: u8) -> Option<(Side, Kind)>
     }
 }
 
-/// Puts empty squares behind those before them, if there is room.
+/// Puts empty squares after those before them, if there is room.
 fn put_empty(count: usize, row: &mut ArrayVec<Man, 8>) -> Result<(), CapacityError>
     requires { count ≤ 8 }
     ensures room { IsOk result ↔ (length row.old.items + count ≤ 8) }
@@ -48,7 +48,7 @@ fn put_empty(count: usize, row: &mut ArrayVec<Man, 8>) -> Result<(), CapacityErr
     row.try_extend_from_slice(&EMPTY_RANK[..count])
 }
 
-/// Puts the squares that a byte of a rank stands for behind those before it, if there is room.
+/// Puts the squares that a byte of a rank stands for after those before it, if there is room.
 fn put_squares(byte: u8, row: &mut ArrayVec<Man, 8>) -> Option<()>
     ensures some { OnSome result
         (joined (Some row.old.items) (squares_of byte) ≡ Some row.new.items) }
@@ -84,7 +84,7 @@ fn nth_rank(field: &[u8], n: usize) -> Option<&[u8]>
     field.split(|b| *b == b'/').nth(n)
 }
 
-/// What stands where, by eight ranks, of which the text has the eighth first.
+/// What is where, by eight ranks, of which the text has the eighth first.
 fn read_squares(field: &[u8]) -> Option<[Man; 64]>
     ensures { result ≡ placed field.now }
 {

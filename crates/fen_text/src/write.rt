@@ -42,7 +42,7 @@ fn write_run(empty: u8, text: &mut Text)
     }
 }
 
-/// Writes a man behind the empty squares before it, or counts one more of these.
+/// Writes a man after the empty squares before it, or counts one more of these.
 fn write_square(man: Man, empty: u8, text: &mut Text) -> u8
     requires few { empty < 8 }
     requires room { length text.old.items + empty < 96 }

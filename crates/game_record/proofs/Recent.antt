@@ -85,7 +85,7 @@ new_behind p moves m q is legal few playable now =
     ∙ take-append-le (length (p ∷ later p (plies_of moves)) - q.half) (p ∷ later p (plies_of moves)) (played (now_after p (plies_of moves)) (ply_of m) ∷ []) (omega arith) in
     ap (stood_in q) (sym (ap (λ (n : ℕ). take n (p ∷ later p (plies_of (moves ++ m ∷ [])))) places ∙ part)) ∙ none
 
--- what stands neither among the positions left behind nor among the others stands nowhere
+-- what is neither among the positions that were left nor among the others is nowhere
 pub stood_nowhere : (p start : Position) (positions : List Position) (oldest : ℕ) → oldest ≡ length positions - p.half → 0 < oldest → stood_in p (left_behind p (start ∷ positions)) ≡ 0 → stood_in p (drop oldest positions) ≡ 0 →
     stood_in p (start ∷ positions) ≡ 0
 stood_nowhere p start positions oldest e some behind none =

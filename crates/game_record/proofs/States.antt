@@ -1,4 +1,4 @@
--- How a position stands, and how a game has ended, by tests and by the Laws.
+-- The state of a position, and how a game has ended, by tests and by the Laws.
 use Rattle.std.proofs.Common.{◌≡◌, ℕ, ◌+◌, List, [], ◌∷◌, ◌++◌, Bool, true, false, ◌&&◌, cond, leb, eqb, Some, None, refl, sym, ap, ◌∙◌}
 use Rattle.std.specs.Prelude.{count_by}
 use Rattle.std.specs.Bool.{Decides}
@@ -38,7 +38,7 @@ pub state-law : StateLaw
 unfolding state_of
 state-law p = fits_by p (has_legal p) (is_checked p.men p.side) (is_dead p.men) (has_legal-law p) (checked-law p.men p.side) (dead-law p.men)
 
--- a position stands in one way
+-- a position has one state
 pub one_state : (p : Position) (a b : State) → StateFits p a → StateFits p b → a ≡ b
 one_state p states.Mate states.Mate h k = refl
 one_state p a states.Mate h k = search (h.0, h.1, k.0, k.1)

@@ -22,7 +22,7 @@ stood_in-append p xs ys = sum_by-append (λ (q : Position). cond (is_same p q) 1
 pub stood_in-cons : (p q : Position) (xs : List Position) → stood_in p (q ∷ xs) ≡ cond (is_same p q) 1 0 + stood_in p xs
 stood_in-cons p q xs = sum_by-cons (λ (r : Position). cond (is_same p r) 1 0) q xs
 
--- a position stands once itself
+-- a position occurs once itself
 pub stood_once : (p : Position) (xs : List Position) → stood_in p (xs ++ p ∷ []) ≡ stood_in p xs + 1
 stood_once p xs =
     let own : stood_in p (p ∷ []) ≡ 1 = rw (is_same-refl p) refl in

@@ -79,7 +79,7 @@ state_by false false dead = states.Stale
 state_by true checked true = states.Dead
 state_by true checked false = states.Open
 
--- how a position stands: the first that holds of mate, stalemate and dead
+-- the state of a position: the first that holds of mate, stalemate and dead
 unfoldable pub state_of : Position → State
 state_of p = state_by (has_legal p) (is_checked p.men p.side) (is_dead p.men)
 

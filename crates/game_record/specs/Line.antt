@@ -15,7 +15,7 @@ ply_text m =
     (letter_a + file_of m.from) ∷ (digit_one + rank_of m.from)
     ∷ (letter_a + file_of m.to) ∷ (digit_one + rank_of m.to) ∷ promotion_text m.promotion
 
--- each move behind a blank
+-- each move after a blank
 abbrev pub spaced : List Ply → List ℕ
 spaced [] = []
 spaced (m ∷ moves) = blank ∷ (ply_text m ++ spaced moves)

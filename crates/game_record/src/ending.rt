@@ -23,7 +23,7 @@ pub(crate) fn is_same(p: &Position, q: &Position) -> bool
     p.same(q)
 }
 
-/// How a position stands.
+/// The state of a position.
 pub(crate) fn state_of(p: &Position) -> State
     ensures { result ≡ state_of p.now }
 {

@@ -7,7 +7,7 @@ pub fn sameness_is_lawful()
     ensures { SameLaw }
 {}
 
-/// How a position stands is what the Laws say.
+/// The state of a position is what the Laws say.
 pub fn states_are_lawful()
     ensures { StateLaw }
 {}

@@ -25,7 +25,7 @@ fn write_start(p: &Position, out: &mut Out)
     }
 }
 
-/// Writes a move behind a blank.
+/// Writes a move after a blank.
 fn write_spaced(m: Move, out: &mut Out)
     requires officer { IsOfficer m.promotion }
     requires room { length out.old.text + length (blank ∷ text_of m) ≤ out.old.room }
@@ -35,7 +35,7 @@ fn write_spaced(m: Move, out: &mut Out)
     out.put(write_move(m).as_slice());
 }
 
-/// Writes each move behind a blank.
+/// Writes each move after a blank.
 fn write_moves(moves: &[Move], out: &mut Out)
     requires officers { AllByRecursion (λ m. IsOfficer m.promotion) (plies_of moves.now) }
     requires room { length out.old.text + length (spaced (plies_of moves.now)) ≤ out.old.room }

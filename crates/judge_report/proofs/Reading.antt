@@ -58,7 +58,7 @@ over_last c n (q ∷ qs) p =
     let i : over d (n + 1) (qs ++ p ∷ []) ≡ read_on (over d (n + 1) qs).ending (over d (n + 1) qs) ((n + 1) + length qs) p = over_last d (n + 1) qs p in
     i ∙ read_more (over d (n + 1) qs) ((n + 1) + length qs) (n + suc (length qs)) p (omega arith)
 
--- what comes of a line behind these
+-- what comes of a line after these
 abbrev grown : JudgedTalk → List ℕ → ℕ → Piece → Course
 grown t text n p = record { talk = (of_kind t n (kind_of n p)).talk; text = text ++ (of_kind t n (kind_of n p)).more; ending = (of_kind t n (kind_of n p)).ending }
 

@@ -40,7 +40,7 @@ words_tokens : (ws : List (List ℕ)) → AllByRecursion IsWord ws → list_all 
 words_tokens [] a = refl
 words_tokens (w ∷ ws) a = rw (word_token w a.0, words_tokens ws a.1) refl
 
--- tokens with one blank between, and more behind a blank
+-- tokens with one blank between, and more after a blank
 joined_more : (t : List ℕ) (ts : List (List ℕ)) (more : List ℕ) → list_all is_token (t ∷ ts) ≡ true → tokens (join_with_byte 32 (t ∷ ts) ++ (32 ∷ more)) ≡ (t ∷ ts) ++ tokens more
 joined_more t [] more h = tokens_more t more 32 (and_parts (is_token t) true h).0 refl
 joined_more t (u ∷ ts) more h =
@@ -75,7 +75,7 @@ texts_tokens : (ms : List Move) → list_all is_token (texts_of ms) ≡ true
 texts_tokens [] = refl
 texts_tokens (m ∷ ms) = rw (move_token m, texts_tokens ms) refl
 
--- what stands behind `position`
+-- what follows `position`
 abbrev behind : List (List ℕ) → List (List ℕ) → List (List ℕ)
 behind first [] = first
 behind first (t ∷ ts) = first ++ (codes "moves" ∷ t ∷ ts)

@@ -132,7 +132,7 @@ numbered_log (step ∷ t) a w =
     both_log (numbered_lines t) (number_line (length t) ∷ step_lines step) (marks_of t) (step_marks step) (numbered_log t a.1 w.1)
     (number_log (length t) (step_lines step) (step_marks step) (step_log step a.0 w.0))
 
--- the lines of the script of a lawful trace, in version 2 those behind the header
+-- the lines of the script of a lawful trace, in version 2 those after the header
 pub script1_log : (o : Settings) (t : List Step) → Lawful o t → IsLog (lines_of t) (marks_of t)
 script1_log o t l = lines_log t (all_told o t l) (write_lines o t l)
 

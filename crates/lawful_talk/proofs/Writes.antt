@@ -110,7 +110,7 @@ takes n e orders.Stop t p a s m = stops_at n e t a s m
 takes n e orders.PonderHit t p a s m = hits_at n e t a s m
 takes n e o t p a s m = absurd (cc)
 
--- `position` stands only before `go`
+-- `position` comes only before `go`
 no_position : (ws : List Word) → Paired (talks.Position ∷ ws) → has_go ws ≡ false → ⊥
 no_position (talks.Go k ∷ ws) p g = cc
 no_position ws p g = p

@@ -1,17 +1,15 @@
 -- What one call of the reader of lines makes of the taking of lines.
-use Rattle.std.proofs.Common.{◌≡◌, ℕ, suc, ◌+◌, ◌≤◌, ◌<◌, ◌^◌, List, [], ◌∷◌, ◌++◌, length, true, false, Bool, not, Option, Some, None, IfSome, Result, Ok, Err, IsTrue, refl, ap, sym, subst, ◌∙◌, append-nil, length-append, arith, inl, inr, ◌⊎◌}
-use Rattle.std.proofs.lemmas.Bool.{cases_lt}
+use Rattle.std.proofs.Common.{◌≡◌, ℕ, suc, ◌+◌, ◌≤◌, ◌<◌, ◌^◌, List, [], ◌∷◌, ◌++◌, length, true, false, Bool, not, Option, Some, None, IfSome, Result, Ok, Err, IsTrue, refl, ap, sym, subst, ◌∙◌, append-nil, length-append, arith, inr}
 use Rattle.std.specs.Io.KnownBytes.{Consumes, IsAtEnd}
 use Rattle.std.proofs.KnownBytes.{Appends-trans, Consumes-trans, Appends-nil, Consumes-nil}
 use Rattle.line_io.specs.Causes.{Rose}
-use Rattle.line_io.specs.Lines.{Piece, Held, Given, Gave, AtEnd, NotYet, Advances, Reads, EndsAt, IsReady, IsWaiting, unread, flag, rest, feed_at}
+use Rattle.line_io.specs.Lines.{Piece, Held, Given, Gave, NotYet, Advances, Reads, EndsAt, IsWaiting, unread, flag, rest}
 use Rattle.line_io.specs.Lending.{outcome, AnswersWhen}
-use Rattle.line_io.specs.Runs.{Runs, begins, goes, Call, goes_on, pieces_of, whole}
+use Rattle.line_io.specs.Runs.{Runs, begins, goes, Call, goes_on, pieces_of}
 use Rattle.line_io.specs.Source.{Supplied}
 use Rattle.line_io.specs.Takers.{Meaning}
 use Rattle.line_io.specs.Taken.{Place, place, IsOver, Taken}
 use Rattle.line_io.specs.Turns.{Course, Reached, Drained, work}
-use Rattle.line_io.proofs.Found.{feed_le}
 use Rattle.line_io.proofs.Runs.{so_far, at_end, at_fault, at_wait, few_calls}
 use Rattle.line_io.specs.declared.lines.Item.{Item}
 use Rattle.line_io.specs.declared.lines.Item.TheVariants as answers
@@ -34,7 +32,7 @@ gave_more a b c bs cs g h = record {
   left = Consumes-trans a.left b.left c.left bs cs g.left h.left;
 }
 
--- nothing is left behind the end, whatever is read then
+-- nothing is left after the end, whatever is read then
 over_kept : (a b c : Option (List ℕ)) (bs cs : List ℕ) → IfSome a (λ _. IsAtEnd b) → Consumes a b bs → cs ≡ [] → Consumes b c cs → IfSome a (λ _. IsAtEnd c)
 over_kept None b c bs cs o g e h = tt
 over_kept (Some x) None c bs cs o g e h = absurd g

@@ -22,7 +22,7 @@ place s o i = record { taker = s; output = o; input = i }
 abbrev pub IsOver : Supplied → Supplied → Type 0
 IsOver old new = IfSome old.left (λ _. IsAtEnd new.left)
 
--- The taker stopped. The lines are a front of those of all bytes, whatever is left behind those that were given, and
+-- The taker stopped. The lines are a front of those of all bytes, whatever is left after those that were given, and
 -- nothing is left if the end was seen.
 pub record Stops {S O X : Type 0} (means : Meaning S O X) (limit : ℕ) (stop : X) (given : List ℕ) (pieces : List Piece) (old new : Place S O) : Type 0 where
   pub stopped : means.stopped old.taker old.output pieces stop new.taker new.output

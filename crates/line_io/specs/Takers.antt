@@ -6,7 +6,7 @@ use Rattle.line_io.specs.Lines.{Piece}
 pub record Meaning (S O X : Type 0) : Type 1 where
   -- after these lines
   pub took : S → O → List Piece → S → O → Type 0
-  -- after these lines, if it stopped at the last of them or behind it
+  -- after these lines, if it stopped at the last of them or after it
   pub stopped : S → O → List Piece → X → S → O → Type 0
   -- It may take a line. This holds from the first line to a stop.
   pub may : S → Type 0

@@ -78,7 +78,7 @@ fn keep_value(value: Option<OptionValue>, texts: &mut Out) -> KeptValue
     }
 }
 
-/// Keeps an order, its texts behind those of the others.
+/// Keeps an order, its texts after those of the others.
 pub(crate) fn keep(setup: SetupOrder, texts: &mut Out) -> KeptOrder
     requires { length texts.old.text + length (setup_bytes setup) ≤ texts.old.room }
     ensures texts { texts.new ≡ with texts.old (setup_bytes setup.entry) }

@@ -1,9 +1,10 @@
 -- Runs of bytes: where a token ends, and what the list of tokens is.
-use Rattle.std.proofs.Common.{◌≡◌, ℕ, List, [], ◌∷◌, ◌++◌, Bool, true, false, not, ltb, length, take, drop, refl, ◌∙◌, sym, ap, arith}
+use Rattle.std.proofs.Common.{◌≡◌, ℕ, ◌<◌, List, [], ◌∷◌, ◌++◌, Bool, true, false, not, ltb, leb, length, take, drop, refl, ◌∙◌, sym, ap, arith}
 use Rattle.std.proofs.Math.Seq.{take-append_seam, drop-append_seam, take-length, drop-length}
 use Rattle.std.proofs.lemmas.List.{append-nil}
 use Rattle.std.specs.List.{list_all, prefix_len, before_first}
 use Rattle.std.proofs.lemmas.Bool.{and_parts, not-true}
+use Rattle.std.proofs.lemmas.Bool.Decides.{nat_tests}
 use Rattle.peer_words.specs.Tokens.{is_white, is_token, trim_left, trimmed, token_end, first_token, rest, trim_right}
 
 pub all_of : (p q : ℕ → Bool) → ((c : ℕ) → p c ≡ true → q c ≡ true) → (xs : List ℕ) → list_all p xs ≡ true → list_all q xs ≡ true
@@ -21,6 +22,15 @@ prefix_stops q (x ∷ xs) c ys h e = let both = and_parts (q x) (list_all q xs) 
 -- the bytes of a token
 pub black : (t : List ℕ) → is_token t ≡ true → list_all (λ b. not (is_white b)) t ≡ true
 black t h = (and_parts (ltb 0 (length t)) (list_all (λ b. not (is_white b)) t) h).1
+
+black_high : (c : ℕ) → leb 49 c ≡ true → not (is_white c) ≡ true
+black_high c h = grind (arith, nat_tests)
+
+-- bytes from the digit 1 on are a token
+pub high_token : (t : List ℕ) → 0 < length t → list_all (λ b. leb 49 b) t ≡ true → is_token t ≡ true
+high_token t l h =
+    let some : ltb 0 (length t) ≡ true = grind (arith, nat_tests) in
+    rw (some, all_of (λ b. leb 49 b) (λ b. not (is_white b)) black_high t h) refl
 
 pub starts_black : (t more : List ℕ) → is_token t ≡ true → trim_left (t ++ more) ≡ t ++ more
 starts_black [] more h = absurd (cc)

@@ -118,7 +118,7 @@ seconds_read ms h = seconds_step ms (eqb (ms % 1000) 0) refl h
 pub not_white : (c : ℕ) → is_ascii_digit c ≡ true → not (is_white c) ≡ true
 not_white c h = grind (arith, nat_tests)
 
--- digits are a token, also behind a minus
+-- digits are a token, also after a minus
 pub digits_token : (ds : List ℕ) → 0 < length ds → list_all is_ascii_digit ds ≡ true → is_token ds ≡ true
 digits_token ds l h =
     let t : ltb 0 (length ds) ≡ true = grind (arith, nat_tests) in

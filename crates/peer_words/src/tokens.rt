@@ -51,7 +51,7 @@ fn white_at(text: &[u8]) -> Option<usize>
     text.iter().position(|b| is_white(*b))
 }
 
-/// What stands before the first white space, and what begins with it; all and nothing if there is
+/// What is before the first white space, and what begins with it; all and nothing if there is
 /// none.
 pub fn split_at_white(text: &[u8]) -> (&[u8], &[u8])
     ensures token { result.0.now ≡ before_first is_white text.now }

@@ -14,7 +14,7 @@ abbrev pub AtMost : ℤ → Score → Type 0
 AtMost bound None = ⊥
 AtMost bound (Some score) = score ≤ℤ bound
 
--- The last n scores, of which the newest stands first, are there and at most the bound.
+-- The last n scores, of which the newest is first, are there and at most the bound.
 abbrev pub LastAtMost : ℕ → ℤ → List Score → Type 0
 LastAtMost zero bound scores = Unit {0}
 LastAtMost (suc n) bound [] = ⊥
@@ -52,7 +52,7 @@ after_shown counts score = record {
   level = run_after (is_at_most (pos 0) score) counts.level;
 }
 
--- the counts that stand for a list of scores, of which the newest stands first
+-- the counts that stand for a list of scores, of which the newest is first
 abbrev pub counted : Settings → List Score → Scores
 counted settings [] = no_scores settings
 counted settings (score ∷ scores) = after_shown (counted settings scores) score

@@ -175,7 +175,7 @@ impl Settings {
         settings
     }
 
-    /// Whether the settings behind the first ones all have their usual values.
+    /// Whether the settings after the first ones all have their usual values.
     pub fn has_usual_rest(&self) -> bool
         ensures { result ≡ has_usual_rest self.now }
     {

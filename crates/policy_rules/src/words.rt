@@ -75,7 +75,7 @@ fn equals_at(word: &[u8]) -> Option<usize>
     word.iter().position(|byte| *byte == b'=')
 }
 
-/// The name in a word NAME=VALUE: what stands before the first `=`, or all if there is none.
+/// The name in a word NAME=VALUE: what is before the first `=`, or all if there is none.
 pub fn name_in(word: &[u8]) -> &[u8]
     ensures { result.now ≡ name_in word.now }
 {

@@ -207,7 +207,7 @@ moved_back p man (Some v) w e =
     let k = kept (may_move p man v) (Some v) w e in
     (k.1, subst (λ u. may_move p man u ≡ true) (ap (λ o. way_in o w) k.1) k.0)
 
--- a man of such a kind, whose letter stands before its squares
+-- a man of such a kind, whose letter is before its squares
 form_by : (p : Position) (m : Move) (man : Kind) (front text : List ℕ) → front ≡ letter man → moved_by p man (way_read text) ≡ Some (way_of m) → IsLegal p m.from.index m.to.index m.promotion × IsLongForm p m (front ++ text)
 form_by p m man front text e h =
     let moved = moved_back p man (way_read text) (way_of m) h in

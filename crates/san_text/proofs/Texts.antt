@@ -62,7 +62,7 @@ square_is f r promotion h i o = rw (file_is f h, rank_is r i, promotion_is promo
 abbrev pub x_text : Bool → List ℕ
 x_text takes = cond takes (120 ∷ []) []
 
--- the target behind an optional `x`
+-- the target after an optional `x`
 abbrev pub tail : Bool → ℕ → ℕ → Option Kind → List ℕ
 tail takes f r promotion = x_text takes ++ target_text f r promotion
 

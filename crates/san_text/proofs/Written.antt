@@ -45,7 +45,7 @@ below_rank false false f r n h = tt
 below_rank false true false r n h = tt
 below_rank false true true r n h = h
 
--- the text behind the letter
+-- the text after the letter
 abbrev places : Option ℕ → Option ℕ → Bool → ℕ → ℕ → Option Kind → List ℕ
 places file rank takes f r promotion = place_text file rank ++ tail takes f r promotion
 

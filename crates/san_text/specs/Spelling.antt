@@ -1,4 +1,4 @@
--- How a text in standard algebraic notation is read, whatever stands on the board.
+-- How a text in standard algebraic notation is read, whatever is on the board.
 use Rattle.std.specs.Prelude.{ℕ, ◌+◌, ◌*◌, ◌-◌, List, [], ◌∷◌, Bool, true, false, ◌&&◌, ◌||◌, if◌then◌else◌, ◌==◌, nat_le, Option, Some, None, codes}
 use Rattle.std.specs.List.{list_all}
 use Rattle.std.specs.Str.{bytes_eq}
@@ -76,7 +76,7 @@ abbrev pub square_read : List ℕ → Option Target
 square_read (f ∷ r ∷ rest) = target_of (file_named f) (rank_named r) (promotion_read rest)
 square_read _ = None
 
--- the same behind an optional `x`
+-- the same after an optional `x`
 abbrev pub target_read : List ℕ → Option Target
 target_read [] = None
 target_read (b ∷ bs) = if b == capture_sign then square_read bs else square_read (b ∷ bs)
@@ -90,7 +90,7 @@ abbrev pub first_of : Option SanSpelling → Option SanSpelling → Option SanSp
 first_of (Some s) other = Some s
 first_of None other = other
 
--- a rank that is given, and the target behind it
+-- a rank that is given, and the target after it
 abbrev pub rank_read : Kind → Option ℕ → List ℕ → Option SanSpelling
 rank_read man file [] = None
 rank_read man file (r ∷ rest) = given (rank_named r) where
@@ -98,7 +98,7 @@ rank_read man file (r ∷ rest) = given (rank_named r) where
   given None = None
   given (Some rank) = goes man file (Some rank) (target_read rest)
 
--- a file that is given, and perhaps a rank, and the target behind them
+-- a file that is given, and perhaps a rank, and the target after them
 abbrev pub file_read : Kind → List ℕ → Option SanSpelling
 file_read man [] = None
 file_read man (f ∷ rest) = given (file_named f) where
@@ -106,11 +106,11 @@ file_read man (f ∷ rest) = given (file_named f) where
   given None = None
   given (Some file) = first_of (goes man (Some file) None (target_read rest)) (rank_read man (Some file) rest)
 
--- the target alone, or behind a file, a rank, or both
+-- the target alone, or after a file, a rank, or both
 abbrev pub places_read : Kind → List ℕ → Option SanSpelling
 places_read man text = first_of (goes man None None (target_read text)) (first_of (file_read man text) (rank_read man None text))
 
--- an officer behind its letter, or a pawn
+-- an officer after its letter, or a pawn
 abbrev pub man_read : List ℕ → Option SanSpelling
 man_read [] = None
 man_read (b ∷ bs) = named (kind_named b) where

@@ -109,7 +109,7 @@ pub record IsSan (p : Position) (m : Move) (text : List ℕ) : Type 0 where
   pub fits : IsMark (after p m) mark
   pub whole : text ≡ body p m ++ mark
 
--- the mark as a function: behind a move that checks, `+` if the side on move has a legal move, else `#`
+-- the mark as a function: after a move that checks, `+` if the side on move has a legal move, else `#`
 abbrev pub sign : Position → List ℕ
 sign p =
     if is_checked p.men p.side then (if has_any_way p then codes "+" else codes "#")

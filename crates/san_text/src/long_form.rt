@@ -45,7 +45,7 @@ fn read_moved(at: &Position, kind: Kind, text: &[u8]) -> Option<Move>
     }
 }
 
-// The legal move of an officer behind its letter, or of a pawn.
+// The legal move of an officer after its letter, or of a pawn.
 fn read_man(at: &Position, text: &[u8]) -> Option<Move>
     ensures { option_map way_of result ≡ long_read at.now text.now }
 {
@@ -62,7 +62,7 @@ fn read_man(at: &Position, text: &[u8]) -> Option<Move>
 ///
 /// The form is the letter of the man (a pawn has none), the square that it leaves, `-` or `x`, the
 /// square reached, and the letter of what a pawn becomes, with or without `=` before it. Signs `+`,
-/// `#`, `!` and `?` at the end are dropped. Whether `-` or `x` stands is not compared.
+/// `#`, `!` and `?` at the end are dropped. Whether there is a `-` or an `x` is not compared.
 pub fn read_long_form(at: &Position, text: &[u8]) -> Option<Move>
     ensures { IsLongRead at.now text.now result }
 {

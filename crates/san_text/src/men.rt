@@ -6,7 +6,7 @@ ghost use Rattle.san_text.specs.Writing.{kind_at, castles_short, castles_long, i
 
 use chess_board::{Kind, Move, Position, Side, Square};
 
-/// The kind of the man on a square; a pawn if none stands.
+/// The kind of the man on a square; a pawn if there is none.
 pub fn kind_at(at: &Position, square: Square) -> Kind
     ensures { result ≡ kind_at at.now square.index }
 {

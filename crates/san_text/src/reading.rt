@@ -58,7 +58,7 @@ fn agrees(at: &Position, spelling: &SanSpelling, m: Move) -> bool
 /// The one legal move that fits a text.
 ///
 /// A legal move fits if its man, the file and rank that are given, the square reached and the
-/// promotion agree with the text. Castling fits its own texts alone. Whether `x` stands, or a sign of
+/// promotion agree with the text. Castling fits its own texts alone. Whether there is an `x`, or a sign of
 /// check or mate, is not compared.
 pub fn read_san(at: &Position, text: &[u8]) -> Result<Move, SanFault>
     ensures read { IsRead at.now text.now result }

@@ -1,4 +1,4 @@
-// How a text is read, whatever stands on the board.
+// How a text is read, whatever is on the board.
 ghost use Rattle.std.specs.Prelude.{◌≡◌, IfSome, ◌<◌};
 ghost use Rattle.san_text.specs.Spelling.{unmarked, is_mark, file_named, rank_named, kind_named, promoted, promotion_read, square_read, target_read, rank_read, file_read, places_read, man_read, spelled, plain_targets, plains, goes};
 
@@ -123,7 +123,7 @@ pub fn read_square(text: &[u8]) -> Option<Target>
     })
 }
 
-// The same behind an optional `x`.
+// The same after an optional `x`.
 fn read_target(text: &[u8]) -> Option<Target>
     ensures { plain_targets result ≡ target_read text.now }
 {
@@ -133,7 +133,7 @@ fn read_target(text: &[u8]) -> Option<Target>
     }
 }
 
-// What a target behind such a man, file and rank spells.
+// What a target after such a man, file and rank spells.
 fn goes(
     kind: Kind,
     file: Option<u8>,
@@ -153,7 +153,7 @@ fn goes(
     }
 }
 
-// A rank that is given, and the target behind it.
+// A rank that is given, and the target after it.
 fn read_rank(kind: Kind, file: Option<u8>, text: &[u8]) -> Option<SanSpelling>
     ensures { plains result ≡ rank_read kind file text.now }
 {
@@ -164,7 +164,7 @@ fn read_rank(kind: Kind, file: Option<u8>, text: &[u8]) -> Option<SanSpelling>
     goes(kind, file, Some(rank), read_target(rest))
 }
 
-// A file that is given, and perhaps a rank, and the target behind them.
+// A file that is given, and perhaps a rank, and the target after them.
 fn read_file(kind: Kind, text: &[u8]) -> Option<SanSpelling>
     ensures { plains result ≡ file_read kind text.now }
 {
@@ -178,7 +178,7 @@ fn read_file(kind: Kind, text: &[u8]) -> Option<SanSpelling>
     }
 }
 
-// The target alone, or behind a file, a rank, or both.
+// The target alone, or after a file, a rank, or both.
 fn read_places(kind: Kind, text: &[u8]) -> Option<SanSpelling>
     ensures { plains result ≡ places_read kind text.now }
 {
@@ -191,7 +191,7 @@ fn read_places(kind: Kind, text: &[u8]) -> Option<SanSpelling>
     }
 }
 
-// An officer behind its letter, or a pawn.
+// An officer after its letter, or a pawn.
 fn read_man(text: &[u8]) -> Option<SanSpelling>
     ensures { plains result ≡ man_read text.now }
 {

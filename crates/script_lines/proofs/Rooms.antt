@@ -1,4 +1,4 @@
--- Lines behind their letters.
+-- Lines after their letters.
 use Rattle.std.proofs.Common.{◌≡◌, ℕ, ◌+◌, ◌-◌, ◌*◌, min, ◌<◌, ◌≤◌, List, [], ◌∷◌, ◌++◌, length, ap, sym, ◌∙◌, arith, length-take, length-drop, append_assoc, false, ◌==◌}
 use Rattle.std.proofs.lemmas.Bool.Decides.{nat_tests}
 use Rattle.std.specs.List.{flat_map, before_first, after_first}
@@ -22,7 +22,7 @@ lines_more letter out rest line after start all h e f i =
     ∙ ap (λ l. out ++ l) (sym (lines_first letter rest h))
     ∙ i
 
--- a line and what stands behind it are no longer than all
+-- a line and what follows it are no longer than all
 pub cut_room : (rest line after : List ℕ) → 0 < length rest → line ≡ before_first is_feed rest → after ≡ after_first is_feed rest
     → (length line + 3 + 4 * length after ≤ 4 * length rest) × (length after < length rest)
 cut_room rest line after h e f =

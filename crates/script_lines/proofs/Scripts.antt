@@ -9,7 +9,7 @@ use Rattle.script_lines.specs.Scripts.{script_of, AreSpelled, ReadsSpelling, Has
 use Rattle.line_io.proofs.Dropped.{fits_whole}
 use Rattle.script_lines.proofs.Spelled.{read_spelled, read_of, spelled_read}
 
--- a line, and what stands behind its line feed
+-- a line, and what follows its line feed
 pub parts_line : (line rest : List ℕ) → has_feed line ≡ false → parts (line ++ 10 ∷ rest) ≡ line ∷ parts rest
 parts_line [] rest none = refl
 parts_line (x ∷ xs) rest none =

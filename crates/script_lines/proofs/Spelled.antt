@@ -24,13 +24,13 @@ same_code a b e = grind (arith, nat_tests)
 pub none_some : {A B : Type 0} {x : A} → None ≡ Some x → B
 none_some e = cc
 
--- a sign and nothing behind it
+-- a sign and nothing after it
 alone : (letter sign code : ℕ) (rest : List ℕ) → (sign == code && is_empty rest) ≡ true → letter ∷ sign ∷ rest ≡ letter ∷ code ∷ []
 alone letter sign code rest e =
     let p = and_parts (sign == code) (is_empty rest) e in
     ap (λ s. letter ∷ s ∷ rest) (same_code sign code p.0) ∙ ap (λ r. letter ∷ code ∷ r) (empty_is rest p.1)
 
--- a blank, and a line behind it
+-- a blank, and a line after it
 behind : (letter sign : ℕ) (rest : List ℕ) (is : Bool) → (sign == 32 && is) ≡ true → (is ≡ true) × (letter ∷ sign ∷ rest ≡ letter ∷ 32 ∷ rest)
 behind letter sign rest is e =
     let p = and_parts (sign == 32) is e in

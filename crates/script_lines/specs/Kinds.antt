@@ -18,7 +18,7 @@ pub record IsOfOneKind (line : List ℕ) : Type 0 where
 abbrev pub LinesAreOfOneKind : Type 0
 LinesAreOfOneKind = (line : List ℕ) → IsOfOneKind line
 
--- The text stands on one line, short enough for a script.
+-- The text is on one line, short enough for a script.
 pub record IsShortLine (text : List ℕ) : Type 0 where
   pub one_line : has_feed text ≡ false
   pub short : length text ≤ SCRIPT_LINE

@@ -50,7 +50,7 @@ mark_text (Happens event) = event_text event
 mark_text (ToIface line) = codes "X " ++ line
 mark_text (ToEngine line) = codes "U " ++ line
 
--- a mark that stands in scripts
+-- a mark that is in scripts
 abbrev pub IsSpelled : Mark → Type 0
 IsSpelled (Happens Open) = ⊥
 IsSpelled (Happens (Iface line)) = IsTrue (is_line line)
@@ -110,7 +110,7 @@ mark_of (letter ∷ sign ∷ rest) =
     else (if letter == engine_line_letter && (sign == blank && is_written rest) then Some (ToEngine rest) else None)))
 mark_of line = None
 
--- what stands behind a mark's text in a script
+-- what follows a mark's text in a script
 abbrev pub line_end : Mark → List ℕ
 line_end (Happens Open) = []
 line_end mark = line_feed ∷ []
@@ -122,6 +122,6 @@ mark_line mark = mark_text mark ++ line_end mark
 abbrev pub event_marked : Event → List ℕ
 event_marked event = mark_line (Happens event)
 
--- a line that was written, behind the letter of its mark
+-- a line that was written, after the letter of its mark
 abbrev pub line_marked : ℕ → List ℕ → List ℕ
 line_marked letter line = letter ∷ blank ∷ line ++ line_feed ∷ []

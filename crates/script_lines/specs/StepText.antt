@@ -6,7 +6,7 @@ use Rattle.line_io.specs.Lines.{parts, line_feed}
 use Rattle.script_lines.specs.Marks.{event_marked, line_marked, iface_line_letter, engine_line_letter}
 use Rattle.script_lines.specs.StepLine.{step_line}
 
--- the lines of a text, each behind the letter of its mark
+-- the lines of a text, each after the letter of its mark
 abbrev pub lines_marked : ℕ → List ℕ → List ℕ
 lines_marked letter text = flat_map (line_marked letter) (parts text)
 
@@ -18,6 +18,6 @@ written_marks iface engine = lines_marked iface_line_letter iface ++ lines_marke
 abbrev pub step_marks : Event → List ℕ → List ℕ → List ℕ
 step_marks event iface engine = event_marked event ++ written_marks iface engine
 
--- the same behind the line that numbers the step
+-- the same after the line that numbers the step
 abbrev pub numbered_marks : ℕ → Event → List ℕ → List ℕ → List ℕ
 numbered_marks number event iface engine = step_line number ++ line_feed ∷ step_marks event iface engine

@@ -13,7 +13,7 @@ pub fn scripts_are_read_back()
 {}
 
 /// A line is a mark, a step line or a header, and no two of them. Headers and step lines are lines:
-/// no line feed stands in them, and they are short.
+/// there is no line feed in them, and they are short.
 pub fn lines_are_of_one_kind()
     ensures kinds { LinesAreOfOneKind }
     ensures headers { HeadersAreLines }

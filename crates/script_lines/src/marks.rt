@@ -114,7 +114,7 @@ fn put_text(mark: &Mark, out: &mut Out)
     }
 }
 
-// What stands behind a mark's text in a script.
+// What follows a mark's text in a script.
 fn line_end(mark: &Mark) -> &'static [u8]
     ensures { result.now ≡ line_end (plain mark.now) }
 {

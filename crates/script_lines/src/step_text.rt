@@ -24,7 +24,7 @@ fn put_line(letter: u8, line: &[u8], out: &mut Out)
     out.put(b"\n");
 }
 
-// Puts the lines of a text, each behind the letter of its mark.
+// Puts the lines of a text, each after the letter of its mark.
 fn put_lines(letter: u8, text: &[u8], out: &mut Out)
     requires { length out.old.text + 4 * length text.now ≤ out.old.room }
     ensures written { out.new ≡ with out.old (lines_marked letter text.now) }

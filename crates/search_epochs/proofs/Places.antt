@@ -7,7 +7,7 @@ use Rattle.search_epochs.specs.History.{Exchange, Lawful, dialogue, is_closed, l
 use Rattle.search_epochs.specs.Laws.{needs_idle, IdleGetsThem, SearchGetsStop, PonderGetsHit, GoneGetsNothing, GoFollowsPosition, QuitIsLast}
 use Rattle.search_epochs.proofs.Stops.{may_all}
 
--- an order that stands behind others may be written in the state that these lead to
+-- an order that follows others may be written in the state that these lead to
 pub at_place : (epoch : ℕ) (e : Engine) (before behind : List Word) (w : Word) → MaySendAll epoch e (before ++ w ∷ behind) → MaySend (sent_all epoch e before) w
 at_place epoch e [] behind w m = m.0
 at_place epoch e (v ∷ before) behind w m = at_place epoch (sent epoch e v) before behind w m.1

@@ -30,7 +30,7 @@ stale_stops states.Idle = tt
 stale_stops states.Gone = tt
 stale_stops (states.Search k stale s) = tt
 
--- no open current search stands beside spent
+-- there is no open current search beside spent
 abbrev pub IsUnspent : ℕ → Engine → Option ℕ → Type 0
 IsUnspent epoch e last = IfCurrent (forget epoch e) (λ k. is_some_equal last epoch ≡ false)
 

@@ -75,7 +75,7 @@ LiveIsCurrent = (xs : List Exchange) → Lawful xs → IsLiveOnlyAt (dialogue xs
 abbrev pub StoppedIsForMove : Type 0
 StoppedIsForMove = (xs : List Exchange) (k : GoKind) → Lawful xs → (dialogue xs).engine ≡ Search k (dialogue xs).epoch true → k ≡ kinds.Move
 
--- no open current search stands beside spent
+-- there is no open current search beside spent
 abbrev pub CurrentIsUnspent : Type 0
 CurrentIsUnspent = (xs : List Exchange) (k : GoKind) (stopped : Bool) → Lawful xs → (dialogue xs).engine ≡ Search k (dialogue xs).epoch stopped → spent (dialogue xs) ≡ false
 
@@ -134,7 +134,7 @@ GoneGetsNothing =
     (x : Exchange) (xs : List Exchange) (before behind : List Word) (w : Word) → Lawful (x ∷ xs) → x.orders ≡ before ++ w ∷ behind
     → engine_at xs x before ≢ Gone
 
--- each `go` stands directly after a `position`, and each `position` directly before a `go`
+-- each `go` comes directly after a `position`, and each `position` directly before a `go`
 abbrev pub GoFollowsPosition : Type 0
 GoFollowsPosition = (x : Exchange) (xs : List Exchange) → Lawful (x ∷ xs) → Paired x.orders
 

@@ -84,6 +84,9 @@ takes_back g h (TakesBack k e) le some =
     let t = length-take-le (length g.moves - k) g.moves (omega arith) in
     by_count g (length g.moves - length h.moves) k (omega (arith, n, t)) ∙ sym e
 
+pub unchanged : (g h : Game) → Follows g h → length h.moves ≤ length g.moves → length g.moves ≤ length h.moves → 0 < length h.moves → g ≡ h
+unchanged g h f le ge some = sym (taken_none g) ∙ back g 0 (length g.moves - length h.moves) (omega arith) ∙ takes_back g h f le some
+
 -- NO MOVES
 
 begun_by : (p : Position) (moves : List Ply) → length moves ≡ 0 → begun p ≡ (let x : Game = record { start = p; moves = moves } in x)

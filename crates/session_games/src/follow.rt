@@ -28,6 +28,7 @@ fn take_back(game: &mut Game, now: &Game)
 }
 
 /// Makes a game that was equal to another before a step equal to it after the step.
+#[tactic(auto, using(crate::proofs::Followed::unchanged))]
 pub fn follow(game: &mut Game, now: &Game)
     requires { Follows game.old now.now }
     ensures { game.new ≡ now.now }
@@ -36,7 +37,7 @@ pub fn follow(game: &mut Game, now: &Game)
         game.reset(*now.start());
     } else if game.plies() < now.plies() {
         play_last(game, now);
-    } else {
+    } else if game.plies() > now.plies() {
         take_back(game, now);
     }
 }

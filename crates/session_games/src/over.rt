@@ -31,5 +31,6 @@ fn asks_anew(event: &Event) -> bool
 pub fn is_over(before: &Game, event: &Event, after: &Game) -> bool
     ensures { result ≡ is_over before.now (event_of event.now) after.now }
 {
-    asks_anew(event) && (before.plies() > 0 && !(after.plies() > 0))
+    // The line is read again only if the game has no moves left.
+    before.plies() > 0 && !(after.plies() > 0) && asks_anew(event)
 }

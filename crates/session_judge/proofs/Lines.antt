@@ -51,7 +51,7 @@ no_bytes : (xs : List ℕ) → xs ++ [] ≡ xs
 no_bytes [] = refl
 no_bytes (x ∷ xs) = ap (λ ys. x ∷ ys) (no_bytes xs)
 
--- white space stands between two tokens
+-- white space is between two tokens
 tokens_added : (xs more : List ℕ) → begins_white more ≡ true → tokens (xs ++ more) ≡ tokens xs ++ tokens more
 tokens_added xs [] h = ap tokens (no_bytes xs) ∙ sym (none_more (tokens xs))
 tokens_added xs (w ∷ more) h =
@@ -83,7 +83,7 @@ said_leads line said e n = record {
   has_moves = λ none. n (moves_from (start_in (before_moves (drop 1 (tokens line)))) (behind_moves (drop 1 (tokens line))) said e ∙ none);
 }
 
--- behind a `moves` that has moves others are only added
+-- after a `moves` that has moves others are only added
 before_added : (ts us : List (List ℕ)) → behind_moves ts ≢ [] → before_moves (ts ++ us) ≡ before_moves ts
 before_added [] us n = absurd (n refl)
 before_added (t ∷ ts) us n = by (is_moves t) (before_added ts us) n where

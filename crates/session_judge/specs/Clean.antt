@@ -19,7 +19,7 @@ abbrev pub talk : Listener → List Entry → JudgedTalk
 talk listener [] = opening listener
 talk listener (entry ∷ log) = after (talk listener log) entry.line (deed_of entry.mark)
 
--- the first rule that a mark breaks behind a log
+-- the first rule that a mark breaks after a log
 abbrev pub broken_rule : Listener → List Entry → Mark → Option Rule
 broken_rule listener log mark = broken (talk listener log) (deed_of mark)
 

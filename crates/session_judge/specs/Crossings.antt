@@ -1,5 +1,5 @@
 -- Crossings. A tap logs a line of the engine before the bridge has read it. So an order that the bridge wrote before it read
--- the line can stand behind it.
+-- the line can come after it.
 use Rattle.std.specs.Prelude.{Bool, true, false, ℕ, ◌+◌, ◌&&◌, ◌||◌, nat_lt, if◌then◌else◌}
 use Rattle.session_judge.specs.declared.deed.OrderKind.{OrderKind}
 use Rattle.session_judge.specs.declared.deed.OrderKind.TheVariants as orders

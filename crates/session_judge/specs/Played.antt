@@ -21,10 +21,3 @@ pub record GoesOn (line : List ℕ) (at : Position) (more : List ℕ) : Type 0 w
   pub known : List ℕ
   pub leads : LeadsTo known at
   pub adds : Adds known line more
-
--- what callers see of the line that is kept
-abbrev pub NothingToSee : Type 0
-NothingToSee = Unit {0}
-
-abbrev pub nothing_to_see : NothingToSee
-nothing_to_see = tt

@@ -33,12 +33,12 @@ abbrev pub breaks_gone : Bool → Listener → Bool
 breaks_gone true listeners.Bridge = true
 breaks_gone gone listener = false
 
--- Quit: an order stands behind `quit`.
+-- Quit: an order comes after `quit`.
 abbrev pub breaks_quit : OrderStage → Bool
 breaks_quit stages.Over = true
 breaks_quit stage = false
 
--- Order: a `go` stands not directly behind a `position`, or another order directly behind one.
+-- Order: a `go` does not come directly after a `position`, or another order comes directly after one.
 abbrev pub breaks_order : OrderStage → OrderKind → Bool
 breaks_order stages.Placed (orders.Go kind) = false
 breaks_order stages.Placed order = true

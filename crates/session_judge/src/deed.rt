@@ -37,7 +37,7 @@ pub enum Deed {
     Boots,
     /// `readyok` came.
     GetsReady,
-    /// `bestmove` came, with a move if a move text stands in it.
+    /// `bestmove` came, with a move if a move text is in it.
     Answers(Option<Move>),
     /// The engine ended, or was lost.
     Ends,
@@ -80,7 +80,7 @@ fn order_in(line: &[u8], played: &mut PlayedLine) -> Deed
     }
 }
 
-/// What stands behind a word at the front.
+/// What follows a word at the front.
 fn after<'a>(word: &[u8], line: &'a [u8]) -> Option<&'a [u8]>
     ensures { optional_now result ≡ after word.now line.now }
 {

@@ -54,7 +54,7 @@ impl Judge {
     /// Hears a mark, in the line with this number.
     ///
     /// # Errors
-    /// The first rule that the mark breaks behind the marks before it; then nothing changes.
+    /// The first rule that the mark breaks after the marks before it; then nothing changes.
     pub fn hear(&mut self, line: u64, mark: &Mark) -> Result<(), Rule>
         ensures step { result ≡ verdict (broken self.old (deed_of (plain mark.now))) }
         ensures after { OnOk result (self.new ≡ after self.old line (deed_of (plain mark.now))) }

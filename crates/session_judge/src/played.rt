@@ -20,12 +20,12 @@ pub(crate) struct PlayedLine {
 }
 
 impl Model for PlayedLine {
-    ghost use Rattle.std.specs.Prelude.{IfSome};
-    ghost use Rattle.session_judge.specs.Played.{LeadsTo, NothingToSee, nothing_to_see};
+    ghost use Rattle.std.specs.Prelude.{⊤, IfSome};
+    ghost use Rattle.session_judge.specs.Played.{LeadsTo};
 
-    ghost Value = { NothingToSee };
+    ghost Value = { ⊤ };
 
-    ghost view = { λ p. nothing_to_see };
+    ghost view = { λ p. tt };
 
     ghost invariant = { λ p. IfSome p.end (λ at. LeadsTo p.line.items at) };
 }

@@ -8,9 +8,9 @@ pub enum Rule {
     First,
     /// An order is written to an engine that has ended or was lost.
     Gone,
-    /// An order stands behind `quit`.
+    /// An order comes after `quit`.
     Quit,
-    /// A `go` stands not directly behind a `position`, or another order directly behind one.
+    /// A `go` does not come directly after a `position`, or another order comes directly after one.
     Order,
     /// `setoption`, `ucinewgame`, `isready`, `position` or `go` is written to an engine that is not idle.
     Busy,

@@ -351,7 +351,7 @@ fn breaks_first(stage: OrderStage, order: &OrderKind) -> bool
     }
 }
 
-// Directly behind a `position` stands `go`, and it stands nowhere else.
+// `go` comes directly after a `position`, and nowhere else.
 fn breaks_order(stage: OrderStage, order: &OrderKind) -> bool
     ensures { result ≡ breaks_order stage order.now }
 {

@@ -1,5 +1,5 @@
 -- The text of a legal move has one of the forms in which moves are written.
-use Rattle.std.proofs.Common.{◌≡◌, ◌≢◌, ◌⊎◌, inl, inr, ℕ, ◌+◌, ◌<◌, List, [], ◌∷◌, ◌++◌, length, get_or, Bool, true, false, not, ◌&&◌, ◌||◌, cond, eqb, Option, Some, None, refl, sym, ap, ◌∙◌, subst, arith}
+use Rattle.std.proofs.Common.{◌≡◌, ◌≢◌, ◌⊎◌, inl, inr, ℕ, ◌+◌, ◌<◌, List, [], ◌∷◌, ◌++◌, length, get_or, Bool, true, false, not, ◌||◌, cond, eqb, Option, Some, None, refl, sym, ap, ◌∙◌, subst, arith}
 use Rattle.std.proofs.lemmas.Bool.Decides.{nat_tests}
 use Rattle.std.proofs.lemmas.List.Folds.{list_any_at}
 use Rattle.chess_board.specs.declared.board.Kind.{Kind}
@@ -16,7 +16,7 @@ use Rattle.chess_board.specs.Position.{Position}
 use Rattle.chess_board.specs.Rules.{last_rank}
 use Rattle.cecp_lines.specs.San.{is_between, is_mark, has_form, forms, is_san}
 use Rattle.san_text.specs.declared.men.RivalSquares.TheVariants.{Board, File, Rank}
-use Rattle.san_text.specs.Writing.{kind_at, castles_short, castles_long, is_capture, has_rival, letter, origin, promotion_letters, target, taking, body, after, sign, san}
+use Rattle.san_text.specs.Writing.{kind_at, castles_short, castles_long, is_capture, has_rival, letter, origin, promotion_letters, target, taking, after, sign, san}
 use Rattle.san_text.proofs.Alone.{kind_of_move}
 use Rattle.think_text.proofs.Rivals.{pawn_ahead, inner_by, king_alone}
 

@@ -3,7 +3,6 @@ use Rattle.std.proofs.Common.{◌≡◌, ℕ, ◌+◌, ◌/◌, ◌≤◌, List,
 use Rattle.std.proofs.lemmas.List.{append-nil, append_assoc, length-append}
 use Rattle.std.specs.List.{join_with_byte}
 use Rattle.std.specs.Option.{unwrap_or}
-use Rattle.std.specs.Prelude.{ℤ}
 use Rattle.chess_board.specs.declared.board.Move.{Move}
 use Rattle.chess_board.specs.Position.{Position}
 use Rattle.line_io.specs.Out.{Text, with}
@@ -33,7 +32,7 @@ pub told_front : (s : Spelling) (facts : Info) (depth : ℕ) (score : Score) (hi
 told_front s facts depth score hint first front said pv e f g =
     e ∙ ap (λ (h : Option (List ℕ)). Thinking depth (value_of score) (unwrap_or facts.time 0 / 10) (unwrap_or facts.nodes 0) s h pv) f ∙ ap (line_of s facts depth score hint) g
 
--- the line, with the text behind its first move
+-- the line, with the text after its first move
 line_parts : (s : Spelling) (facts : Info) (depth : ℕ) (score : Score) (hint : Option Pondered) (p : Position) (m : Move) (moves : List Move) →
     reply_text (line_of s facts depth score hint (moves_text s p (m ∷ moves))) ≡ reply_text (line_of s facts depth score hint (written s p m)) ++ spaced s (played p m) moves
 line_parts s facts depth score hint p m moves =

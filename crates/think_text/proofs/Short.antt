@@ -67,7 +67,7 @@ kept_size (p ∷ ps) = kept_step (ltb 0 (length p)) p (filter (λ part. ltb 0 (l
 tokens_size : (t : List ℕ) → size (tokens t) ≤ length t + 1
 tokens_size t = omega (arith, kept_size (slice_split is_white t), parts_size t)
 
--- moves by their squares, each behind a blank
+-- moves by their squares, each after a blank
 pub squares : List Move → List ℕ
 squares [] = []
 squares (m ∷ moves) = (32 ∷ text_of m) ++ squares moves
@@ -208,7 +208,7 @@ fits d score f n s hint pv h k w =
     let nodes = or_zero f.nodes w.nodes in
     ((omega arith), value_fits score k, (omega arith), (omega arith))
 
--- the moves behind a blank
+-- the moves after a blank
 behind_blank : (s : Spelling) (p : Position) (m : Move) (moves : List Move) → length (spaced s p (m ∷ moves)) ≡ 1 + length (moves_text s p (m ∷ moves))
 behind_blank s p m moves =
     let text = ap length (first_and_others s p m moves) in

@@ -48,7 +48,7 @@ abbrev pub run_texts : Spelling → Position → List Move → List (List ℕ)
 run_texts s p [] = []
 run_texts s p (m ∷ moves) = written s p m ∷ run_texts s (played p m) moves
 
--- each of them behind a blank
+-- each of them after a blank
 abbrev pub spaced : Spelling → Position → List Move → List ℕ
 spaced s p [] = []
 spaced s p (m ∷ moves) = (blank ∷ written s p m) ++ spaced s (played p m) moves

@@ -13,7 +13,7 @@ use Rattle.think_text.specs.declared.seen.SeenThinking.{SeenThinking}
 use Rattle.think_text.specs.Line.{IsHeard, IsPlayable, thinking_line}
 use Rattle.think_text.specs.Kept.{nothing_seen, after_info, stat01_of}
 
--- How long a thinking line is at most, by the line of the engine behind it: a move by its squares has at most as many bytes
+-- How long a thinking line is at most, by the engine's line that it tells: a move by its squares has at most as many bytes
 -- as the engine wrote, and one in standard algebraic notation at most three more, where the engine wrote four or more.
 abbrev pub most_bytes : Spelling → ℕ → ℕ
 most_bytes Coordinates n = 128 + n

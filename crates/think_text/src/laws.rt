@@ -7,7 +7,7 @@ pub fn current_stays_writable()
     ensures { StaysWritable }
 {}
 
-/// A thinking line has at most 128 bytes more than the line of the engine behind it, or than 8/5 of it if its moves are
+/// A thinking line has at most 128 bytes more than the engine's line that it tells, or than 8/5 of it if its moves are
 /// in standard algebraic notation, and its text is read as this line. The answer to `.` has at most 128 bytes.
 pub fn thinking_lines_are_short()
     ensures short { LinesAreShort }

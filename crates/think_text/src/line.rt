@@ -12,7 +12,7 @@ ghost use Rattle.think_text.specs.Line.{IsHeard, IsPlayable, HasRoom, legal_run,
 ghost use Rattle.peer_words.specs.Bytes.{blank};
 
 use crate::texts::{bytes_of, hint_text, written};
-use crate::value::{play, value_of};
+use crate::value::value_of;
 use cecp_lines::{Reply, Spelling, write_reply};
 use chess_board::{Move, Position};
 use line_io::Out;
@@ -25,19 +25,31 @@ pub struct Pondered {
     pub hint: Move,
 }
 
-/// The first move of a text of moves, if it is legal, and the text after it.
-fn next_legal<'a>(moves: &'a [u8], at: &Position) -> Option<(Move, &'a [u8])>
-    ensures { MatchOption result
-        (legal_run at.now (run (tokens moves.now)) ≡ [])
-        (λ p. (legal at.now p.0 ≡ true)
-        × (legal_run at.now (run (tokens moves.now))
-        ≡ p.0 ∷ legal_run (played at.now p.0) (run (tokens p.1.now)))) }
-{
-    let (m, others) = next_move(moves)?;
-    if at.legal(m) { Some((m, others)) } else { None }
+/// A legal move of a text of moves.
+#[derive(Drop)]
+struct NextMove<'a> {
+    m: Move,
+    /// The position after it.
+    after: Position,
+    /// The text after it.
+    others: &'a [u8],
 }
 
-/// Writes a move of a position behind a blank.
+/// The first move of a text of moves, if it is legal.
+fn next_legal<'a>(moves: &'a [u8], at: &Position) -> Option<NextMove<'a>>
+    ensures { MatchOption result
+        (legal_run at.now (run (tokens moves.now)) ≡ [])
+        (λ next. (legal at.now next.m ≡ true)
+        × (next.after ≡ played at.now next.m)
+        × (legal_run at.now (run (tokens moves.now))
+        ≡ next.m ∷ legal_run (played at.now next.m) (run (tokens next.others.now)))) }
+{
+    let (m, others) = next_move(moves)?;
+    let after = at.try_play(m)?;
+    Some(NextMove { m, after, others })
+}
+
+/// Writes a move of a position after a blank.
 fn write_spaced(spelling: Spelling, at: &Position, m: Move, out: &mut Out)
     requires legal { legal at.now m ≡ true }
     requires room { length out.old.text + length (blank ∷ written spelling at.now m)
@@ -48,7 +60,7 @@ fn write_spaced(spelling: Spelling, at: &Position, m: Move, out: &mut Out)
     out.put(written(spelling, at, m).as_slice());
 }
 
-/// Writes each move behind a blank, as long as each is legal in its turn.
+/// Writes each move after a blank, as long as each is legal in its turn.
 fn write_moves(spelling: Spelling, moves: &[u8], at: &Position, out: &mut Out)
     requires { length out.old.text
         + length (spaced spelling at.now (legal_run at.now (run (tokens moves.now))))
@@ -58,10 +70,10 @@ fn write_moves(spelling: Spelling, moves: &[u8], at: &Position, out: &mut Out)
 {
     let mut position = *at;
     let mut others = moves;
-    while let Some((m, after)) = next_legal(others, &position) {
-        write_spaced(spelling, &position, m, out);
-        position = play(&position, m);
-        others = after;
+    while let Some(next) = next_legal(others, &position) {
+        write_spaced(spelling, &position, next.m, out);
+        position = next.after;
+        others = next.others;
     }
 }
 
@@ -93,7 +105,7 @@ fn front_of<'a>(
 /// Writes the thinking line of a search: depth in plies, score in hundredths of a pawn, time in hundredths of a
 /// second, nodes, and the moves of the engine's line as long as each is legal in its turn (Chess Engine
 /// Communication Protocol, version 2, section "Thinking Output"). A hint is the move that the engine ponders on; it
-/// stands in parentheses before the moves. Each move is written in the position in which it is played. There is no
+/// is in parentheses before the moves. Each move is written in the position in which it is played. There is no
 /// line, and false is returned, if depth, score or a first legal move is missing.
 pub fn thinking(
     spelling: Spelling,
@@ -113,11 +125,11 @@ pub fn thinking(
     let (Some(depth), Some(score)) = (info.depth, info.score) else {
         return false;
     };
-    let Some((first, others)) = next_legal(info.pv, at) else {
+    let Some(first) = next_legal(info.pv, at) else {
         return false;
     };
     let hint = hint_text(spelling, hint);
-    let text = written(spelling, at, first);
+    let text = written(spelling, at, first.m);
     let front = front_of(
         info,
         depth,
@@ -127,6 +139,6 @@ pub fn thinking(
         text.as_slice(),
     );
     write_reply(&front, out);
-    write_moves(spelling, others, &play(at, first), out);
+    write_moves(spelling, first.others, &first.after, out);
     true
 }

@@ -1,10 +1,8 @@
-// The value of a score, and moves in a position.
-ghost use Rattle.std.specs.Prelude.{◌≡◌, true};
-ghost use Rattle.chess_board.specs.Place.{legal};
+// The value of a score.
+ghost use Rattle.std.specs.Prelude.{◌≡◌};
 ghost use Rattle.uci_lines.specs.Scores.{IsCentis};
-ghost use Rattle.think_text.specs.Line.{value_of, played};
+ghost use Rattle.think_text.specs.Line.{value_of};
 
-use chess_board::{Move, Position};
 use uci_lines::Score;
 
 /// How much a mate counts, in hundredths of a pawn.
@@ -25,11 +23,4 @@ pub(crate) fn value_of(score: Score) -> i64
             }
         }
     }
-}
-
-pub(crate) fn play(at: &Position, m: Move) -> Position
-    requires { legal at.now m ≡ true }
-    ensures { result ≡ played at.now m }
-{
-    at.play(m)
 }

@@ -73,7 +73,7 @@ hint_white : (hint : Option Move) → BeginsWhite (move_text (codes " ponder ") 
 hint_white None = tt
 hint_white (Some m) = refl
 
--- the hint behind the best move
+-- the hint after the best move
 record HasHint (text : List ℕ) (hint : Option Move) : Type 0 where
   others : List ℕ
   behind : Behind (codes "ponder") (rest text) others

@@ -19,7 +19,7 @@ use Rattle.uci_engine_side.proofs.SpinsAgain.{clamped, one_of, signed_small, num
 
 -- TEXTS OF KINDS
 
--- the word of a kind, and what stands behind it
+-- the word of a kind, and what follows it
 word_of : OptionKind → List ℕ
 word_of (Check on) = codes "check"
 word_of (Spin default min max) = codes "spin"
@@ -190,7 +190,7 @@ stands word text (Text default) h =
 
 -- NAMES
 
--- the name up to `type`, with the blank behind it
+-- the name up to `type`, with the blank after it
 before_type : List ℕ → List ℕ
 before_type [] = []
 before_type (b ∷ bs) = (b ∷ bs) ++ (32 ∷ [])

@@ -104,7 +104,7 @@ weaker (t ∷ ts) h =
     let both = and_parts (not (is_choice t)) (list_all (λ u. not (is_choice u)) ts) h in
     rw (or_left (is_word (codes "default") t) (is_word (codes "var") t) both.0, weaker ts both.1) refl
 
--- no `default` before a `var`, the `var`, and none behind it
+-- no `default` before a `var`, the `var`, and none after it
 none_over : (before word : List ℕ) (ts : List (List ℕ)) → IsNoneOf is_choice (tokens before) → word ≡ codes "var" → IsNoneOf (is_word (codes "default")) ts → IsNoneOf (is_word (codes "default")) (tokens before ++ (word ∷ ts))
 none_over before word ts n w k =
     let here : not (is_word (codes "default") word) ≡ true = ap (λ t. not (is_word (codes "default") t)) w in
@@ -113,7 +113,7 @@ none_over before word ts n w k =
 var_tokens : (text : List ℕ) (part : Found) → IsFirst is_choice text part → tokens text ≡ tokens part.before ++ (part.word ∷ tokens part.after)
 var_tokens text part f = cut_tokens is_choice text part refl (first_cut is_choice text part refl f)
 
--- the same first choice, with fewer bytes behind it
+-- the same first choice, with fewer bytes after it
 shorter_first : (text others : List ℕ) (part : Found) → IsFirst is_choice text part → begins_white others ≡ true → IsFirst is_choice (part.before ++ (part.word ++ others)) (record { before = part.before; word = part.word; after = others })
 shorter_first text others part f w = record { whole = refl; token = f.token; passes = f.passes; stands_apart = f.stands_apart; ends_there = w; none_before = f.none_before }
 
@@ -192,7 +192,7 @@ up_whole text value n b u = subst (λ (v : List ℕ). length (spaced v) ≤ leng
 each_length : (value : List ℕ) (vs : List (List ℕ)) → length (each_value (value ∷ vs)) ≡ 4 + length (spaced value) + length (each_value vs)
 each_length value vs = simp length-append (omega arith)
 
--- A text with its values: alone, behind a value that ends at the first of them, with the default too, and
+-- A text with its values: alone, after a value that ends at the first of them, with the default too, and
 -- with the default alone.
 pub record Sums (text : List ℕ) (vs : List (List ℕ)) : Type 0 where
   pub alone : length (each_value vs) ≤ length text + 1

@@ -10,7 +10,7 @@ use Rattle.uci_lines.specs.Info.{Info as AnyInfo}
 use Rattle.uci_lines.specs.Messages.{OptionKind, Check, Spin, Combo, Button, Text, EngineMsg, Name, UciOk, ReadyOk, Best, OptionLine, Info, Nothing}
 use Rattle.peer_words.specs.Bytes.{blank}
 
--- a text behind a blank, if there is one
+-- a text after a blank, if there is one
 abbrev pub spaced : List ℕ → List ℕ
 spaced [] = []
 spaced (b ∷ bs) = blank ∷ b ∷ bs
@@ -24,12 +24,12 @@ abbrev pub bound_text : Bool → List ℕ
 bound_text false = []
 bound_text true = codes " lowerbound"
 
--- the move behind a word, if there is one
+-- the move after a word, if there is one
 abbrev pub move_text : List ℕ → Option Move → List ℕ
 move_text word None = []
 move_text word (Some m) = word ++ text_of m
 
--- each move behind a blank
+-- each move after a blank
 abbrev pub each_move : List Move → List ℕ
 each_move [] = []
 each_move (m ∷ moves) = codes " " ++ text_of m ++ each_move moves
@@ -46,7 +46,7 @@ counts_text f =
 unfoldable pub facts_text : AnyInfo → List ℕ
 facts_text f = codes "info" ++ counts_text f ++ score_text f.score ++ bound_text f.bound ++ move_text (codes " currmove ") f.current ++ pv_text f.pv
 
--- each value behind `var`
+-- each value after `var`
 abbrev pub each_value : List (List ℕ) → List ℕ
 each_value [] = []
 each_value (value ∷ values) = codes " var" ++ spaced value ++ each_value values

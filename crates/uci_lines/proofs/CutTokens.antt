@@ -15,7 +15,7 @@ tokens_byte b bs e =
     left : (c : ℕ) (cs : List ℕ) → is_white c ≡ false → trim_left (c ∷ cs) ≡ c ∷ cs
     left c cs h = rw h refl
 
--- at a fresh front, and behind a byte of a token
+-- at a fresh front, and after a byte of a token
 record Both (p : List ℕ → Bool) (text : List ℕ) : Type 0 where
   pub fresh : (part : Found) → cut p true text ≡ Some part → tokens text ≡ tokens part.before ++ (part.word ∷ tokens part.after)
   pub inside : (part : Found) → cut p false text ≡ Some part → tokens (behind text) ≡ tokens (behind part.before) ++ (part.word ∷ tokens part.after)

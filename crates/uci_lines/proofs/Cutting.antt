@@ -10,7 +10,7 @@ use Rattle.peer_words.proofs.Runs.{black as bytes_of}
 use Rattle.uci_lines.proofs.Fronts.{BeginsWhite, joined, front_black, begins, front-white, front-byte, front_is, behind_is}
 use Rattle.uci_lines.specs.Cuts.{Found, onto_part, cut}
 
--- a part of what stands behind some bytes, as a part of all
+-- a part of what follows some bytes, as a part of all
 abbrev pub further : List ℕ → Found → Found
 further bytes part = record { before = bytes ++ part.before; word = part.word; after = part.after }
 

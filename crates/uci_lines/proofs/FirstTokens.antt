@@ -13,7 +13,7 @@ use Rattle.uci_lines.proofs.Fronts.{BeginsWhite, front, behind, front-white, beh
 use Rattle.uci_lines.proofs.Cutting.{part_at, step, here, cut_is, front_kept}
 use Rattle.uci_lines.proofs.CutTokens.{tokens_byte}
 
--- the tokens of a text that is not fresh at its front begin behind its first one
+-- the tokens of a text that is not fresh at its front begin after its first one
 abbrev since : Bool → List ℕ → List (List ℕ)
 since true text = tokens text
 since false text = tokens (behind text)
@@ -92,7 +92,7 @@ none_cut p text z h = none_from p true text z h
 
 -- FROM THE CUT TO THE RELATION
 
--- the tokens before a step, by those behind it
+-- the tokens before a step, by those after it
 none_onto : (p : List ℕ → Bool) (w fresh : Bool) (b : ℕ) (bs : List ℕ) → is_white b ≡ w → (fresh && p (front (b ∷ bs))) ≡ false → IsNoneOf p (since w bs) → IsNoneOf p (since fresh (b ∷ bs))
 none_onto p true true b bs e h n = ap (list_all (λ t. not (p t))) (tokens_white b bs e) ∙ n
 none_onto p true false b bs e h n = ap (λ t. list_all (λ s. not (p s)) t) (ap tokens (behind-white b bs e) ∙ tokens_white b bs e) ∙ n
@@ -120,7 +120,7 @@ none_since p fresh (b ∷ bs) h = cut_none_step (fresh && p (front (b ∷ bs))) 
 pub cut_none : (p : List ℕ → Bool) (text : List ℕ) → cut p true text ≡ None → IsNoneOf p (tokens text)
 cut_none p text h = none_since p true text h
 
--- what stands before a cut
+-- what is before a cut
 record Before (p : List ℕ → Bool) (fresh : Bool) (before : List ℕ) : Type 0 where
   pub ends : ends_white fresh before ≡ true
   pub none : IsNoneOf p (since fresh before)
@@ -129,7 +129,7 @@ nothing_before : (p : List ℕ → Bool) (fresh : Bool) (q : Bool) → (fresh &&
 nothing_before p true q h = record { ends = refl; none = refl }
 nothing_before p false q h = absurd (cc)
 
--- the front of what stands before a cut is that of the text
+-- the front of what is before a cut is that of the text
 same_front : (w : Bool) (p : List ℕ → Bool) (b : ℕ) (bs : List ℕ) (q : Found) → is_white b ≡ w → cut p w bs ≡ Some q → front (b ∷ q.before) ≡ front (b ∷ bs)
 same_front true p b bs q e h = front-white b q.before e ∙ sym (front-white b bs e)
 same_front false p b bs q e h = front-byte b q.before e ∙ ap (λ t. b ∷ t) (front_kept p bs q h) ∙ sym (front-byte b bs e)

@@ -1,4 +1,4 @@
--- The token at the front of a text, and what stands behind it.
+-- The token at the front of a text, and what follows it.
 use Rattle.std.proofs.Common.{◌≡◌, ℕ, ◌+◌, List, [], ◌∷◌, ◌++◌, Bool, true, false, not, drop, refl, sym, ap, ◌∙◌, one-add}
 use Rattle.std.specs.List.{before_first, list_all}
 use Rattle.std.proofs.lemmas.Bool.{and_parts, not-true}

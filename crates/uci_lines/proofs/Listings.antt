@@ -1,4 +1,4 @@
--- Parts of a line as relations, and as functions: what stands behind a word, moves, the values of a combo.
+-- Parts of a line as relations, and as functions: what follows a word, moves, the values of a combo.
 use Rattle.std.proofs.Common.{◌≡◌, ℕ, zero, suc, ◌<◌, arith, length-append, inl, inr, List, [], ◌∷◌, ◌++◌, Bool, true, false, ◌||◌, Option, Some, None, codes, cond, length, drop, refl, sym, ap, ◌∙◌, subst}
 use Rattle.std.proofs.Math.Seq.{drop-append_seam}
 use Rattle.chess_board.specs.declared.board.Move.{Move}
@@ -13,7 +13,7 @@ use Rattle.uci_lines.proofs.FirstTokens.{first_cut, none_cut, cut_first, cut_non
 use Rattle.uci_lines.proofs.Pieces.{values_none, values_some}
 use Rattle.chess_board.proofs.Spelled.{move_spells, spells_move, read_is}
 
--- what stands behind a cut
+-- what follows a cut
 abbrev pub after_cut : Option Found → List ℕ
 after_cut None = []
 after_cut (Some part) = part.after
@@ -102,7 +102,7 @@ values_by_word false text part vs f e h = HasValues.Default part f (same_text pa
     either false true j k = absurd (cc)
     either false false j k = absurd (cc)
 
--- the text behind a cut is shorter
+-- the text after a cut is shorter
 shorter : (text : List ℕ) (part : Found) → IsFirst is_choice text part → length part.after < length text
 shorter text part f =
     let token : 0 < length part.word = some_bytes part.word f.token in

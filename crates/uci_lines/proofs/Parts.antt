@@ -105,7 +105,7 @@ place_if : (b : Bool) (i n : ℕ) → Some i ≡ cond b (Some n) None → (b ≡
 place_if true i n h = (refl, cc)
 place_if false i n h = absurd (cc)
 
--- where the first blank stands
+-- where the first blank is
 pub place_of : (text : List ℕ) (i : ℕ) → Some i ≡ position is_blank_byte text → (i ≡ position_or_len is_blank_byte text) × (i < length text)
 place_of text i h =
     let both = place_if (ltb (position_or_len is_blank_byte text) (length text)) i (position_or_len is_blank_byte text) h in

@@ -45,7 +45,7 @@ inside_step false b bs e h =
     ap (λ f. onto_first b (pieces f bs)) e ∙ ap (onto_first b) h ∙ join_onto b (front bs) (pieces true (behind bs))
     ∙ joined_again (b ∷ front bs) (front (b ∷ bs)) (behind bs) (behind (b ∷ bs)) (sym (front-byte b bs e)) (sym (behind-byte b bs e))
 
--- behind a byte of a token
+-- after a byte of a token
 pub inside : (bs : List ℕ) → pieces false bs ≡ join_first (front bs) (pieces true (behind bs))
 unfolding join_first
 inside [] = refl
@@ -110,7 +110,7 @@ pub values_none : (text : List ℕ) → cut is_choice true text ≡ None → val
 unfolding values
 values_none text h = ap values_among (pieces_none true text h) ∙ no_value text [] (first_none is_choice text refl h)
 
--- the values of a piece and of those behind it
+-- the values of a piece and of those after it
 abbrev with_value : Bool → List ℕ → List (List ℕ) → List (List ℕ)
 with_value b value others = cond b (value ∷ others) others
 

@@ -66,7 +66,7 @@ pub moves_takes : (text moves : List ℕ) → moves_in text ≡ Some moves → M
 moves_takes [] moves h = let same : [] ≡ moves = cc in subst (λ (m : List ℕ). Moves [] m) same (record { fits = refl; whole = refl })
 moves_takes (b ∷ bs) moves h = by_takes (b ∷ bs) (after (codes " moves ") (b ∷ bs)) moves refl h
 
--- behind `position `, as the text of an order
+-- after `position `, as the text of an order
 abbrev pub PositionIs : List ℕ → Order → Type 0
 PositionIs text c = (fen : Option (List ℕ)) × (moves : List ℕ) × (c ≡ Position fen moves) × (is_start fen ≡ true) × (is_played moves ≡ true) × (text ≡ start_text fen ++ moves_text moves)
 

@@ -1,4 +1,4 @@
--- The last number behind a word.
+-- The last number after a word.
 use Rattle.std.proofs.Common.{◌≡◌, ℕ, ℤ, List, [], ◌∷◌, ◌++◌, Bool, true, false, Option, Some, None, codes, cond, refl, sym, ap, ◌∙◌, subst}
 use Rattle.std.specs.Option.{option_or}
 use Rattle.peer_words.specs.Numbers.{signed}
@@ -7,7 +7,7 @@ use Rattle.uci_lines.specs.Options.{SpinRange, first_signed, limited, range_from
 use Rattle.uci_lines.specs.Spells.{IsLast}
 use Rattle.uci_lines.proofs.Counts.{same_text, text_same}
 
--- what a token says of one number, with the tokens behind it
+-- what a token says of one number, with the tokens after it
 abbrev newer : List ℕ → Option ℤ → List ℕ → List (List ℕ) → Option ℤ
 newer word old t ts = cond (is_word word t) (option_or (first_signed ts) old) old
 
@@ -48,7 +48,7 @@ pub max_is : (r : SpinRange) (ts : List (List ℕ)) → (range_from r ts).max �
 max_is r [] = refl
 max_is r (t ∷ ts) = max_is (limited r t ts) ts ∙ ap (λ o. last_from (codes "max") o ts) (three r t ts).max
 
--- no number behind the word
+-- no number after the word
 abbrev pub HasNone : List ℕ → List (List ℕ) → Type 0
 HasNone word ts = (bs : List (List ℕ)) (t : List ℕ) (cs : List (List ℕ)) → ts ≡ bs ++ (word ∷ t ∷ cs) → signed t ≡ None
 
@@ -96,7 +96,7 @@ pub none_empty : (word : List ℕ) → HasNone word []
 none_empty word [] t cs e = absurd (cc)
 none_empty word (b ∷ bs) t cs e = absurd (cc)
 
--- no number behind a further token in front
+-- no number after a further token in front
 pub none_more : (word t : List ℕ) (ts : List (List ℕ)) (b : Bool) → is_word word t ≡ b → (b ≡ true → first_signed ts ≡ None) → HasNone word ts → HasNone word (t ∷ ts)
 none_more word t ts true e f h [] u cs k =
     let behind : ts ≡ u ∷ cs = cc in

@@ -17,7 +17,7 @@ use Rattle.uci_lines.proofs.Listings.{after_cut, behind_cut, cut_behind, perhaps
 use Rattle.uci_lines.proofs.Ranges.{default_is, min_is, max_is, last_is, is_last}
 use Rattle.uci_lines.proofs.Tellings.{tells_is, tells}
 
--- what is read behind a word, by what stands behind it
+-- what is read after a word, by what follows it
 hint_by : (o : Option Found) → hint_in o ≡ move_of (first_token (after_cut o))
 unfolding move_of
 hint_by None = refl
@@ -108,7 +108,7 @@ form_is line Nothing h = absurd h
 
 -- FROM WHAT IS READ TO THE RELATION
 
--- a shape that is read stands there
+-- a shape that is read is there
 Fits : List ℕ → List ℕ → Option OptionKind → Type 0
 Fits word text None = Unit {0}
 Fits word text (Some shape) = HasShape word text shape

@@ -80,7 +80,7 @@ nil_is : (text : List ℕ) → is_nil text ≡ true → text ≡ []
 nil_is [] h = refl
 nil_is (b ∷ bs) h = absurd (cc)
 
--- behind the word `go`, as the text of an order
+-- after the word `go`, as the text of an order
 abbrev pub SearchIs : List ℕ → Order → Type 0
 SearchIs text c = (ponder : Bool) × (control : GoControl) × (depth : Option ℕ) × (c ≡ Go ponder control depth) × (is_search ponder control depth ≡ true) × (text ≡ ponder_text ponder ++ (control_text control ++ optional_number (codes " depth ") depth))
 

@@ -1,11 +1,11 @@
--- What stands behind fixed words and numbers.
+-- What follows fixed words and numbers.
 use Rattle.std.specs.Prelude.{ℕ, List, [], ◌∷◌, drop, decimal, if◌then◌else◌, ◌==◌, Option, Some, None}
 use Rattle.std.specs.List.{before_first}
 use Rattle.std.specs.Str.{bytes_eq}
 use Rattle.peer_words.specs.Tokens.{is_white, token_end}
 use Rattle.peer_words.specs.Numbers.{count}
 
--- what stands behind a word at the front
+-- what follows a word at the front
 abbrev pub after : List ℕ → List ℕ → Option (List ℕ)
 after [] text = Some text
 after (b ∷ bs) [] = None
@@ -28,7 +28,7 @@ abbrev pub number_in : Option (List ℕ) → Option (ℕ × List ℕ)
 number_in None = None
 number_in (Some text) = counted (exact_count (before_first is_white text)) (drop (token_end text) text)
 
--- a word at the front and a count behind it
+-- a word at the front and a count after it
 unfoldable pub number_behind : List ℕ → List ℕ → Option (ℕ × List ℕ)
 number_behind word text = number_in (after word text)
 

@@ -4,7 +4,7 @@ use Rattle.std.specs.List.{before_first, onto_first}
 use Rattle.peer_words.specs.Tokens.{is_white, trimmed, first_token, rest}
 use Rattle.uci_lines.specs.Cuts.{Found, cut, is_word, is_choice}
 
--- A text, cut before each token that is `default` or `var`. The first piece is what stands before all of
+-- A text, cut before each token that is `default` or `var`. The first piece is what is before all of
 -- them; each other begins with its word. fresh: as for `cut`.
 abbrev pub pieces : Bool → List ℕ → List (List ℕ)
 pieces fresh [] = [] ∷ []
@@ -13,7 +13,7 @@ pieces fresh (b ∷ bs) =
     then [] ∷ onto_first b (pieces (is_white b) bs)
     else onto_first b (pieces (is_white b) bs)
 
--- what stands behind each `var`
+-- what follows each `var`
 abbrev pub values_among : List (List ℕ) → List (List ℕ)
 values_among [] = []
 values_among (piece ∷ others) =
@@ -23,7 +23,7 @@ values_among (piece ∷ others) =
 unfoldable pub values : List ℕ → List (List ℕ)
 values text = values_among (pieces true text)
 
--- what stands before the first `default` or `var`, or all
+-- what is before the first `default` or `var`, or all
 abbrev pub before_choice : Option Found → List ℕ → List ℕ
 before_choice None text = text
 before_choice (Some part) text = part.before
@@ -37,6 +37,6 @@ abbrev pub chosen : Option Found → List ℕ
 chosen None = []
 chosen (Some part) = trimmed (before_choice (cut is_choice true part.after) part.after)
 
--- what stands behind the first `default`, up to the next `default` or `var`
+-- what follows the first `default`, up to the next `default` or `var`
 abbrev pub default_value : List ℕ → List ℕ
 default_value text = chosen (cut (is_word (codes "default")) true text)

@@ -17,8 +17,8 @@ pub record Found : Type 0 where
 abbrev pub onto_part : ℕ → Found → Found
 onto_part b part = record { before = b ∷ part.before; word = part.word; after = part.after }
 
--- Where the first token that passes stands. A token begins at the front only if the front is fresh:
--- the start of the line, or behind white space.
+-- Where the first token that passes is. A token begins at the front only if the front is fresh:
+-- the start of the line, or after white space.
 abbrev pub cut : (List ℕ → Bool) → Bool → List ℕ → Option Found
 cut p fresh [] = None
 cut p fresh (b ∷ bs) =

@@ -8,20 +8,20 @@ use Rattle.uci_lines.specs.Options.{option_said}
 use Rattle.uci_lines.specs.Infos.{facts_in}
 use Rattle.uci_lines.specs.Messages.{EngineMsg, Name, UciOk, ReadyOk, Best, Info, Nothing}
 
--- behind `id`
+-- after `id`
 abbrev pub name_said : List ℕ → EngineMsg
 name_said text = if is_word (codes "name") (first_token text) then Name (rest text) else Nothing
 
--- behind `ponder`
+-- after `ponder`
 abbrev pub hint_in : Option Found → Option Move
 hint_in None = None
 hint_in (Some part) = move_of (first_token part.after)
 
--- behind `bestmove`
+-- after `bestmove`
 abbrev pub best_said : List ℕ → EngineMsg
 best_said text = Best (move_of (first_token text)) (hint_in (cut (is_word (codes "ponder")) true (rest text)))
 
--- a known word, with what stands behind it
+-- a known word, with what follows it
 abbrev pub said_after : List ℕ → List ℕ → EngineMsg
 said_after word text =
     if is_word (codes "id") word then name_said text
@@ -35,6 +35,6 @@ abbrev pub said_by : Option Found → EngineMsg
 said_by None = Nothing
 said_by (Some part) = said_after part.word part.after
 
--- what stands before the first known word is ignored
+-- what is before the first known word is ignored
 unfoldable pub engine_message : List ℕ → EngineMsg
 engine_message line = said_by (cut is_known true line)

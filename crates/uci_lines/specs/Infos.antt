@@ -52,7 +52,7 @@ abbrev pub newer_run : List Move → List Move → List Move
 newer_run [] old = old
 newer_run (m ∷ moves) old = m ∷ moves
 
--- What a field says, with the tokens behind its word. If what must follow does not, nothing changes.
+-- What a field says, with the tokens after its word. If what must follow does not, nothing changes.
 abbrev pub hear : InfoField → Info → List (List ℕ) → Info
 hear fields.Depth f ts = record f { depth = option_or (first_count ts) f.depth }
 hear fields.Time f ts = record f { time = option_or (first_count ts) f.time }
@@ -89,6 +89,6 @@ no_facts = record {
   pv = [];
 }
 
--- what stands behind `info`
+-- what follows `info`
 unfoldable pub facts_in : List ℕ → Info
 facts_in text = facts_from no_facts (tokens text)

@@ -27,7 +27,7 @@ abbrev pub first_signed : List (List ℕ) → Option ℤ
 first_signed [] = None
 first_signed (t ∷ ts) = signed t
 
--- what a token says of the range, with the tokens behind it
+-- what a token says of the range, with the tokens after it
 abbrev pub limited : SpinRange → List ℕ → List (List ℕ) → SpinRange
 limited r t ts =
     if is_word (codes "default") t then record { default = option_or (first_signed ts) r.default; min = r.min; max = r.max }
@@ -72,12 +72,12 @@ abbrev pub option_line : List ℕ → Option OptionKind → EngineMsg
 option_line name None = Nothing
 option_line name (Some shape) = OptionLine name shape
 
--- the name stands before the first `type`
+-- the name is before the first `type`
 abbrev pub option_with : Option Found → EngineMsg
 option_with None = Nothing
 option_with (Some part) = option_line (trimmed part.before) (shape_named (first_token part.after) (rest part.after))
 
--- what stands behind `option`
+-- what follows `option`
 unfoldable pub option_said : List ℕ → EngineMsg
 option_said text =
     if is_word (codes "name") (first_token text) then option_with (cut (is_word (codes "type")) true (rest text)) else Nothing

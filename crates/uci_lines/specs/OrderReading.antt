@@ -50,7 +50,7 @@ abbrev pub where_true : Bool → Order → Option Order
 where_true true order = Some order
 where_true false order = None
 
--- behind `setoption name `
+-- after `setoption name `
 abbrev pub setting_by : Option (List ℕ × List ℕ) → List ℕ → Option Order
 setting_by None text = where_true (is_text text) (SetOption text None)
 setting_by (Some halves) text = where_true (is_text halves.0 && is_text halves.1) (SetOption halves.0 (Some halves.1))
@@ -58,7 +58,7 @@ setting_by (Some halves) text = where_true (is_text halves.0 && is_text halves.1
 abbrev pub setting_in : List ℕ → Option Order
 setting_in text = setting_by (value_cut text) text
 
--- behind the start of a position
+-- after the start of a position
 abbrev pub moves_by : Option (List ℕ) → Option (List ℕ)
 moves_by None = None
 moves_by (Some moves) = if is_moves moves then Some moves else None
@@ -82,7 +82,7 @@ abbrev pub start_in : Option (List ℕ) → List ℕ → Option Order
 start_in (Some others) text = placed None (moves_in others)
 start_in None text = fen_in (after (codes "fen ") text)
 
--- behind `position `
+-- after `position `
 abbrev pub position_in : List ℕ → Option Order
 position_in text = start_in (after (codes "startpos") text) text
 
@@ -133,7 +133,7 @@ abbrev pub ponder_or : Option (List ℕ) → List ℕ → Option Order
 ponder_or (Some others) text = search_with true (control_in others)
 ponder_or None text = search_with false (control_in text)
 
--- behind `go`
+-- after `go`
 abbrev pub search_in : List ℕ → Option Order
 search_in text = ponder_or (after (codes " ponder") text) text
 

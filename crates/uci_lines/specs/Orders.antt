@@ -17,12 +17,12 @@ pub data Order : Type 0 where
   Position : (fen : Option (List ℕ)) (moves : List ℕ) → Order
   Go : (ponder : Bool) (control : GoControl) (depth : Option ℕ) → Order
 
--- the text behind a word, if there is one
+-- the text after a word, if there is one
 abbrev pub optional_text : List ℕ → Option (List ℕ) → List ℕ
 optional_text word None = []
 optional_text word (Some text) = word ++ text
 
--- the number behind a word, if there is one
+-- the number after a word, if there is one
 abbrev pub optional_number : List ℕ → Option ℕ → List ℕ
 optional_number word None = []
 optional_number word (Some n) = word ++ decimal n

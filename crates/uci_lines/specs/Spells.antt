@@ -28,7 +28,7 @@ ends_white fresh (b ∷ bs) = ends_white (is_white b) bs
 abbrev pub IsNoneOf : (List ℕ → Bool) → List (List ℕ) → Type 0
 IsNoneOf p ts = list_all (λ t. not (p t)) ts ≡ true
 
--- The first token of a text that passes, between the bytes before and behind it.
+-- The first token of a text that passes, between the bytes before and after it.
 pub record IsFirst (p : List ℕ → Bool) (text : List ℕ) (part : Found) : Type 0 where
   pub whole : text ≡ part.before ++ (part.word ++ part.after)
   pub token : is_token part.word ≡ true
@@ -37,7 +37,7 @@ pub record IsFirst (p : List ℕ → Bool) (text : List ℕ) (part : Found) : Ty
   pub ends_there : begins_white part.after ≡ true
   pub none_before : IsNoneOf p (tokens part.before)
 
--- what stands behind the first such word of a text; nothing if there is none
+-- what follows the first such word of a text; nothing if there is none
 abbrev pub Behind : List ℕ → List ℕ → List ℕ → Type 0
 Behind word text others =
     (IsNoneOf (is_word word) (tokens text) × (others ≡ []))
@@ -50,7 +50,7 @@ PerhapsMove text None = (m : Move) → MoveSpells text m → ⊥
 
 -- OPTIONS
 
--- the last number that stands behind a word
+-- the last number that follows a word
 pub record IsLast (word : List ℕ) (ts : List (List ℕ)) (n : ℤ) : Type 0 where
   pub before : List (List ℕ)
   pub digits : List ℕ
@@ -59,7 +59,7 @@ pub record IsLast (word : List ℕ) (ts : List (List ℕ)) (n : ℤ) : Type 0 wh
   pub reads : signed digits ≡ Some n
   pub last : (bs : List (List ℕ)) (t : List ℕ) (cs : List (List ℕ)) → others ≡ bs ++ (word ∷ t ∷ cs) → signed t ≡ None
 
--- what stands before the first `default` or `var`, trimmed
+-- what is before the first `default` or `var`, trimmed
 abbrev pub UpToChoice : List ℕ → List ℕ → Type 0
 UpToChoice text value =
     (IsNoneOf is_choice (tokens text) × (value ≡ trimmed text))
@@ -75,7 +75,7 @@ pub data HasValues : List ℕ → List (List ℕ) → Type 0 where
       → IsFirst is_choice text part → part.word ≡ codes "default" → HasValues part.after values
       → HasValues text values
 
--- the kind of an option, by the word behind `type` and what follows it
+-- the kind of an option, by the word after `type` and what follows it
 abbrev pub HasShape : List ℕ → List ℕ → OptionKind → Type 0
 HasShape word text (Check on) =
     (word ≡ codes "check") × (others : List ℕ) × Behind (codes "default") text others × (on ≡ is_word (codes "true") (first_token others))
@@ -88,7 +88,7 @@ HasShape word text Button = word ≡ codes "button"
 HasShape word text (Text default) =
     (word ≡ codes "string") × (others : List ℕ) × Behind (codes "default") text others × (default ≡ shown_text (trimmed others))
 
--- what stands behind `option`: `name`, the name up to the first `type`, and the kind
+-- what follows `option`: `name`, the name up to the first `type`, and the kind
 abbrev pub Declares : List ℕ → List ℕ → OptionKind → Type 0
 Declares text name shape =
     (first_token text ≡ codes "name")
@@ -97,12 +97,12 @@ Declares text name shape =
 
 -- WHAT IS TOLD OF A SEARCH
 
--- no move text stands first
+-- no move text is first
 abbrev pub NoMoveFirst : List (List ℕ) → Type 0
 NoMoveFirst [] = Unit {0}
 NoMoveFirst (t ∷ ts) = (m : Move) → MoveSpells t m → ⊥
 
--- the longest run of move texts at the front, and the tokens behind it
+-- the longest run of move texts at the front, and the tokens after it
 pub data IsRun : List (List ℕ) → List Move → List (List ℕ) → Type 0 where
   Ends : {ts : List (List ℕ)} → NoMoveFirst ts → IsRun ts [] ts
   Goes : {t : List ℕ} → {m : Move} → {ts others : List (List ℕ)} → {moves : List Move}
@@ -133,7 +133,7 @@ pub data Tells : AnyInfo → List (List ℕ) → AnyInfo → Type 0 where
 
 -- MESSAGES
 
--- the first known word of a line, and what stands behind it
+-- the first known word of a line, and what follows it
 abbrev pub Begins : List ℕ → List ℕ → List ℕ → Type 0
 Begins line word text = (part : Found) × IsFirst is_known line part × (part.word ≡ word) × (part.after ≡ text)
 

@@ -22,7 +22,7 @@ is_text text = nat_lt 0 (length text) && bytes_eq (trimmed text) text
 abbrev pub onto_first_of : ℕ → List ℕ × List ℕ → List ℕ × List ℕ
 onto_first_of b halves = (b ∷ halves.0, halves.1)
 
--- what stands before and behind the first ` value `
+-- what is before and after the first ` value `
 abbrev pub value_here : Option (List ℕ) → Option (List ℕ × List ℕ) → Option (List ℕ × List ℕ)
 value_here (Some others) later = Some ([], others)
 value_here None later = later
@@ -60,7 +60,7 @@ is_fen text = fen_by (position_of text) text
 abbrev pub split_onto : ℕ → List ℕ × List ℕ → List ℕ × List ℕ
 split_onto b halves = (b ∷ halves.0, halves.1)
 
--- What stands before the blank behind so many others, and what begins with it: six fields stand before
+-- What is before the blank after so many others, and what begins with it: six fields are before
 -- the sixth blank.
 abbrev pub fields_before : ℕ → List ℕ → List ℕ × List ℕ
 fields_before blanks [] = ([], [])

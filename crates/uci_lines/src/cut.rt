@@ -22,7 +22,7 @@ pub(crate) enum Delimiter {
     Ponder,
 }
 
-/// A token, with what stands before and after it.
+/// A token, with what is before and after it.
 #[derive(Clone, Copy)]
 pub(crate) struct FoundToken<'a> {
     pub before: &'a [u8],
@@ -38,25 +38,32 @@ impl Delimiter {
     {
         match self {
             Delimiter::Message => is_known(word),
-            Delimiter::Kind => word == b"type".as_slice(),
-            Delimiter::Default => word == b"default".as_slice(),
-            Delimiter::Choice => word == b"default".as_slice() || word == b"var".as_slice(),
-            Delimiter::Ponder => word == b"ponder".as_slice(),
+            Delimiter::Kind => is_word(word, "type"),
+            Delimiter::Default => is_word(word, "default"),
+            Delimiter::Choice => is_word(word, "default") || is_word(word, "var"),
+            Delimiter::Ponder => is_word(word, "ponder"),
         }
     }
 }
 
-ghost use Rattle.uci_lines.specs.Cuts.{is_known};
+ghost use Rattle.uci_lines.specs.Cuts.{is_known, is_word};
+
+/// Whether a token is this word.
+pub(crate) fn is_word(token: &[u8], word: &str) -> bool
+    ensures { result ≡ is_word word.now token.now }
+{
+    token == word.as_bytes()
+}
 
 fn is_known(word: &[u8]) -> bool
     ensures { result ≡ is_known word.now }
 {
-    word == b"id".as_slice()
-        || word == b"uciok".as_slice()
-        || word == b"readyok".as_slice()
-        || word == b"bestmove".as_slice()
-        || word == b"info".as_slice()
-        || word == b"option".as_slice()
+    is_word(word, "id")
+        || is_word(word, "uciok")
+        || is_word(word, "readyok")
+        || is_word(word, "bestmove")
+        || is_word(word, "info")
+        || is_word(word, "option")
 }
 
 /// The first token at which the text is to be cut.

@@ -5,7 +5,7 @@ ghost use Rattle.uci_lines.specs.Writable.{CanWrite};
 ghost use Rattle.uci_lines.specs.Messages.{EngineMsg as AnyEngineMsg, engine_message_of};
 ghost use Rattle.uci_lines.specs.Spells.{SpellsMessage};
 
-use crate::cut::{Delimiter, find_word};
+use crate::cut::{Delimiter, find_word, is_word};
 use crate::info::read_info;
 use crate::messages::EngineMsg;
 use crate::option::read_option;
@@ -17,7 +17,7 @@ fn read_name(text: &[u8]) -> EngineMsg<'_>
     ensures writable { CanWrite (engine_message_of result) }
 {
     let (word, others) = split_token(text);
-    if word == b"name".as_slice() {
+    if is_word(word, "name") {
         EngineMsg::Name(others)
     } else {
         EngineMsg::Nothing
@@ -41,15 +41,15 @@ fn read_after<'a>(word: &[u8], text: &'a [u8]) -> EngineMsg<'a>
     ensures value { engine_message_of result ≡ said_after word.now text.now }
     ensures writable { CanWrite (engine_message_of result) }
 {
-    if word == b"id".as_slice() {
+    if is_word(word, "id") {
         read_name(text)
-    } else if word == b"uciok".as_slice() {
+    } else if is_word(word, "uciok") {
         EngineMsg::UciOk
-    } else if word == b"readyok".as_slice() {
+    } else if is_word(word, "readyok") {
         EngineMsg::ReadyOk
-    } else if word == b"bestmove".as_slice() {
+    } else if is_word(word, "bestmove") {
         read_best(text)
-    } else if word == b"info".as_slice() {
+    } else if is_word(word, "info") {
         EngineMsg::Info(read_info(text))
     } else {
         read_option(text)

@@ -6,6 +6,7 @@ ghost use Rattle.uci_lines.specs.Moves.{run};
 ghost use Rattle.uci_lines.specs.Writable.{can_write};
 ghost use Rattle.uci_lines.specs.Info.{info_of};
 
+use crate::cut::is_word;
 use crate::messages::{Info, Score};
 use crate::moves::{after_moves, next_move};
 use chess_board::{Move, read_move};
@@ -30,25 +31,25 @@ pub(crate) enum InfoField {
 fn field_named(word: &[u8]) -> InfoField
     ensures { result ≡ field_named word.now }
 {
-    if word == b"depth".as_slice() {
+    if is_word(word, "depth") {
         InfoField::Depth
-    } else if word == b"time".as_slice() {
+    } else if is_word(word, "time") {
         InfoField::Time
-    } else if word == b"nodes".as_slice() {
+    } else if is_word(word, "nodes") {
         InfoField::Nodes
-    } else if word == b"multipv".as_slice() {
+    } else if is_word(word, "multipv") {
         InfoField::MultiPv
-    } else if word == b"currmovenumber".as_slice() {
+    } else if is_word(word, "currmovenumber") {
         InfoField::Number
-    } else if word == b"score".as_slice() {
+    } else if is_word(word, "score") {
         InfoField::Score
-    } else if word == b"lowerbound".as_slice() || word == b"upperbound".as_slice() {
+    } else if is_word(word, "lowerbound") || is_word(word, "upperbound") {
         InfoField::Bound
-    } else if word == b"currmove".as_slice() {
+    } else if is_word(word, "currmove") {
         InfoField::Current
-    } else if word == b"pv".as_slice() {
+    } else if is_word(word, "pv") {
         InfoField::Pv
-    } else if word == b"string".as_slice() {
+    } else if is_word(word, "string") {
         InfoField::Text
     } else {
         InfoField::Other
@@ -78,9 +79,9 @@ fn first_move(text: &[u8]) -> Option<Move>
 fn score_of(unit: &[u8], number: &[u8]) -> Option<Score>
     ensures { result ≡ score_of unit.now number.now }
 {
-    if unit == b"cp".as_slice() {
+    if is_word(unit, "cp") {
         Some(Score::Cp(read_centis(number)?))
-    } else if unit == b"mate".as_slice() {
+    } else if is_word(unit, "mate") {
         Some(Score::Mate(read_centis(number)?))
     } else {
         None
@@ -102,7 +103,7 @@ fn newer_run<'a>(new: &'a [u8], old: &'a [u8]) -> &'a [u8]
     if next_move(new).is_some() { new } else { old }
 }
 
-/// What was reported before, and what a field reports with the text behind its word.
+/// What was reported before, and what a field reports with the text after its word.
 fn hear<'a>(field: InfoField, info: Info<'a>, text: &'a [u8]) -> Info<'a>
     ensures value { info_of result ≡ hear field (info_of info.entry) (tokens text.now) }
     ensures officer { can_write info.entry.current → can_write result.current }
@@ -164,7 +165,7 @@ fn take_field<'a>(field: InfoField, info: Info<'a>, text: &'a [u8]) -> (Info<'a>
     }
 }
 
-/// Reads what stands behind `info`.
+/// Reads what follows `info`.
 #[tactic(auto, unfolding(crate::specs::Infos::facts_in))]
 pub(crate) fn read_info(text: &[u8]) -> Info<'_>
     ensures value { info_of result ≡ facts_in text.now }

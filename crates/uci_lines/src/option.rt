@@ -8,7 +8,7 @@ ghost use Rattle.uci_lines.specs.Options.{is_on, text_after, shape_named, option
 ghost use Rattle.uci_lines.specs.Writable.{CanWrite};
 ghost use Rattle.uci_lines.specs.Messages.{option_kind_of, declared_by, engine_message_of};
 
-use crate::cut::{Delimiter, find_word};
+use crate::cut::{Delimiter, find_word, is_word};
 use crate::messages::{EngineMsg, OptionKind, OptionMsg};
 use crate::range::read_range;
 use peer_words::{split_token, trim};
@@ -17,7 +17,7 @@ fn is_on(text: &[u8]) -> bool
     ensures { result ≡ is_on (cut (is_word (codes "default")) true text.now) }
 {
     match find_word(text, Delimiter::Default) {
-        Some(found) => split_token(found.after).0 == b"true".as_slice(),
+        Some(found) => is_word(split_token(found.after).0, "true"),
         None => false,
     }
 }
@@ -28,17 +28,13 @@ fn text_default(text: &[u8]) -> &[u8]
     match find_word(text, Delimiter::Default) {
         Some(found) => {
             let text = trim(found.after);
-            if text == b"<empty>".as_slice() {
-                &[]
-            } else {
-                text
-            }
+            if is_word(text, "<empty>") { &[] } else { text }
         }
         None => &[],
     }
 }
 
-/// What stands before the first `default` or `var`.
+/// What is before the first `default` or `var`.
 fn before_choice(text: &[u8]) -> &[u8]
     ensures { result.now ≡ before_choice (cut is_choice true text.now) text.now }
 {
@@ -57,7 +53,7 @@ fn combo_default(text: &[u8]) -> &[u8]
     }
 }
 
-/// What stands before the first `default` or `var`, trimmed, and what begins with it.
+/// What is before the first `default` or `var`, trimmed, and what begins with it.
 fn split_choice(text: &[u8]) -> (&[u8], &[u8])
     ensures value { result.0.now ≡ trimmed (before_choice (cut is_choice true text.now) text.now) }
     ensures others { result.1.now ≡ from_choice (cut is_choice true text.now) text.now }
@@ -92,18 +88,18 @@ pub fn next_value(text: &[u8]) -> Option<(&[u8], &[u8])>
 fn read_kind<'a>(word: &[u8], text: &'a [u8]) -> Option<OptionKind<'a>>
     ensures { option_map option_kind_of result ≡ shape_named word.now text.now }
 {
-    if word == b"check".as_slice() {
+    if is_word(word, "check") {
         Some(OptionKind::Check { on: is_on(text) })
-    } else if word == b"spin".as_slice() {
+    } else if is_word(word, "spin") {
         read_range(text).spin()
-    } else if word == b"combo".as_slice() {
+    } else if is_word(word, "combo") {
         Some(OptionKind::Combo {
             default: combo_default(text),
             values: text,
         })
-    } else if word == b"button".as_slice() {
+    } else if is_word(word, "button") {
         Some(OptionKind::Button)
-    } else if word == b"string".as_slice() {
+    } else if is_word(word, "string") {
         Some(OptionKind::Text {
             default: text_default(text),
         })
@@ -122,14 +118,14 @@ fn option_after(text: &[u8]) -> Option<OptionMsg<'_>>
     Some(OptionMsg { name, kind })
 }
 
-/// What stands behind `option`.
+/// What follows `option`.
 #[tactic(auto, unfolding(crate::specs::Options::option_said))]
 pub(crate) fn read_option(text: &[u8]) -> EngineMsg<'_>
     ensures value { engine_message_of result ≡ option_said text.now }
     ensures writable { CanWrite (engine_message_of result) }
 {
     let (word, others) = split_token(text);
-    if word != b"name".as_slice() {
+    if !is_word(word, "name") {
         return EngineMsg::Nothing;
     }
     match option_after(others) {

@@ -7,6 +7,7 @@ ghost use Rattle.uci_lines.specs.Orders.{Order as AnyOrder, order_of, optional_n
 ghost use Rattle.uci_lines.specs.Written.{fields_before};
 
 use crate::behind::{after, number_behind, perhaps_number};
+use crate::cut::is_word;
 use crate::orders::{GoControl, Order};
 use crate::written::{cut_value, is_count, is_fen, is_moves, is_positive, is_text, split_fields};
 
@@ -68,7 +69,7 @@ fn read_position(text: &[u8]) -> Option<Order<'_>>
     }
 }
 
-/// A clock behind its two times.
+/// A clock after its two times.
 fn read_increments(wtime: u64, btime: u64, text: &[u8]) -> Option<(GoControl, &[u8])>
     ensures { option_map (λ p. (p.0, p.1.now)) result
         ≡ clock_three wtime btime (number_behind (codes " winc ") text.now) }
@@ -181,17 +182,17 @@ fn read_long(line: &[u8]) -> Option<Order<'_>>
 fn order_in(line: &[u8]) -> Option<Order<'_>>
     ensures { option_map order_of result ≡ order_in line.now }
 {
-    if line == b"uci".as_slice() {
+    if is_word(line, "uci") {
         Some(Order::Uci)
-    } else if line == b"isready".as_slice() {
+    } else if is_word(line, "isready") {
         Some(Order::IsReady)
-    } else if line == b"ucinewgame".as_slice() {
+    } else if is_word(line, "ucinewgame") {
         Some(Order::NewGame)
-    } else if line == b"stop".as_slice() {
+    } else if is_word(line, "stop") {
         Some(Order::Stop)
-    } else if line == b"ponderhit".as_slice() {
+    } else if is_word(line, "ponderhit") {
         Some(Order::PonderHit)
-    } else if line == b"quit".as_slice() {
+    } else if is_word(line, "quit") {
         Some(Order::Quit)
     } else {
         read_long(line)

@@ -4,6 +4,7 @@ ghost use Rattle.std.specs.Option.{option_map};
 ghost use Rattle.peer_words.specs.Tokens.{tokens};
 ghost use Rattle.uci_lines.specs.Options.{range_of, limited, first_signed, range_from, no_range};
 
+use crate::cut::is_word;
 use crate::messages::OptionKind;
 use peer_words::{next_token, read_signed};
 
@@ -42,13 +43,13 @@ fn first_signed(text: &[u8]) -> Option<i64>
 fn limited(range: SpinRange, word: &[u8], after: &[u8]) -> SpinRange
     ensures { range_of result ≡ limited (range_of range) word.now (tokens after.now) }
 {
-    if word == b"default".as_slice() {
+    if is_word(word, "default") {
         let default = first_signed(after).or(range.default);
         SpinRange { default, ..range }
-    } else if word == b"min".as_slice() {
+    } else if is_word(word, "min") {
         let min = first_signed(after).or(range.min);
         SpinRange { min, ..range }
-    } else if word == b"max".as_slice() {
+    } else if is_word(word, "max") {
         let max = first_signed(after).or(range.max);
         SpinRange { max, ..range }
     } else {

@@ -15,7 +15,7 @@ pub(crate) fn is_text(text: &[u8]) -> bool
     !text.is_empty() && trim(text) == text
 }
 
-/// What stands before and behind the first ` value `.
+/// What is before and after the first ` value `.
 pub(crate) fn cut_value(text: &[u8]) -> Option<(&[u8], &[u8])>
     ensures { option_map (λ p. (p.0.now, p.1.now)) result ≡ value_cut text.now }
 {

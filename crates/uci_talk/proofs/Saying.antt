@@ -123,7 +123,7 @@ line_speaks ts said h =
       whole = subst (λ (ms : List (List ℕ)). (ts ≡ before_moves ts ++ (codes "moves" ∷ ms)) ⊎ ((ts ≡ before_moves ts) × (ms ≡ []))) k.moves_are (whole ts);
     }
 
--- the tokens before and behind `moves`
+-- the tokens before and after `moves`
 record Split (ts first moves : List (List ℕ)) : Type 0 where
   before_is : before_moves ts ≡ first
   behind_is : behind_moves ts ≡ moves

@@ -38,12 +38,12 @@ abbrev pub before_moves : List (List ℕ) → List (List ℕ)
 before_moves [] = []
 before_moves (t ∷ ts) = if is_moves t then [] else t ∷ before_moves ts
 
--- the tokens behind it
+-- the tokens after it
 abbrev pub behind_moves : List (List ℕ) → List (List ℕ)
 behind_moves [] = []
 behind_moves (t ∷ ts) = if is_moves t then ts else behind_moves ts
 
--- what stands before and behind a word
+-- what is before and after a word
 abbrev pub sides : Found → List ℕ × List ℕ
 sides part = (part.before, part.after)
 
@@ -70,7 +70,7 @@ abbrev pub line_from : Option Position → List (List ℕ) → Option Line
 line_from None moves = None
 line_from (Some p) moves = line_to p moves (led moves (Some p))
 
--- what the tokens behind `position` say
+-- what the tokens after `position` say
 abbrev pub line_in : List (List ℕ) → Option Line
 line_in ts = line_from (start_in (before_moves ts)) (behind_moves ts)
 

@@ -20,7 +20,7 @@ pub data Starts : List (List ℕ) → Position → Type 0 where
   Standard : Starts (codes "startpos" ∷ []) start_position
   SetUp : {fields : List (List ℕ)} → {p : Position} → position_of_fields fields ≡ Ok p → Starts (codes "fen" ∷ fields) p
 
--- The tokens behind `position` are the start, and then nothing, or `moves` and moves that are legal in their turn.
+-- The tokens after `position` are the start, and then nothing, or `moves` and moves that are legal in their turn.
 pub record Speaks (ts : List (List ℕ)) (said : Line) : Type 0 where
   pub first : List (List ℕ)
   pub starts : Starts first said.start

@@ -1,7 +1,7 @@
 // A `position` line.
 use chess_board::Position;
 
-/// What a `position` line says: the position before the moves; the bytes behind the token `moves`, trimmed, empty
+/// What a `position` line says: the position before the moves; the bytes after the token `moves`, trimmed, empty
 /// if there is none; the position after all moves.
 #[derive(Clone, Copy)]
 pub struct Spoken<'a> {

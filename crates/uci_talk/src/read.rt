@@ -57,9 +57,9 @@ fn line_said(line: &[u8]) -> Option<Spoken<'_>>
     read_behind(behind_first(line))
 }
 
-/// What stands behind the first token of a line, which should be `position`: the start, which is `startpos` or `fen`
+/// What follows the first token of a line, which should be `position`: the start, which is `startpos` or `fen`
 /// and a position that `read_fen` accepts, and then nothing, or `moves` and moves that are legal in their turn. None
-/// if anything else stands there.
+/// if anything else is there.
 pub fn spoken(line: &[u8]) -> Option<Spoken<'_>>
     ensures value { option_map said_by result ≡ line_of line.now }
     // What is read is what the line says.

@@ -8,7 +8,7 @@ ghost use Rattle.uci_talk.specs.Lines.{before_moves, behind_moves, is_moves, sid
 
 use peer_words::{is_white, next_token, split_at_white, trim};
 
-/// What stands behind the first token.
+/// What follows the first token.
 pub(crate) fn behind_first(line: &[u8]) -> &[u8]
     ensures { tokens result.now ≡ drop 1 (tokens line.now) }
 {
@@ -18,7 +18,7 @@ pub(crate) fn behind_first(line: &[u8]) -> &[u8]
     }
 }
 
-/// What stands before and behind the first token `moves`.
+/// What is before and after the first token `moves`.
 fn find_moves(text: &[u8]) -> Option<(&[u8], &[u8])>
     ensures { option_map (λ p. (p.0.now, p.1.now)) result
         ≡ option_map sides (cut is_moves true text.now) }
@@ -36,7 +36,7 @@ fn find_moves(text: &[u8]) -> Option<(&[u8], &[u8])>
     None
 }
 
-/// What stands before the first token `moves`, and what stands behind it, trimmed; all and nothing if there is
+/// What is before the first token `moves`, and what follows it, trimmed; all and nothing if there is
 /// none.
 pub(crate) fn split_at_moves(text: &[u8]) -> (&[u8], &[u8])
     ensures before { tokens result.0.now ≡ before_moves (tokens text.now) }

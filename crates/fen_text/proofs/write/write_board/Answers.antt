@@ -1,4 +1,4 @@
--- One more rank behind a slash.
+-- One more rank after a slash.
 use Rattle.std.proofs.Common.{◌≡◌, ℕ, suc, ◌-◌, List, ◌++◌, ◌∷◌, [], refl, sym, ap, subst, ◌∙◌, arith, append_assoc, append-nil}
 use Rattle.chess_board.specs.Board.{Men}
 use Rattle.fen_text.specs.Written.{rank_text, row, lower_ranks, top_rank, board_text}

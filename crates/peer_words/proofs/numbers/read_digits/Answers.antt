@@ -1,6 +1,6 @@
-use Rattle.std.proofs.Common.{◌∙◌, ◌^◌, ◌≤◌, arith, sym, get_or, lit<}
+use Rattle.std.proofs.Common.{◌∙◌, ◌^◌, ◌≤◌, arith, sym, lit<}
 use Rattle.std.proofs.Math.Nat.{pow-le-pow_right}
-use Rattle.peer_words.proofs.Digits.{digit, small, more_value, more_digits, more_bound}
+use Rattle.peer_words.proofs.Digits.{small, read_more}
 use Rattle.peer_words.proofs.numbers.read_digits.Goals as goal
 
 pub overflow_mul-n : goal.overflow_mul-n
@@ -10,14 +10,7 @@ pub overflow_add-n : goal.overflow_add-n
 overflow_add-n c = omega (arith, small c.loop-b.b-index (omega arith))
 
 pub loop-b-preserved : goal.loop-b-preserved
-loop-b-preserved c =
-    let yes = sym c.is_ascii_digit.ensures.value ∙ c.if-not-is_ascii_digit.false in
-    let d = digit (get_or c.args.text.now c.loop-b.b-index 0) yes in
-    record {
-      value = more_value c.args.text.now c.loop-b.b-index c.loop-b.n _ (omega arith) c.loop-b.invariant.value (c.from.ensures ∙ sym d.2);
-      bound = more_bound c.loop-b.b-index c.loop-b.n _ c.loop-b.invariant.bound (omega arith);
-      digits = more_digits c.args.text.now c.loop-b.b-index (omega arith) c.loop-b.invariant.digits yes;
-    }
+loop-b-preserved c = read_more c.args.text.now c.loop-b.b-index c.loop-b.n _ (omega arith) c.loop-b.invariant (sym c.is_ascii_digit.ensures.value ∙ c.if-not-is_ascii_digit.false) c.from.ensures
 
 pub returns-clause-below : goal.returns-clause-below
 returns-clause-below c =

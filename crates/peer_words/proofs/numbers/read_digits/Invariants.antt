@@ -1,12 +1,5 @@
-use Rattle.std.proofs.Common.{◌≡◌, ◌<◌, ◌^◌, take, true}
-use Rattle.std.specs.List.{list_all}
-use Rattle.std.specs.Char.{is_ascii_digit}
-use Rattle.std.specs.Str.Parse.{digits_value}
+use Rattle.peer_words.proofs.Digits.{HasRead}
 use Rattle.peer_words.proofs.numbers.read_digits.Given as goal
 
 abbrev pub invariant-loop-b : goal.invariant-loop-b
-invariant-loop-b l = record {
-  value : l.n ≡ digits_value 10 (take l.b-index l.text);
-  bound : l.n < 10 ^ l.b-index;
-  digits : list_all is_ascii_digit (take l.b-index l.text) ≡ true;
-}
+invariant-loop-b l = HasRead l.text l.b-index l.n

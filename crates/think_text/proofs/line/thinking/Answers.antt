@@ -1,5 +1,4 @@
-use Rattle.std.proofs.Common.{◌≡◌, ℕ, ◌/◌, List, length, Option, sym, ap, ◌∙◌, subst, arith}
-use Rattle.std.specs.Option.{option_map, unwrap_or}
+use Rattle.std.proofs.Common.{◌≡◌, ℕ, List, length, sym, ap, ◌∙◌, subst, arith}
 use Rattle.std.proofs.lemmas.List.{length-append}
 use Rattle.line_io.specs.Out.{Text, with}
 use Rattle.peer_words.specs.Tokens.{tokens}
@@ -7,8 +6,8 @@ use Rattle.uci_lines.specs.Moves.{run}
 use Rattle.uci_lines.specs.Info.{info_of}
 use Rattle.chess_board.specs.declared.board.Move.{Move}
 use Rattle.chess_board.specs.Position.{Position}
-use Rattle.cecp_lines.specs.Replies.{Reply, Thinking, reply_of, reply_text, HasWritableMoves}
-use Rattle.think_text.specs.Line.{legal_run, played, spaced, value_of, written, hint_text}
+use Rattle.cecp_lines.specs.Replies.{Reply, reply_of, reply_text, HasWritableMoves}
+use Rattle.think_text.specs.Line.{legal_run, played, spaced, written}
 use Rattle.think_text.proofs.Heard.{score_small}
 use Rattle.think_text.proofs.Lines.{told_front, front_fits, line_done}
 use Rattle.think_text.proofs.line.thinking.Goals as goal
@@ -23,41 +22,41 @@ pub write_reply-requires-clause-room : goal.write_reply-requires-clause-room
 write_reply-requires-clause-room c =
     let s = c.args.spelling in
     let p = c.args.at.now in
-    let first : Move = c.in-Some.first in
-    let later : List Move = legal_run (played p first) (run (tokens c.in-Some.others.now)) in
+    let first : Move = c.in-Some.first.m in
+    let later : List Move = legal_run (played p first) (run (tokens c.in-Some.first.others.now)) in
     let told = told_front s (info_of c.args.info.now) c.in-Some-Some.depth c.in-Some-Some.score c.args.hint (written s p first) _ _ _ c.front_of-front.ensures
     (c.bytes_of.ensures ∙ c.hint_text-hint.ensures) (c.as_slice.ensures.value ∙ c.written-text.ensures) in
     let fits = front_fits c.args.out.now s (info_of c.args.info.now) p c.args.hint c.in-Some-Some.depth c.in-Some-Some.score first later
-    (reply_of c.front_of-front.result) c.in-Some-Some.is-0 c.in-Some-Some.is-1 c.in-Some.ensures.1 told c.requires.room in
+    (reply_of c.front_of-front.result) c.in-Some-Some.is-0 c.in-Some-Some.is-1 c.in-Some.ensures.2 told c.requires.room in
     omega arith
 
 pub write_moves-requires : goal.write_moves-requires
 write_moves-requires c =
     let s = c.args.spelling in
     let p = c.args.at.now in
-    let first : Move = c.in-Some.first in
-    let later : List Move = legal_run (played p first) (run (tokens c.in-Some.others.now)) in
+    let first : Move = c.in-Some.first.m in
+    let later : List Move = legal_run (played p first) (run (tokens c.in-Some.first.others.now)) in
     let front : Reply = reply_of c.front_of-front.result in
     let told = told_front s (info_of c.args.info.now) c.in-Some-Some.depth c.in-Some-Some.score c.args.hint (written s p first) _ _ _ c.front_of-front.ensures
     (c.bytes_of.ensures ∙ c.hint_text-hint.ensures) (c.as_slice.ensures.value ∙ c.written-text.ensures) in
     let fits = front_fits c.args.out.now s (info_of c.args.info.now) p c.args.hint c.in-Some-Some.depth c.in-Some-Some.score first later
-    front c.in-Some-Some.is-0 c.in-Some-Some.is-1 c.in-Some.ensures.1 told c.requires.room in
-    let left : length (spaced s c.play.result (legal_run c.play.result (run (tokens c.in-Some.others.now)))) ≡ length (spaced s (played p first) later) =
-    ap (λ (q : Position). length (spaced s q (legal_run q (run (tokens c.in-Some.others.now))))) c.play.ensures in
+    front c.in-Some-Some.is-0 c.in-Some-Some.is-1 c.in-Some.ensures.2 told c.requires.room in
+    let left : length (spaced s c.in-Some.first.after (legal_run c.in-Some.first.after (run (tokens c.in-Some.first.others.now)))) ≡ length (spaced s (played p first) later) =
+    ap (λ (q : Position). length (spaced s q (legal_run q (run (tokens c.in-Some.first.others.now))))) c.in-Some.ensures.1 in
     rw c.write_reply.ensures (omega (arith, fits, left, length-append c.args.out.now.text (reply_text front)))
 
 pub returns-clause-text : goal.returns-clause-text
 returns-clause-text c =
     let s = c.args.spelling in
     let p = c.args.at.now in
-    let first : Move = c.in-Some.first in
-    let later : List Move = legal_run (played p first) (run (tokens c.in-Some.others.now)) in
+    let first : Move = c.in-Some.first.m in
+    let later : List Move = legal_run (played p first) (run (tokens c.in-Some.first.others.now)) in
     let front : Reply = reply_of c.front_of-front.result in
     let told = told_front s (info_of c.args.info.now) c.in-Some-Some.depth c.in-Some-Some.score c.args.hint (written s p first) _ _ _ c.front_of-front.ensures
     (c.bytes_of.ensures ∙ c.hint_text-hint.ensures) (c.as_slice.ensures.value ∙ c.written-text.ensures) in
-    let left : spaced s c.play.result (legal_run c.play.result (run (tokens c.in-Some.others.now))) ≡ spaced s (played p first) later =
-    ap (λ (q : Position). spaced s q (legal_run q (run (tokens c.in-Some.others.now)))) c.play.ensures in
-    c.write_moves.ensures ∙ ap (λ (out : Text). with out (spaced s c.play.result (legal_run c.play.result (run (tokens c.in-Some.others.now))))) c.write_reply.ensures
+    let left : spaced s c.in-Some.first.after (legal_run c.in-Some.first.after (run (tokens c.in-Some.first.others.now))) ≡ spaced s (played p first) later =
+    ap (λ (q : Position). spaced s q (legal_run q (run (tokens c.in-Some.first.others.now)))) c.in-Some.ensures.1 in
+    c.write_moves.ensures ∙ ap (λ (out : Text). with out (spaced s c.in-Some.first.after (legal_run c.in-Some.first.after (run (tokens c.in-Some.first.others.now))))) c.write_reply.ensures
     ∙ ap (λ (t : List ℕ). with (with c.args.out.now (reply_text front)) t) left
     ∙ line_done c.args.out.now s (info_of c.args.info.now) p c.args.hint c.in-Some-Some.depth c.in-Some-Some.score first later
-    front c.in-Some-Some.is-0 c.in-Some-Some.is-1 c.in-Some.ensures.1 told
+    front c.in-Some-Some.is-0 c.in-Some-Some.is-1 c.in-Some.ensures.2 told

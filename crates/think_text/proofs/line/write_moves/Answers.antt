@@ -9,18 +9,18 @@ use Rattle.think_text.proofs.line.write_moves.Goals as goal
 pub write_spaced-requires-clause-room : goal.write_spaced-requires-clause-room
 write_spaced-requires-clause-room c =
     let s = c.args.spelling in
-    let p = c.loop-m.position in
-    let left : List Move = legal_run p (run (tokens c.loop-m.others.now)) in
-    let later : List Move = legal_run (played p c.in-Some.m) (run (tokens c.in-Some.after.now)) in
-    let first : length (spaced s p left) ≡ length (spaced s p (c.in-Some.m ∷ later)) = ap (λ (moves : List Move). length (spaced s p moves)) c.in-Some.ensures.1 in
-    let whole = ap length c.loop-m.invariant.text in
+    let p = c.loop-next.position in
+    let left : List Move = legal_run p (run (tokens c.loop-next.others.now)) in
+    let later : List Move = legal_run (played p c.in-Some.next.m) (run (tokens c.in-Some.next.others.now)) in
+    let first : length (spaced s p left) ≡ length (spaced s p (c.in-Some.next.m ∷ later)) = ap (λ (moves : List Move). length (spaced s p moves)) c.in-Some.ensures.2 in
+    let whole = ap length c.loop-next.invariant.text in
     omega (
       arith,
       first,
       whole,
-      c.loop-m.invariant.room,
+      c.loop-next.invariant.room,
       c.requires,
-      length-append c.loop-m.out.text (spaced s p left),
-      length-append (32 ∷ written s p c.in-Some.m) (spaced s (played p c.in-Some.m) later),
+      length-append c.loop-next.out.text (spaced s p left),
+      length-append (32 ∷ written s p c.in-Some.next.m) (spaced s (played p c.in-Some.next.m) later),
       length-append c.args.out.now.text (spaced s c.args.at.now (legal_run c.args.at.now (run (tokens c.args.moves.now)))),
     )

@@ -5,11 +5,11 @@ use Rattle.uci_lines.specs.Moves.{run}
 use Rattle.think_text.specs.Line.{legal_run, spaced}
 use Rattle.think_text.proofs.line.write_moves.Given as goal
 
-abbrev pub invariant-loop-m : goal.invariant-loop-m
-invariant-loop-m l = record {
+abbrev pub invariant-loop-next : goal.invariant-loop-next
+invariant-loop-next l = record {
   text : l.out.text ++ spaced l.spelling l.position (legal_run l.position (run (tokens l.others))) ≡ l.initial.out.text ++ spaced l.spelling l.initial.position (legal_run l.initial.position (run (tokens l.initial.others)));
   room : l.out.room ≡ l.initial.out.room;
 }
 
-abbrev pub decreases-loop-m : goal.decreases-loop-m
-decreases-loop-m l = length (legal_run l.position (run (tokens l.others)))
+abbrev pub decreases-loop-next : goal.decreases-loop-next
+decreases-loop-next l = length (legal_run l.position (run (tokens l.others)))

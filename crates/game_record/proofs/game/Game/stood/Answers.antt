@@ -1,4 +1,4 @@
--- At most 12,000 positions stand behind the start.
+-- At most 12,000 positions follow the start.
 use Rattle.std.proofs.Common.{◌≡◌, ◌∷◌, List, length, sym, subst, ap, ◌∙◌, arith}
 use Rattle.std.proofs.lemmas.List.{length-map}
 use Rattle.chess_board.specs.Position.{Position}

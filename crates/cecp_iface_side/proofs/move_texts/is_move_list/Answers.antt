@@ -2,7 +2,7 @@ use Rattle.std.proofs.Common.{◌∙◌, ◌+◌, sym, ap, arith, length}
 use Rattle.std.proofs.lemmas.List.{length-drop}
 use Rattle.cecp_iface_side.specs.ReplyReading.{are_moves}
 use Rattle.cecp_iface_side.proofs.Fronts.{found_at, moves_last, moves_skip, moves_stop}
-use Rattle.cecp_iface_side.proofs.reply_read.is_move_list.Goals as goal
+use Rattle.cecp_iface_side.proofs.move_texts.is_move_list.Goals as goal
 
 pub returns-then-not-is_move_text : goal.returns-then-not-is_move_text
 returns-then-not-is_move_text c =

@@ -1,6 +1,6 @@
 use Rattle.std.proofs.Common.{◌≡◌, ◌≤◌, length}
 use Rattle.cecp_iface_side.specs.ReplyReading.{are_moves}
-use Rattle.cecp_iface_side.proofs.reply_read.is_move_list.Given as goal
+use Rattle.cecp_iface_side.proofs.move_texts.is_move_list.Given as goal
 
 abbrev pub invariant-loop-at : goal.invariant-loop-at
 invariant-loop-at l = record {
