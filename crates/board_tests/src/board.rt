@@ -1,11 +1,10 @@
 //! Move counts that are known of the rules, and each public function once.
-use crate::positions::{board_of, expect_text, move_of, position_of};
+use crate::positions::{board_of, build_of, expect_text, move_of, position_of};
 use chess_board::{
     BuildFault, Kind, Move, Position, Side, Square, State, equal_moves, equal_positions, read_move,
     write_move,
 };
 use std::process::Abort;
-use std::test::Fail;
 
 /// How many ways there are to play so many moves.
 fn count_lines(position: Position, depth: u32) -> u64 {
@@ -44,21 +43,12 @@ const COUNTS: [Count; 4] = [
     ),
 ];
 
-fn expect_count(rt: &impl Abort, position: Position, depth: u32, lines: u64, field: &str) {
-    assert_eq!(rt; count_lines(position, depth), lines, "{field}");
-}
-
-fn expect_counts(rt: &impl Abort, rows: &[Count]) -> Result<(), Fail> {
-    for (field, rights, depth, lines) in rows {
-        let position = position_of(field, Side::White, rights, None)?;
-        expect_count(rt, position, *depth, *lines, field);
-    }
-    Ok(())
-}
-
 #[test]
-fn counts_lines_of_play(rt: HostRuntime) -> Result<(), Fail> {
-    expect_counts(&rt, &COUNTS)
+fn counts_lines_of_play(rt: HostRuntime) {
+    for (field, rights, depth, lines) in &COUNTS {
+        let position = position_of(&rt, field, Side::White, rights, None);
+        assert!(rt; count_lines(position, *depth) == *lines, "{field}");
+    }
 }
 
 /// The position after moves that are written with blanks between.
@@ -69,51 +59,39 @@ fn after(rt: &impl Abort, mut position: Position, moves: &str) -> Position {
     position
 }
 
-fn expect_square(rt: &impl Abort, found: Option<Square>, want: Option<Square>) {
-    assert_eq!(rt; found, want);
-}
-
-fn expect_man(rt: &impl Abort, found: Option<(Side, Kind)>, side: Side, kind: Kind) {
-    assert_eq!(rt; found, Some((side, kind)));
-}
-
-fn expect_start(rt: &impl Abort, start: &Position) {
-    let e1 = Square::at(4, 0).expect(rt, "e1");
-    let f3 = Square::at(5, 2).expect(rt, "f3");
-    expect_square(rt, Square::at(8, 0), None);
+#[test]
+fn stands_at_the_start(rt: HostRuntime) {
+    let start = Position::start();
+    let e1 = Square::at(4, 0).expect(&rt, "e1");
+    let f3 = Square::at(5, 2).expect(&rt, "f3");
+    assert!(rt; Square::at(8, 0).is_none());
     assert!(rt; f3.file() == 5 && f3.rank() == 2);
-    expect_man(rt, start.piece(e1), Side::White, Kind::King);
+    assert!(rt; start.piece(e1) == Some((Side::White, Kind::King)));
     assert!(rt; start.side().other() == Side::Black);
     assert!(rt; start.rights().wk && start.rights().bq);
     assert!(rt; start.attacked(f3, Side::White) && !start.attacked(f3, Side::Black));
     assert!(rt; !start.in_check());
-    assert!(rt; equal_positions(start, &Position::start()) && start.is_standard());
+    assert!(rt; equal_positions(&start, &Position::start()) && start.is_standard());
     start.facts();
 }
 
-fn expect_counters(rt: &impl Abort, position: &Position, half: u32, full: u32) {
-    assert_eq!(rt; (position.half(), position.full()), (half, full));
-}
-
 #[test]
-fn plays_moves(rt: HostRuntime) -> Result<(), Fail> {
+fn plays_moves(rt: HostRuntime) {
     let start = Position::start();
-    expect_start(&rt, &start);
     let knights = after(&rt, start, "g1f3 g8f6 f3g1 f6g8");
     assert!(rt; knights.same(&start) && knights != start && !knights.is_standard());
-    expect_counters(&rt, &knights, 4, 3);
+    assert!(rt; knights.half() == 4 && knights.full() == 3);
     let d6 = Square::at(3, 5).expect(&rt, "d6");
     let opened = after(&rt, start, "e2e4");
-    expect_square(&rt, opened.passant(), None);
+    assert!(rt; opened.passant().is_none());
     let passed = after(&rt, start, "e2e4 a7a6 e4e5 d7d5");
-    expect_square(&rt, passed.passant(), Some(d6));
+    assert!(rt; passed.passant() == Some(d6));
     let captured = after(&rt, start, "e2e4 a7a6 e4e5 d7d5 e5d6");
-    expect_man(&rt, captured.piece(d6), Side::White, Kind::Pawn);
+    assert!(rt; captured.piece(d6) == Some((Side::White, Kind::Pawn)));
     let castled = after(&rt, start, "g2g3 a7a6 f1g2 a6a5 g1f3 a5a4 e1g1");
     assert!(rt; !castled.rights().wk && castled.rights().bk);
     let mated = after(&rt, start, "f2f3 e7e5 g2g4 d8h4");
     assert!(rt; mated.state() == State::Mate);
-    Ok(())
 }
 
 // A board, the side on move, and the state of the position, or why there is none.
@@ -128,51 +106,38 @@ const STATES: [Stated; 6] = [
     ("4k3/8/8/8/8/8/4R3/4K3", Side::White, Err(BuildFault::Kings)),
 ];
 
-fn expect_state(rt: &impl Abort, field: &str, side: Side, want: Result<State, BuildFault>) {
-    let found = match position_of(field, side, "KQkq", None) {
-        Ok(position) => Ok(position.state()),
-        Err(fault) => Err(fault),
-    };
-    assert!(rt; found == want, "{field}");
-}
-
 fn expect_states(rt: &impl Abort, rows: &[Stated]) {
     for (field, side, want) in rows {
-        expect_state(rt, field, *side, *want);
+        let found = match build_of(field, *side, "KQkq", None) {
+            Ok(position) => Ok(position.state()),
+            Err(fault) => Err(fault),
+        };
+        assert!(rt; found == *want, "{field}");
     }
 }
 
-fn expect_moves(rt: &impl Abort, start: &Position) {
-    let moves = start.moves();
-    let first = moves.as_slice().first().copied();
-    assert_eq!(rt; first, read_move(b"a2a3"));
+#[test]
+fn reads_and_builds(rt: HostRuntime) {
+    let start = Position::start();
+    assert!(rt; start.moves().as_slice().first().copied() == read_move(b"a2a3"));
     let promotion = Move {
-        from: Square::at(1, 6).expect(rt, "b7"),
-        to: Square::at(0, 7).expect(rt, "a8"),
+        from: Square::at(1, 6).expect(&rt, "b7"),
+        to: Square::at(0, 7).expect(&rt, "a8"),
         promotion: Some(Kind::Queen),
     };
-    expect_text(rt, write_move(promotion).as_slice(), "b7a8q");
-    assert!(rt; equal_moves(move_of(rt, "b7a8Q"), promotion));
+    expect_text(&rt, write_move(promotion).as_slice(), "b7a8q");
+    assert!(rt; equal_moves(move_of(&rt, "b7a8Q"), promotion));
     assert!(rt; !start.legal(promotion));
     assert!(rt; start.try_play(promotion).is_none());
-    assert_eq!(rt; read_move(b"e2e9"), None);
-    assert_eq!(rt; read_move(b"e7e8k"), None);
-}
-
-#[test]
-fn reads_and_builds(rt: HostRuntime) -> Result<(), Fail> {
-    let start = Position::start();
-    expect_moves(&rt, &start);
+    for text in [b"e2e9".as_slice(), b"e7e8k"] {
+        assert!(rt; read_move(text).is_none());
+    }
     expect_states(&rt, &STATES);
-    let counted = Position::build(
-        &board_of("4k3/8/8/8/8/8/8/4K2R"),
-        Side::White,
-        start.rights(),
-        None,
-        100_000,
-        0,
-    )?;
-    expect_counters(&rt, &counted, 99_999, 1);
+    let board = board_of("4k3/8/8/8/8/8/8/4K2R");
+    let counted = Position::build(&board, Side::White, start.rights(), None, 100_000, 0).expect(
+        &rt,
+        "a position",
+    );
+    assert!(rt; counted.half() == 99_999 && counted.full() == 1);
     assert!(rt; counted.rights().wk && !counted.rights().wq);
-    Ok(())
 }

@@ -2,7 +2,6 @@
 use crate::positions::expect_text;
 use chess_board::Position;
 use fen_text::{FenFault, read_fen, write_fen};
-use std::process::Abort;
 
 const START: &str = "rnbqkbnr/pppppppp/8/8/8/8/PPPPPPPP/RNBQKBNR w KQkq - 0 1";
 
@@ -98,34 +97,14 @@ const FAULTY: [(&str, FenFault); 27] = [
     ("4k3/4R3/8/8/8/8/8/4K3 w - - 0 1", FenFault::Kings),
 ];
 
-fn expect_written(rt: &impl Abort, text: &str, want: &str) {
-    let written = match read_fen(text.as_bytes()) {
-        Ok(position) => write_fen(&position),
-        Err(_) => panic!(rt; "no position: {text}"),
-    };
-    expect_text(rt, written.as_slice(), want);
-}
-
-fn expect_all_written(rt: &impl Abort, rows: &[(&'static str, &'static str)]) {
-    for (text, want) in rows {
-        expect_written(rt, text, want);
-    }
-}
-
-fn expect_fault(rt: &impl Abort, text: &str, want: FenFault) {
-    let found = read_fen(text.as_bytes()).err();
-    assert!(rt; found == Some(want), "{found:?} of {text}");
-}
-
-fn expect_faults(rt: &impl Abort, rows: &[(&'static str, FenFault)]) {
-    for (text, want) in rows {
-        expect_fault(rt, text, *want);
-    }
-}
-
 #[test]
 fn reads_and_writes(rt: HostRuntime) {
-    expect_all_written(&rt, &SPELLED);
-    expect_faults(&rt, &FAULTY);
+    for (text, want) in &SPELLED {
+        let position = read_fen(text.as_bytes()).expect(&rt, text);
+        expect_text(&rt, write_fen(&position).as_slice(), want);
+    }
+    for (text, want) in &FAULTY {
+        assert!(rt; read_fen(text.as_bytes()).err() == Some(*want), "{text}");
+    }
     expect_text(&rt, write_fen(&Position::start()).as_slice(), START);
 }

@@ -44,8 +44,8 @@ pub fn board_of(field: &str) -> [Option<(Side, Kind)>; 64] {
     board
 }
 
-/// The position of a FEN's first four fields, with the rights as letters.
-pub fn position_of(
+/// What is built of a FEN's first four fields, with the rights as letters.
+pub fn build_of(
     field: &str,
     side: Side,
     rights: &str,
@@ -60,10 +60,22 @@ pub fn position_of(
     Position::build(&board_of(field), side, rights, passant, 0, 1)
 }
 
+/// The position of a FEN's first four fields. Of the rights, which are letters, those are dropped
+/// that cannot stand.
+pub fn position_of(
+    rt: &impl Abort,
+    field: &str,
+    side: Side,
+    rights: &str,
+    passant: Option<Square>,
+) -> Position {
+    build_of(field, side, rights, passant).expect(rt, field)
+}
+
 pub fn move_of(rt: &impl Abort, text: &str) -> Move {
     read_move(text.as_bytes()).expect(rt, "a move")
 }
 
 pub fn expect_text(rt: &impl Abort, found: &[u8], want: &str) {
-    assert_eq!(rt; found, want.as_bytes());
+    assert!(rt; found == want.as_bytes(), "{want}");
 }

@@ -1,17 +1,12 @@
 //! Moves whose texts were worked out by hand.
 use crate::positions::{expect_text, move_of, position_of};
-use chess_board::{Move, Position, Side, Square, equal_moves};
+use chess_board::{Position, Side, Square};
 use san_text::{SanFault, read_long_form, read_san, write_san};
 use std::process::Abort;
-use std::test::Fail;
-
-fn expect_move(rt: &impl Abort, found: Option<Move>, want: Move) {
-    assert!(rt; equal_moves(found.expect(rt, "a move"), want));
-}
 
 /// The position of a FEN's board with all rights, of which `build` drops those that cannot stand.
-fn stood(field: &str, side: Side, passant: Option<Square>) -> Result<Position, Fail> {
-    Ok(position_of(field, side, "KQkq", passant)?)
+fn stood(rt: &impl Abort, field: &str, side: Side, passant: Option<Square>) -> Position {
+    position_of(rt, field, side, "KQkq", passant)
 }
 
 /// Writes a move, and reads what was written.
@@ -19,7 +14,7 @@ fn writes(rt: &impl Abort, at: &Position, m: &str, text: &str) {
     let m = move_of(rt, m);
     assert!(rt; at.legal(m));
     expect_text(rt, write_san(at, m).as_slice(), text);
-    expect_move(rt, read_san(at, text.as_bytes()).ok(), m);
+    assert!(rt; read_san(at, text.as_bytes()) == Ok(m), "{text}");
 }
 
 // A board with White on move, a move, and its text.
@@ -47,28 +42,20 @@ const WRITTEN: [Written; 19] = [
     ("1r5k/P7/8/8/8/8/8/K7", "a7b8r", "axb8=R+"),
 ];
 
-fn writes_all(rt: &impl Abort, rows: &[Written]) -> Result<(), Fail> {
-    for (board, m, text) in rows {
-        writes(rt, &stood(board, Side::White, None)?, m, text);
-    }
-    Ok(())
-}
-
 #[test]
-fn moves_are_written(rt: HostRuntime) -> Result<(), Fail> {
-    writes_all(&rt, &WRITTEN)?;
-    let mated = stood(
-        "rnbqkbnr/pppp1ppp/8/4p3/6P1/5P2/PPPPP2P/RNBQKBNR",
-        Side::Black,
-        None,
-    )?;
+fn moves_are_written(rt: HostRuntime) {
+    for (board, m, text) in &WRITTEN {
+        writes(&rt, &stood(&rt, board, Side::White, None), m, text);
+    }
+    let board = "rnbqkbnr/pppp1ppp/8/4p3/6P1/5P2/PPPPP2P/RNBQKBNR";
+    let mated = stood(&rt, board, Side::Black, None);
     writes(&rt, &mated, "d8h4", "Qh4#");
     writes(&rt, &mated, "e5e4", "e4");
-    let passant = stood("4k3/8/8/3pP3/8/8/8/4K3", Side::White, Square::at(3, 5))?;
+    let d6 = Square::at(3, 5);
+    let passant = stood(&rt, "4k3/8/8/3pP3/8/8/8/4K3", Side::White, d6);
     writes(&rt, &passant, "e5d6", "exd6");
-    let castling = stood("r3k3/8/8/8/8/8/8/4K3", Side::Black, None)?;
+    let castling = stood(&rt, "r3k3/8/8/8/8/8/8/4K3", Side::Black, None);
     writes(&rt, &castling, "e8c8", "O-O-O");
-    Ok(())
 }
 
 // A text that is refused, and why.
@@ -100,32 +87,30 @@ const READ: [Read; 6] = [
     ("Rd1", "a1d1"),
 ];
 
-fn expect_fault(rt: &impl Abort, found: Option<SanFault>, want: SanFault) {
-    assert!(rt; found == Some(want));
-}
-
 fn refuses(rt: &impl Abort, at: &Position, rows: &[Refused]) {
     for (text, fault) in rows {
-        expect_fault(rt, read_san(at, text.as_bytes()).err(), *fault);
+        assert!(rt; read_san(at, text.as_bytes()) == Err(*fault), "{text}");
     }
 }
 
 fn reads(rt: &impl Abort, at: &Position, rows: &[Read]) {
     for (text, m) in rows {
-        expect_move(rt, read_san(at, text.as_bytes()).ok(), move_of(rt, m));
+        assert!(rt;
+            read_san(at, text.as_bytes()) == Ok(move_of(rt, m)),
+            "{text}"
+        );
     }
 }
 
 #[test]
-fn texts_are_read(rt: HostRuntime) -> Result<(), Fail> {
-    let rooks = stood("4k3/8/8/8/8/8/4K3/R6R", Side::White, None)?;
+fn texts_are_read(rt: HostRuntime) {
+    let rooks = stood(&rt, "4k3/8/8/8/8/8/4K3/R6R", Side::White, None);
     refuses(&rt, &rooks, &REFUSED);
-    let castling = stood("4k3/8/8/8/8/8/8/R3K2R", Side::White, None)?;
+    let castling = stood(&rt, "4k3/8/8/8/8/8/8/R3K2R", Side::White, None);
     refuses(&rt, &castling, &REFUSED_AT_HOME);
     reads(&rt, &castling, &READ);
-    let pawn = stood("7k/P7/8/8/8/8/8/K7", Side::White, None)?;
+    let pawn = stood(&rt, "7k/P7/8/8/8/8/8/K7", Side::White, None);
     reads(&rt, &pawn, &[("a8Q", "a7a8q")]);
-    Ok(())
 }
 
 // Texts by their squares, and the moves they are.
@@ -158,27 +143,29 @@ const NO_PROMOTIONS: [&str; 3] = ["e7-e8", "e7-e8=K", "e7-e8="];
 /// Reads each text as the move beside it, by its squares.
 fn reads_long_forms(rt: &impl Abort, at: &Position, rows: &[Read]) {
     for (text, m) in rows {
-        expect_move(rt, read_long_form(at, text.as_bytes()), move_of(rt, m));
+        assert!(rt;
+            read_long_form(at, text.as_bytes()) == Some(move_of(rt, m)),
+            "{text}"
+        );
     }
 }
 
 fn refuses_long_forms(rt: &impl Abort, at: &Position, texts: &[&'static str]) {
     for text in texts {
-        assert!(rt; read_long_form(at, text.as_bytes()).is_none());
+        assert!(rt; read_long_form(at, text.as_bytes()).is_none(), "{text}");
     }
 }
 
 #[test]
-fn long_forms_are_read(rt: HostRuntime) -> Result<(), Fail> {
+fn long_forms_are_read(rt: HostRuntime) {
     let start = Position::start();
     reads_long_forms(&rt, &start, &KNIGHTS);
     refuses_long_forms(&rt, &start, &NO_STARTS);
-    let promotion = stood("3r4/4P1k1/8/8/8/8/6K1/8", Side::White, None)?;
+    let promotion = stood(&rt, "3r4/4P1k1/8/8/8/8/6K1/8", Side::White, None);
     reads_long_forms(&rt, &promotion, &PROMOTIONS);
     refuses_long_forms(&rt, &promotion, &NO_PROMOTIONS);
-    let rooks = stood("r3k2r/8/8/8/8/8/8/R3K2R", Side::Black, None)?;
+    let rooks = stood(&rt, "r3k2r/8/8/8/8/8/8/R3K2R", Side::Black, None);
     reads_long_forms(&rt, &rooks, &CASTLING);
-    let passant = stood("4k3/8/8/3pP3/8/8/8/4K3", Side::White, Square::at(3, 5))?;
+    let passant = stood(&rt, "4k3/8/8/3pP3/8/8/8/4K3", Side::White, Square::at(3, 5));
     reads_long_forms(&rt, &passant, &[("e5xd6", "e5d6")]);
-    Ok(())
 }

@@ -5,7 +5,6 @@ use game_text::{GAME_ROOM, sans_are_lawful, write_game};
 use line_io::Out;
 use std::alloc::Global;
 use std::process::Abort;
-use std::test::Fail;
 
 // A start, or the standard one, the moves, and the text.
 type Written = (&'static str, &'static [&'static str], &'static str);
@@ -31,33 +30,24 @@ const GAMES: [Written; 4] = [
     ),
 ];
 
-fn expect_game(
-    rt: &impl Abort,
-    alloc: Global,
-    start: &str,
-    moves: &[&'static str],
-    want: &str,
-) -> Result<(), Fail> {
-    let mut game = Game::make(alloc)?;
-    let mut out = Out::make(alloc, GAME_ROOM)?;
+fn expect_game(rt: &impl Abort, alloc: Global, row: &Written, out: &mut Out) {
+    let (start, moves, want) = row;
+    let mut game = Game::make(alloc).expect(rt, "memory");
     if !start.is_empty() {
         game.reset(position_of(rt, start));
     }
     play_all(rt, &mut game, moves);
-    write_game(&game, &mut out);
+    out.clear();
+    assert!(rt; out.spare() == GAME_ROOM);
+    write_game(&game, out);
     expect_text(rt, out.bytes(), want);
-    Ok(())
-}
-
-fn expect_games(rt: &impl Abort, alloc: Global, rows: &[Written]) -> Result<(), Fail> {
-    for (start, moves, want) in rows {
-        expect_game(rt, alloc, start, moves, want)?;
-    }
-    Ok(())
 }
 
 #[test]
-fn writes_games(rt: HostRuntime) -> Result<(), Fail> {
+fn writes_games(rt: HostRuntime) {
     sans_are_lawful();
-    expect_games(&rt, rt.alloc(), &GAMES)
+    let mut out = Out::make(rt.alloc(), GAME_ROOM).expect(&rt, "memory");
+    for row in &GAMES {
+        expect_game(&rt, rt.alloc(), row, &mut out);
+    }
 }

@@ -10,7 +10,8 @@ use crate::waiting_host::WaitingHost;
 use bridge_app::bridge_main;
 use event_pipe::{Pipe, ReadEnd};
 use line_io::{MemSink, NoMemory, NullSink};
-use mediator::{Channel, HandedStreams, RunEnd, run_pipes};
+use mediator::{MediatorParts, RunEnd, Turns, run_pipes};
+use sink_offers::{HandedStreams, Interface};
 use std::alloc::Global;
 use std::process::Abort;
 use std::sync::Wait;
@@ -21,16 +22,25 @@ use std::thread::Threads;
 fn run_talk<R: Threads + Wait + Sync>(
     rt: &R,
     alloc: Global,
-    ready: &mut ReadySession,
+    ready: ReadySession,
     took: &AtomicU64,
 ) -> Result<RunEnd, NoMemory>
-    requires { IsReady ready.old.session ready.old.text }
+    requires { IsReady ready.session ready.text }
 {
     let (iface, engine, taker) = Pipe::make(alloc)?;
-    let channel = Channel {
+    let ReadySession { session, text } = ready;
+    let parts = MediatorParts {
         iface,
         engine,
-        taker,
+        turns: Turns {
+            mediator: session,
+            taker,
+            text,
+        },
+    };
+    let mut interface = Interface {
+        input: Waiting::new(took, IFACE.as_slice()),
+        output: NullSink::new(),
     };
     let log: Option<NullSink> = None;
     let mut handed = HandedStreams {
@@ -38,24 +48,15 @@ fn run_talk<R: Threads + Wait + Sync>(
         engine: Telling::new(took),
         log,
     };
-    Ok(run_pipes(
-        rt,
-        alloc,
-        &mut ready.session,
-        b"",
-        channel,
-        &mut Waiting::new(took, IFACE.as_slice()),
-        &mut NullSink::new(),
-        &mut handed,
-        &mut ready.text,
-    ))
+    let run = run_pipes(rt, alloc, parts, b"", &mut interface, &mut handed);
+    Ok(run.end)
 }
 
 #[test]
 fn readers_run_beside(rt: HostRuntime) {
     let took = AtomicU64::new(0);
-    let mut ready = make_ready(rt.alloc()).expect(&rt, "memory for the core");
-    let end = run_talk(&rt, rt.alloc(), &mut ready, &took).expect(&rt, "memory for the channel");
+    let ready = make_ready(rt.alloc()).expect(&rt, "memory for the core");
+    let end = run_talk(&rt, rt.alloc(), ready, &took).expect(&rt, "memory for the channel");
     assert!(rt; end.iface == ReadEnd::Done);
     assert!(rt; end.engine == ReadEnd::Done);
     assert!(rt; took.load(Ordering::SeqCst) == QUIT);
@@ -68,20 +69,22 @@ fn run_program<R: Threads + Wait + Sync + Abort>(
     took: &AtomicU64,
 ) -> RunResult {
     let words = words_of(alloc, &["toy"]).expect(rt, "memory for the words");
-    let mut output = MemSink::make(alloc, 1_000, &[]).expect(rt, "memory for the output");
+    let mut interface = Interface {
+        input: Waiting::new(took, IFACE.as_slice()),
+        output: MemSink::make(alloc, 1_000, &[]).expect(rt, "memory for the output"),
+    };
     let mut diag = MemSink::make(alloc, 1_000, &[]).expect(rt, "memory for the diagnostic");
     let status = bridge_main(
         rt,
         alloc,
         words.as_slice(),
-        &mut Waiting::new(took, IFACE.as_slice()),
-        &mut output,
+        &mut interface,
         &mut WaitingHost::new(took),
         &mut diag,
     );
     RunResult {
         code: status.code,
-        output,
+        output: interface.output,
         diag,
     }
 }

@@ -6,6 +6,7 @@ use bridge_runner::logs_are_whole;
 use child_engine::{Fails, MemHost};
 use line_io::{MemSink, NoMemory};
 use paced_host::{DueText, PacedHost, PacedTexts};
+use sink_offers::Interface;
 use std::alloc::Global;
 use std::process::Abort;
 use std::sync::Wait;
@@ -38,15 +39,16 @@ fn status_with<R: Threads + Wait + Sync + Abort>(
     };
     let host = MemHost::make(alloc, session.engine, 100, 10_000, &fails)?;
     let mut host = PacedHost::new(alloc, host, &lines, session.engine_ends);
-    let mut input = PacedTexts::new(&lines, session.iface);
-    let mut output = MemSink::make(alloc, 1_000, &[])?;
+    let mut interface = Interface {
+        input: PacedTexts::new(&lines, session.iface),
+        output: MemSink::make(alloc, 1_000, &[])?,
+    };
     let mut diag = MemSink::make(alloc, 1_000, &[])?;
     let status = bridge_main(
         rt,
         alloc,
         words.as_slice(),
-        &mut input,
-        &mut output,
+        &mut interface,
         &mut host,
         &mut diag,
     );

@@ -35,8 +35,8 @@ fn run_once<H: Host>(host: &mut H, alloc: Global, piece: &[u8]) -> Result<Answer
     let words = engine_words(alloc)?;
     let mut run = host.start(alloc, words.as_slice())?;
     let mut buf = [0; 8];
-    let write = run.snk.write(piece);
-    let reads = [run.src.read(&mut buf), run.src.read(&mut buf)];
+    let write = run.sink.write(piece);
+    let reads = [run.source.read(&mut buf), run.source.read(&mut buf)];
     Ok((write, reads, host.close(run)))
 }
 

@@ -7,7 +7,7 @@ use crate::expected::{expect_bytes, expect_log};
 use crate::ready::{ReadySession, make_ready};
 use event_pipe::{Pipe, PipeSend, PipeTake, read_pipe};
 use line_io::{MemSink, MemSource, NoMemory};
-use mediator::mediate;
+use mediator::{Turns, mediate};
 use sink_offers::LoopEnd;
 use std::alloc::Global;
 use std::process::Abort;
@@ -55,25 +55,23 @@ fn read_lines<R: Wait + Abort>(rt: &R, alloc: Global, lines: &[u8], to: &mut Pip
 }
 
 // Steps the session by what is in the channel.
-fn step_all<R: Wait>(
-    rt: &R,
-    ready: &mut ReadySession,
-    taker: PipeTake,
-    sinks: &mut Sinks,
-) -> LoopEnd
-    requires ready { IsReady ready.old.session ready.old.text }
+fn step_all<R: Wait>(rt: &R, ready: ReadySession, taker: PipeTake, sinks: &mut Sinks) -> LoopEnd
+    requires ready { IsReady ready.session ready.text }
     requires taker { IsFreshTaker taker }
 {
-    let mut taker = taker;
+    let ReadySession { session, text } = ready;
+    let mut turns = Turns {
+        mediator: session,
+        taker,
+        text,
+    };
     mediate(
         rt,
-        &mut ready.session,
+        &mut turns,
         b"",
-        &mut taker,
         &mut sinks.output,
         &mut sinks.engine,
         &mut sinks.log,
-        &mut ready.text,
     )
 }
 
@@ -87,10 +85,8 @@ fn run_loop<R: Wait + Abort>(
     let (mut iface, mut child, taker) = Pipe::make(alloc).expect(rt, "memory for the channel");
     read_lines(rt, alloc, lines.0, &mut child);
     read_lines(rt, alloc, lines.1, &mut iface);
-    let mut ready = make_ready(alloc).expect(rt, "memory for the core");
-    let end = step_all(rt, &mut ready, taker, sinks);
-    drop(ready);
-    end
+    let ready = make_ready(alloc).expect(rt, "memory for the core");
+    step_all(rt, ready, taker, sinks)
 }
 
 // That the engine is lost is the very next step behind the write that fails.

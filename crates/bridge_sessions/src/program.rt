@@ -5,6 +5,7 @@ use crate::expected::expect_bytes;
 use bridge_app::bridge_main;
 use child_engine::{Host, SteadyHost};
 use line_io::{MemSink, MemSource, NoMemory};
+use sink_offers::Interface;
 use std::alloc::Global;
 use std::process::Abort;
 use std::sync::Wait;
@@ -62,21 +63,15 @@ pub fn run_over<H: Host, R: Threads + Wait + Sync + Abort>(
     requires { IsUnused (H.books host.old) }
 {
     let words = words_of(alloc, words).expect(rt, "memory for the words");
-    let mut input = MemSource::make(alloc, INPUT, 5, &[]).expect(rt, "memory for the input");
-    let mut output = MemSink::make(alloc, 1000, &[]).expect(rt, "memory for the output");
+    let mut interface = Interface {
+        input: MemSource::make(alloc, INPUT, 5, &[]).expect(rt, "memory for the input"),
+        output: MemSink::make(alloc, 1000, &[]).expect(rt, "memory for the output"),
+    };
     let mut diag = MemSink::make(alloc, 1000, failing).expect(rt, "memory for the diagnostic");
-    let status = bridge_main(
-        rt,
-        alloc,
-        words.as_slice(),
-        &mut input,
-        &mut output,
-        host,
-        &mut diag,
-    );
+    let status = bridge_main(rt, alloc, words.as_slice(), &mut interface, host, &mut diag);
     RunResult {
         code: status.code,
-        output,
+        output: interface.output,
         diag,
     }
 }

@@ -62,12 +62,12 @@ impl Host for Recorder {
     fn close(&mut self, run: Started<MemSource, MemSink, ()>) -> Result<(), Failed>
         requires { length (books_of self.old.host).runs < (books_of self.old.host).runs_out }
         ensures books { books_of self.new.host ≡ with_closed_run (books_of self.old.host)
-            (shown_by_source run.src) (shown_by_sink run.snk) }
+            (shown_by_source run.source) (shown_by_sink run.sink) }
         ensures asked { asked_of self.new.host ≡ asked_of self.old.host }
         ensures cause { ClosesBy self.old.host.faults self.new.host.faults
-            (shown_by_source run.src).faults (shown_by_sink run.snk).faults result }
+            (shown_by_source run.source).faults (shown_by_sink run.sink).faults result }
     {
-        let _ = self.wrote.extend_from_slice(run.snk.taken());
+        let _ = self.wrote.extend_from_slice(run.sink.taken());
         self.host.close(run)
     }
 

@@ -73,9 +73,9 @@ impl<'a> Host for WaitingHost<'a> {
     ) -> Result<Started<Waiting<'a>, Telling<'a>, ()>, HostFault> {
         self.runs_out += 1;
         Ok(Started {
-            src: Waiting::new(self.took, ENGINE.as_slice()),
-            snk: Telling::new(self.took),
-            kid: (),
+            source: Waiting::new(self.took, ENGINE.as_slice()),
+            sink: Telling::new(self.took),
+            process: (),
         })
     }
 
@@ -93,14 +93,14 @@ impl<'a> Host for WaitingHost<'a> {
             (books_with self.old.runs_out self.old.logs_out
             self.old.runs_closed self.old.logs_closed)
             (untold_source 0) (untold_sink 0) }
-        ensures cause { ClosesBy self.old.faults self.new.faults run.entry.src.faults 0 result }
+        ensures cause { ClosesBy self.old.faults self.new.faults run.entry.source.faults 0 result }
     {
         let Started {
-            src,
-            snk: _,
-            kid: (),
+            source,
+            sink: _,
+            process: (),
         } = run;
-        self.faults.reads = raised(self.faults.reads, src.faults());
+        self.faults.reads = raised(self.faults.reads, source.faults());
         self.runs_closed += 1;
         Ok(())
     }

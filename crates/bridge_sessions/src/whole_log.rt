@@ -9,6 +9,7 @@ use crate::program::{ENGINE, words_of};
 use bridge_app::bridge_main;
 use child_engine::{Fails, MemHost};
 use line_io::{MemSink, MemSource, NoMemory};
+use sink_offers::Interface;
 use std::alloc::Global;
 use std::process::Abort;
 use std::sync::Wait;
@@ -19,8 +20,7 @@ fn log_of<R: Threads + Wait + Sync>(
     rt: &R,
     alloc: Global,
     words: &[Vec<u8>],
-    input: &mut MemSource,
-    output: &mut MemSink,
+    interface: &mut Interface<MemSource, MemSink>,
     diag: &mut MemSink,
     host: &mut MemHost,
 ) -> Result<Option<Vec<u8>>, NoMemory>
@@ -28,7 +28,7 @@ fn log_of<R: Threads + Wait + Sync>(
     ensures { IfOk result (λ log. IfSome log (λ log.
         IsScript (bytes_of words.now) (means_of host.old).engine log.items)) }
 {
-    let status = bridge_main(rt, alloc, words, input, output, host, diag);
+    let status = bridge_main(rt, alloc, words, interface, host, diag);
     if status.code != 0 {
         return Ok(None);
     }
@@ -41,16 +41,17 @@ fn log_of_a_ping<R: Threads + Wait + Sync + Abort>(
     alloc: Global,
 ) -> Result<Option<Vec<u8>>, NoMemory> {
     let words = words_of(alloc, &["toy"])?;
-    let mut input = MemSource::make(alloc, b"ping 3\nquit\n", 5, &[])?;
-    let mut output = MemSink::make(alloc, 1_000, &[])?;
+    let mut interface = Interface {
+        input: MemSource::make(alloc, b"ping 3\nquit\n", 5, &[])?,
+        output: MemSink::make(alloc, 1_000, &[])?,
+    };
     let mut diag = MemSink::make(alloc, 1_000, &[])?;
     let mut host = MemHost::make(alloc, ENGINE, 5, 10_000, &Fails::default())?;
     log_of(
         rt,
         alloc,
         words.as_slice(),
-        &mut input,
-        &mut output,
+        &mut interface,
         &mut diag,
         &mut host,
     )

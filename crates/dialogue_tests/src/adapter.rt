@@ -4,18 +4,15 @@ ghost use Rattle.line_io.specs.Event.{event_of};
 ghost use Rattle.policy_rules.specs.Policy.{IsProper};
 ghost use Rattle.desk_rules.specs.Steps.{quits as quits_by};
 
-use crate::rows::{event_in, expect, expect_text};
-use adapter_core::{
-    Core, Ends, ended_sides_get_nothing, interface_alone, moves_are_shown_in_time, one_dialogue,
-};
+use crate::rows::{event_in, expect_text};
+use adapter_core::{Core, Ends};
 use cecp_lines::is_quit;
-use line_io::{Event, NoMemory};
+use line_io::Event;
 use peer_words::GoKind;
 use policy_rules::Settings;
 use search_epochs::EngineState;
 use std::alloc::Global;
 use std::process::Abort;
-use std::test::Fail;
 
 const AT_START: Ends = Ends {
     opened: false,
@@ -72,36 +69,25 @@ pub fn check_session(
     settings: Settings,
     steps: &[ScriptStep],
     end: SessionEnd,
-) -> Result<(), NoMemory>
+)
     requires { IsProper settings }
 {
-    let mut core = Core::make(alloc, &settings)?;
+    let mut core = Core::make(alloc, &settings).expect(rt, "memory");
     check_event(rt, &mut core, &Event::Open, "", "uci\n");
     check_steps(rt, &mut core, steps);
     let (engine, plies, over) = end;
-    expect(rt, core.engine() == engine, "the state of the engine");
-    expect(rt, core.game().plies() == plies, "the plies of the game");
-    expect(rt, core.over() == over, "whether the session is over");
+    assert!(rt; core.engine() == engine, "the state of the engine");
+    assert!(rt; core.game().plies() == plies, "the plies of the game");
+    assert!(rt; core.over() == over, "whether the session is over");
     end_core(core);
-    Ok(())
 }
 
 /// Compares which events may come with the marks wanted.
 fn check_may(rt: &impl Abort, core: &Core, want: [bool; 8]) {
     for at in 0..8 {
         let mark = MARKS[at];
-        expect(rt, core.may(&event_in(rt, mark)) == want[at], mark);
+        assert!(rt; core.may(&event_in(rt, mark)) == want[at], "{mark}");
     }
-}
-
-#[test]
-fn laws_can_be_called(_rt: HostRuntime) -> Result<(), Fail> {
-    let settings = Settings::usual();
-    one_dialogue(settings);
-    ended_sides_get_nothing(settings);
-    interface_alone(settings);
-    moves_are_shown_in_time(settings);
-    Ok(())
 }
 
 const SHORT_GAME: [ScriptStep; 6] = [
@@ -113,13 +99,6 @@ const SHORT_GAME: [ScriptStep; 6] = [
     ("u.", "", ""),
 ];
 
-#[test]
-fn plays_a_short_game(rt: HostRuntime) -> Result<(), Fail> {
-    let end = (EngineState::Gone, 2, true);
-    check_session(&rt, rt.alloc(), Settings::usual(), &SHORT_GAME, end)?;
-    Ok(())
-}
-
 const STALE_SEARCH: [ScriptStep; 5] = [
     ("u uciok", "", "isready\n"),
     ("u readyok", "", ""),
@@ -127,26 +106,6 @@ const STALE_SEARCH: [ScriptStep; 5] = [
     ("x force", "", "stop\n"),
     ("u bestmove e7e5", "", ""),
 ];
-
-#[test]
-fn shows_nothing_of_a_stale_search(rt: HostRuntime) -> Result<(), Fail> {
-    let stale = EngineState::Search {
-        kind: GoKind::Move,
-        stale: true,
-        stopped: true,
-    };
-    let settings = Settings::usual();
-    check_session(
-        &rt,
-        rt.alloc(),
-        settings,
-        &STALE_SEARCH[..4],
-        (stale, 1, false),
-    )?;
-    let end = (EngineState::Idle, 1, false);
-    check_session(&rt, rt.alloc(), settings, &STALE_SEARCH, end)?;
-    Ok(())
-}
 
 const WITHOUT_ENGINE: [ScriptStep; 9] = [
     ("u uciok", "", "isready\n"),
@@ -161,10 +120,21 @@ const WITHOUT_ENGINE: [ScriptStep; 9] = [
 ];
 
 #[test]
-fn goes_on_without_the_engine(rt: HostRuntime) -> Result<(), Fail> {
-    let end = (EngineState::Gone, 2, true);
-    check_session(&rt, rt.alloc(), Settings::usual(), &WITHOUT_ENGINE, end)?;
-    Ok(())
+fn plays_with_the_usual_settings(rt: HostRuntime) {
+    let usual = Settings::usual();
+    let over = (EngineState::Gone, 2, true);
+    check_session(&rt, rt.alloc(), usual, &SHORT_GAME, over);
+    check_session(&rt, rt.alloc(), usual, &WITHOUT_ENGINE, over);
+    // nothing is shown of a stale search
+    let stale = EngineState::Search {
+        kind: GoKind::Move,
+        stale: true,
+        stopped: true,
+    };
+    let stopped = (stale, 1, false);
+    check_session(&rt, rt.alloc(), usual, &STALE_SEARCH[..4], stopped);
+    let idle = (EngineState::Idle, 1, false);
+    check_session(&rt, rt.alloc(), usual, &STALE_SEARCH, idle);
 }
 
 /// A mark, the lines to the engine after it, and which of the events of MARKS may come then.
@@ -186,7 +156,7 @@ const LOSSES: [Loss; 4] = [
     ("u.", "", [false; 8]),
 ];
 
-fn check_loss(rt: &impl Abort, core: &mut Core, losses: &[Loss]) {
+fn check_losses(rt: &impl Abort, core: &mut Core, losses: &[Loss]) {
     for (mark, engine, may) in losses {
         check_event(rt, core, &event_in(rt, mark), "", engine);
         check_may(rt, core, *may);
@@ -194,18 +164,26 @@ fn check_loss(rt: &impl Abort, core: &mut Core, losses: &[Loss]) {
 }
 
 #[test]
-fn tells_which_events_may_come(rt: HostRuntime) -> Result<(), Fail> {
-    let mut core = Core::make(rt.alloc(), &Settings::usual())?;
-    expect(&rt, core.may(&Event::Open), "it may open");
+fn tells_which_events_may_come(rt: HostRuntime) {
+    let usual = Settings::usual();
+    let mut core = Core::make(rt.alloc(), &usual).expect(&rt, "memory");
+    let chosen = Settings {
+        resign: true,
+        ..usual
+    };
+    core.set(&chosen);
+    assert!(rt;
+        core.settings() == chosen,
+        "settings that are chosen before the first step"
+    );
+    assert!(rt; core.may(&Event::Open), "it may open");
     check_may(&rt, &core, [false; 8]);
     check_event(&rt, &mut core, &Event::Open, "", "uci\n");
-    expect(&rt, !core.may(&Event::Open), "it opens once");
+    assert!(rt; !core.may(&Event::Open), "it opens once");
     check_may(&rt, &core, [true; 8]);
-
-    check_loss(&rt, &mut core, &LOSSES);
-    expect(&rt, core.over(), "it is over");
+    check_losses(&rt, &mut core, &LOSSES);
+    assert!(rt; core.over(), "it is over");
     end_core(core);
-    Ok(())
 }
 
 const OPENED: Ends = Ends {
@@ -267,39 +245,22 @@ const ENDS_AFTER: [(&'static str, Ends); 10] = [
     ("u!", OPENED),
 ];
 
-fn check_ends(rt: &impl Abort, opened: Ends, rows: &[(&str, Ends)]) {
-    for (mark, want) in rows {
-        let event = event_in(rt, mark);
-        let ends = opened.after(&event, quits(&event));
-        expect(rt, ends == *want, mark);
-    }
-}
-
-/// The session may open, or the input of the interface may end, and not the other.
-fn expect_open_or_end(rt: &impl Abort, ends: Ends, opens: bool, row: &str) {
-    expect(rt, ends.may(&Event::Open) == opens, row);
-    expect(rt, ends.may(&Event::IfaceEnd) != opens, row);
-}
-
 #[test]
-fn keeps_which_sides_have_ended(rt: HostRuntime) -> Result<(), Fail> {
+fn keeps_which_sides_have_ended(rt: HostRuntime) {
+    // the session may open, or the input of the interface may end, and not the other
+    assert!(rt;
+        AT_START.may(&Event::Open) && !AT_START.may(&Event::IfaceEnd),
+        "at the start"
+    );
     let opened = AT_START.after(&Event::Open, false);
-    expect(&rt, opened == OPENED, "open");
-    expect_open_or_end(&rt, AT_START, true, "at the start");
-    expect_open_or_end(&rt, opened, false, "once it is open");
-    check_ends(&rt, opened, &ENDS_AFTER);
-    Ok(())
-}
-
-#[test]
-fn settings_are_chosen_before_the_first_step(rt: HostRuntime) -> Result<(), Fail> {
-    let mut core = Core::make(rt.alloc(), &Settings::usual())?;
-    let chosen = Settings {
-        resign: true,
-        ..Settings::usual()
-    };
-    core.set(&chosen);
-    expect(&rt, core.settings() == chosen, "the settings");
-    end_core(core);
-    Ok(())
+    assert!(rt; opened == OPENED, "open");
+    assert!(rt;
+        !opened.may(&Event::Open) && opened.may(&Event::IfaceEnd),
+        "once it is open"
+    );
+    for (mark, want) in &ENDS_AFTER {
+        let event = event_in(&rt, mark);
+        let ends = opened.after(&event, quits(&event));
+        assert!(rt; ends == *want, "{mark}");
+    }
 }

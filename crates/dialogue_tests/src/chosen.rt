@@ -4,7 +4,6 @@ use adapter_core::Core;
 use line_io::Event;
 use policy_rules::Settings;
 use search_epochs::EngineState;
-use std::test::Fail;
 
 const GO_AFTER_E4: &str =
     "position startpos moves e2e4\ngo wtime 300000 btime 300000 winc 0 binc 0\n";
@@ -30,22 +29,6 @@ const DRAW_IS_PASSED_OVER: [ScriptStep; 6] = [
     ("u bestmove e7e5", "move e7e5\n", ""),
     ("x draw", "", ""),
 ];
-
-#[test]
-fn draws_are_answered_unless_switched_off(rt: HostRuntime) -> Result<(), Fail> {
-    let end = (EngineState::Idle, 2, false);
-    let on = Settings {
-        resign_moves: 1,
-        ..Settings::usual()
-    };
-    check_session(&rt, rt.alloc(), on, &DRAW_IS_ANSWERED, end)?;
-    let off = Settings {
-        handle_draws: false,
-        ..on
-    };
-    check_session(&rt, rt.alloc(), off, &DRAW_IS_PASSED_OVER, end)?;
-    Ok(())
-}
 
 // AN ENGINE THAT IS GONE
 
@@ -91,20 +74,6 @@ const ONCE: [ScriptStep; 4] = [
     ("x ping 8", "pong 8\n", ""),
 ];
 
-#[test]
-fn an_engine_that_is_gone_resigns(rt: HostRuntime) -> Result<(), Fail> {
-    let settings = Settings {
-        resign_when_gone: true,
-        ..Settings::usual()
-    };
-    let gone = EngineState::Gone;
-    check_session(&rt, rt.alloc(), settings, &OFF_MOVE, (gone, 1, false))?;
-    check_session(&rt, rt.alloc(), settings, &TOLD_TO_PLAY, (gone, 0, false))?;
-    check_session(&rt, rt.alloc(), settings, &ENDED_GAME, (gone, 2, false))?;
-    check_session(&rt, rt.alloc(), settings, &ONCE, (gone, 1, false))?;
-    Ok(())
-}
-
 // OPTIONS THAT LIMIT THE STRENGTH
 
 const STRENGTH: [ScriptStep; 8] = [
@@ -148,18 +117,6 @@ const NO_STRENGTH: [ScriptStep; 4] = [
         "",
     ),
 ];
-
-#[test]
-fn options_that_limit_the_strength_are_set_if_they_are_shown(rt: HostRuntime) -> Result<(), Fail> {
-    let end = (EngineState::Idle, 0, false);
-    let shown = Settings {
-        strength_options: true,
-        ..Settings::usual()
-    };
-    check_session(&rt, rt.alloc(), shown, &STRENGTH, end)?;
-    check_session(&rt, rt.alloc(), Settings::usual(), &NO_STRENGTH, end)?;
-    Ok(())
-}
 
 // EARLY SETTINGS
 
@@ -259,41 +216,68 @@ const CLOSED_EARLY: [ScriptStep; 3] = [
     ("u uciok", "", ""),
 ];
 
-#[test]
-fn early_settings_wait_for_the_options(rt: HostRuntime) -> Result<(), Fail> {
-    let settings = Settings {
-        early_settings: true,
-        ..Settings::usual()
-    };
-    let getting = EngineState::Getting;
-    check_session(&rt, rt.alloc(), settings, &EARLY, (getting, 0, false))?;
-    check_session(&rt, rt.alloc(), settings, &IN_TURN, (getting, 0, false))?;
-    let end = (EngineState::Idle, 1, false);
-    check_session(&rt, rt.alloc(), settings, &NO_EPOCH, end)?;
-    let end = (EngineState::Gone, 0, false);
-    check_session(&rt, rt.alloc(), settings, &LOST_EARLY, end)?;
-    let end = (EngineState::Boot, 0, false);
-    check_session(&rt, rt.alloc(), settings, &CLOSED_EARLY, end)?;
-    Ok(())
-}
-
 const ONE_MORE: [ScriptStep; 2] = [
     ("x option B", "Error (too many settings): option B\n", ""),
     ("x cores 2", "Error (too many settings): cores 2\n", ""),
 ];
 
 #[test]
-fn so_many_early_settings_wait(rt: HostRuntime) -> Result<(), Fail> {
+fn draws_and_strength_are_chosen(rt: HostRuntime) {
+    let usual = Settings::usual();
+    let idle = (EngineState::Idle, 2, false);
+    let on = Settings {
+        resign_moves: 1,
+        ..usual
+    };
+    check_session(&rt, rt.alloc(), on, &DRAW_IS_ANSWERED, idle);
+    let off = Settings {
+        handle_draws: false,
+        ..on
+    };
+    check_session(&rt, rt.alloc(), off, &DRAW_IS_PASSED_OVER, idle);
+    let shown = Settings {
+        strength_options: true,
+        ..usual
+    };
+    let begun = (EngineState::Idle, 0, false);
+    check_session(&rt, rt.alloc(), shown, &STRENGTH, begun);
+    check_session(&rt, rt.alloc(), usual, &NO_STRENGTH, begun);
+}
+
+#[test]
+fn an_engine_that_is_gone_resigns(rt: HostRuntime) {
     let settings = Settings {
+        resign_when_gone: true,
+        ..Settings::usual()
+    };
+    let gone = EngineState::Gone;
+    check_session(&rt, rt.alloc(), settings, &OFF_MOVE, (gone, 1, false));
+    check_session(&rt, rt.alloc(), settings, &TOLD_TO_PLAY, (gone, 0, false));
+    check_session(&rt, rt.alloc(), settings, &ENDED_GAME, (gone, 2, false));
+    check_session(&rt, rt.alloc(), settings, &ONCE, (gone, 1, false));
+}
+
+#[test]
+fn early_settings_wait_for_the_options(rt: HostRuntime) {
+    let early = Settings {
         early_settings: true,
         ..Settings::usual()
     };
-    let mut core = Core::make(rt.alloc(), &settings)?;
+    let getting = (EngineState::Getting, 0, false);
+    check_session(&rt, rt.alloc(), early, &EARLY, getting);
+    check_session(&rt, rt.alloc(), early, &IN_TURN, getting);
+    let idle = (EngineState::Idle, 1, false);
+    check_session(&rt, rt.alloc(), early, &NO_EPOCH, idle);
+    let gone = (EngineState::Gone, 0, false);
+    check_session(&rt, rt.alloc(), early, &LOST_EARLY, gone);
+    let boot = (EngineState::Boot, 0, false);
+    check_session(&rt, rt.alloc(), early, &CLOSED_EARLY, boot);
+    // so many settings wait
+    let mut core = Core::make(rt.alloc(), &early).expect(&rt, "memory");
     check_event(&rt, &mut core, &Event::Open, "", "uci\n");
     for _ in 0..250 {
         check_event(&rt, &mut core, &Event::Iface(b"option B"), "", "");
     }
     check_steps(&rt, &mut core, &ONE_MORE);
     end_core(core);
-    Ok(())
 }

@@ -14,9 +14,8 @@ mod calls;
 mod games;
 mod turns;
 
-use crate::rows::{call_in, engine_in, event_in, expect, expect_text};
-use chess_board::Move;
-use desk_rules::{Context, Desk, Effect, Mode, Pings, Ruling, is_gone};
+use crate::rows::{call_in, engine_in, event_in};
+use desk_rules::{Context, Desk, Effect, Ruling, is_gone};
 use line_io::{Event, NoMemory, Out, SCRIPT_LINE};
 use option_map::HeldOrders;
 use peer_words::GoKind;
@@ -195,7 +194,7 @@ impl Bench {
         self.held.facts();
         assert!(rt; self.told.spare() == SCRIPT_LINE);
         self.held.write(&mut self.told);
-        expect_text(rt, self.told.bytes(), want, want);
+        assert!(rt; self.told.bytes() == want.as_bytes(), "{want}");
     }
 
     fn follow(&mut self, context: Context, ruling: &Ruling) -> (&'static str, bool, Call)
@@ -234,35 +233,6 @@ fn check_turn(rt: &impl Abort, bench: &mut Bench, context: Context, turn: &Turn)
     let engine = engine_in(rt, engine);
     let event = event_in(rt, mark);
     let came = bench.take(rt, Context { engine, ..context }, &event);
-    expect_came(rt, came, (effect, begins_epoch, call), mark);
-    expect_text(rt, bench.told.bytes(), told, mark);
-}
-
-/// The effect of an event, whether an epoch begins and the call are as wanted.
-fn expect_came(rt: &impl Abort, came: (&str, bool, Call), want: (&str, bool, &str), mark: &str) {
-    expect(rt, came.0 == want.0, mark);
-    expect(rt, came.1 == want.1, mark);
-    expect(rt, came.2 == call_in(rt, want.2), mark);
-}
-
-fn expect_move(rt: &impl Abort, played: Option<Move>, want: Option<Move>) {
-    expect(rt, played == want, "a move");
-}
-
-/// The pings that wait, in their order.
-fn expect_pings(rt: &impl Abort, pings: &Pings, want: &[u32]) {
-    expect(rt, pings.len() == want.len(), "the number of pings");
-    expect(rt, pings.numbers() == want, "the pings");
-}
-
-fn expect_mode(rt: &impl Abort, desk: &Desk, want: Mode) {
-    expect(rt, desk.mode == want, "the mode");
-}
-
-fn expect_plies(rt: &impl Abort, desk: &Desk, want: u32) {
-    expect(rt, desk.game.plies() == want, "the plies");
-}
-
-fn expect_none_held(rt: &impl Abort, held: &HeldOrders) {
-    expect(rt, held.count() == 0, "no orders are held");
+    let same = came.0 == effect && came.1 == begins_epoch && came.2 == call_in(rt, call);
+    assert!(rt; same && bench.told.bytes() == told.as_bytes(), "{mark}");
 }

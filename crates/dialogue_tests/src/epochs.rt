@@ -1,11 +1,8 @@
 // Worked sessions: what comes in each step after the opening, and the orders that it writes.
-use crate::rows::{G1F3, call_in, expect, search};
+use crate::rows::{G1F3, call_in, search};
 use chess_board::{Move, Square, read_move};
 use peer_words::GoKind;
-use search_epochs::{
-    Call, Dialogue, Heard, Orders, Said, open_search, order_places, served_call, whole_dialogue,
-    whole_turn,
-};
+use search_epochs::{Call, Dialogue, Heard, Orders, Said};
 use std::process::Abort;
 
 #[derive(Clone, Copy)]
@@ -196,39 +193,27 @@ fn orders_in(rt: &impl Abort, words: &str) -> Orders {
     }
 }
 
+/// Takes the turns of a session.
 fn walk(rt: &impl Abort, name: &str, turns: &[Turn]) {
     let mut dialogue = Dialogue::new();
     dialogue.rest();
     for (k, turn) in turns.iter().enumerate() {
-        take_turn(rt, &mut dialogue, turn, name, k);
+        let (event, meaning, begins_epoch, call, unsent, want) = *turn;
+        let event = event_in(rt, event);
+        if let EpochEvent::Says(said) = event {
+            let heard = dialogue.heard(said) == heard_in(rt, meaning);
+            assert!(rt; heard, "{name}: what is heard in turn {k}");
+        }
+        if begins_epoch {
+            dialogue.new_epoch();
+        }
+        let call = call_in(rt, call);
+        let orders = dialogue.settle(call, unsent, played(event), hurries(event));
+        assert!(rt;
+            orders == orders_in(rt, want),
+            "{name}: the orders of turn {k}"
+        );
     }
-}
-
-fn take_turn(rt: &impl Abort, dialogue: &mut Dialogue, turn: &Turn, name: &str, k: usize) {
-    let (event, meaning, begins_epoch, call, unsent, want) = *turn;
-    let event = event_in(rt, event);
-    if let EpochEvent::Says(said) = event {
-        let holds = dialogue.heard(said) == heard_in(rt, meaning);
-        expect_in_turn(rt, holds, name, "what is heard in", k);
-    }
-    if begins_epoch {
-        dialogue.new_epoch();
-    }
-    let orders = settle(rt, dialogue, event, call, unsent);
-    let holds = orders == orders_in(rt, want);
-    expect_in_turn(rt, holds, name, "the orders of", k);
-}
-
-/// Settles a turn, whose call is named by a word.
-fn settle(
-    rt: &impl Abort,
-    dialogue: &mut Dialogue,
-    event: EpochEvent,
-    call: &str,
-    unsent: bool,
-) -> Orders {
-    let call = call_in(rt, call);
-    dialogue.settle(call, unsent, played(event), hurries(event))
 }
 
 fn played(event: EpochEvent) -> Option<Move> {
@@ -242,64 +227,55 @@ fn hurries(event: EpochEvent) -> bool {
     matches!(event, EpochEvent::Hurries)
 }
 
-fn expect_in_turn(rt: &impl Abort, holds: bool, name: &str, what: &str, k: usize) {
-    assert!(rt; holds, "{name}: {what} turn {k}");
-}
-
-fn expect_move(rt: &impl Abort, text: &str, want: Move) {
-    expect(rt, read_move(text.as_bytes()) == Some(want), text);
-}
+const SESSIONS: [(&'static str, &'static [Turn]); 8] = [
+    ("a stopped search shows nothing", &STOPPED),
+    (
+        "a new search waits for the answer of the stopped one",
+        &STOPPED_AND_BEGUN,
+    ),
+    ("one stop", &HURRIED),
+    ("the hint is played", &HINT_PLAYED),
+    ("another move is played", &OTHER_PLAYED),
+    (
+        "analysis is not begun again before the next move",
+        &ANALYSIS,
+    ),
+    (
+        "the hint is played after easy had the search stopped",
+        &HINT_AFTER_EASY,
+    ),
+    ("the engine ends", &ENDED),
+];
 
 #[test]
 fn sessions(rt: HostRuntime) {
-    expect_move(&rt, "e2e4", E2E4);
-    expect_move(&rt, "g1f3", G1F3);
-    expect_move(&rt, "d2d4", D2D4);
-    walk(&rt, "a stopped search shows nothing", &STOPPED);
-    walk(
-        &rt,
-        "a new search waits for the answer of the stopped one",
-        &STOPPED_AND_BEGUN,
-    );
-    walk(&rt, "one stop", &HURRIED);
-    walk(&rt, "the hint is played", &HINT_PLAYED);
-    walk(&rt, "another move is played", &OTHER_PLAYED);
-    walk(
-        &rt,
-        "analysis is not begun again before the next move",
-        &ANALYSIS,
-    );
-    walk(
-        &rt,
-        "the hint is played after easy had the search stopped",
-        &HINT_AFTER_EASY,
-    );
-    walk(&rt, "the engine ends", &ENDED);
+    for (text, want) in [("e2e4", E2E4), ("g1f3", G1F3), ("d2d4", D2D4)] {
+        assert!(rt; read_move(text.as_bytes()) == Some(want), "{text}");
+    }
+    for (name, turns) in SESSIONS {
+        walk(&rt, name, turns);
+    }
 }
 
 #[test]
 fn spent(rt: HostRuntime) {
     let mut dialogue = Dialogue::new();
-    expect(&rt, dialogue.heard(Said::UciOk) == Heard::Booted, "uciok");
+    assert!(rt; dialogue.heard(Said::UciOk) == Heard::Booted, "uciok");
     let begun = dialogue.settle(Call::Analyse, false, None, false);
-    expect(&rt, begun == Orders::Begin(Call::Analyse), "go");
-    let open = search(GoKind::Analyse, false);
-    expect(&rt, dialogue.state() == open, "an open search");
+    assert!(rt; begun == Orders::Begin(Call::Analyse), "go");
+    assert!(rt;
+        dialogue.state() == search(GoKind::Analyse, false),
+        "an open search"
+    );
     let answered = dialogue.heard(Said::Best) == answer(GoKind::Analyse, true);
-    expect(&rt, answered, "bestmove");
-    expect(&rt, dialogue.is_spent(), "spent");
-    let owed = dialogue.owed(Call::Analyse);
-    expect(&rt, owed == Call::Nothing, "nothing is owed");
+    assert!(rt; answered && dialogue.is_spent(), "bestmove");
+    assert!(rt;
+        dialogue.owed(Call::Analyse) == Call::Nothing,
+        "nothing is owed"
+    );
     dialogue.new_epoch();
-    let owed = dialogue.owed(Call::Analyse);
-    expect(&rt, owed == Call::Analyse, "an analysis is owed");
-}
-
-#[test]
-fn laws_hold(_rt: HostRuntime) {
-    whole_turn();
-    whole_dialogue();
-    open_search();
-    served_call();
-    order_places();
+    assert!(rt;
+        dialogue.owed(Call::Analyse) == Call::Analyse,
+        "an analysis is owed"
+    );
 }

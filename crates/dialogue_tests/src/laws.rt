@@ -1,15 +1,24 @@
-// The laws of lawful traces.
+// The laws of sessions, lawful traces, scripts and searches.
+use adapter_core::{
+    ended_sides_get_nothing, interface_alone, moves_are_shown_in_time, one_dialogue,
+};
 use dialogue_laws::{
     cores_within_limits, engine_on_wire, last_settings_stand, laws_hold, order_places,
     pings_get_pongs, searches_end_once, searches_serve, traces_are_dialogues, traces_exist,
 };
+use drill::drills_are_one;
 use line_laws::written_texts_are_lines;
 use policy_rules::Settings;
-use std::test::Fail;
+use search_epochs::{open_search, served_call, whole_dialogue, whole_turn};
+use session_script::scripts_have_one_trace;
 
 #[test]
-fn laws_can_be_called(_rt: HostRuntime) -> Result<(), Fail> {
+fn laws_can_be_called(_rt: HostRuntime) {
     let settings = Settings::usual();
+    one_dialogue(settings);
+    ended_sides_get_nothing(settings);
+    interface_alone(settings);
+    moves_are_shown_in_time(settings);
     engine_on_wire(settings);
     traces_exist(settings);
     cores_within_limits(settings);
@@ -21,5 +30,11 @@ fn laws_can_be_called(_rt: HostRuntime) -> Result<(), Fail> {
     pings_get_pongs(settings);
     written_texts_are_lines(settings);
     laws_hold(settings);
-    Ok(())
+    scripts_have_one_trace(settings);
+    drills_are_one();
+    whole_turn();
+    whole_dialogue();
+    open_search();
+    served_call();
+    search_epochs::order_places();
 }

@@ -15,5 +15,3 @@ mod epochs;
 mod laws;
 #[cfg(test)]
 mod rows;
-#[cfg(test)]
-mod script;

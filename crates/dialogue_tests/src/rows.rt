@@ -1,5 +1,4 @@
 // What the rows of tables name, and how what comes is compared with them.
-ghost use Rattle.std.specs.Prelude.{◌≡◌, true};
 ghost use Rattle.line_io.specs.Event.{event_of};
 ghost use Rattle.desk_rules.specs.Fits.{IsLineEvent};
 
@@ -16,15 +15,8 @@ pub const G1F3: Move = Move {
     promotion: None,
 };
 
-/// What a row wants holds, or the test ends with the row.
-pub fn expect(rt: &impl Abort, holds: bool, row: &str)
-    ensures { holds ≡ true }
-{
-    assert!(rt; holds, "{row}");
-}
-
 pub fn expect_text(rt: &impl Abort, text: &[u8], want: &str, row: &str) {
-    expect(rt, text == want.as_bytes(), row);
+    assert!(rt; text == want.as_bytes(), "{row}");
 }
 
 /// The event that a mark stands for.

@@ -6,6 +6,7 @@ use driver_app::drive_main;
 use driver_runner::logs_are_whole;
 use line_io::MemSink;
 use paced_host::{DueText, PacedHost, PacedTexts};
+use sink_offers::Interface;
 use std::sync::atomic::AtomicU64;
 use std::test::Fail;
 
@@ -69,15 +70,16 @@ fn a_whole_session_has_one_log(rt: HostRuntime) -> Result<(), Fail> {
     let lines = AtomicU64::new(0);
     let host = MemHost::make(alloc, ENGINE, FEATURES, 10_000, &Fails::default())?;
     let mut host = PacedHost::new(alloc, host, &lines, ENGINE_READS.as_slice());
-    let mut input = PacedTexts::new(&lines, IFACE.as_slice());
-    let mut output = MemSink::make(alloc, 1_000, &[])?;
+    let mut interface = Interface {
+        input: PacedTexts::new(&lines, IFACE.as_slice()),
+        output: MemSink::make(alloc, 1_000, &[])?,
+    };
     let mut diag = MemSink::make(alloc, 1_000, &[])?;
     let status = drive_main(
         &rt,
         alloc,
         words.as_slice(),
-        &mut input,
-        &mut output,
+        &mut interface,
         &mut host,
         &mut diag,
     );

@@ -7,8 +7,8 @@ use crate::expected::expect_bytes;
 use crate::ready::{ReadyDriver, make_ready};
 use event_pipe::{Pipe, PipeSend, PipeTake, ReadEnd, read_pipe};
 use line_io::{MemSink, MemSource};
-use mediator::{Channel, HandedStreams, RunEnd, mediate, run_pipes};
-use sink_offers::LoopEnd;
+use mediator::{MediatorParts, RunEnd, Turns, mediate, run_pipes};
+use sink_offers::{HandedStreams, Interface, LoopEnd};
 use std::alloc::Global;
 use std::process::Abort;
 use std::sync::Wait;
@@ -86,20 +86,19 @@ fn drive_all<R: Wait>(rt: &R, ready: ReadyDriver, taker: PipeTake, sinks: &mut S
     requires ready { IsReady ready.driving ready.text }
     requires taker { IsFreshTaker taker }
 {
-    let ReadyDriver {
-        mut driving,
-        mut text,
-    } = ready;
-    let mut taker = taker;
+    let ReadyDriver { driving, text } = ready;
+    let mut turns = Turns {
+        mediator: driving,
+        taker,
+        text,
+    };
     mediate(
         rt,
-        &mut driving,
+        &mut turns,
         b"",
-        &mut taker,
         &mut sinks.output,
         &mut sinks.engine,
         &mut sinks.log,
-        &mut text,
     )
 }
 
@@ -146,50 +145,43 @@ fn long_lines_are_passed_over(rt: HostRuntime) -> Result<(), Fail> {
 fn run_both<R: Threads + Wait + Sync>(
     rt: &R,
     alloc: Global,
-    input: &mut MemSource,
+    input: MemSource,
     source: MemSource,
     sinks: Sinks,
 ) -> Result<RunEnd, Fail> {
-    let ReadyDriver {
-        mut driving,
-        mut text,
-    } = make_ready(alloc)?;
+    let ReadyDriver { driving, text } = make_ready(alloc)?;
     let (iface, engine, taker) = Pipe::make(alloc)?;
-    let channel = Channel {
+    let parts = MediatorParts {
         iface,
         engine,
-        taker,
+        turns: Turns {
+            mediator: driving,
+            taker,
+            text,
+        },
     };
     let Sinks {
-        mut output,
+        output,
         engine,
         log,
     } = sinks;
+    let mut interface = Interface { input, output };
     let mut handed = HandedStreams {
         source,
         engine,
         log,
     };
-    Ok(run_pipes(
-        rt,
-        alloc,
-        &mut driving,
-        b"",
-        channel,
-        input,
-        &mut output,
-        &mut handed,
-        &mut text,
-    ))
+    let run = run_pipes(rt, alloc, parts, b"", &mut interface, &mut handed);
+    Ok(run.end)
 }
 
 #[test]
 fn both_pipes_are_read(rt: HostRuntime) -> Result<(), Fail> {
     let alloc = rt.alloc();
-    let mut input = MemSource::make(alloc, b"uci\nquit\n", 3, &[])?;
+    let input = MemSource::make(alloc, b"uci\nquit\n", 3, &[])?;
     let source = MemSource::make(alloc, b"", 3, &[])?;
     let sinks = make_sinks(alloc, &[], None)?;
-    let end = run_both(&rt, alloc, &mut input, source, sinks)?;
+    let end = run_both(&rt, alloc, input, source, sinks)?;
     let wanted = RunEnd {
         iface: ReadEnd::Done,
         engine: ReadEnd::Done,

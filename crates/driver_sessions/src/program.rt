@@ -3,9 +3,11 @@ ghost use Rattle.child_engine.specs.Hosts.{IsUnused};
 
 use crate::expected::{expect_bytes, expect_code};
 use child_engine::{Fails, Host, MemHost, SteadyHost};
-use driver_app::{drive_main, refuse_for_memory};
+use driver_app::drive_main;
+use host_run::refuse_for_memory;
 use line_io::{MemSink, MemSource};
 use program_words::{EngineRequest, WordsRefusal, read_words};
+use sink_offers::Interface;
 use std::alloc::Global;
 use std::process::Abort;
 use std::sync::Wait;
@@ -49,21 +51,15 @@ fn run_over<H: Host, R: Threads + Wait + Sync>(
     requires { IsUnused (H.books host.old) }
 {
     let words = words_of(alloc, words)?;
-    let mut input = MemSource::make(alloc, INPUT, 5, &[])?;
-    let mut output = MemSink::make(alloc, 1_000, &[])?;
+    let mut interface = Interface {
+        input: MemSource::make(alloc, INPUT, 5, &[])?,
+        output: MemSink::make(alloc, 1_000, &[])?,
+    };
     let mut diag = MemSink::make(alloc, 1_000, &[])?;
-    let status = drive_main(
-        rt,
-        alloc,
-        words.as_slice(),
-        &mut input,
-        &mut output,
-        host,
-        &mut diag,
-    );
+    let status = drive_main(rt, alloc, words.as_slice(), &mut interface, host, &mut diag);
     Ok(RunResult {
         code: status.code,
-        output,
+        output: interface.output,
         diag,
     })
 }
@@ -208,7 +204,7 @@ fn reads_and_writes_that_fail(rt: HostRuntime) -> Result<(), Fail> {
 #[test]
 fn no_memory_for_words(rt: HostRuntime) -> Result<(), Fail> {
     let mut diag = MemSink::make(rt.alloc(), 100, &[])?;
-    let status = refuse_for_memory(&mut diag);
+    let status = refuse_for_memory(b"driver", &mut diag);
     expect_code(&rt, status.code, 3);
     expect_bytes(&rt, diag.taken(), b"driver: no memory\n");
     Ok(())

@@ -5,6 +5,7 @@ use crate::talk::{ANALYSING_ENGINE, ANALYST, DueText, PLAYER, PLAYING_ENGINE, Te
 use crate::talking_host::TalkingHost;
 use driver_app::drive_main;
 use line_io::MemSink;
+use sink_offers::Interface;
 use std::alloc::Global;
 use std::sync::Wait;
 use std::sync::atomic::AtomicU64;
@@ -85,15 +86,16 @@ fn logs<R: Threads + Wait + Sync>(
     let written = AtomicU64::new(0);
     let words = words_of(alloc, &[b"d.log", b"engine"])?;
     let mut host = TalkingHost::make(alloc, &written, engine)?;
-    let mut input = Waiting::new(&written, iface);
-    let mut output = Telling::new(&written);
+    let mut interface = Interface {
+        input: Waiting::new(&written, iface),
+        output: Telling::new(&written),
+    };
     let mut diag = MemSink::make(alloc, 100, &[])?;
     let status = drive_main(
         rt,
         alloc,
         words.as_slice(),
-        &mut input,
-        &mut output,
+        &mut interface,
         &mut host,
         &mut diag,
     );

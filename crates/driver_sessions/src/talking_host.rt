@@ -103,9 +103,9 @@ impl<'a> Host for TalkingHost<'a> {
     ) -> Result<Started<Waiting<'a>, Telling<'a>, ()>, HostFault> {
         self.runs_out += 1;
         Ok(Started {
-            src: Waiting::new(self.written, self.engine),
-            snk: Telling::new(self.written),
-            kid: (),
+            source: Waiting::new(self.written, self.engine),
+            sink: Telling::new(self.written),
+            process: (),
         })
     }
 
@@ -124,14 +124,14 @@ impl<'a> Host for TalkingHost<'a> {
             (books_with self.old.runs_out self.old.logs_out
             self.old.runs_closed self.old.logs_closed)
             (untold_source 0) (untold_sink 0) }
-        ensures cause { ClosesBy self.old.faults self.new.faults run.entry.src.faults 0 result }
+        ensures cause { ClosesBy self.old.faults self.new.faults run.entry.source.faults 0 result }
     {
         let Started {
-            src,
-            snk: _,
-            kid: (),
+            source,
+            sink: _,
+            process: (),
         } = run;
-        self.faults.reads = raised(self.faults.reads, src.faults());
+        self.faults.reads = raised(self.faults.reads, source.faults());
         self.runs_closed += 1;
         Ok(())
     }

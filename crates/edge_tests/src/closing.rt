@@ -55,11 +55,11 @@ fn an_engine_reads_on_behind_quit(rt: HostRuntime) -> Result<(), HostFault> {
     let mut run = host.start(rt.alloc(), words.as_slice())?;
     let mut buf = [0; 8];
     for piece in [b"quit\n", b"stop\n"] {
-        expect_same(&rt, run.snk.write(piece) == Ok(5), true);
-        expect_same(&rt, run.src.read(&mut buf) == Ok(5), true);
+        expect_same(&rt, run.sink.write(piece) == Ok(5), true);
+        expect_same(&rt, run.source.read(&mut buf) == Ok(5), true);
     }
-    run.snk.let_go();
-    expect_same(&rt, run.src.read(&mut buf) == Ok(0), true);
+    run.sink.let_go();
+    expect_same(&rt, run.source.read(&mut buf) == Ok(0), true);
     expect_same(&rt, host.close(run).is_ok(), true);
     Ok(())
 }
@@ -71,7 +71,7 @@ fn an_engine_gets_its_words(rt: HostRuntime) -> Result<(), HostFault> {
     let words = printf(rt.alloc())?;
     let mut run = host.start(rt.alloc(), words.as_slice())?;
     let mut buf = [0; 20];
-    expect_same(&rt, run.src.read(&mut buf) == Ok(13), true);
+    expect_same(&rt, run.source.read(&mut buf) == Ok(13), true);
     expect_bytes(&rt, &buf[..13], b"uci.two words");
     expect_same(&rt, host.close(run).is_ok(), true);
     Ok(())

@@ -9,7 +9,6 @@ use chess_board::{Move, Square};
 use line_io::Out;
 use std::alloc::Global;
 use std::process::Abort;
-use std::test::Fail;
 use uci_engine_side::{
     write_engine, written_messages_are_read_again, written_messages_fit_the_line,
 };
@@ -21,33 +20,32 @@ const E2E4: Move = Move {
     promotion: None,
 };
 
-fn expect_written(rt: &impl Abort, alloc: Global, msg: &EngineMsg, want: &str) -> Result<(), Fail>
+fn expect_written(rt: &impl Abort, alloc: Global, msg: &EngineMsg, want: &str)
     requires writable { CanWrite (engine_message_of msg.now) }
     requires short { length (said_text (engine_message_of msg.now)) ≤ 200 }
 {
-    let mut out = Out::make(alloc, 200)?;
+    let mut out = Out::make(alloc, 200).expect(rt, "memory");
     write_engine(msg, &mut out);
     expect_text(rt, out.bytes(), want);
-    Ok(())
 }
 
 #[test]
 #[tactic(auto, unfolding(uci_engine_side::specs::Said::said_text))]
-fn writes_what_an_engine_says(rt: HostRuntime) -> Result<(), Fail> {
+fn writes_what_an_engine_says(rt: HostRuntime) {
     written_messages_are_read_again();
     written_messages_fit_the_line();
     let alloc = rt.alloc();
-    expect_written(&rt, alloc, &EngineMsg::Name(b"Toga II"), "id name Toga II")?;
-    expect_written(&rt, alloc, &EngineMsg::UciOk, "uciok")?;
+    expect_written(&rt, alloc, &EngineMsg::Name(b"Toga II"), "id name Toga II");
+    expect_written(&rt, alloc, &EngineMsg::UciOk, "uciok");
     let best = EngineMsg::Best {
         best: Some(E2E4),
         hint: None,
     };
-    expect_written(&rt, alloc, &best, "bestmove e2e4")?;
+    expect_written(&rt, alloc, &best, "bestmove e2e4");
     let ponder = EngineMsg::OptionLine(OptionMsg {
         name: b"Ponder",
         kind: OptionKind::Check { on: false },
     });
     let line = "option name Ponder type check default false";
-    expect_written(&rt, alloc, &ponder, line)
+    expect_written(&rt, alloc, &ponder, line);
 }

@@ -10,6 +10,8 @@ mod expect;
 #[cfg(test)]
 mod iface_side;
 #[cfg(test)]
+mod orders;
+#[cfg(test)]
 mod script;
 #[cfg(test)]
 mod talk;

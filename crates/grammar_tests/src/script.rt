@@ -1,7 +1,7 @@
 // Marks, headers, step lines and the texts of steps.
 ghost use Rattle.policy_rules.specs.Policy.{IsProper};
 
-use super::expect::{expect_holds, expect_text};
+use super::expect::expect_text;
 use line_io::{Event, Out};
 use policy_rules::Settings;
 use script_lines::{
@@ -11,11 +11,10 @@ use script_lines::{
 };
 use std::alloc::Global;
 use std::process::Abort;
-use std::test::Fail;
 
 #[test]
-fn steps_are_marked(rt: HostRuntime) -> Result<(), Fail> {
-    let mut out = Out::make(rt.alloc(), STEP_ROOM)?;
+fn steps_are_marked(rt: HostRuntime) {
+    let mut out = Out::make(rt.alloc(), STEP_ROOM).expect(&rt, "memory");
     let event = Event::Iface(b"ping 1");
     put_step(&event, b"pong 1\n", b"", &mut out);
     expect_text(&rt, out.bytes(), "x ping 1\nX pong 1\n");
@@ -23,30 +22,23 @@ fn steps_are_marked(rt: HostRuntime) -> Result<(), Fail> {
     put_step(&Event::Open, b"", b"uci\n", &mut out);
     expect_text(&rt, out.bytes(), "U uci\n");
     out.clear();
-    put_step(
-        &Event::EngineEnd,
-        b"tellusererror Engine ended\nresign\n",
-        b"",
-        &mut out,
-    );
-    expect_text(
-        &rt,
-        out.bytes(),
-        "u.\nX tellusererror Engine ended\nX resign\n",
-    );
-    Ok(())
-}
-
-#[test]
-fn lines_to_the_interface_come_first(rt: HostRuntime) -> Result<(), Fail> {
-    let mut out = Out::make(rt.alloc(), 400)?;
+    let told = b"tellusererror Engine ended\nresign\n";
+    put_step(&Event::EngineEnd, told, b"", &mut out);
+    let want = "u.\nX tellusererror Engine ended\nX resign\n";
+    expect_text(&rt, out.bytes(), want);
+    // lines to the interface come first
+    out.clear();
     put_written(b"move e7e5\n", b"position startpos\ngo ponder\n", &mut out);
-    expect_text(
-        &rt,
-        out.bytes(),
-        "X move e7e5\nU position startpos\nU go ponder\n",
-    );
-    Ok(())
+    let want = "X move e7e5\nU position startpos\nU go ponder\n";
+    expect_text(&rt, out.bytes(), want);
+    // numbered steps begin with their number
+    out.clear();
+    put_numbered_step(0, &Event::Open, b"", b"uci\n", &mut out);
+    expect_text(&rt, out.bytes(), "# 0\nU uci\n");
+    out.clear();
+    let told = b"tellusererror Engine ended\n";
+    put_numbered_step(2, &Event::EngineLost, told, b"", &mut out);
+    expect_text(&rt, out.bytes(), "# 2\nu?\nX tellusererror Engine ended\n");
 }
 
 const MARKS: [&str; 12] = [
@@ -76,63 +68,41 @@ const LENGTHS: [(u8, usize, bool); 4] = [
     (b'U', 131_073, false),
 ];
 
-fn expect_mark(rt: &impl Abort, text: &str, out: &mut Out) {
-    out.clear();
-    match read_mark(text.as_bytes()) {
-        Ok(mark) if text.len() <= out.spare() => write_mark(&mark, out),
-        _ => {}
-    }
-    expect_text(rt, out.bytes(), text);
-}
-
 fn expect_marks(rt: &impl Abort, texts: &[&'static str], out: &mut Out) {
     for text in texts {
-        expect_mark(rt, text, out);
+        out.clear();
+        match read_mark(text.as_bytes()) {
+            Ok(mark) if text.len() <= out.spare() => write_mark(&mark, out),
+            _ => {}
+        }
+        expect_text(rt, out.bytes(), text);
     }
 }
 
-fn expect_no_marks(rt: &impl Abort, texts: &[&'static str]) {
-    for text in texts {
-        expect_holds(rt, read_mark(text.as_bytes()).is_err(), text);
-    }
-}
-
-/// A line of a length that begins with a letter.
-fn long_line(alloc: Global, letter: u8, length: usize) -> Result<Vec<u8>, Fail> {
-    let mut line = vec![in alloc; b' '; length]?;
+/// Whether a line of a length that begins with a letter is a mark.
+fn is_mark(rt: &impl Abort, alloc: Global, letter: u8, length: usize) -> bool {
+    let mut line = vec![in alloc; b' '; length].expect(rt, "memory");
     if let Some(first) = line.first_mut() {
         *first = letter;
     }
-    Ok(line)
-}
-
-fn expect_length(rt: &impl Abort, is_mark: bool, want: bool, length: usize) {
-    assert!(rt; is_mark == want, "{length}");
-}
-
-fn expect_lengths(rt: &impl Abort, alloc: Global, rows: &[(u8, usize, bool)]) -> Result<(), Fail> {
-    for (letter, length, good) in rows {
-        let line = long_line(alloc, *letter, *length)?;
-        expect_length(rt, read_mark(&line).is_ok(), *good, *length);
-    }
-    Ok(())
-}
-
-fn expect_mark_lines(rt: &impl Abort, alloc: Global) -> Result<(), Fail> {
-    let mut script = Out::make(alloc, 9)?;
-    write_mark_line(&Mark::Event(Event::Open), &mut script);
-    write_mark_line(&Mark::ToEngine(b"uci"), &mut script);
-    expect_text(rt, script.bytes(), "U uci\n");
-    Ok(())
+    read_mark(&line).is_ok()
 }
 
 #[test]
-fn reads_what_marks_spell(rt: HostRuntime) -> Result<(), Fail> {
-    let mut out = Out::make(rt.alloc(), 99)?;
+fn reads_what_marks_spell(rt: HostRuntime) {
+    let mut out = Out::make(rt.alloc(), 99).expect(&rt, "memory");
     expect_marks(&rt, &MARKS, &mut out);
-    expect_no_marks(&rt, &NO_MARKS);
-    expect_lengths(&rt, rt.alloc(), &LENGTHS)?;
-    expect_mark_lines(&rt, rt.alloc())
+    for text in &NO_MARKS {
+        assert!(rt; read_mark(text.as_bytes()).is_err(), "{text}");
+    }
+    for (letter, length, want) in &LENGTHS {
+        let found = is_mark(&rt, rt.alloc(), *letter, *length);
+        assert!(rt; found == *want, "{length}");
+    }
+    let mut script = Out::make(rt.alloc(), 9).expect(&rt, "memory");
+    write_mark_line(&Mark::Event(Event::Open), &mut script);
+    write_mark_line(&Mark::ToEngine(b"uci"), &mut script);
+    expect_text(&rt, script.bytes(), "U uci\n");
 }
 
 const USUAL: &str = "#2 Resign=false ResignMoves=3 ResignScore=600 ShowPonder=true";
@@ -220,12 +190,6 @@ const NO_HEADERS: [&str; 30] = [
     "#2 resign=false ResignMoves=3 ResignScore=600 ShowPonder=true",
 ];
 
-fn expect_no_headers(rt: &impl Abort, texts: &[&'static str]) {
-    for text in texts {
-        expect_holds(rt, read_header(text.as_bytes()).is_none(), text);
-    }
-}
-
 /// Writes a header, if there is room enough.
 fn write(settings: &Settings, out: &mut Out)
     requires { IsProper settings.now }
@@ -236,48 +200,37 @@ fn write(settings: &Settings, out: &mut Out)
     }
 }
 
-fn expect_usual(rt: &impl Abort, out: &mut Out) {
-    write(&Settings::usual(), out);
-    expect_text(rt, out.bytes(), USUAL);
-    let read = read_header(USUAL.as_bytes());
-    expect_holds(rt, read == Some(Settings::usual()), USUAL);
-}
-
-fn expect_longest(rt: &impl Abort, out: &mut Out) {
-    write(&LONGEST, out);
-    expect_holds(rt, out.spare() == 0, "no room left");
-    expect_holds(rt, read_header(out.bytes()) == Some(LONGEST), "longest");
-}
-
-fn expect_least(rt: &impl Abort) {
-    let read = read_header(LEAST.as_bytes());
-    expect_holds(rt, read == Some(LEAST_SETTINGS), LEAST);
-}
-
-fn expect_turned(rt: &impl Abort, out: &mut Out) {
-    write(&ALL_TURNED_SETTINGS, out);
-    expect_text(rt, out.bytes(), ALL_TURNED);
-    let read = read_header(ALL_TURNED.as_bytes());
-    expect_holds(rt, read == Some(ALL_TURNED_SETTINGS), ALL_TURNED);
-    for text in &ONE_TURNED {
-        let read = read_header(text.as_bytes());
-        expect_holds(
-            rt,
-            read.is_some_and(|settings| !settings.has_usual_rest()),
-            text,
-        );
-    }
+/// Expects that settings are written so, and read again.
+fn expect_header(rt: &impl Abort, settings: &Settings, text: &str, out: &mut Out)
+    requires { IsProper settings.now }
+{
+    write(settings, out);
+    let written = out.bytes() == text.as_bytes();
+    assert!(rt;
+        written && read_header(text.as_bytes()) == Some(*settings),
+        "{text}"
+    );
 }
 
 #[test]
-fn reads_what_headers_spell(rt: HostRuntime) -> Result<(), Fail> {
-    let mut out = Out::make(rt.alloc(), HEADER_ROOM)?;
-    expect_usual(&rt, &mut out);
-    expect_longest(&rt, &mut out);
-    expect_least(&rt);
-    expect_turned(&rt, &mut out);
-    expect_no_headers(&rt, &NO_HEADERS);
-    Ok(())
+fn reads_what_headers_spell(rt: HostRuntime) {
+    let mut out = Out::make(rt.alloc(), HEADER_ROOM).expect(&rt, "memory");
+    expect_header(&rt, &Settings::usual(), USUAL, &mut out);
+    expect_header(&rt, &ALL_TURNED_SETTINGS, ALL_TURNED, &mut out);
+    write(&LONGEST, &mut out);
+    assert!(rt; out.spare() == 0, "no room left");
+    assert!(rt; read_header(out.bytes()) == Some(LONGEST), "longest");
+    assert!(rt;
+        read_header(LEAST.as_bytes()) == Some(LEAST_SETTINGS),
+        "least"
+    );
+    for text in &ONE_TURNED {
+        let settings = read_header(text.as_bytes()).expect(&rt, text);
+        assert!(rt; !settings.has_usual_rest(), "{text}");
+    }
+    for text in &NO_HEADERS {
+        assert!(rt; read_header(text.as_bytes()).is_none(), "{text}");
+    }
 }
 
 const LAST: u64 = 999_999_999_999_999_999;
@@ -308,52 +261,29 @@ const NO_STEPS: [&str; 15] = [
     "x # 0",
 ];
 
-fn expect_step(rt: &impl Abort, number: u64, text: &str, out: &mut Out) {
-    out.clear();
-    if number <= LAST && out.spare() >= 20 {
-        write_step(number, out);
-    }
-    expect_text(rt, out.bytes(), text);
-    expect_holds(rt, read_step(text.as_bytes()) == Some(number), text);
-}
-
 fn expect_steps(rt: &impl Abort, rows: &[(u64, &'static str)], out: &mut Out) {
     for (number, text) in rows {
-        expect_step(rt, *number, text, out);
+        out.clear();
+        if *number <= LAST && out.spare() >= 20 {
+            write_step(*number, out);
+        }
+        let written = out.bytes() == text.as_bytes();
+        assert!(rt;
+            written && read_step(text.as_bytes()) == Some(*number),
+            "{text}"
+        );
     }
-}
-
-fn expect_no_steps(rt: &impl Abort, texts: &[&'static str]) {
-    for text in texts {
-        expect_holds(rt, read_step(text.as_bytes()).is_none(), text);
-    }
-}
-
-fn expect_next_numbers(rt: &impl Abort) {
-    expect_holds(rt, next_number(0) == 1, "after the first");
-    expect_holds(rt, next_number(LAST) == 0, "after the last");
 }
 
 #[test]
-fn reads_what_step_lines_spell(rt: HostRuntime) -> Result<(), Fail> {
-    let mut out = Out::make(rt.alloc(), 20)?;
+fn reads_what_step_lines_spell(rt: HostRuntime) {
+    let mut out = Out::make(rt.alloc(), 20).expect(&rt, "memory");
     expect_steps(&rt, &STEPS, &mut out);
-    expect_no_steps(&rt, &NO_STEPS);
-    expect_next_numbers(&rt);
+    for text in &NO_STEPS {
+        assert!(rt; read_step(text.as_bytes()).is_none(), "{text}");
+    }
+    assert!(rt; next_number(0) == 1, "after the first");
+    assert!(rt; next_number(LAST) == 0, "after the last");
     scripts_are_read_back();
     lines_are_of_one_kind();
-    Ok(())
-}
-
-#[test]
-fn numbered_steps_begin_with_their_number(rt: HostRuntime) -> Result<(), Fail> {
-    let mut out = Out::make(rt.alloc(), STEP_ROOM)?;
-    put_numbered_step(0, &Event::Open, b"", b"uci\n", &mut out);
-    expect_text(&rt, out.bytes(), "# 0\nU uci\n");
-    out.clear();
-    let event = Event::EngineLost;
-    let told = b"tellusererror Engine ended\n";
-    put_numbered_step(2, &event, told, b"", &mut out);
-    expect_text(&rt, out.bytes(), "# 2\nu?\nX tellusererror Engine ended\n");
-    Ok(())
 }

@@ -1,8 +1,6 @@
 // Orders as interfaces spell them.
-use super::expect::{expect_holds, expect_text};
 use fen_text::write_fen;
 use peer_words::GoKind;
-use std::process::Abort;
 use uci_talk::{go_kind, spoken};
 
 const START: &str = "rnbqkbnr/pppppppp/8/8/8/8/PPPPPPPP/RNBQKBNR w KQkq - 0 1";
@@ -55,41 +53,25 @@ const NO_POSITIONS: [&str; 7] = [
     "position fen moves e2e4",
 ];
 
-fn expect_kinds(rt: &impl Abort, rows: &[(&'static str, GoKind)]) {
-    for (line, want) in rows {
-        expect_holds(rt, go_kind(line.as_bytes()) == *want, line);
-    }
-}
-
-fn expect_spoken(rt: &impl Abort, line: &str, moves: &str, end: &str) {
+/// Whether a line is read as these moves, and as the position after them.
+fn is_spoken(line: &str, moves: &str, end: &str) -> bool {
     match spoken(line.as_bytes()) {
         Some(said) => {
-            expect_text(rt, said.moves, moves);
-            expect_text(rt, write_fen(&said.end).as_slice(), end);
+            said.moves == moves.as_bytes() && write_fen(&said.end).as_slice() == end.as_bytes()
         }
-        None => expect_holds(rt, false, line),
-    }
-}
-
-fn expect_all_spoken(rt: &impl Abort, rows: &[SpokenRow]) {
-    for (line, moves, end) in rows {
-        expect_spoken(rt, line, moves, end);
-    }
-}
-
-fn expect_none_spoken(rt: &impl Abort, lines: &[&'static str]) {
-    for line in lines {
-        expect_holds(rt, spoken(line.as_bytes()).is_none(), line);
+        None => false,
     }
 }
 
 #[test]
-fn kinds_of_searches(rt: HostRuntime) {
-    expect_kinds(&rt, &KINDS);
-}
-
-#[test]
-fn positions_that_can_be_read(rt: HostRuntime) {
-    expect_all_spoken(&rt, &POSITIONS);
-    expect_none_spoken(&rt, &NO_POSITIONS);
+fn orders_that_can_be_read(rt: HostRuntime) {
+    for (line, want) in &KINDS {
+        assert!(rt; go_kind(line.as_bytes()) == *want, "{line}");
+    }
+    for (line, moves, end) in &POSITIONS {
+        assert!(rt; is_spoken(line, moves, end), "{line}");
+    }
+    for line in &NO_POSITIONS {
+        assert!(rt; spoken(line.as_bytes()).is_none(), "{line}");
+    }
 }

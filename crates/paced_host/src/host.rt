@@ -87,9 +87,17 @@ impl<'a> Host for PacedHost<'a> {
         alloc: Global,
         words: &[String],
     ) -> Result<Started<PacedSource<'a>, MemSink, ()>, HostFault> {
-        let Started { src, snk, kid: () } = self.host.start(alloc, words)?;
-        let src = PacedSource::new(src, self.lines, self.dues);
-        Ok(Started { src, snk, kid: () })
+        let Started {
+            source,
+            sink,
+            process: (),
+        } = self.host.start(alloc, words)?;
+        let source = PacedSource::new(source, self.lines, self.dues);
+        Ok(Started {
+            source,
+            sink,
+            process: (),
+        })
     }
 
     fn open_log(&mut self, alloc: Global, name: &str) -> Result<PacedLog<'a>, HostFault> {
@@ -100,16 +108,20 @@ impl<'a> Host for PacedHost<'a> {
     fn close(&mut self, run: Started<PacedSource<'a>, MemSink, ()>) -> Result<(), Failed>
         requires { length (books_of self.old.host).runs < (books_of self.old.host).runs_out }
         ensures books { books_of self.new.host ≡ with_closed_run (books_of self.old.host)
-            (shown_by_source run.entry.src.source) (shown_by_sink run.entry.snk) }
+            (shown_by_source run.entry.source.source) (shown_by_sink run.entry.sink) }
         ensures asked { asked_of self.new.host ≡ asked_of self.old.host }
         ensures cause { ClosesBy self.old.host.faults self.new.host.faults
-            (shown_by_source run.entry.src.source).faults (shown_by_sink run.entry.snk).faults result }
+            (shown_by_source run.entry.source.source).faults (shown_by_sink run.entry.sink).faults result }
     {
-        let Started { src, snk, kid: () } = run;
+        let Started {
+            source,
+            sink,
+            process: (),
+        } = run;
         self.host.close(Started {
-            src: src.source,
-            snk,
-            kid: (),
+            source: source.source,
+            sink,
+            process: (),
         })
     }
 

@@ -5,7 +5,7 @@ ghost use Rattle.event_pipe.specs.Ends.{IsTaker, KeepsTaker};
 
 use engine_revival::{EVENT_ROOM, Revival};
 use event_pipe::{Pipe, PipeTake, ReadEnd, read_pipe};
-use life_runner::{one_life, read_life};
+use life_runner::{LifeRun, MarkedLog, RevivalLoop, one_life, read_life};
 use line_io::{Event, MemSink, MemSource, NoMemory, Out};
 use sink_offers::LoopEnd;
 use std::alloc::Global;
@@ -56,8 +56,7 @@ fn a_life_is_read_to_its_end(rt: HostRuntime) -> Result<(), NoMemory> {
 #[derive(Drop)]
 struct Streams {
     input: MemSource,
-    source: MemSource,
-    child: MemSink,
+    run: LifeRun<MemSource, MemSink>,
     output: MemSink,
     log: Option<MemSink>,
 }
@@ -65,8 +64,10 @@ struct Streams {
 fn make_streams(alloc: Global) -> Result<Streams, NoMemory> {
     Ok(Streams {
         input: MemSource::make(alloc, b"uci\n", 100, &[])?,
-        source: MemSource::make(alloc, b"id name E\nuciok\n", 7, &[])?,
-        child: MemSink::make(alloc, 100, &[])?,
+        run: LifeRun {
+            source: MemSource::make(alloc, b"id name E\nuciok\n", 7, &[])?,
+            sink: MemSink::make(alloc, 100, &[])?,
+        },
         output: MemSink::make(alloc, 100, &[])?,
         log: Some(MemSink::make(alloc, 1_000, &[])?),
     })
@@ -76,35 +77,46 @@ fn make_streams(alloc: Global) -> Result<Streams, NoMemory> {
 fn live<R: Threads + Wait + Sync + Abort>(
     rt: &R,
     alloc: Global,
-    revival: &mut Revival,
+    revival: Revival,
     streams: &mut Streams,
-) -> Result<(), NoMemory>
-    requires { is_alive revival.old.state.life ≡ true }
+) -> Result<Revival, NoMemory>
+    requires { is_alive revival.state.life ≡ true }
 {
-    let mut failed = LoopEnd {
-        output: false,
-        engine: false,
-        log: false,
-    };
-    let mut text = Out::make(alloc, EVENT_ROOM)?;
-    let (mut iface, mut to, mut from) = Pipe::make(alloc)?;
+    let text = Out::make(alloc, EVENT_ROOM)?;
+    let (mut iface, mut to, from) = Pipe::make(alloc)?;
     expect_done(rt, read_pipe(rt, alloc, &mut streams.input, &mut iface));
+    let mut looping = RevivalLoop {
+        revival,
+        from,
+        marks: MarkedLog {
+            log: streams.log.take(),
+            text,
+        },
+        failed: LoopEnd {
+            output: false,
+            engine: false,
+            log: false,
+        },
+    };
     let end = one_life(
         rt,
         alloc,
-        revival,
-        &mut streams.source,
+        &mut looping,
         &mut to,
-        &mut from,
-        &mut streams.child,
+        &mut streams.run,
         &mut streams.output,
-        &mut streams.log,
-        &mut failed,
-        &mut text,
     );
     expect_done(rt, end);
+    let RevivalLoop {
+        revival,
+        from,
+        marks,
+        failed: _,
+    } = looping;
+    let MarkedLog { log, text: _text } = marks;
+    streams.log = log;
     Pipe::finish(iface, to, from);
-    Ok(())
+    Ok(revival)
 }
 
 const LOG: &[u8] = b"x uci\nU uci\nx.\nU quit\nu id name E\nX id name E\nu uciok\nX uciok\n";
@@ -112,7 +124,7 @@ const LOG: &[u8] = b"x uci\nU uci\nx.\nU quit\nu id name E\nX id name E\nu uciok
 // Compares what was written by a life.
 fn expect_written(rt: &impl Abort, streams: &Streams) {
     expect_bytes(rt, streams.output.taken(), b"id name E\nuciok\n");
-    expect_bytes(rt, streams.child.taken(), b"uci\nquit\n");
+    expect_bytes(rt, streams.run.sink.taken(), b"uci\nquit\n");
     match &streams.log {
         Some(log) => expect_bytes(rt, log.taken(), LOG),
         None => panic!(rt; "there is no log"),
@@ -121,8 +133,8 @@ fn expect_written(rt: &impl Abort, streams: &Streams) {
 
 // Whether the revival has taken `quit` in a life.
 fn quits<R: Threads + Wait + Sync + Abort>(rt: &R, alloc: Global, streams: &mut Streams) -> bool {
-    let mut revival = Revival::make(alloc, 1).expect(rt, "no memory for the revival");
-    live(rt, alloc, &mut revival, streams).expect(rt, "no memory for the life");
+    let revival = Revival::make(alloc, 1).expect(rt, "no memory for the revival");
+    let revival = live(rt, alloc, revival, streams).expect(rt, "no memory for the life");
     let has_quit = revival.has_quit();
     drop(revival);
     has_quit

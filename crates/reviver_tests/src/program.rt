@@ -2,6 +2,7 @@
 use child_engine::SteadyHost;
 use line_io::{MemSink, MemSource};
 use reviver_app::{ReviverRequest, read_words, refuse_for_memory, revive_main};
+use sink_offers::Interface;
 use std::alloc::Global;
 use std::process::Abort;
 use std::sync::Wait;
@@ -34,18 +35,12 @@ fn status_of<R: Threads + Wait + Sync>(
     diagnostic: &[u8],
 ) -> Result<Option<u8>, Fail> {
     let mut host = SteadyHost::make(alloc, b"uciok\n", 5)?;
-    let mut input = MemSource::make(alloc, b"uci\nquit\n", 5, &[])?;
-    let mut output = MemSink::make(alloc, 1_000, &[])?;
+    let mut interface = Interface {
+        input: MemSource::make(alloc, b"uci\nquit\n", 5, &[])?,
+        output: MemSink::make(alloc, 1_000, &[])?,
+    };
     let mut diag = MemSink::make(alloc, 1_000, &[])?;
-    let status = revive_main(
-        rt,
-        alloc,
-        words,
-        &mut input,
-        &mut output,
-        &mut host,
-        &mut diag,
-    );
+    let status = revive_main(rt, alloc, words, &mut interface, &mut host, &mut diag);
     Ok((diag.taken() == diagnostic).then_some(status.code))
 }
 

@@ -4,6 +4,7 @@ use crate::program::words_of;
 use crate::talk::{ALONE, DueText, IFACE, Telling, Waiting};
 use line_io::MemSink;
 use reviver_app::revive_main;
+use sink_offers::Interface;
 use std::alloc::Global;
 use std::sync::Wait;
 use std::sync::atomic::AtomicU64;
@@ -54,15 +55,16 @@ fn ends_with<R: Threads + Wait + Sync>(
     let pieces = AtomicU64::new(0);
     let words = words_of(alloc, &["2", "a.log", "toy"])?;
     let mut host = DyingHost::new(alloc, &pieces, starts);
-    let mut input = Waiting::new(&pieces, iface);
-    let mut output = Telling::new(&pieces, b"\n", Vec::new(alloc));
+    let mut interface = Interface {
+        input: Waiting::new(&pieces, iface),
+        output: Telling::new(&pieces, b"\n", Vec::new(alloc)),
+    };
     let mut diag = MemSink::make(alloc, 1_000, &[])?;
     let status = revive_main(
         rt,
         alloc,
         words.as_slice(),
-        &mut input,
-        &mut output,
+        &mut interface,
         &mut host,
         &mut diag,
     );

@@ -1,58 +1,34 @@
-use crate::streams::Streams;
-use policy_rules::Settings;
-use session_games::write_games;
-use std::alloc::Global;
-use std::process::Abort;
-use std::test::Fail;
-
-// The lines of a session, its games, and the diagnostic.
-type Row = (&'static [u8], &'static [u8], &'static [u8]);
+// The games of sessions.
+use crate::runs::{Command, Run, expect_runs};
+use command_endings::Ending;
 
 // A game that Black mates; a game behind one that began with a position, and a fault; a game in which a position was
 // refused and a move taken back, then a `new` without moves, and a game from a position that is not over.
-const ROWS: [Row; 3] = [
+const ROWS: [Run; 3] = [
     (
+        Command::Games,
         b"U uci\nu uciok\nU isready\nu readyok\nx usermove f2f3\nu bestmove e7e5\nX move e7e5\nx usermove g2g4\nu bestmove d8h4\n",
         b"1. f3 e5 2. g4 Qh4# 0-1\n",
+        Ending::Done,
         b"",
     ),
     (
+        Command::Games,
         b"x force\nx setboard 4r1k1/8/8/8/8/8/5PPP/6K1 b - - 12 40\nx usermove e8e1\nx new\nx usermove d2d4\nhello\n",
         b"[FEN \"4r1k1/8/8/8/8/8/5PPP/6K1 b - - 12 40\"]\n40... Re1# 0-1\n",
+        Ending::NoMark(6),
         b"replay: line 6 has no mark\n",
     ),
     (
+        Command::Games,
         b"x force\nx usermove e2e4\nx usermove e7e5\nx setboard nothing\nx undo\nx usermove c7c5\nx setboard 4k3/8/8/8/8/8/4p3/2K5 b - - 12 40\nx new\nx setboard 4k3/8/8/8/8/8/4p3/2K5 b - - 12 40\nx usermove e2e1q\nx usermove c1c2\n",
         b"1. e4 c5 *\n[FEN \"4k3/8/8/8/8/8/4p3/2K5 b - - 12 40\"]\n40... e1=Q+ 41. Kc2 *\n",
+        Ending::Done,
         b"",
     ),
 ];
 
-/// Writes the games of a session, and compares them and the diagnostic.
-fn expect_games(
-    rt: &impl Abort,
-    alloc: Global,
-    script: &[u8],
-    games: &[u8],
-    told: &[u8],
-) -> Result<(), Fail> {
-    let mut streams = Streams::make(alloc, script, 7)?;
-    let _ = write_games(
-        alloc,
-        &Settings::usual(),
-        &mut streams.input,
-        &mut streams.output,
-        &mut streams.diag,
-    );
-    streams.expect_written(rt, games);
-    streams.expect_told(rt, told);
-    Ok(())
-}
-
 #[test]
-fn games_of_sessions_are_written(rt: HostRuntime) -> Result<(), Fail> {
-    for (script, games, told) in ROWS {
-        expect_games(&rt, rt.alloc(), script, games, told)?;
-    }
-    Ok(())
+fn games_of_sessions_are_written(rt: HostRuntime) {
+    expect_runs(&rt, rt.alloc(), "games", &ROWS);
 }

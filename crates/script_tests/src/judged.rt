@@ -3,7 +3,6 @@ use chess_board::read_move;
 use peer_words::GoKind;
 use script_lines::read_mark;
 use session_judge::{Judge, Listener, Rule, Search, crossings_are_the_difference};
-use std::alloc::Global;
 use std::process::Abort;
 
 /// Hears the lines of a log, which stand between bars, and gives the line that breaks a rule.
@@ -91,39 +90,19 @@ const ROWS: [Row; 22] = [
     ),
 ];
 
-fn expect_broken(rt: &impl Abort, alloc: Global, log: &str, want: Option<(u64, Rule)>) -> Judge {
-    let mut judge = Judge::new(alloc, Listener::Bridge);
-    assert!(rt; heard(rt, &mut judge, log) == want, "{log}");
-    judge
-}
-
-fn expect_all_broken(rt: &impl Abort, alloc: Global, rows: &[Row]) {
-    for (log, line, rule) in rows {
-        expect_broken(rt, alloc, log, Some((*line, *rule)));
-    }
-}
-
 #[test]
 fn each_rule_is_broken(rt: HostRuntime) {
-    expect_all_broken(&rt, rt.alloc(), &ROWS);
+    for (log, line, rule) in &ROWS {
+        let mut judge = Judge::new(rt.alloc(), Listener::Bridge);
+        assert!(rt;
+            heard(&rt, &mut judge, log) == Some((*line, *rule)),
+            "{log}"
+        );
+    }
 }
 
 const SEARCHED: &str =
     "U uci|u uciok|x usermove e2e4|U position startpos moves e2e4 e7e5|U go ponder wtime 300000 btime 300000|U ponderhit|U stop|u bestmove g1f3|X move g1f3";
-
-#[test]
-fn a_search_is_told(rt: HostRuntime) {
-    let judge = expect_broken(&rt, rt.alloc(), SEARCHED, None);
-    let search = Search {
-        number: 1,
-        kind: GoKind::Move,
-        begun: 5,
-        ended: Some(8),
-        stopped: true,
-        shown: read_move(b"g1f3"),
-    };
-    assert!(rt; judge.search() == Some(search));
-}
 
 // A log of a tap, how many of its orders crossed, and the line that breaks a rule, if one does.
 type Tapped = (&'static str, u64, Option<(u64, Rule)>);
@@ -181,26 +160,36 @@ const TAPPED: [Tapped; 10] = [
     ),
 ];
 
-fn expect_tapped(rt: &impl Abort, alloc: Global, rows: &[Tapped]) {
-    for (log, crossings, broken) in rows {
-        let mut judge = Judge::new(alloc, Listener::Tap);
-        assert!(rt; heard(rt, &mut judge, log) == *broken, "{log}");
-        assert_eq!(rt; judge.crossings(), *crossings);
-    }
-}
-
 #[test]
 fn orders_cross(rt: HostRuntime) {
-    expect_tapped(&rt, rt.alloc(), &TAPPED);
+    for (log, crossings, broken) in &TAPPED {
+        let mut judge = Judge::new(rt.alloc(), Listener::Tap);
+        assert!(rt; heard(&rt, &mut judge, log) == *broken, "{log}");
+        assert!(rt; judge.crossings() == *crossings, "{log}");
+    }
+    crossings_are_the_difference();
 }
 
 // The search that has ended stays as it was told.
+const CROSSED: &str =
+    "U uci|u uciok|U position startpos|U go ponder|u bestmove e2e4|U ponderhit|U stop";
+
 #[test]
-fn a_crossing_stops_no_search(rt: HostRuntime) {
-    let mut judge = Judge::new(rt.alloc(), Listener::Tap);
-    let log = "U uci|u uciok|U position startpos|U go ponder|u bestmove e2e4|U ponderhit|U stop";
-    assert!(rt; heard(&rt, &mut judge, log) == None, "{log}");
+fn searches_are_told(rt: HostRuntime) {
+    let mut judge = Judge::new(rt.alloc(), Listener::Bridge);
+    assert!(rt; heard(&rt, &mut judge, SEARCHED).is_none(), "{SEARCHED}");
     let search = Search {
+        number: 1,
+        kind: GoKind::Move,
+        begun: 5,
+        ended: Some(8),
+        stopped: true,
+        shown: read_move(b"g1f3"),
+    };
+    assert!(rt; judge.search() == Some(search));
+    let mut tap = Judge::new(rt.alloc(), Listener::Tap);
+    assert!(rt; heard(&rt, &mut tap, CROSSED).is_none(), "{CROSSED}");
+    let crossed = Search {
         number: 1,
         kind: GoKind::Ponder,
         begun: 4,
@@ -208,6 +197,5 @@ fn a_crossing_stops_no_search(rt: HostRuntime) {
         stopped: false,
         shown: None,
     };
-    assert!(rt; judge.search() == Some(search));
-    crossings_are_the_difference();
+    assert!(rt; tap.search() == Some(crossed));
 }

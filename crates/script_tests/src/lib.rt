@@ -22,4 +22,6 @@ mod reports;
 #[cfg(test)]
 mod revived;
 #[cfg(test)]
+mod runs;
+#[cfg(test)]
 mod streams;

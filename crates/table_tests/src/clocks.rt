@@ -128,11 +128,7 @@ fn expect_searches(rt: &impl Abort, rows: &[ClockedSearch], out: &mut Out) {
 fn writes_the_go_lines(rt: HostRuntime) {
     let mut out = room(&rt, rt.alloc(), 113);
     expect_searches(&rt, &SEARCHES, &mut out);
-}
-
-#[test]
-fn begins_a_new_game(rt: HostRuntime) {
-    let mut out = room(&rt, rt.alloc(), 113);
+    // a new game
     let mut clocks = Clocks::new();
     clocks_stay_short();
     hear(&mut clocks, b"level 0 1 2");

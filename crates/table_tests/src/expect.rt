@@ -1,16 +1,11 @@
-// What the tests of this crate compare, and the room that they write into.
+// The room that the tests of this crate write into, and what they compare.
 use line_io::Out;
 use std::alloc::Global;
 use std::process::Abort;
 
 /// Expects what is written after a line, or in the row that is named.
 pub(crate) fn expect_text(rt: &impl Abort, text: &[u8], want: &str, row: &str) {
-    assert_eq!(rt; text, want.as_bytes(), "{row}");
-}
-
-/// Expects that something holds after a line, or in the row that is named.
-pub(crate) fn expect_holds(rt: &impl Abort, holds: bool, row: &str) {
-    assert!(rt; holds, "{row}");
+    assert!(rt; text == want.as_bytes(), "{row}");
 }
 
 /// Room for so many bytes.

@@ -1,23 +1,12 @@
 //! Engines by their options, and the features that are offered of them.
-use super::expect::{expect_holds, expect_text, room};
+use super::expect::{expect_text, room};
 use super::options::declared;
 use feature_talk::{
     FeatureTalk, ProtoverAnswer, feature_lists_are_short, shown_name, write_bare_list, write_list,
 };
 use line_io::Out;
-use option_map::Options;
 use std::alloc::Global;
 use std::process::Abort;
-use std::test::Fail;
-
-/// Writes the list, if there is room enough.
-fn write(options: &Options, name: &str, out: &mut Out) {
-    feature_lists_are_short();
-    out.clear();
-    if out.spare() >= 1_000 + options.text() + options.count() {
-        write_list(options, name.as_bytes(), out);
-    }
-}
 
 /// What each list has behind the engine's name.
 const USUAL: &str = "feature ping=1
@@ -122,34 +111,29 @@ fn expect_list(rt: &impl Abort, list: &[u8], shown: &str, others: &str) {
     expect_text(rt, behind(rt, usual, USUAL), others, shown);
 }
 
+/// Writes the list of an engine, if there is room enough, and compares it.
 fn expect_engine(rt: &impl Abort, alloc: Global, engine: &Engine, out: &mut Out) {
     let (name, lines, shown, others) = engine;
-    let options = declared(rt, alloc, lines);
-    write(&options, name, out);
-    expect_list(rt, out.bytes(), shown, others);
-}
-
-fn expect_engines(rt: &impl Abort, alloc: Global, engines: &[Engine], out: &mut Out) {
-    for engine in engines {
-        expect_engine(rt, alloc, engine, out);
+    let options = declared(rt, alloc, lines, false);
+    feature_lists_are_short();
+    out.clear();
+    if out.spare() >= 1_000 + options.text() + options.count() {
+        write_list(&options, name.as_bytes(), out);
     }
+    expect_list(rt, out.bytes(), shown, others);
 }
 
 #[test]
 fn writes_the_list(rt: HostRuntime) {
     let mut out = room(&rt, rt.alloc(), 3_000);
-    expect_engines(&rt, rt.alloc(), &ENGINES, &mut out);
-}
-
-#[test]
-fn writes_the_bare_list(rt: HostRuntime) -> Result<(), Fail> {
+    for engine in &ENGINES {
+        expect_engine(&rt, rt.alloc(), engine, &mut out);
+    }
     let name = "Toga II 3.0";
-    let mut out = Out::make(rt.alloc(), 1_000)?;
-    feature_lists_are_short();
-    write_bare_list(name.as_bytes(), &mut out);
+    let mut bare = Out::make(rt.alloc(), 1_000).expect(&rt, "memory");
+    write_bare_list(name.as_bytes(), &mut bare);
     let others = "feature memory=0\nfeature smp=0\nfeature done=1\n";
-    expect_list(&rt, out.bytes(), name, others);
-    Ok(())
+    expect_list(&rt, bare.bytes(), name, others);
 }
 
 /// What is shown of a name that does not fit.
@@ -170,18 +154,13 @@ fn expect_names(rt: &impl Abort, rows: &[(&'static str, &'static str)]) {
     }
 }
 
-/// Expects that the longest name is shown, and a longer one is not.
-fn expect_long_names(rt: &impl Abort, longest: &[u8], longer: &[u8]) {
-    expect_holds(rt, shown_name(longest) == longest, "longest");
-    expect_text(rt, shown_name(longer), USUAL_NAME, "longer");
-}
-
 #[test]
-fn shows_names_that_fit(rt: HostRuntime) -> Result<(), Fail> {
-    let letters = vec![in rt.alloc(); b'x'; 257]?;
+fn shows_names_that_fit(rt: HostRuntime) {
     expect_names(&rt, &NAMES);
-    expect_long_names(&rt, &letters[..256], &letters);
-    Ok(())
+    // the longest name that is shown, and a longer one
+    let letters = [b'x'; 257];
+    assert!(rt; shown_name(&letters[..256]) == &letters[..256], "longest");
+    expect_text(&rt, shown_name(&letters), USUAL_NAME, "longer");
 }
 
 /// Expects that each of these holds, in their order.

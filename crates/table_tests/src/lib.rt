@@ -12,6 +12,8 @@ mod options;
 #[cfg(test)]
 mod policy;
 #[cfg(test)]
+mod seen;
+#[cfg(test)]
 mod settings;
 #[cfg(test)]
 mod thinking;

@@ -1,7 +1,5 @@
 // When a game is resigned and a draw accepted.
-use super::expect::expect_holds;
 use policy_rules::{Scores, Settings};
-use std::process::Abort;
 
 /// A score, whether the game is resigned then, and whether a draw is accepted.
 type Turn = (Option<i64>, bool, bool);
@@ -17,14 +15,6 @@ const TURNS: [Turn; 9] = [
     (Some(0), false, true),
     (Some(1), false, false),
 ];
-
-fn expect_turns(rt: &impl Abort, turns: &[Turn], scores: &mut Scores) {
-    for (score, resigns, accepts) in turns {
-        scores.shown(*score);
-        expect_holds(rt, scores.resigns() == *resigns, "resigns");
-        expect_holds(rt, scores.accepts_draw() == *accepts, "accepts");
-    }
-}
 
 const USUAL: Settings = Settings {
     resign: false,
@@ -46,11 +36,14 @@ const TWO_LOST: Settings = Settings {
 
 #[test]
 fn counts_the_last_scores(rt: HostRuntime) {
-    expect_holds(&rt, Settings::usual() == USUAL, "usual");
+    assert!(rt; Settings::usual() == USUAL, "usual");
     let mut scores = Scores::new(&TWO_LOST);
-    expect_turns(&rt, &TURNS, &mut scores);
+    for (k, (score, resigns, accepts)) in TURNS.iter().enumerate() {
+        scores.shown(*score);
+        assert!(rt; scores.resigns() == *resigns, "turn {k}: resigns");
+        assert!(rt; scores.accepts_draw() == *accepts, "turn {k}: accepts");
+    }
     scores.clear();
     scores.shown(Some(-9000));
-    expect_holds(&rt, !scores.resigns(), "cleared");
-    expect_holds(&rt, !scores.accepts_draw(), "cleared");
+    assert!(rt; !scores.resigns() && !scores.accepts_draw(), "cleared");
 }

@@ -1,7 +1,5 @@
 // The table of settings, and the words that choose them.
-use super::expect::expect_holds;
 use policy_rules::{Range, SETTINGS, Settings, Value, name_in, read_choice, read_number};
-use std::process::Abort;
 
 /// A word that chooses a value that is not usual.
 const CHOSEN: [&str; 9] = [
@@ -48,45 +46,6 @@ const NO_CHOICES: [&str; 17] = [
     "ResignScore=100001",
 ];
 
-/// The settings with one chosen anew by a word.
-fn with_word(rt: &impl Abort, settings: Settings, word: &str) -> Settings {
-    let choice = read_choice(word.as_bytes());
-    expect_holds(rt, choice.is_some(), word);
-    choice.map_or(settings, |choice| settings.with(choice))
-}
-
-#[test]
-fn chooses_each_setting(rt: HostRuntime) {
-    let mut settings = Settings::usual();
-    expect_holds(&rt, settings.has_usual_rest(), "usual");
-    for word in &CHOSEN {
-        settings = with_word(&rt, settings, word);
-    }
-    expect_holds(&rt, settings == ALL, "all");
-    expect_holds(&rt, !settings.has_usual_rest(), "all");
-    let seven = with_word(&rt, settings, "ResignMoves=007");
-    expect_holds(&rt, seven.resign_moves == 7, "leading zeros");
-}
-
-#[test]
-fn reads_no_other_words(rt: HostRuntime) {
-    for word in &NO_CHOICES {
-        expect_holds(&rt, read_choice(word.as_bytes()).is_none(), word);
-    }
-    expect_holds(
-        &rt,
-        name_in(b"ShowSan=true=") == b"ShowSan".as_slice(),
-        "a name",
-    );
-    expect_holds(
-        &rt,
-        name_in(b"ShowSan") == b"ShowSan".as_slice(),
-        "no value",
-    );
-    expect_holds(&rt, read_number(b"0042", 4, 42, 42) == Some(42), "a number");
-    expect_holds(&rt, read_number(b"43", 4, 0, 42).is_none(), "too large");
-}
-
 /// A name, and the text of its usual value.
 const ROWS: [(&str, &str); 9] = [
     ("Resign", "false"),
@@ -100,17 +59,37 @@ const ROWS: [(&str, &str); 9] = [
     ("StrengthOptions", "false"),
 ];
 
-fn is_number(value: Value) -> bool {
-    matches!(value, Value::Number(_))
+#[test]
+fn chooses_each_setting(rt: HostRuntime) {
+    let mut settings = Settings::usual();
+    assert!(rt; settings.has_usual_rest(), "usual");
+    for word in &CHOSEN {
+        settings = settings.with(read_choice(word.as_bytes()).expect(&rt, word));
+    }
+    assert!(rt; settings == ALL && !settings.has_usual_rest(), "all");
+    let zeros = read_choice(b"ResignMoves=007").expect(&rt, "leading zeros");
+    assert!(rt; settings.with(zeros).resign_moves == 7, "leading zeros");
+}
+
+#[test]
+fn reads_no_other_words(rt: HostRuntime) {
+    for word in &NO_CHOICES {
+        assert!(rt; read_choice(word.as_bytes()).is_none(), "{word}");
+    }
+    for word in [b"ShowSan=true=".as_slice(), b"ShowSan"] {
+        assert!(rt; name_in(word) == b"ShowSan".as_slice(), "a name");
+    }
+    assert!(rt; read_number(b"0042", 4, 42, 42) == Some(42), "a number");
+    assert!(rt; read_number(b"43", 4, 0, 42).is_none(), "too large");
 }
 
 #[test]
 fn has_a_row_for_each_setting(rt: HostRuntime) {
     for (setting, (name, usual)) in SETTINGS.iter().zip(&ROWS) {
         let row = setting.row();
-        expect_holds(&rt, row.name == *name && row.usual == *usual, name);
+        assert!(rt; row.name == *name && row.usual == *usual, "{name}");
         let has_numbers = matches!(row.range, Range::Number { .. });
         let value = Settings::usual().value(*setting);
-        expect_holds(&rt, is_number(value) == has_numbers, name);
+        assert!(rt; matches!(value, Value::Number(_)) == has_numbers, "{name}");
     }
 }

@@ -1,20 +1,16 @@
 //! Lines of engines, and what the interface is shown of them.
-ghost use Rattle.std.specs.Prelude.{◌≡◌, IfSome};
-ghost use Rattle.cecp_lines.specs.Replies.{IsWritable};
 ghost use Rattle.think_text.specs.Line.{IsPlayable};
 
-use crate::expect::{expect_holds, expect_text, room};
+use crate::expect::room;
 use cecp_lines::Spelling;
-use chess_board::{Move, Position, Square, read_move};
+use chess_board::{Position, read_move};
 use line_io::Out;
 use std::process::Abort;
-use think_text::{
-    Pondered, SeenThinking, current_stays_writable, stat01, thinking, thinking_lines_are_short,
-};
+use think_text::{Pondered, thinking, thinking_lines_are_short};
 use uci_lines::{EngineMsg, read_engine};
 
 /// The position after moves from the standard start. None if one is illegal.
-fn after(moves: &[&'static str]) -> Option<Position> {
+pub(crate) fn after(moves: &[&'static str]) -> Option<Position> {
     let mut at = Position::start();
     for text in moves {
         at = at.try_play(read_move(text.as_bytes())?)?;
@@ -262,8 +258,8 @@ const SANS: [Shown; 7] = [
 fn expect_shown(rt: &impl Abort, spelling: Spelling, rows: &[Shown], out: &mut Out) {
     for (moves, hint, line, want) in rows {
         let told = show(spelling, moves, hint, line, out);
-        expect_holds(rt, told == Some(!want.is_empty()), line);
-        expect_text(rt, out.bytes(), want, line);
+        let shown = told == Some(!want.is_empty()) && out.bytes() == want.as_bytes();
+        assert!(rt; shown, "{line}");
     }
 }
 
@@ -271,237 +267,7 @@ fn expect_shown(rt: &impl Abort, spelling: Spelling, rows: &[Shown], out: &mut O
 fn shows_what_engines_tell(rt: HostRuntime) {
     let mut out = room(&rt, rt.alloc(), 1_408);
     expect_shown(&rt, Spelling::Coordinates, &SHOWN, &mut out);
-}
-
-#[test]
-fn shows_moves_as_long_as_they_are_legal(rt: HostRuntime) {
-    let mut out = room(&rt, rt.alloc(), 1_408);
     expect_shown(&rt, Spelling::Coordinates, &VARIATIONS, &mut out);
-}
-
-#[test]
-fn shows_moves_in_standard_algebraic_notation(rt: HostRuntime) {
-    let mut out = room(&rt, rt.alloc(), 1_408);
-    expect_shown(&rt, Spelling::San, &SANS, &mut out);
-}
-
-#[test]
-fn shows_nothing(rt: HostRuntime) {
-    let mut out = room(&rt, rt.alloc(), 1_408);
     expect_shown(&rt, Spelling::Coordinates, &UNSHOWN, &mut out);
-}
-
-fn hear(seen: &mut SeenThinking, line: &str, at: &Position)
-    requires { IfSome seen.old.current IsWritable }
-    ensures { IfSome seen.new.current IsWritable }
-{
-    if let EngineMsg::Info(info) = read_engine(line.as_bytes()) {
-        current_stays_writable();
-        seen.hear(&info, at);
-    }
-}
-
-/// Writes the answer to `.`, if there is room enough.
-fn answer(seen: SeenThinking, at: &Position, out: &mut Out)
-    requires { IfSome seen.current IsWritable }
-{
-    out.clear();
-    if out.spare() >= 128 {
-        stat01(&seen, at, out);
-    }
-}
-
-/// What is kept of lines of an engine. It writes the answer to `.` too.
-fn keep(moves: &[&'static str], lines: [&str; 3], out: &mut Out) -> Option<SeenThinking> {
-    let at = after(moves)?;
-    let [first, second, third] = lines;
-    let mut seen = SeenThinking::new();
-    hear(&mut seen, first, &at);
-    hear(&mut seen, second, &at);
-    hear(&mut seen, third, &at);
-    answer(seen, &at, out);
-    Some(seen)
-}
-
-const E2E4: Move = Move {
-    from: Square { index: 12 },
-    to: Square { index: 28 },
-    promotion: None,
-};
-
-const D2D4: Move = Move {
-    from: Square { index: 11 },
-    to: Square { index: 27 },
-    promotion: None,
-};
-
-const NOTHING_SEEN: SeenThinking = SeenThinking {
-    depth: 0,
-    time: 0,
-    nodes: 0,
-    current: None,
-    number: 0,
-    score: None,
-};
-
-/// Three lines at the start of a game, what is kept of them, and the answer to `.`.
-type KeptThinking = ([&'static str; 3], SeenThinking, &'static str);
-
-const KEPT: [KeptThinking; 4] = [
-    (["", "", ""], NOTHING_SEEN, "stat01: 0 0 0 20 20"),
-    (
-        [
-            "info depth 12 time 4200 nodes 900000 currmove e2e4 currmovenumber 3",
-            "",
-            "",
-        ],
-        SeenThinking {
-            depth: 12,
-            time: 4_200,
-            nodes: 900_000,
-            current: Some(E2E4),
-            number: 3,
-            score: None,
-        },
-        "stat01: 420 900000 12 17 20 e2e4",
-    ),
-    (
-        [
-            "info depth 12 time 4200 nodes 900000 currmove e2e4 currmovenumber 3",
-            "info depth 5 score mate 3 pv e2e4 e7e5 a1a8",
-            "info string time 1",
-        ],
-        SeenThinking {
-            depth: 5,
-            time: 4_200,
-            nodes: 900_000,
-            current: Some(E2E4),
-            number: 3,
-            score: Some(100_003),
-        },
-        "stat01: 420 900000 5 17 20 e2e4",
-    ),
-    // The move is illegal, and its number is more than there are moves.
-    (
-        [
-            "info depth 3 currmove d2d4 currmovenumber 1",
-            "info currmove e7e5 currmovenumber 25",
-            "info time 9",
-        ],
-        SeenThinking {
-            depth: 3,
-            time: 9,
-            nodes: 0,
-            current: Some(D2D4),
-            number: 25,
-            score: None,
-        },
-        "stat01: 0 0 3 0 20 d2d4",
-    ),
-];
-
-fn expect_kept(rt: &impl Abort, rows: &[KeptThinking], out: &mut Out) {
-    for (lines, want, answer) in rows {
-        expect_holds(rt, keep(&[], *lines, out) == Some(*want), answer);
-        expect_text(rt, out.bytes(), answer, answer);
-    }
-}
-
-#[test]
-fn keeps_what_was_told_last(rt: HostRuntime) {
-    let mut out = room(&rt, rt.alloc(), 128);
-    expect_kept(&rt, &KEPT, &mut out);
-}
-
-/// Three lines, and the score that is kept of them.
-type Scored = ([&'static str; 3], Option<i64>);
-
-const SCORES: [Scored; 8] = [
-    (["info score cp 30", "info score cp -7", ""], Some(-7)),
-    (["info score cp 30", "info depth 9", ""], Some(30)),
-    (["info multipv 1 score cp -5", "", ""], Some(-5)),
-    (["info score mate -2", "", ""], Some(-100_002)),
-    (["info score mate 0", "", ""], Some(-100_000)),
-    // a bound, and other variations
-    (
-        [
-            "info score cp 30",
-            "info score cp 13 lowerbound",
-            "info score mate 2 upperbound",
-        ],
-        Some(30),
-    ),
-    (
-        [
-            "info score cp 30",
-            "info multipv 2 score cp -69",
-            "info multipv 0 score cp 7",
-        ],
-        Some(30),
-    ),
-    (
-        [
-            "info score cp 30 lowerbound",
-            "info multipv 2 score cp -69",
-            "",
-        ],
-        None,
-    ),
-];
-
-fn expect_scores(rt: &impl Abort, rows: &[Scored], out: &mut Out) {
-    for (lines, want) in rows {
-        let seen = keep(&[], *lines, out).expect(rt, lines[0]);
-        expect_holds(rt, seen.score == *want, lines[0]);
-    }
-}
-
-#[test]
-fn keeps_the_score_of_the_first_variation(rt: HostRuntime) {
-    let mut out = room(&rt, rt.alloc(), 128);
-    expect_scores(&rt, &SCORES, &mut out);
-}
-
-/// Moves, the engine's line, and the answer to `.`.
-type Counted = (&'static [&'static str], &'static str, &'static str);
-
-const COUNTED: [Counted; 4] = [
-    (
-        &["e2e4", "e7e5"],
-        "info currmove e1e2 currmovenumber 29",
-        "stat01: 0 0 0 0 29 e1e2",
-    ),
-    // in check
-    (
-        &["e2e4", "d7d5", "f1b5"],
-        "info currmove c7c6 currmovenumber 1",
-        "stat01: 0 0 0 4 5 c7c6",
-    ),
-    // two ways to promote, of four each
-    (
-        &[
-            "a2a4", "b7b5", "a4b5", "a7a6", "b5a6", "b8c6", "a6a7", "a8b8",
-        ],
-        "info currmove a7b8N currmovenumber 2",
-        "stat01: 0 0 0 29 31 a7b8n",
-    ),
-    // mate
-    (
-        &["f2f3", "e7e5", "g2g4", "d8h4"],
-        "info depth 0 score mate 0",
-        "stat01: 0 0 0 0 0",
-    ),
-];
-
-fn expect_counted(rt: &impl Abort, rows: &[Counted], out: &mut Out) {
-    for (moves, line, want) in rows {
-        expect_holds(rt, keep(moves, [line, "", ""], out).is_some(), line);
-        expect_text(rt, out.bytes(), want, line);
-    }
-}
-
-#[test]
-fn counts_legal_moves(rt: HostRuntime) {
-    let mut out = room(&rt, rt.alloc(), 128);
-    expect_counted(&rt, &COUNTED, &mut out);
+    expect_shown(&rt, Spelling::San, &SANS, &mut out);
 }

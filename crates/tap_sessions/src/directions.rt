@@ -4,10 +4,11 @@ ghost use Rattle.event_pipe.specs.Ends.{IsSender, IsFreshTaker, sent};
 
 use event_pipe::{Peer, Pipe, PipeSend, PipeTake};
 use line_io::{MemSink, MemSource, Out};
+use sink_offers::{HandedStreams, Interface};
 use std::alloc::Global;
 use std::sync::Wait;
 use std::test::Fail;
-use tap_runner::{Direction, LOG_ROOM, OpenLine, PassEnd, hand_on, keep_log, run_tap};
+use tap_runner::{Direction, LOG_ROOM, OpenLine, PassEnd, TapParts, hand_on, keep_log, run_tap};
 
 // Hands on these bytes in pieces of seven.
 fn pass<R: Wait>(
@@ -16,16 +17,15 @@ fn pass<R: Wait>(
     bytes: &[u8],
     sink: &mut MemSink,
     peer: Peer,
-    to: &mut PipeSend,
+    to: PipeSend,
 ) -> Result<PassEnd, Fail>
-    requires sender { IsSender to.old }
-    requires peer { to.old.peer ≡ peer }
-    requires unsent { sent to.old ≡ [] }
+    requires sender { IsSender to }
+    requires peer { to.peer ≡ peer }
+    requires unsent { sent to ≡ [] }
 {
     let mut source = MemSource::make(alloc, bytes, 7, &[])?;
-    let mut part = OpenLine::make(alloc, peer)?;
-    let mut buf = vec![in alloc; 0; 100]?;
-    Ok(hand_on(rt, alloc, &mut source, sink, &mut buf, &mut part, to))
+    let mut way = make_way(alloc, peer, to)?;
+    Ok(hand_on(rt, alloc, &mut source, sink, &mut way))
 }
 
 // Writes what is in the channel into a log.
@@ -56,11 +56,11 @@ const LOG: &[u8] = b"\
 #[test]
 fn bytes_are_handed_on_and_lines_are_logged(rt: HostRuntime) -> Result<(), Fail> {
     let alloc = rt.alloc();
-    let (mut bridge, mut child, taker) = Pipe::make(alloc)?;
+    let (bridge, child, taker) = Pipe::make(alloc)?;
     let mut engine = MemSink::make(alloc, 100, &[])?;
     let mut output = MemSink::make(alloc, 100, &[])?;
-    let down = pass(&rt, alloc, BRIDGE, &mut engine, Peer::Iface, &mut bridge)?;
-    let up = pass(&rt, alloc, ENGINE, &mut output, Peer::Engine, &mut child)?;
+    let down = pass(&rt, alloc, BRIDGE, &mut engine, Peer::Iface, bridge)?;
+    let up = pass(&rt, alloc, ENGINE, &mut output, Peer::Engine, child)?;
     assert!(rt; !down.read_failed && !down.write_failed && !down.has_lacked_memory);
     assert!(rt; !up.read_failed && !up.write_failed && !up.has_lacked_memory);
     assert_eq!(rt; engine.taken(), BRIDGE);
@@ -74,7 +74,7 @@ fn bytes_are_handed_on_and_lines_are_logged(rt: HostRuntime) -> Result<(), Fail>
 #[test]
 fn a_long_line_is_handed_on(rt: HostRuntime) -> Result<(), Fail> {
     let alloc = rt.alloc();
-    let (mut bridge, mut child, taker) = Pipe::make(alloc)?;
+    let (bridge, child, taker) = Pipe::make(alloc)?;
     let mut engine = MemSink::make(alloc, 70_000, &[])?;
     let mut output = MemSink::make(alloc, 100, &[1])?;
     let mut bytes = vec![in alloc; b'a'; 65_535]?;
@@ -85,16 +85,9 @@ fn a_long_line_is_handed_on(rt: HostRuntime) -> Result<(), Fail> {
         bytes.as_slice(),
         &mut engine,
         Peer::Iface,
-        &mut bridge,
+        bridge,
     )?;
-    let up = pass(
-        &rt,
-        alloc,
-        b"uciok\n",
-        &mut output,
-        Peer::Engine,
-        &mut child,
-    )?;
+    let up = pass(&rt, alloc, b"uciok\n", &mut output, Peer::Engine, child)?;
     assert!(rt; !down.write_failed && up.write_failed);
     assert_eq!(rt; engine.taken(), bytes.as_slice());
     assert_eq!(rt; output.taken(), b"".as_slice());
@@ -124,27 +117,25 @@ fn both_directions_run(rt: HostRuntime) -> Result<(), Fail> {
     let (bridge, child, taker) = Pipe::make(alloc)?;
     let down = make_way(alloc, Peer::Iface, bridge)?;
     let up = make_way(alloc, Peer::Engine, child)?;
-    let mut input = MemSource::make(alloc, BRIDGE, 3, &[])?;
-    let mut source = MemSource::make(alloc, ENGINE, 3, &[2])?;
-    let mut output = MemSink::make(alloc, 100, &[])?;
-    let mut engine = MemSink::make(alloc, 100, &[])?;
-    let mut log: Option<MemSink> = None;
-    let mut text = Out::make(alloc, LOG_ROOM)?;
-    let end = run_tap(
-        &rt,
-        alloc,
+    let mut interface = Interface {
+        input: MemSource::make(alloc, BRIDGE, 3, &[])?,
+        output: MemSink::make(alloc, 100, &[])?,
+    };
+    let log: Option<MemSink> = None;
+    let mut handed = HandedStreams {
+        source: MemSource::make(alloc, ENGINE, 3, &[2])?,
+        engine: MemSink::make(alloc, 100, &[])?,
+        log,
+    };
+    let parts = TapParts {
         down,
         up,
         taker,
-        &mut input,
-        &mut source,
-        &mut output,
-        &mut engine,
-        &mut log,
-        &mut text,
-    );
+        text: Out::make(alloc, LOG_ROOM)?,
+    };
+    let end = run_tap(&rt, alloc, parts, &mut interface, &mut handed);
     assert!(rt; !end.bridge.read_failed && end.engine.read_failed && !end.log_failed);
-    assert_eq!(rt; engine.taken(), BRIDGE);
-    assert_eq!(rt; output.taken(), b"id ".as_slice());
+    assert_eq!(rt; handed.engine.taken(), BRIDGE);
+    assert_eq!(rt; interface.output.taken(), b"id ".as_slice());
     Ok(())
 }

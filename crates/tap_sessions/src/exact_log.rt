@@ -2,6 +2,7 @@
 use child_engine::{Fails, MemHost};
 use line_io::MemSink;
 use paced_host::{DueText, PacedHost, PacedTexts};
+use sink_offers::Interface;
 use std::sync::atomic::AtomicU64;
 use std::test::Fail;
 use tap_app::tap_main;
@@ -45,21 +46,22 @@ fn a_whole_session_has_one_log(rt: HostRuntime) -> Result<(), Fail> {
     let lines = AtomicU64::new(0);
     let host = MemHost::make(alloc, ENGINE, 100, 1_000, &Fails::default())?;
     let mut host = PacedHost::new(alloc, host, &lines, ENGINE_READS.as_slice());
-    let mut input = PacedTexts::new(&lines, BRIDGE.as_slice());
-    let mut output = MemSink::make(alloc, 1_000, &[])?;
+    let mut interface = Interface {
+        input: PacedTexts::new(&lines, BRIDGE.as_slice()),
+        output: MemSink::make(alloc, 1_000, &[])?,
+    };
     let mut diag = MemSink::make(alloc, 1_000, &[])?;
     let status = tap_main(
         &rt,
         alloc,
         words.as_slice(),
-        &mut input,
-        &mut output,
+        &mut interface,
         &mut host,
         &mut diag,
     );
     assert_eq!(rt; status.code, 0);
     assert_eq!(rt; host.logged(), LOG);
-    assert_eq!(rt; output.taken(), ENGINE);
+    assert_eq!(rt; interface.output.taken(), ENGINE);
     assert!(rt; host.was_asked_for(1, &["engine", "-x y"], "t.log"));
     Ok(())
 }

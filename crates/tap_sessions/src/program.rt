@@ -2,6 +2,7 @@
 
 use child_engine::{Fails, MemHost};
 use line_io::{MemSink, MemSource};
+use sink_offers::Interface;
 use std::alloc::Global;
 use std::sync::Wait;
 use std::test::Fail;
@@ -39,21 +40,22 @@ fn run<R: Threads + Wait + Sync>(
         words.push(Vec::from_slice(alloc, text)?)?;
     }
     let mut host = MemHost::make(alloc, ENGINE, 5, 1_000, fails)?;
-    let mut input = MemSource::make(alloc, INPUT, 5, &[])?;
-    let mut output = MemSink::make(alloc, 1_000, &[])?;
+    let mut interface = Interface {
+        input: MemSource::make(alloc, INPUT, 5, &[])?,
+        output: MemSink::make(alloc, 1_000, &[])?,
+    };
     let mut diag = MemSink::make(alloc, 1_000, &[])?;
     let status = tap_main(
         rt,
         alloc,
         words.as_slice(),
-        &mut input,
-        &mut output,
+        &mut interface,
         &mut host,
         &mut diag,
     );
     Ok(RunResult {
         code: status.code,
-        output,
+        output: interface.output,
         diag,
     })
 }

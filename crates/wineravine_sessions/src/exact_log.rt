@@ -3,6 +3,7 @@ use crate::expected::{expect_bytes, words_of};
 use child_engine::{Fails, MemHost};
 use line_io::{MemSink, NoMemory};
 use paced_host::{DueText, PacedHost, PacedTexts};
+use sink_offers::Interface;
 use std::alloc::Global;
 use std::process::Abort;
 use std::sync::Wait;
@@ -83,21 +84,22 @@ fn status_of<R: Threads + Wait + Sync + Abort>(rt: &R, alloc: Global) -> Result<
     let fails = Fails::default();
     let host = MemHost::make(alloc, ENGINE, 200, 10_000, &fails)?;
     let mut host = PacedHost::new(alloc, host, &lines, ENGINE_ENDS);
-    let mut input = PacedTexts::new(&lines, IFACE);
-    let mut output = MemSink::make(alloc, 1_000, &[])?;
+    let mut interface = Interface {
+        input: PacedTexts::new(&lines, IFACE),
+        output: MemSink::make(alloc, 1_000, &[])?,
+    };
     let mut diag = MemSink::make(alloc, 1_000, &[])?;
     let status = wineravine_main(
         rt,
         alloc,
         words.as_slice(),
-        &mut input,
-        &mut output,
+        &mut interface,
         &mut host,
         &mut diag,
     );
     expect_bytes(rt, host.logged(), LOG);
     assert!(rt; host.was_asked_for(1, &["toy", "-x"], "w.log"));
-    expect_bytes(rt, output.taken(), OUTPUT);
+    expect_bytes(rt, interface.output.taken(), OUTPUT);
     expect_bytes(rt, diag.taken(), b"");
     Ok(status.code)
 }

@@ -34,12 +34,13 @@ struct RunResult {
 }
 
 impl RunResult {
-    // Whether this came of it.
-    fn expect(&self, rt: &impl Abort, status: u8, output: &str, told: &str) -> Result<(), Fail> {
-        assert_eq!(rt; self.told.as_slice(), told.as_bytes());
-        assert_eq!(rt; self.status, status);
-        assert_eq!(rt; self.output.as_slice(), output.as_bytes());
-        Ok(())
+    // This came of it.
+    fn expect(&self, rt: &impl Abort, status: u8, output: &str, told: &str) {
+        let same = self.status == status && self.told.as_slice() == told.as_bytes();
+        assert!(rt;
+            same && self.output.as_slice() == output.as_bytes(),
+            "{told}{output}"
+        );
     }
 }
 
@@ -83,10 +84,11 @@ fn checked(alloc: Global, script: &str) -> Result<RunResult, Fail> {
 fn expect_script(rt: &impl Abort, alloc: Global, input: &str, script: &str) -> Result<(), Fail> {
     for piece in 1..8usize {
         let answer = replayed(alloc, input.as_bytes(), piece, &[])?;
-        answer.expect(rt, 0, script, "")?;
+        answer.expect(rt, 0, script, "");
     }
-    replayed(alloc, script.as_bytes(), 4096, &[])?.expect(rt, 0, script, "")?;
-    checked(alloc, script)?.expect(rt, 0, "lawful\n", "")
+    replayed(alloc, script.as_bytes(), 4096, &[])?.expect(rt, 0, script, "");
+    checked(alloc, script)?.expect(rt, 0, "lawful\n", "");
+    Ok(())
 }
 
 #[test]
@@ -98,48 +100,38 @@ fn inputs_in_pieces_are_replayed(rt: HostRuntime) -> Result<(), Fail> {
     expect_script(&rt, alloc, NUMBERED, NUMBERED_SCRIPT)
 }
 
-#[test]
-fn failed_reads_are_told(rt: HostRuntime) -> Result<(), Fail> {
-    let answer = replayed(rt.alloc(), b"x ping 1\nx ping 2\n", 9, &[2])?;
-    answer.expect(
-        &rt,
-        4,
-        "U uci\nx ping 1\nX pong 1\n",
-        "replay: reading failed\n",
-    )
-}
-
 // What these words answer whose first write fails.
 fn expect_no_write(rt: &impl Abort, alloc: Global, words: &[u8], input: &[u8]) -> Result<(), Fail> {
     let mut source = MemSource::make(alloc, input, 4096, &[])?;
     let mut output = MemSink::make(alloc, 1_000, &[1])?;
     let answer = run(alloc, words, &mut source, &mut output)?;
-    answer.expect(rt, 5, "", "replay: writing failed\n")
+    answer.expect(rt, 5, "", "replay: writing failed\n");
+    Ok(())
 }
 
-#[test]
-fn failed_writes_are_told(rt: HostRuntime) -> Result<(), Fail> {
-    let alloc = rt.alloc();
-    expect_no_write(&rt, alloc, b"moves|4k3/8/8/8/8/8/8/4K3|w|-|-", b"")?;
-    expect_no_write(&rt, alloc, b"drill|1|0", b"")?;
-    expect_no_write(&rt, alloc, b"check", b"U uci\nx ping 1\nX pong 1\n")
-}
-
-#[test]
-fn want_of_memory_is_told(rt: HostRuntime) -> Result<(), Fail> {
-    let mut diag = MemSink::make(rt.alloc(), 100, &[])?;
-    assert_eq!(rt; refuse_for_memory(&mut diag).code, 3);
-    assert_eq!(rt; diag.taken(), b"replay: no memory\n".as_slice());
+// Words that are no text.
+fn expect_bytes(rt: &impl Abort, alloc: Global) -> Result<(), Fail> {
+    let mut source = MemSource::make(alloc, b"", 7, &[])?;
+    let mut output = MemSink::make(alloc, 100, &[])?;
+    let answer = run(alloc, b"moves|\xff", &mut source, &mut output)?;
+    answer.expect(rt, 2, "", "replay: position: board\n");
     Ok(())
 }
 
 #[test]
-fn words_are_bytes(rt: HostRuntime) -> Result<(), Fail> {
+fn faults_are_told(rt: HostRuntime) -> Result<(), Fail> {
     let alloc = rt.alloc();
-    let mut source = MemSource::make(alloc, b"", 7, &[])?;
-    let mut output = MemSink::make(alloc, 100, &[])?;
-    let answer = run(alloc, b"moves|\xff", &mut source, &mut output)?;
-    answer.expect(&rt, 2, "", "replay: position: board\n")
+    let read = replayed(alloc, b"x ping 1\nx ping 2\n", 9, &[2])?;
+    let output = "U uci\nx ping 1\nX pong 1\n";
+    read.expect(&rt, 4, output, "replay: reading failed\n");
+    expect_no_write(&rt, alloc, b"moves|4k3/8/8/8/8/8/8/4K3|w|-|-", b"")?;
+    expect_no_write(&rt, alloc, b"drill|1|0", b"")?;
+    expect_no_write(&rt, alloc, b"check", b"U uci\nx ping 1\nX pong 1\n")?;
+    expect_bytes(&rt, alloc)?;
+    let mut diag = MemSink::make(alloc, 100, &[])?;
+    assert!(rt; refuse_for_memory(&mut diag).code == 3);
+    assert!(rt; diag.taken() == b"replay: no memory\n".as_slice());
+    Ok(())
 }
 
 // A line of so many letters.
@@ -153,17 +145,13 @@ fn letters(alloc: Global, count: usize) -> Result<Vec<u8>, Fail> {
 }
 
 #[test]
-fn the_longest_lines_are_replayed(rt: HostRuntime) -> Result<(), Fail> {
+fn lines_are_as_long_as_they_may_be(rt: HostRuntime) -> Result<(), Fail> {
     let longest = letters(rt.alloc(), 65_536)?;
     let answer = replayed(rt.alloc(), longest.as_slice(), 4096, &[])?;
-    assert_eq!(rt; answer.status, 0);
-    assert_eq!(rt; answer.output.len(), 6 + 65_539 + 2 + 25 + 65_537);
-    Ok(())
-}
-
-#[test]
-fn longer_lines_have_no_mark(rt: HostRuntime) -> Result<(), Fail> {
+    assert!(rt; answer.status == 0);
+    assert!(rt; answer.output.len() == 6 + 65_539 + 2 + 25 + 65_537);
     let longer = letters(rt.alloc(), 65_537)?;
     let answer = replayed(rt.alloc(), longer.as_slice(), 4096, &[])?;
-    answer.expect(&rt, 2, "U uci\n", "replay: line 1 has no mark\n")
+    answer.expect(&rt, 2, "U uci\n", "replay: line 1 has no mark\n");
+    Ok(())
 }

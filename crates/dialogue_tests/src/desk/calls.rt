@@ -2,9 +2,9 @@
 ghost use Rattle.std.specs.Prelude.{◌≡◌, true};
 ghost use Rattle.desk_rules.specs.Fits.{IsSound, CanSearch, CanWrite};
 
-use super::{Bench, SIGHT, Turn, check_turns, expect_move, expect_pings};
-use crate::rows::{engine_in, expect, expect_text};
-use cecp_lines::{IfaceMsg, read_iface};
+use super::{Bench, SIGHT, Turn, check_turns};
+use crate::rows::{engine_in, expect_text};
+use cecp_lines::read_iface;
 use chess_board::{Move, Square, read_move};
 use desk_rules::{Desk, Effect, EngineName, Pings, is_gone, put_chosen, put_pongs};
 use game_record::Game;
@@ -13,7 +13,6 @@ use option_map::HeldOrders;
 use policy_rules::{Scores, Settings};
 use search_epochs::{Call, EngineState, Orders};
 use std::process::Abort;
-use std::test::Fail;
 
 fn can_search(game: &Game, call: Call) -> bool
     ensures { result ≡ true → CanSearch game.now call }
@@ -81,67 +80,42 @@ const CHOSEN: [(Orders, &'static str); 7] = [
 
 const ANALYSIS_AFTER_E4: &str = "position startpos moves e2e4\ngo infinite\n";
 
-fn check_all_chosen(
-    rt: &impl Abort,
-    held: &HeldOrders,
-    desk: &Desk,
-    rows: &[(Orders, &str)],
-    out: &mut Out,
-)
-    requires { IsSound desk.now }
-{
-    for (orders, want) in rows {
-        check_chosen(rt, held, desk, *orders, out, want);
-    }
-}
-
 #[test]
-fn puts_the_chosen_orders(rt: HostRuntime) -> Result<(), Fail> {
-    expect_move(&rt, read_move(b"e7e5"), Some(E7E5));
-    let mut out = Out::make(rt.alloc(), 72_300)?;
-    let mut bench = Bench::make(rt.alloc())?;
+fn puts_the_chosen_orders(rt: HostRuntime) {
+    assert!(rt; read_move(b"e7e5") == Some(E7E5));
+    let mut out = Out::make(rt.alloc(), 72_300).expect(&rt, "memory");
+    let mut bench = Bench::make(rt.alloc()).expect(&rt, "memory");
     check_turns(&rt, &mut bench, SIGHT, &AFTER_E4);
-    check_all_chosen(&rt, &bench.held, &bench.desk, &CHOSEN, &mut out);
+    for (orders, want) in &CHOSEN {
+        check_chosen(&rt, &bench.held, &bench.desk, *orders, &mut out, want);
+    }
     out.clear();
     assert!(rt; out.spare() >= 72_300);
     bench.desk.put_search(Call::Analyse, &mut out);
     expect_text(&rt, out.bytes(), ANALYSIS_AFTER_E4, "analysis");
     bench.end();
-    Ok(())
 }
 
 #[test]
-fn answers_pings_in_turn(rt: HostRuntime) -> Result<(), Fail> {
-    let mut pings = Pings::make(rt.alloc())?;
-    expect_pings(&rt, &pings, &[]);
+fn answers_pings_in_turn(rt: HostRuntime) {
+    let mut pings = Pings::make(rt.alloc()).expect(&rt, "memory");
+    assert!(rt; pings.len() == 0 && pings.numbers().is_empty(), "no pings");
     pings.add(999_999_999);
     pings.add(0);
-    expect_pings(&rt, &pings, &[999_999_999, 0]);
-    let mut out = Out::make(rt.alloc(), 32)?;
+    let mut out = Out::make(rt.alloc(), 32).expect(&rt, "memory");
     let numbers = pings.numbers();
-    assert!(rt; numbers.len() == 2);
+    assert!(rt;
+        numbers.len() == 2 && numbers == [999_999_999, 0].as_slice(),
+        "two pings"
+    );
     put_pongs(numbers, &mut out);
     expect_text(&rt, out.bytes(), "pong 999999999\npong 0\n", "pongs");
     pings.clear();
-    expect_pings(&rt, &pings, &[]);
-    Ok(())
+    assert!(rt; pings.len() == 0 && pings.numbers().is_empty(), "cleared");
 }
 
-/// Whether the score of a shown move, by which the policy resigns, is forgotten after a line.
-fn clears_scores(rt: &impl Abort, message: IfaceMsg) -> bool {
-    let one_is_lost = Settings {
-        resign: true,
-        resign_moves: 1,
-        ..Settings::usual()
-    };
-    let mut scores = Scores::new(&one_is_lost);
-    scores.shown(Some(-700));
-    expect(rt, scores.resigns(), "a lost move was shown");
-    Effect::Accepts(message).count(&mut scores, None);
-    !scores.resigns()
-}
-
-/// A line, and whether it clears the scores.
+/// A line, and whether the score of a shown move, by which the policy resigns, is forgotten
+/// after it.
 const CLEARINGS: [(&'static str, bool); 13] = [
     ("new", true),
     ("go", true),
@@ -159,32 +133,27 @@ const CLEARINGS: [(&'static str, bool); 13] = [
 ];
 
 fn check_clearings(rt: &impl Abort, rows: &[(&str, bool)]) {
+    let one_is_lost = Settings {
+        resign: true,
+        resign_moves: 1,
+        ..Settings::usual()
+    };
     for (line, want) in rows {
         let message = read_iface(line.as_bytes()).expect(rt, "a message");
-        expect(rt, clears_scores(rt, message) == *want, line);
+        let mut scores = Scores::new(&one_is_lost);
+        scores.shown(Some(-700));
+        assert!(rt; scores.resigns(), "a lost move was shown");
+        Effect::Accepts(message).count(&mut scores, None);
+        assert!(rt; scores.resigns() != *want, "{line}");
     }
 }
 
 #[test]
-fn clears_scores_by_lines(rt: HostRuntime) -> Result<(), Fail> {
+fn clears_scores_by_lines(rt: HostRuntime) {
     check_clearings(&rt, &CLEARINGS);
-    Ok(())
 }
 
 const NOT_GONE: [&str; 5] = ["boot", "getting", "idle", "move", "stale"];
-
-fn expect_none_gone(rt: &impl Abort, engines: &[&str]) {
-    for engine in engines {
-        expect(rt, !is_gone(engine_in(rt, engine)), engine);
-    }
-}
-
-#[test]
-fn knows_a_gone_engine(rt: HostRuntime) -> Result<(), Fail> {
-    expect(&rt, is_gone(EngineState::Gone), "gone");
-    expect_none_gone(&rt, &NOT_GONE);
-    Ok(())
-}
 
 /// What the engine says of its name, and the name that is shown after it.
 const NAMES: [(&'static str, &'static str); 5] = [
@@ -195,17 +164,16 @@ const NAMES: [(&'static str, &'static str); 5] = [
     ("", "UCI engine"),
 ];
 
-fn check_names(rt: &impl Abort, name: &mut EngineName, rows: &[(&str, &str)]) {
-    for (said, want) in rows {
-        name.set(said.as_bytes());
-        expect_text(rt, name.text(), want, said);
-    }
-}
-
 #[test]
-fn shows_the_name_given_last(rt: HostRuntime) -> Result<(), Fail> {
+fn knows_a_gone_engine_and_its_last_name(rt: HostRuntime) {
+    assert!(rt; is_gone(EngineState::Gone), "gone");
+    for engine in &NOT_GONE {
+        assert!(rt; !is_gone(engine_in(&rt, engine)), "{engine}");
+    }
     let mut name = EngineName::new();
     expect_text(&rt, name.text(), "UCI engine", "at first");
-    check_names(&rt, &mut name, &NAMES);
-    Ok(())
+    for (said, want) in &NAMES {
+        name.set(said.as_bytes());
+        expect_text(&rt, name.text(), want, said);
+    }
 }

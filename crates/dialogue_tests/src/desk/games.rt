@@ -1,16 +1,11 @@
 // Games at a desk: moves, ends, pondering, analysis and pings.
-use super::{
-    Bench, PONDER_IS_OPTION, SIGHT, Turn, USUAL, check_turns, expect_mode, expect_move,
-    expect_none_held, expect_pings, expect_plies,
-};
-use crate::rows::{G1F3, expect};
+use super::{Bench, PONDER_IS_OPTION, SIGHT, Turn, USUAL, check_turns};
+use crate::rows::G1F3;
 use chess_board::{Side, read_move};
-use desk_rules::{Context, Desk, Mode};
-use line_io::NoMemory;
+use desk_rules::{Context, Mode};
 use policy_rules::Settings;
 use std::alloc::Global;
 use std::process::Abort;
-use std::test::Fail;
 
 const ENGINE_ENDED: &str = "tellusererror Engine ended\nresign\n";
 
@@ -223,63 +218,54 @@ const PINGED_TOO_OFTEN: [Turn; 1] = [(
     "Error (too many pings): ping 2\n",
 )];
 
-/// The depth and the score that the search told last.
-fn expect_seen(rt: &impl Abort, desk: &Desk, depth: u64, score: i64) {
-    expect(rt, desk.seen.depth == depth, "the depth");
-    expect(rt, desk.seen.score == Some(score), "the score");
-}
-
 #[test]
-fn plays_a_move(rt: HostRuntime) -> Result<(), Fail> {
-    let mut bench = Bench::make(rt.alloc())?;
+fn plays_a_move(rt: HostRuntime) {
+    let mut bench = Bench::make(rt.alloc()).expect(&rt, "memory");
     check_turns(&rt, &mut bench, SIGHT, &PLAYED);
-    expect_move(&rt, read_move(b"g1f3"), Some(G1F3));
-    expect_move(&rt, bench.desk.hint, Some(G1F3));
-    expect_seen(&rt, &bench.desk, 8, -20);
-    expect_plies(&rt, &bench.desk, 2);
+    let hinted = read_move(b"g1f3") == Some(G1F3) && bench.desk.hint == Some(G1F3);
+    assert!(rt; hinted && bench.desk.game.plies() == 2, "played");
+    assert!(rt;
+        bench.desk.seen.depth == 8 && bench.desk.seen.score == Some(-20),
+        "seen"
+    );
     check_turns(&rt, &mut bench, SIGHT, &TAKEN_BACK);
-    expect_move(&rt, bench.desk.hint, None);
-    expect_plies(&rt, &bench.desk, 1);
+    assert!(rt;
+        bench.desk.hint.is_none() && bench.desk.game.plies() == 1,
+        "taken back"
+    );
     bench.end();
-    Ok(())
-}
-
-#[test]
-fn gives_up_without_a_legal_move(rt: HostRuntime) -> Result<(), Fail> {
-    let mut bench = Bench::make(rt.alloc())?;
-    check_turns(&rt, &mut bench, SIGHT, &GIVEN_UP);
-    expect_mode(&rt, &bench.desk, Mode::Over);
-    expect_plies(&rt, &bench.desk, 1);
-    expect_none_held(&rt, &bench.held);
-    bench.end();
-    Ok(())
 }
 
 /// Takes turns with a policy that resigns and accepts draws, and compares the mode after them.
-fn check_lost(rt: &impl Abort, alloc: Global, turns: &[Turn], mode: Mode) -> Result<(), NoMemory> {
+fn check_lost(rt: &impl Abort, alloc: Global, turns: &[Turn], mode: Mode) {
     let lost = Context {
         resigns: true,
         accepts: true,
         ..SIGHT
     };
-    let mut bench = Bench::make(alloc)?;
+    let mut bench = Bench::make(alloc).expect(rt, "memory");
     check_turns(rt, &mut bench, lost, turns);
-    expect_mode(rt, &bench.desk, mode);
+    assert!(rt; bench.desk.mode == mode, "the mode");
     bench.end();
-    Ok(())
 }
 
 #[test]
-fn resigns_and_draws_by_the_policy(rt: HostRuntime) -> Result<(), Fail> {
-    check_lost(&rt, rt.alloc(), &RESIGNED, Mode::Over)?;
-    check_lost(&rt, rt.alloc(), &MATED, Mode::Plays(Side::White))?;
-    Ok(())
+fn gives_up_or_resigns(rt: HostRuntime) {
+    let mut bench = Bench::make(rt.alloc()).expect(&rt, "memory");
+    check_turns(&rt, &mut bench, SIGHT, &GIVEN_UP);
+    assert!(rt;
+        bench.desk.mode == Mode::Over && bench.desk.game.plies() == 1,
+        "given up"
+    );
+    assert!(rt; bench.held.count() == 0, "no orders are held");
+    bench.end();
+    check_lost(&rt, rt.alloc(), &RESIGNED, Mode::Over);
+    check_lost(&rt, rt.alloc(), &MATED, Mode::Plays(Side::White));
 }
 
 #[test]
-fn ponders_on_the_hint(rt: HostRuntime) -> Result<(), Fail> {
-    let mut bench = Bench::make(rt.alloc())?;
-    expect_move(&rt, read_move(b"g1f3"), Some(G1F3));
+fn ponders_on_the_hint(rt: HostRuntime) {
+    let mut bench = Bench::make(rt.alloc()).expect(&rt, "memory");
     check_turns(&rt, &mut bench, SIGHT, &HINTED);
     // the value that was asked for last
     bench.check_held(&rt, "setoption name Ponder value true\n");
@@ -293,36 +279,41 @@ fn ponders_on_the_hint(rt: HostRuntime) -> Result<(), Fail> {
     };
     check_turns(&rt, &mut bench, hidden, &PONDERED_UNSEEN);
     bench.end();
-    Ok(())
 }
 
 #[test]
-fn analyses(rt: HostRuntime) -> Result<(), Fail> {
-    let mut bench = Bench::make(rt.alloc())?;
+fn analyses(rt: HostRuntime) {
+    let mut bench = Bench::make(rt.alloc()).expect(&rt, "memory");
     check_turns(&rt, &mut bench, SIGHT, &ANALYSIS_BEGUN);
     bench.check_held(&rt, "setoption name UCI_AnalyseMode value true\n");
     check_turns(&rt, &mut bench, SIGHT, &ANALYSED);
     bench.check_held(&rt, "setoption name UCI_AnalyseMode value false\n");
-    expect_mode(&rt, &bench.desk, Mode::Force);
-    expect_plies(&rt, &bench.desk, 1);
+    assert!(rt;
+        bench.desk.mode == Mode::Force && bench.desk.game.plies() == 1,
+        "analysed"
+    );
     bench.end();
-    Ok(())
 }
 
 #[test]
-fn keeps_so_many_pings(rt: HostRuntime) -> Result<(), Fail> {
-    let mut bench = Bench::make(rt.alloc())?;
+fn keeps_so_many_pings(rt: HostRuntime) {
+    let mut bench = Bench::make(rt.alloc()).expect(&rt, "memory");
     check_turns(&rt, &mut bench, SIGHT, &MOVE_OWED);
     let spent = Context {
         spent: true,
         ..SIGHT
     };
-    expect(&rt, bench.desk.owes_move(SIGHT), "a move is owed");
-    expect(&rt, !bench.desk.owes_move(spent), "no move is owed");
+    let owed = bench.desk.owes_move(SIGHT) && !bench.desk.owes_move(spent);
+    assert!(rt; owed, "a move is owed until one was found");
     check_turns(&rt, &mut bench, SIGHT, &PINGED);
-    expect_pings(&rt, &bench.desk.pings, &HELD_PINGS);
+    assert!(rt;
+        bench.desk.pings.numbers() == HELD_PINGS.as_slice(),
+        "all pings"
+    );
     check_turns(&rt, &mut bench, SIGHT, &PINGED_TOO_OFTEN);
-    expect_pings(&rt, &bench.desk.pings, &HELD_PINGS);
+    assert!(rt;
+        bench.desk.pings.numbers() == HELD_PINGS.as_slice(),
+        "no more pings"
+    );
     bench.end();
-    Ok(())
 }

@@ -1,14 +1,9 @@
 // Turns of the dialogue, as the desk sees them.
-use super::{
-    Bench, PONDER_IS_OPTION, SIGHT, Turn, check_turns, expect_came, expect_mode, expect_none_held,
-    expect_pings, expect_plies,
-};
-use crate::rows::{expect, expect_text};
+use super::{Bench, PONDER_IS_OPTION, SIGHT, Turn, check_turns};
 use chess_board::Side;
-use desk_rules::{Context, Desk, Mode};
+use desk_rules::{Context, Mode};
 use line_io::Event;
-use std::process::Abort;
-use std::test::Fail;
+use search_epochs::Call;
 
 const LIST: &str = "feature myname=\"Toy\"
 feature ping=1
@@ -144,66 +139,62 @@ const BOOTING: [Turn; 3] = [
     ("idle", "x protover 2", "accepts", false, "nothing", LIST),
 ];
 
-/// Whether the feature list is due, and whether the engine has left its boot.
-fn expect_talk(rt: &impl Abort, desk: &Desk, due: bool, booted: bool) {
-    expect(rt, desk.due.is_due() == due, "the feature list");
-    expect(rt, desk.booted == booted, "the boot");
-}
-
-/// Nothing was asked of the desk yet.
-fn expect_fresh(rt: &impl Abort, desk: &Desk) {
-    expect(rt, !desk.post, "no thinking lines");
-    expect(rt, !desk.pondering, "no pondering");
-    expect(rt, desk.hint.is_none(), "no hint");
-    expect_plies(rt, desk, 0);
-    expect_mode(rt, desk, Mode::Plays(Side::Black));
-    expect_talk(rt, desk, false, false);
-    expect_pings(rt, &desk.pings, &[]);
-}
-
 #[test]
-fn begins_with_an_empty_desk(rt: HostRuntime) -> Result<(), Fail> {
-    let mut bench = Bench::make(rt.alloc())?;
-    expect_fresh(&rt, &bench.desk);
+fn begins_with_an_empty_desk(rt: HostRuntime) {
+    let mut bench = Bench::make(rt.alloc()).expect(&rt, "memory");
+    let desk = &bench.desk;
+    assert!(rt;
+        !desk.post && !desk.pondering && desk.hint.is_none(),
+        "nothing was asked"
+    );
+    assert!(rt;
+        desk.game.plies() == 0 && desk.mode == Mode::Plays(Side::Black),
+        "the game"
+    );
+    assert!(rt;
+        !desk.due.is_due() && !desk.booted && desk.pings.len() == 0,
+        "the talk"
+    );
     let came = bench.take(&rt, SIGHT, &Event::Open);
-    expect_came(&rt, came, ("opens", false, "nothing"), "open");
-    expect_text(&rt, bench.told.bytes(), "", "open");
+    let nothing = came.2 == Call::Nothing && bench.told.bytes().is_empty();
+    assert!(rt; came.0 == "opens" && !came.1 && nothing, "open");
     bench.end();
-    Ok(())
 }
 
 #[test]
-fn refuses_lines(rt: HostRuntime) -> Result<(), Fail> {
-    let mut bench = Bench::make(rt.alloc())?;
+fn refuses_and_passes_over(rt: HostRuntime) {
+    let mut bench = Bench::make(rt.alloc()).expect(&rt, "memory");
     check_turns(&rt, &mut bench, SIGHT, &REFUSALS);
-    expect_plies(&rt, &bench.desk, 0);
+    assert!(rt; bench.desk.game.plies() == 0, "refusals");
     bench.end();
-    Ok(())
-}
-
-#[test]
-fn passes_over_events(rt: HostRuntime) -> Result<(), Fail> {
-    let mut bench = Bench::make(rt.alloc())?;
-    check_turns(&rt, &mut bench, SIGHT, &PASSED);
+    let mut passing = Bench::make(rt.alloc()).expect(&rt, "memory");
+    check_turns(&rt, &mut passing, SIGHT, &PASSED);
     let closed = Context {
         closed: true,
         ..SIGHT
     };
-    check_turns(&rt, &mut bench, closed, &PASSED_WHEN_CLOSED);
-    expect_mode(&rt, &bench.desk, Mode::Plays(Side::Black));
-    bench.end();
-    Ok(())
+    check_turns(&rt, &mut passing, closed, &PASSED_WHEN_CLOSED);
+    assert!(rt;
+        passing.desk.mode == Mode::Plays(Side::Black),
+        "passed over"
+    );
+    passing.end();
 }
 
 #[test]
-fn learns_what_the_engine_is(rt: HostRuntime) -> Result<(), Fail> {
-    let mut bench = Bench::make(rt.alloc())?;
+fn learns_what_the_engine_is(rt: HostRuntime) {
+    let mut bench = Bench::make(rt.alloc()).expect(&rt, "memory");
     check_turns(&rt, &mut bench, SIGHT, &DECLARATIONS);
-    expect_talk(&rt, &bench.desk, true, false);
-    expect_none_held(&rt, &bench.held);
+    assert!(rt;
+        bench.desk.due.is_due() && !bench.desk.booted,
+        "in the boot"
+    );
+    assert!(rt; bench.held.count() == 0, "no orders are held");
     check_turns(&rt, &mut bench, SIGHT, &BOOTING);
-    expect_talk(&rt, &bench.desk, false, true);
+    assert!(rt;
+        !bench.desk.due.is_due() && bench.desk.booted,
+        "after the boot"
+    );
     bench.check_held(&rt, "setoption name Ponder value true\n");
     bench.end();
-    Ok(())
 }

@@ -1,7 +1,7 @@
 use Rattle.std.proofs.Common.{arith}
 use Rattle.think_text.specs.Short.{IsBounded}
 use Rattle.think_text.proofs.Short.{stat_short}
-use Rattle.table_tests.proofs.thinking.answer.Goals as goal
+use Rattle.table_tests.proofs.seen.answer.Goals as goal
 
 pub stat01-requires-clause-room : goal.stat01-requires-clause-room
 stat01-requires-clause-room c =

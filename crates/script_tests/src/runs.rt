@@ -1,0 +1,62 @@
+// Runs of the commands over scripts.
+ghost use Rattle.std.specs.Prelude.{◌<◌};
+
+use crate::streams::Streams;
+use command_endings::Ending;
+use driver_script::run_drive;
+use judge_report::run_judge;
+use policy_rules::Settings;
+use revival_script::run_revive;
+use script_migration::migrate;
+use session_games::write_games;
+use session_judge::Listener;
+use session_positions::write_positions;
+use std::alloc::Global;
+use std::process::Abort;
+
+#[derive(Clone, Copy)]
+pub enum Command {
+    Drive,
+    Games,
+    Judge(Listener),
+    Migrate,
+    Positions,
+    /// The engine has so many lives.
+    Revive(u32),
+}
+
+/// A command, the script that it reads, what it writes, how it ends, and the diagnostic.
+pub type Run = (Command, &'static [u8], &'static [u8], Ending, &'static [u8]);
+
+fn run(alloc: Global, command: Command, streams: &mut Streams) -> Ending {
+    let input = &mut streams.input;
+    let output = &mut streams.output;
+    let diag = &mut streams.diag;
+    let usual = Settings::usual();
+    match command {
+        Command::Drive => run_drive(alloc, input, output, diag),
+        Command::Games => write_games(alloc, &usual, input, output, diag),
+        Command::Judge(listener) => run_judge(alloc, listener, input, output, diag),
+        Command::Migrate => migrate(alloc, &usual, input, output, diag),
+        Command::Positions => write_positions(alloc, &usual, input, output, diag),
+        Command::Revive(lives) => run_revive(alloc, lives, input, output, diag),
+    }
+}
+
+/// Whether the command of a row makes of a script, which it reads in pieces, what stands in the row.
+pub fn is_run(rt: &impl Abort, alloc: Global, row: &Run, script: &[u8], piece: usize) -> bool
+    requires { 0 < piece }
+{
+    let (command, _, written, ending, told) = *row;
+    let mut streams = Streams::make(rt, alloc, script, piece);
+    run(alloc, command, &mut streams) == ending
+        && streams.output.taken() == written
+        && streams.diag.taken() == told
+}
+
+/// Runs the command of each row over its script.
+pub fn expect_runs(rt: &impl Abort, alloc: Global, name: &str, rows: &[Run]) {
+    for (k, row) in rows.iter().enumerate() {
+        assert!(rt; is_run(rt, alloc, row, row.1, 7), "{name}: row {k}");
+    }
+}
