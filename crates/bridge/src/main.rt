@@ -1,9 +1,8 @@
 //! The program `bridge`: a chess interface on standard input and output, a UCI engine behind it.
 #![tactic(auto)]
 
-use bridge_app::bridge_main;
+use bridge_app::{bridge_main, refuse_for_memory};
 use child_engine::{EngineInput, RealHost};
-use host_run::refuse_for_memory;
 use line_io::{ReadAdapter, WriteAdapter};
 use program_edges::{ClosedStreams, NO_MEMORY, WORDS_ROOM, words_of};
 use sink_offers::Interface;
@@ -28,7 +27,7 @@ fn main(rt: HostRuntime) -> ExitCode {
             &mut host,
             &mut diag,
         ),
-        Err(_) => refuse_for_memory(b"bridge", &mut diag),
+        Err(_) => refuse_for_memory(&mut diag),
     };
     ExitCode::from(status.code)
 }

@@ -4,5 +4,5 @@
 mod main_call;
 mod running;
 
-pub use main_call::bridge_main;
+pub use main_call::{bridge_main, refuse_for_memory};
 pub use running::run_bridge;

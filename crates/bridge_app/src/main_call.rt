@@ -4,8 +4,10 @@ ghost use Rattle.program_words.specs.Words.{bytes_of};
 ghost use Rattle.bridge_words.specs.Words.{AreAsked, AreTaken, engine_words, log_named, values_found};
 ghost use Rattle.child_engine.specs.Hosts.{IsUnused};
 ghost use Rattle.host_run.specs.Asked.{AsksAsTold};
+ghost use Rattle.host_run.specs.Endings.{code_of, diagnostic};
 ghost use Rattle.host_run.specs.Outside.{outside_of};
-ghost use Rattle.host_run.specs.Program.{Answers, Ends, StatusSays};
+ghost use Rattle.host_run.specs.Program.{Answers, Ends, IsToldTo, StatusSays};
+ghost use Rattle.host_run.specs.declared.ending.ProgramEnding.TheVariants as endings;
 ghost use Rattle.bridge_app.specs.Program.{RunsAsAsked, RunsWhole, program};
 
 use crate::running::run_bridge;
@@ -51,6 +53,15 @@ fn end_of<I: Source + Send, O: Sink + Send, H: Host, R: Threads + Wait + Sync>(
         }
         Err(refusal) => ProgramEnding::from(refusal),
     }
+}
+
+/// How a program ends that has no memory for its words.
+pub fn refuse_for_memory<D: Sink>(diag: &mut D) -> Status
+    ensures status { result.code ≡ code_of endings.NoMemory }
+    ensures told { IsToldTo (D.state diag.old) (D.state diag.new)
+        (diagnostic program endings.NoMemory) }
+{
+    finish(b"bridge", ProgramEnding::NoMemory, diag)
 }
 
 /// The program: a bridge between an interface, whose lines come from `input` and go to `output`,

@@ -2,8 +2,7 @@
 #![tactic(auto)]
 
 use child_engine::{EngineInput, RealHost};
-use driver_app::drive_main;
-use host_run::refuse_for_memory;
+use driver_app::{drive_main, refuse_for_memory};
 use line_io::{ReadAdapter, WriteAdapter};
 use program_edges::{ClosedStreams, NO_MEMORY, WORDS_ROOM, words_of};
 use program_texts::{About, answer_about};
@@ -47,7 +46,7 @@ fn main(rt: HostRuntime) -> ExitCode {
                 &mut diag,
             ),
         },
-        Err(_) => refuse_for_memory(b"driver", &mut diag),
+        Err(_) => refuse_for_memory(&mut diag),
     };
     ExitCode::from(status.code)
 }

@@ -3,4 +3,4 @@
 
 mod main_call;
 
-pub use main_call::drive_main;
+pub use main_call::{drive_main, refuse_for_memory};

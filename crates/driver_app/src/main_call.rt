@@ -2,8 +2,10 @@
 ghost use Rattle.std.specs.Prelude.{◌≡◌, true, IfSome};
 ghost use Rattle.child_engine.specs.Hosts.{IsUnused};
 ghost use Rattle.host_run.specs.Asked.{AsksByWords};
+ghost use Rattle.host_run.specs.Endings.{code_of, diagnostic};
 ghost use Rattle.host_run.specs.Outside.{outside_of};
-ghost use Rattle.host_run.specs.Program.{Answers, Ends, StatusSays};
+ghost use Rattle.host_run.specs.Program.{Answers, Ends, IsToldTo, StatusSays};
+ghost use Rattle.host_run.specs.declared.ending.ProgramEnding.TheVariants as endings;
 ghost use Rattle.program_words.specs.Words.{AreTaken, bytes_of};
 ghost use Rattle.driver_runner.specs.Driven.{Leaves};
 ghost use Rattle.driver_runner.specs.Recorded.{IsWhole};
@@ -49,6 +51,15 @@ fn end_of<I: Source + Send, O: Sink + Send, H: Host, R: Threads + Wait + Sync>(
         )),
         Err(refusal) => ProgramEnding::from(refusal),
     }
+}
+
+/// How a program ends that has no memory for its words.
+pub fn refuse_for_memory<D: Sink>(diag: &mut D) -> Status
+    ensures status { result.code ≡ code_of endings.NoMemory }
+    ensures told { IsToldTo (D.state diag.old) (D.state diag.new)
+        (diagnostic program endings.NoMemory) }
+{
+    finish(b"driver", ProgramEnding::NoMemory, diag)
 }
 
 /// The program: a driver between a UCI interface, whose orders come from `input` and whose answers

@@ -3,8 +3,7 @@ ghost use Rattle.child_engine.specs.Hosts.{IsUnused};
 
 use crate::expected::{expect_bytes, expect_code};
 use child_engine::{Fails, Host, MemHost, SteadyHost};
-use driver_app::drive_main;
-use host_run::refuse_for_memory;
+use driver_app::{drive_main, refuse_for_memory};
 use line_io::{MemSink, MemSource};
 use program_words::{EngineRequest, WordsRefusal, read_words};
 use sink_offers::Interface;
@@ -204,7 +203,7 @@ fn reads_and_writes_that_fail(rt: HostRuntime) -> Result<(), Fail> {
 #[test]
 fn no_memory_for_words(rt: HostRuntime) -> Result<(), Fail> {
     let mut diag = MemSink::make(rt.alloc(), 100, &[])?;
-    let status = refuse_for_memory(b"driver", &mut diag);
+    let status = refuse_for_memory(&mut diag);
     expect_code(&rt, status.code, 3);
     expect_bytes(&rt, diag.taken(), b"driver: no memory\n");
     Ok(())

@@ -64,7 +64,7 @@ pub fn refuse_for_memory<D: Sink>(diag: &mut D) -> Status
     ensures told { IsToldTo (D.state diag.old) (D.state diag.new)
         (diagnostic program endings.NoMemory) }
 {
-    host_run::refuse_for_memory(b"reviver", diag)
+    finish(b"reviver", ProgramEnding::NoMemory, diag)
 }
 
 /// The program: between a UCI interface, whose orders come from `input` and whose answers go to

@@ -55,7 +55,7 @@ pub fn refuse_for_memory<D: Sink>(diag: &mut D) -> Status
     ensures told { IsToldTo (D.state diag.old) (D.state diag.new)
         (diagnostic program endings.NoMemory) }
 {
-    host_run::refuse_for_memory(b"tap", diag)
+    finish(b"tap", ProgramEnding::NoMemory, diag)
 }
 
 /// The program: it stands between a bridge, which writes to `input` and reads from `output`, and the

@@ -2,12 +2,11 @@
 #![tactic(auto)]
 
 use child_engine::{EngineInput, RealHost};
-use host_run::refuse_for_memory;
 use line_io::{ReadAdapter, WriteAdapter};
 use program_edges::{ClosedStreams, NO_MEMORY, WORDS_ROOM, words_of};
 use sink_offers::Interface;
 use std::process::{ChildStdin, ExitCode};
-use wineravine_app::wineravine_main;
+use wineravine_app::{refuse_for_memory, wineravine_main};
 
 fn main(rt: HostRuntime) -> ExitCode {
     let Some(closed) = ClosedStreams::fill(&rt) else {
@@ -28,7 +27,7 @@ fn main(rt: HostRuntime) -> ExitCode {
             &mut host,
             &mut diag,
         ),
-        Err(_) => refuse_for_memory(b"wineravine", &mut diag),
+        Err(_) => refuse_for_memory(&mut diag),
     };
     ExitCode::from(status.code)
 }

@@ -4,4 +4,4 @@
 mod main_call;
 mod telling;
 
-pub use main_call::wineravine_main;
+pub use main_call::{refuse_for_memory, wineravine_main};

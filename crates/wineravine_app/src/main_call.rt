@@ -6,6 +6,7 @@ ghost use Rattle.host_run.specs.Endings.{code_of, diagnostic};
 ghost use Rattle.host_run.specs.Asked.{AsksAsTold};
 ghost use Rattle.host_run.specs.Outside.{outside_of};
 ghost use Rattle.host_run.specs.Program.{IsToldTo, StatusSays};
+ghost use Rattle.host_run.specs.declared.ending.ProgramEnding.TheVariants as endings;
 ghost use Rattle.bridge_app.specs.Program.{RunsAsAsked, RunsWhole};
 ghost use Rattle.wineravine_words.specs.Words.{AreAsked, AreTaken, IsRunnable, engine_words, first_lines, log_named, values_found};
 ghost use Rattle.wineravine_app.specs.Program.{Did, Does, Fit, engine_named, not_started, program};
@@ -13,7 +14,7 @@ ghost use Rattle.wineravine_app.specs.Program.{Did, Does, Fit, engine_named, not
 use crate::telling::{not_started_line, refuse, show, write_once};
 use bridge_app::run_bridge;
 use child_engine::Host;
-use host_run::{Failures, ProgramEnding, finish, refuse_for_memory};
+use host_run::{Failures, ProgramEnding, finish};
 use line_io::{Sink, Source, Status};
 use mediator_host::RunRequest;
 use program_texts::version_line;
@@ -22,6 +23,15 @@ use std::alloc::Global;
 use std::sync::Wait;
 use std::thread::Threads;
 use wineravine_words::{AskedProgram, HELP, WineravineRequest, WrongWords, read_words};
+
+/// How a program ends that has no memory for its words.
+pub fn refuse_for_memory<D: Sink>(diag: &mut D) -> Status
+    ensures status { result.code ≡ code_of endings.NoMemory }
+    ensures told { IsToldTo (D.state diag.old) (D.state diag.new)
+        (diagnostic program endings.NoMemory) }
+{
+    finish(b"wineravine", ProgramEnding::NoMemory, diag)
+}
 
 // Reports how a run ended. If its engine was not started, the interface shows that to its user.
 fn report<O: Sink, D: Sink>(
@@ -95,7 +105,7 @@ fn answer<I: Source + Send, O: Sink + Send, H: Host, D: Sink, R: Threads + Wait 
     match read_words(alloc, words) {
         Ok(AskedProgram::Run(request)) => {
             let Ok(line) = not_started_line(alloc, request.engine[0].as_str()) else {
-                return refuse_for_memory(b"wineravine", diag);
+                return refuse_for_memory(diag);
             };
             let failures = run_asked(rt, alloc, words, &request, interface, host);
             let ending = ProgramEnding::of(failures);
@@ -104,10 +114,10 @@ fn answer<I: Source + Send, O: Sink + Send, H: Host, D: Sink, R: Threads + Wait 
         Ok(AskedProgram::Help) => show(HELP.as_bytes(), &mut interface.output, diag),
         Ok(AskedProgram::Version) => match version_line(alloc, "wineravine") {
             Ok(line) => show(line.as_slice(), &mut interface.output, diag),
-            Err(_) => refuse_for_memory(b"wineravine", diag),
+            Err(_) => refuse_for_memory(diag),
         },
         Err(WrongWords::Words(reason)) => refuse(reason.as_str(), &mut interface.output, diag),
-        Err(WrongWords::NoMemory) => refuse_for_memory(b"wineravine", diag),
+        Err(WrongWords::NoMemory) => refuse_for_memory(diag),
     }
 }
 
