@@ -133,7 +133,7 @@ pub record BeginsWhole (o : Settings) (start now : Streams) : Type 0 where
   pub of_left : AreFirst start.input.left (whole SCRIPT_LINE got)
   pub begins : BeginScript o (whole SCRIPT_LINE got)
 
--- the input is too long, and no call of the reader saw the end
+-- the input is too long: at least 2^32 bytes were got
 pub record BeginsMuch (o : Settings) (start now : Streams) : Type 0 where
   pub begins : BeginsWhole o start now
   pub least : 2 ^ 32 ≤ length begins.got
