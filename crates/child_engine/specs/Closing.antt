@@ -1,6 +1,6 @@
 -- A writer that can be let go.
-use Rattle.std.specs.Prelude.{ℕ, List, Bool, Option, None, Some, is_some, Result, ⊤}
-use Rattle.std.specs.Io.KnownBytes.{WriteAppends}
+use Rattle.std.specs.Prelude.{ℕ, List, take, Bool, Option, None, Some, is_some, Result, ⊤}
+use Rattle.std.specs.Io.KnownBytes.{Appends, WriteAppends}
 use Rattle.line_io.specs.Source.{Received}
 use Rattle.child_engine.specs.declared.closing.Closing.{Closing}
 
@@ -17,3 +17,8 @@ is_open sink = is_some sink.writer
 abbrev pub HandsOn : {W E : Type 0} → (W → Option (List ℕ)) → Option W → Option W → Result ℕ E → List ℕ → Type 0
 HandsOn took (Some old) (Some new) result piece = WriteAppends (took old) (took new) result piece
 HandsOn took old new result piece = ⊤
+
+-- Also a writer that the call let go of took what is answered of the piece, before it was let go.
+abbrev pub TookFirst : {W : Type 0} → (W → Option (List ℕ)) → Option W → ℕ → List ℕ → Type 0
+TookFirst {W} took (Some old) n piece = (new : W) × Appends (took old) (took new) (take n piece)
+TookFirst took None n piece = ⊤

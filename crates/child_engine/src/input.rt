@@ -2,7 +2,7 @@
 ghost use Rattle.std.specs.Prelude.{◌≡◌, ◌<◌, ◌≤◌, length, take, not, None, IfOk, OnErr, IsErr, true, false};
 ghost use Rattle.std.specs.Io.KnownBytes.{WriteAppends};
 ghost use Rattle.line_io.specs.Causes.{HasCause};
-ghost use Rattle.child_engine.specs.Closing.{HandsOn};
+ghost use Rattle.child_engine.specs.Closing.{HandsOn, TookFirst};
 ghost use Rattle.child_engine.specs.Input.{ends_with_quit, shown_by, is_open};
 
 use crate::{Closing, LetGo};
@@ -62,6 +62,7 @@ impl<W: Write + Drop> Sink for EngineInput<W> {
         ensures takes { WriteAppends None None result piece.now }
         ensures handed { HandsOn W.contents self.old.sink.writer self.new.sink.writer
             result piece.now }
+        ensures took { IfOk result (λ n. TookFirst W.contents self.old.sink.writer n piece.now) }
         ensures cause { HasCause (shown_by self.old).faults (shown_by self.new).faults result }
         ensures open { IfOk result (λ n.
             is_open self.new ≡ not (ends_with_quit (take n piece.now))) }

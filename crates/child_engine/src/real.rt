@@ -1,6 +1,8 @@
 // The edge to the world: programs and files.
-ghost use Rattle.std.specs.Prelude.{◌≡◌, ◌<◌, [], ◌∷◌, ◌++◌, length, map, string_bytes, IfOk, OnOk};
+ghost use Rattle.std.specs.Prelude.{◌≡◌, ◌≢◌, ◌<◌, [], ◌∷◌, ◌++◌, length, map, string_bytes, IfOk, OnOk};
 ghost use Rattle.std.specs.Process.{command_program, command_args};
+ghost use Rattle.std.specs.IoError.{error_kind};
+ghost use Rattle.std.specs.declared.io.ErrorKind.TheVariants as kinds;
 ghost use Rattle.child_engine.specs.Hosts.{RisesBy};
 ghost use Rattle.child_engine.specs.declared.host.HostFault.TheVariants as faults;
 
@@ -30,11 +32,13 @@ pub struct RealHost<R, S> {
 }
 
 // Why the system did not start a program or open a file.
-fn fault_of(error: io::Error) -> HostFault {
-    if error.kind() == ErrorKind::OutOfMemory {
-        HostFault::NoMemory
-    } else {
-        HostFault::Failed
+fn fault_of(error: io::Error) -> HostFault
+    ensures memory { result ≡ faults.NoMemory → error_kind error ≡ kinds.OutOfMemory }
+    ensures failed { result ≡ faults.Failed → error_kind error ≢ kinds.OutOfMemory }
+{
+    match error.kind() {
+        ErrorKind::OutOfMemory => HostFault::NoMemory,
+        _ => HostFault::Failed,
     }
 }
 
