@@ -14,7 +14,7 @@ use crate::numbers::natural;
 use chess_board::Side;
 use driver_talk::GoClocks;
 use line_io::Out;
-use peer_words::{SECOND, next_token, read_signed};
+use peer_words::{SECOND, named, next_token, read_signed};
 
 /// The longest time that is written, in milliseconds.
 const LONGEST: u64 = 599_999_000;
@@ -39,26 +39,20 @@ pub(crate) enum GoField {
     Other,
 }
 
+static GO_FIELDS: [(&[u8], GoField); 7] = [
+    (b"wtime", GoField::WhiteTime),
+    (b"btime", GoField::BlackTime),
+    (b"winc", GoField::WhiteIncrement),
+    (b"binc", GoField::BlackIncrement),
+    (b"movetime", GoField::MoveTime),
+    (b"movestogo", GoField::MovesToGo),
+    (b"depth", GoField::Depth),
+];
+
 fn field_named(word: &[u8]) -> GoField
     ensures { result ≡ field_named word.now }
 {
-    if word == b"wtime".as_slice() {
-        GoField::WhiteTime
-    } else if word == b"btime".as_slice() {
-        GoField::BlackTime
-    } else if word == b"winc".as_slice() {
-        GoField::WhiteIncrement
-    } else if word == b"binc".as_slice() {
-        GoField::BlackIncrement
-    } else if word == b"movetime".as_slice() {
-        GoField::MoveTime
-    } else if word == b"movestogo".as_slice() {
-        GoField::MovesToGo
-    } else if word == b"depth".as_slice() {
-        GoField::Depth
-    } else {
-        GoField::Other
-    }
+    named(&GO_FIELDS, word).unwrap_or(GoField::Other)
 }
 
 /// The number that a text begins with. A negative number counts as 0.

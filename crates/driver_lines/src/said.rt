@@ -2,10 +2,10 @@
 ghost use Rattle.std.specs.Prelude.{◌≡◌};
 ghost use Rattle.std.specs.Option.{option_map};
 ghost use Rattle.peer_words.specs.Tokens.{tokens, first_token};
-ghost use Rattle.driver_lines.specs.Says.{engine_message_of, says_in, report_in, pong_in, is_over, word_named};
+ghost use Rattle.driver_lines.specs.Says.{engine_message_of, says_in, report_in, pong_in, word_named};
 
 use crate::numbers::{clamped, natural, next_number, ten_times};
-use peer_words::{next_token, read_number, split_token};
+use peer_words::{named, next_token, read_number, split_token};
 
 /// What a line of the engine says (CECP version 2, "Commands from the engine to xboard").
 #[derive(Clone, Copy)]
@@ -39,29 +39,20 @@ enum EngineWord {
     Other,
 }
 
-fn is_over(word: &[u8]) -> bool
-    ensures { result ≡ is_over word.now }
-{
-    word == b"resign".as_slice()
-        || word == b"1-0".as_slice()
-        || word == b"0-1".as_slice()
-        || word == b"1/2-1/2".as_slice()
-}
+static ENGINE_WORDS: [(&[u8], EngineWord); 7] = [
+    (b"move", EngineWord::Move),
+    (b"resign", EngineWord::Over),
+    (b"1-0", EngineWord::Over),
+    (b"0-1", EngineWord::Over),
+    (b"1/2-1/2", EngineWord::Over),
+    (b"pong", EngineWord::Pong),
+    (b"feature", EngineWord::Feature),
+];
 
 fn word_named(word: &[u8]) -> EngineWord
     ensures { result ≡ word_named word.now }
 {
-    if word == b"move".as_slice() {
-        EngineWord::Move
-    } else if is_over(word) {
-        EngineWord::Over
-    } else if word == b"pong".as_slice() {
-        EngineWord::Pong
-    } else if word == b"feature".as_slice() {
-        EngineWord::Feature
-    } else {
-        EngineWord::Other
-    }
+    named(&ENGINE_WORDS, word).unwrap_or(EngineWord::Other)
 }
 
 fn read_report(line: &[u8]) -> Option<EngineSaid<'_>>

@@ -9,7 +9,7 @@ ghost use Rattle.uci_talk.specs.Lines.{line_of};
 ghost use Rattle.engine_revival.specs.Orders.{order_of};
 ghost use Rattle.engine_revival.specs.Asked.{order_in, position_asked, setting_asked, word_asked};
 
-use peer_words::{GoKind, next_token};
+use peer_words::{GoKind, named, next_token};
 use uci_lines::Order as OwnOrder;
 use uci_talk::{go_kind, spoken};
 
@@ -59,24 +59,19 @@ fn read_setting<'a>(line: &'a [u8], behind: &'a [u8]) -> Option<RevivalOrder<'a>
     }
 }
 
-fn read_word(line: &[u8]) -> Option<RevivalOrder<'_>>
+static WORD_ORDERS: [(&[u8], RevivalOrder); 6] = [
+    (b"uci", RevivalOrder::Uci),
+    (b"isready", RevivalOrder::IsReady),
+    (b"ucinewgame", RevivalOrder::NewGame),
+    (b"stop", RevivalOrder::Stop),
+    (b"ponderhit", RevivalOrder::PonderHit),
+    (b"quit", RevivalOrder::Quit),
+];
+
+fn read_word(line: &[u8]) -> Option<RevivalOrder<'static>>
     ensures { option_map order_of result ≡ word_asked line.now }
 {
-    if line == b"uci".as_slice() {
-        Some(RevivalOrder::Uci)
-    } else if line == b"isready".as_slice() {
-        Some(RevivalOrder::IsReady)
-    } else if line == b"ucinewgame".as_slice() {
-        Some(RevivalOrder::NewGame)
-    } else if line == b"stop".as_slice() {
-        Some(RevivalOrder::Stop)
-    } else if line == b"ponderhit".as_slice() {
-        Some(RevivalOrder::PonderHit)
-    } else if line == b"quit".as_slice() {
-        Some(RevivalOrder::Quit)
-    } else {
-        None
-    }
+    named(&WORD_ORDERS, line)
 }
 
 // The order in the spelling that the bridge writes.

@@ -2,6 +2,7 @@ mod Opens
 mod Answers
 mod Listing
 mod Commands
+mod CommandNames
 mod Words
 mod Chosen
 mod ProperHeaders

@@ -4,6 +4,8 @@ use Rattle.std.specs.Option.{option_map}
 use Rattle.std.specs.Str.{bytes_eq}
 use Rattle.replay_tool.specs.declared.command.ReplayCommand.{ReplayCommand}
 use Rattle.replay_tool.specs.declared.command.ReplayCommand.TheVariants as commands
+use Rattle.replay_tool.specs.declared.command.CommandName.{CommandName}
+use Rattle.replay_tool.specs.declared.command.CommandName.TheVariants as names
 use Rattle.session_judge.specs.declared.listener.Listener.{Listener}
 use Rattle.session_judge.specs.declared.listener.Listener.TheVariants as listeners
 use Rattle.policy_rules.specs.declared.settings.Settings.{Settings}
@@ -57,6 +59,24 @@ judge_of words = None
 abbrev pub alone : Asked → List (List ℕ) → Option Asked
 alone command [] = Some command
 alone command (word ∷ words) = None
+
+-- the moves of what one or more words spell
+abbrev pub moves_of : List (List ℕ) → Option Asked
+moves_of words = if nat_lt 0 (length words) then Some (Moves (fen_of words)) else None
+
+-- a command with these words, by which name it has
+abbrev pub command_by : Option CommandName → List (List ℕ) → Option Asked
+command_by None words = None
+command_by (Some names.Replay) words = option_map (λ s. Replay s) (settings_of words)
+command_by (Some names.Check) words = option_map (λ s. Check s) (settings_of words)
+command_by (Some names.Migrate) words = option_map (λ s. Migrate s) (settings_of words)
+command_by (Some names.Judge) words = judge_of words
+command_by (Some names.Revive) words = revive_of words
+command_by (Some names.Drive) words = alone Drive words
+command_by (Some names.Games) words = option_map (λ s. Games s) (settings_of words)
+command_by (Some names.Positions) words = option_map (λ s. Positions s) (settings_of words)
+command_by (Some names.Drill) words = drill_of words
+command_by (Some names.Moves) words = moves_of words
 
 -- the command of this name with these words: settings stand behind `replay`, `check`,
 -- `migrate`, `games` and `positions`, nothing or `tap` behind `judge`, nothing behind `drive`, one digit behind `revive`, one

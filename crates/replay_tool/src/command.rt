@@ -1,10 +1,11 @@
 // The commands of the program.
 ghost use Rattle.std.specs.Prelude.{◌≡◌, IfSome};
 ghost use Rattle.std.specs.Option.{option_map};
-ghost use Rattle.replay_tool.specs.Commands.{Drive, HasProper, alone, asked, command_of, command_named, drill_of, judge_of, revive_of, texts};
+ghost use Rattle.replay_tool.specs.Commands.{Drive, HasProper, alone, asked, command_by, command_of, command_named, drill_of, judge_of, moves_of, revive_of, texts};
 
 use crate::settings::read_settings;
 use drill::{MODULUS, MOST_ROUNDS};
+use peer_words::named;
 use policy_rules::{Settings, read_number};
 use session_judge::Listener;
 
@@ -81,33 +82,69 @@ fn read_revive(words: &[Vec<u8>]) -> Option<ReplayCommand>
     })
 }
 
+/// The names of the commands.
+#[derive(Clone, Copy)]
+enum CommandName {
+    Replay,
+    Check,
+    Migrate,
+    Judge,
+    Revive,
+    Drive,
+    Games,
+    Positions,
+    Drill,
+    Moves,
+}
+
+static COMMAND_NAMES: [(&[u8], CommandName); 10] = [
+    (b"replay", CommandName::Replay),
+    (b"check", CommandName::Check),
+    (b"migrate", CommandName::Migrate),
+    (b"judge", CommandName::Judge),
+    (b"revive", CommandName::Revive),
+    (b"drive", CommandName::Drive),
+    (b"games", CommandName::Games),
+    (b"positions", CommandName::Positions),
+    (b"drill", CommandName::Drill),
+    (b"moves", CommandName::Moves),
+];
+
+/// The command `moves`, which takes one word or more.
+fn read_moves(words: &[Vec<u8>]) -> Option<ReplayCommand>
+    ensures value { option_map asked result ≡ moves_of (texts words.now) }
+    ensures proper { IfSome result (λ command. HasProper command) }
+{
+    if words.is_empty() {
+        None
+    } else {
+        Some(ReplayCommand::Moves(words))
+    }
+}
+
+fn read_by(name: Option<CommandName>, words: &[Vec<u8>]) -> Option<ReplayCommand>
+    ensures value { option_map asked result ≡ command_by name (texts words.now) }
+    ensures proper { IfSome result (λ command. HasProper command) }
+{
+    match name? {
+        CommandName::Replay => Some(ReplayCommand::Replay(read_settings(words)?)),
+        CommandName::Check => Some(ReplayCommand::Check(read_settings(words)?)),
+        CommandName::Migrate => Some(ReplayCommand::Migrate(read_settings(words)?)),
+        CommandName::Judge => read_judge(words),
+        CommandName::Revive => read_revive(words),
+        CommandName::Drive => read_drive(words),
+        CommandName::Games => Some(ReplayCommand::Games(read_settings(words)?)),
+        CommandName::Positions => Some(ReplayCommand::Positions(read_settings(words)?)),
+        CommandName::Drill => read_drill(words),
+        CommandName::Moves => read_moves(words),
+    }
+}
+
 fn read_named<'a>(name: &[u8], words: &'a [Vec<u8>]) -> Option<ReplayCommand<'a>>
     ensures value { option_map asked result ≡ command_named name.now (texts words.now) }
     ensures proper { IfSome result (λ command. HasProper command) }
 {
-    if name == b"replay".as_slice() {
-        Some(ReplayCommand::Replay(read_settings(words)?))
-    } else if name == b"check".as_slice() {
-        Some(ReplayCommand::Check(read_settings(words)?))
-    } else if name == b"migrate".as_slice() {
-        Some(ReplayCommand::Migrate(read_settings(words)?))
-    } else if name == b"judge".as_slice() {
-        read_judge(words)
-    } else if name == b"revive".as_slice() {
-        read_revive(words)
-    } else if name == b"drive".as_slice() {
-        read_drive(words)
-    } else if name == b"games".as_slice() {
-        Some(ReplayCommand::Games(read_settings(words)?))
-    } else if name == b"positions".as_slice() {
-        Some(ReplayCommand::Positions(read_settings(words)?))
-    } else if name == b"drill".as_slice() {
-        read_drill(words)
-    } else if name == b"moves".as_slice() && !words.is_empty() {
-        Some(ReplayCommand::Moves(words))
-    } else {
-        None
-    }
+    read_by(named(&COMMAND_NAMES, name), words)
 }
 
 /// The command of the words, which do not include the program's name.

@@ -16,6 +16,8 @@ use Rattle.uci_talk.specs.Kinds.{kind_asked}
 use Rattle.uci_talk.specs.Lines.{Line, line_of}
 use Rattle.session_judge.specs.declared.deed.OrderKind.{OrderKind}
 use Rattle.session_judge.specs.declared.deed.OrderKind.TheVariants as orders
+use Rattle.session_judge.specs.declared.deed.OrderWord.{OrderWord}
+use Rattle.session_judge.specs.declared.deed.OrderWord.TheVariants as words
 use Rattle.session_judge.specs.declared.deed.Deed.{Deed}
 use Rattle.session_judge.specs.declared.deed.Deed.TheVariants as deeds
 
@@ -23,6 +25,18 @@ use Rattle.session_judge.specs.declared.deed.Deed.TheVariants as deeds
 abbrev pub end_of : Option Line → Option Position
 end_of None = None
 end_of (Some said) = Some said.end
+
+-- the order that begins with one of the words, by which word it is
+abbrev pub order_by : Option OrderWord → List ℕ → Option OrderKind
+order_by None line = None
+order_by (Some words.Uci) line = Some orders.Uci
+order_by (Some words.IsReady) line = Some orders.IsReady
+order_by (Some words.Setup) line = Some orders.Setup
+order_by (Some words.Position) line = Some (orders.Position (end_of (line_of line)))
+order_by (Some words.Go) line = Some (orders.Go (kind_asked line))
+order_by (Some words.Stop) line = Some orders.Stop
+order_by (Some words.PonderHit) line = Some orders.PonderHit
+order_by (Some words.Quit) line = Some orders.Quit
 
 -- the order that a word begins
 abbrev pub order_named : List ℕ → List ℕ → Option OrderKind

@@ -3,12 +3,12 @@ ghost use Rattle.std.specs.Prelude.{◌≡◌};
 ghost use Rattle.script_lines.specs.Marks.{plain};
 ghost use Rattle.uci_lines.specs.Behind.{after};
 ghost use Rattle.uci_lines.specs.Orders.{optional_now};
-ghost use Rattle.session_judge.specs.Deeds.{deed_of, order_in, order_named, said_deed, told_move};
+ghost use Rattle.session_judge.specs.Deeds.{deed_of, order_by, order_in, order_named, said_deed, told_move};
 
 use crate::played::PlayedLine;
 use chess_board::{Move, Position, read_move, write_move};
 use line_io::Event;
-use peer_words::{GoKind, split_token};
+use peer_words::{GoKind, named, split_token};
 use script_lines::Mark;
 use uci_lines::{EngineMsg, read_engine};
 use uci_talk::go_kind;
@@ -47,28 +47,50 @@ pub enum Deed {
     Nothing,
 }
 
+/// The words with which orders begin.
+#[derive(Clone, Copy)]
+enum OrderWord {
+    Uci,
+    IsReady,
+    Setup,
+    Position,
+    Go,
+    Stop,
+    PonderHit,
+    Quit,
+}
+
+static ORDER_WORDS: [(&[u8], OrderWord); 9] = [
+    (b"uci", OrderWord::Uci),
+    (b"isready", OrderWord::IsReady),
+    (b"setoption", OrderWord::Setup),
+    (b"ucinewgame", OrderWord::Setup),
+    (b"position", OrderWord::Position),
+    (b"go", OrderWord::Go),
+    (b"stop", OrderWord::Stop),
+    (b"ponderhit", OrderWord::PonderHit),
+    (b"quit", OrderWord::Quit),
+];
+
+fn order_by(word: Option<OrderWord>, line: &[u8], played: &mut PlayedLine) -> Option<OrderKind>
+    ensures { result ≡ order_by word line.now }
+{
+    match word? {
+        OrderWord::Uci => Some(OrderKind::Uci),
+        OrderWord::IsReady => Some(OrderKind::IsReady),
+        OrderWord::Setup => Some(OrderKind::Setup),
+        OrderWord::Position => Some(OrderKind::Position(played.end_of(line))),
+        OrderWord::Go => Some(OrderKind::Go(go_kind(line))),
+        OrderWord::Stop => Some(OrderKind::Stop),
+        OrderWord::PonderHit => Some(OrderKind::PonderHit),
+        OrderWord::Quit => Some(OrderKind::Quit),
+    }
+}
+
 fn order_named(word: &[u8], line: &[u8], played: &mut PlayedLine) -> Option<OrderKind>
     ensures { result ≡ order_named word.now line.now }
 {
-    if word == b"uci".as_slice() {
-        Some(OrderKind::Uci)
-    } else if word == b"isready".as_slice() {
-        Some(OrderKind::IsReady)
-    } else if word == b"setoption".as_slice() || word == b"ucinewgame".as_slice() {
-        Some(OrderKind::Setup)
-    } else if word == b"position".as_slice() {
-        Some(OrderKind::Position(played.end_of(line)))
-    } else if word == b"go".as_slice() {
-        Some(OrderKind::Go(go_kind(line)))
-    } else if word == b"stop".as_slice() {
-        Some(OrderKind::Stop)
-    } else if word == b"ponderhit".as_slice() {
-        Some(OrderKind::PonderHit)
-    } else if word == b"quit".as_slice() {
-        Some(OrderKind::Quit)
-    } else {
-        None
-    }
+    order_by(named(&ORDER_WORDS, word), line, played)
 }
 
 fn order_in(line: &[u8], played: &mut PlayedLine) -> Deed
