@@ -15,7 +15,7 @@ use Rattle.chess_board.proofs.Texts.{reads-back}
 use Rattle.fen_text.specs.Fen.{position_of, position_of_fields}
 use Rattle.fen_text.specs.Written.{written}
 use Rattle.fen_text.proofs.Back.{reads_back}
-use Rattle.game_record.specs.Game.{Ply}
+use Rattle.game_record.specs.Game.{Ply, with_ply}
 use Rattle.game_record.specs.Line.{ply_text}
 use Rattle.peer_words.specs.Tokens.{is_white, is_token, first_token, rest, trimmed, tokens}
 use Rattle.peer_words.specs.Numbers.{centis, digits, number, seconds, seconds_at, milliseconds, is_point}
@@ -32,7 +32,7 @@ use Rattle.cecp_iface_side.proofs.Spoken.{one_word, black_over, longer_token}
 use Rattle.driver_lines.specs.Lines.{Line, XBoard, Protover, Quit, New, Force, Post, SetBoard, Played, St, Level, Time, Otim, Sd, Go, Analyze, Hurry, Exit, Ping, Accepted, Rejected, move_text, two_digits}
 use Rattle.cecp_driver.specs.Said.{CanBeSaid}
 use Rattle.driver_wire.proofs.Fed.{bare_fed}
-use Rattle.driver_wire.specs.Wire.{IsCecp, LinesAreCecp, bare_text}
+use Rattle.driver_wire.specs.Wire.{IsCecp, LinesAreCecp, at_position, bare_text}
 
 -- MOVES
 
@@ -51,6 +51,7 @@ played_cecp has_usermove m s =
         no_feed = bare_fed (Played has_usermove m) s;
         spelled = subst (λ (t : List ℕ). HasMove (move_text has_usermove t) move) same (move_spelled has_usermove move s.1.1);
         is = (move, (s.1.0, refl));
+        sets = λ g. ap (with_ply g) (sym s.1.0);
       },
     )
 
@@ -130,6 +131,7 @@ level_cecp k s i h = (
       seconds_whole i h.2,
     );
     is = refl;
+    sets = λ g. refl;
   },
 )
 
@@ -148,50 +150,51 @@ board_cecp p h =
         no_feed = bare_fed (SetBoard p) h;
         spelled = (token_first (codes "setboard") (written p) 32 refl refl, sym (token_rest (codes "setboard") (written p) 32 refl refl));
         is = (trimmed (written p), (refl, read));
+        sets = λ g. sym (ap (at_position g) read);
       },
     )
 
 -- ALL
 
 pub cecp : LinesAreCecp
-cecp XBoard s = (says.Ignored (codes "xboard"), record { whole = refl; no_feed = bare_fed XBoard s; spelled = (refl, refl); is = (codes "xboard", refl) })
-cecp Protover s = (says.Protover 2, record { whole = refl; no_feed = bare_fed Protover s; spelled = (one_word number (codes "protover") (codes "2") 2 refl refl refl, omega arith); is = refl })
-cecp Quit s = (says.Quit, record { whole = refl; no_feed = bare_fed Quit s; spelled = refl; is = refl })
-cecp New s = (says.New, record { whole = refl; no_feed = bare_fed New s; spelled = refl; is = refl })
-cecp Force s = (says.Force, record { whole = refl; no_feed = bare_fed Force s; spelled = refl; is = refl })
-cecp Post s = (says.Post, record { whole = refl; no_feed = bare_fed Post s; spelled = refl; is = refl })
+cecp XBoard s = (says.Ignored (codes "xboard"), record { whole = refl; no_feed = bare_fed XBoard s; spelled = (refl, refl); is = (codes "xboard", refl); sets = λ g. refl })
+cecp Protover s = (says.Protover 2, record { whole = refl; no_feed = bare_fed Protover s; spelled = (one_word number (codes "protover") (codes "2") 2 refl refl refl, omega arith); is = refl; sets = λ g. refl })
+cecp Quit s = (says.Quit, record { whole = refl; no_feed = bare_fed Quit s; spelled = refl; is = refl; sets = λ g. refl })
+cecp New s = (says.New, record { whole = refl; no_feed = bare_fed New s; spelled = refl; is = refl; sets = λ g. refl })
+cecp Force s = (says.Force, record { whole = refl; no_feed = bare_fed Force s; spelled = refl; is = refl; sets = λ g. refl })
+cecp Post s = (says.Post, record { whole = refl; no_feed = bare_fed Post s; spelled = refl; is = refl; sets = λ g. refl })
 cecp (SetBoard p) s = board_cecp p s
 cecp (Played has_usermove m) s = played_cecp has_usermove m s
 cecp (St n) s = (
   says.St (n * 1000),
-  record { whole = refl; no_feed = bare_fed (St n) s; spelled = one_word seconds (codes "st") (decimal n) (n * 1000) refl (decimal_token n (omega (arith, s))) (seconds_whole n s); is = refl },
+  record { whole = refl; no_feed = bare_fed (St n) s; spelled = one_word seconds (codes "st") (decimal n) (n * 1000) refl (decimal_token n (omega (arith, s))) (seconds_whole n s); is = refl; sets = λ g. refl },
 )
 cecp (Level k n i) s = level_cecp k n i s
 cecp (Time n) s = (
   says.Time (pos n),
-  record { whole = refl; no_feed = bare_fed (Time n) s; spelled = one_word centis (codes "time") (decimal n) (pos n) refl (decimal_token n (omega (arith, s))) (centis_decimal_read (pos n) s); is = refl },
+  record { whole = refl; no_feed = bare_fed (Time n) s; spelled = one_word centis (codes "time") (decimal n) (pos n) refl (decimal_token n (omega (arith, s))) (centis_decimal_read (pos n) s); is = refl; sets = λ g. refl },
 )
 cecp (Otim n) s = (
   says.Otim (pos n),
-  record { whole = refl; no_feed = bare_fed (Otim n) s; spelled = one_word centis (codes "otim") (decimal n) (pos n) refl (decimal_token n (omega (arith, s))) (centis_decimal_read (pos n) s); is = refl },
+  record { whole = refl; no_feed = bare_fed (Otim n) s; spelled = one_word centis (codes "otim") (decimal n) (pos n) refl (decimal_token n (omega (arith, s))) (centis_decimal_read (pos n) s); is = refl; sets = λ g. refl },
 )
 cecp (Sd n) s = (
   says.Sd n,
-  record { whole = refl; no_feed = bare_fed (Sd n) s; spelled = one_word number (codes "sd") (decimal n) n refl (decimal_token n (omega (arith, s))) (number_decimal n s); is = refl },
+  record { whole = refl; no_feed = bare_fed (Sd n) s; spelled = one_word number (codes "sd") (decimal n) n refl (decimal_token n (omega (arith, s))) (number_decimal n s); is = refl; sets = λ g. refl },
 )
-cecp Go s = (says.Go, record { whole = refl; no_feed = bare_fed Go s; spelled = refl; is = refl })
-cecp Analyze s = (says.Analyze, record { whole = refl; no_feed = bare_fed Analyze s; spelled = refl; is = refl })
-cecp Hurry s = (says.MoveNow, record { whole = refl; no_feed = bare_fed Hurry s; spelled = refl; is = refl })
-cecp Exit s = (says.Exit, record { whole = refl; no_feed = bare_fed Exit s; spelled = refl; is = refl })
+cecp Go s = (says.Go, record { whole = refl; no_feed = bare_fed Go s; spelled = refl; is = refl; sets = λ g. refl })
+cecp Analyze s = (says.Analyze, record { whole = refl; no_feed = bare_fed Analyze s; spelled = refl; is = refl; sets = λ g. refl })
+cecp Hurry s = (says.MoveNow, record { whole = refl; no_feed = bare_fed Hurry s; spelled = refl; is = refl; sets = λ g. refl })
+cecp Exit s = (says.Exit, record { whole = refl; no_feed = bare_fed Exit s; spelled = refl; is = refl; sets = λ g. refl })
 cecp (Ping n) s = (
   says.Ping n,
-  record { whole = refl; no_feed = bare_fed (Ping n) s; spelled = one_word number (codes "ping") (decimal n) n refl (decimal_token n (omega (arith, s))) (number_decimal n s); is = refl },
+  record { whole = refl; no_feed = bare_fed (Ping n) s; spelled = one_word number (codes "ping") (decimal n) n refl (decimal_token n (omega (arith, s))) (number_decimal n s); is = refl; sets = λ g. refl },
 )
 cecp (Accepted name) s = (
   says.Ignored (trimmed (codes "accepted " ++ name)),
-  record { whole = refl; no_feed = bare_fed (Accepted name) s; spelled = (ap is_ignored (token_first (codes "accepted") name 32 refl refl), refl); is = (trimmed (codes "accepted " ++ name), refl) },
+  record { whole = refl; no_feed = bare_fed (Accepted name) s; spelled = (ap is_ignored (token_first (codes "accepted") name 32 refl refl), refl); is = (trimmed (codes "accepted " ++ name), refl); sets = λ g. refl },
 )
 cecp (Rejected name) s = (
   says.Ignored (trimmed (codes "rejected " ++ name)),
-  record { whole = refl; no_feed = bare_fed (Rejected name) s; spelled = (ap is_ignored (token_first (codes "rejected") name 32 refl refl), refl); is = (trimmed (codes "rejected " ++ name), refl) },
+  record { whole = refl; no_feed = bare_fed (Rejected name) s; spelled = (ap is_ignored (token_first (codes "rejected") name 32 refl refl), refl); is = (trimmed (codes "rejected " ++ name), refl); sets = λ g. refl },
 )

@@ -1,15 +1,19 @@
 -- The lines to an engine as an engine reads them: messages of CECP.
-use Rattle.std.specs.Prelude.{◌≡◌, ℕ, pos, ◌*◌, ◌/◌, ◌%◌, List, [], ◌∷◌, ◌++◌, codes, decimal, false, Ok}
+use Rattle.std.specs.Prelude.{◌≡◌, ℕ, pos, ◌*◌, ◌/◌, ◌%◌, List, [], ◌∷◌, ◌++◌, codes, decimal, false, Result, Ok, Err}
 use Rattle.line_io.specs.Event.{has_feed}
 use Rattle.chess_board.specs.declared.board.Move.{Move}
+use Rattle.chess_board.specs.Position.{Position}
+use Rattle.chess_board.specs.Play.{start_position}
+use Rattle.fen_text.specs.declared.fault.FenFault.{FenFault}
 use Rattle.fen_text.specs.Fen.{position_of}
 use Rattle.fen_text.specs.Written.{written}
-use Rattle.game_record.specs.Game.{ply_of}
+use Rattle.game_record.specs.Game.{Game, begun, ply_of, with_ply}
 use Rattle.game_record.specs.Line.{ply_text}
 use Rattle.cecp_lines.specs.Messages.{IfaceMsg}
 use Rattle.cecp_lines.specs.Messages as says
 use Rattle.cecp_lines.specs.Reading.{Spells}
 use Rattle.driver_lines.specs.Lines.{Line, XBoard, Protover, Quit, New, Force, Post, SetBoard, Played, St, Level, Time, Otim, Sd, Go, Analyze, Hurry, Exit, Ping, Accepted, Rejected, ended, line_text, move_text, two_digits}
+use Rattle.cecp_driver.specs.EngineGame.{set_by}
 use Rattle.cecp_driver.specs.Said.{CanBeSaid}
 use Rattle.peer_words.specs.declared.numbers.TheConstants.{SECOND}
 
@@ -58,12 +62,25 @@ IsMessage Exit msg = msg ≡ says.Exit
 IsMessage (Ping n) msg = msg ≡ says.Ping n
 IsMessage line msg = (text : List ℕ) × (msg ≡ says.Ignored text)
 
--- A line, its text and its message: the text is one line, that spells the message.
+-- what a message does to the game of an engine that takes it
+abbrev pub at_position : Game → Result Position FenFault → Game
+at_position g (Ok p) = begun p
+at_position g (Err fault) = g
+
+abbrev pub game_by : Game → IfaceMsg → Game
+game_by g says.New = begun start_position
+game_by g (says.SetBoard text) = at_position g (position_of text)
+game_by g (says.UserMove m) = with_ply g (ply_of m)
+game_by g msg = g
+
+-- A line, its text and its message: the text is one line, that spells the message, and the message does to each game what the
+-- line does.
 pub record IsCecp (line : Line) (msg : IfaceMsg) : Type 0 where
   pub whole : line_text line ≡ ended (bare_text line)
   pub no_feed : has_feed (bare_text line) ≡ false
   pub spelled : Spells (bare_text line) msg
   pub is : IsMessage line msg
+  pub sets : (g : Game) → set_by g line ≡ game_by g msg
 
 abbrev pub LinesAreCecp : Type 0
 LinesAreCecp = (line : Line) → CanBeSaid line → (msg : IfaceMsg) × IsCecp line msg

@@ -2,7 +2,8 @@
 ghost use Rattle.driver_wire.specs.Runs.{HearsTheOrdered};
 ghost use Rattle.driver_wire.specs.Wire.{LinesAreCecp};
 
-/// The text of each line to the engine is one line, and spells the message that the line is.
+/// The text of each line to the engine is one line, and spells the message that the line is, and this message does to each
+/// game what the line does to the engine's.
 pub fn lines_are_cecp()
     ensures { LinesAreCecp }
 {}
