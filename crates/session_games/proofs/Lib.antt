@@ -1,6 +1,4 @@
 pub mod Followed
-pub mod Stepped
-pub mod Sessions
-pub mod Came
-pub mod Written
+mod Texts
 pub mod Stays
+pub mod Written

@@ -10,9 +10,9 @@ use Rattle.session_script.specs.Script.{events}
 use Rattle.session_script.proofs.Scripts.{goes_on}
 use Rattle.script_player.specs.Versions.{Version, Place, LineSaid, Comes, Passes, Starts, HasNoMark, IsOutOfStep, Cannot, beginning, behind_header, events_by, events_of, events_said, line_says, place_said, script_events, settings_by, version_in}
 use Rattle.script_player.proofs.VersionLines.{behind_more, version_stays}
-use Rattle.session_games.specs.Games.{game_of, games_over, over_by}
-use Rattle.session_games.specs.GamesWritten.{FirstGamesStay, IsSession}
-use Rattle.session_games.proofs.Sessions.{one_event}
+use Rattle.session_writer.specs.Telling.{game_of}
+use Rattle.session_games.specs.Games.{games_over, over_by}
+use Rattle.session_games.specs.GamesWritten.{FirstGamesStay}
 
 -- EVENTS OF MORE LINES
 
@@ -49,6 +49,11 @@ newer_games q (s ∷ newer) trace =
     let r = newer_games q newer trace in
     let over = over_by (game_of q (newer ++ trace)) s.event (game_of q (s ∷ (newer ++ trace))) in
     (r.0 ++ over, ap (λ (gs : List Game). gs ++ over) r.1 ∙ append_assoc (games_over q trace) r.0 over)
+
+one_event : (a : List Event) (x y e : Event) → (a ++ x ∷ []) ++ y ∷ [] ≡ e ∷ [] → ⊥
+one_event [] x y e h = cc
+one_event (z ∷ []) x y e h = cc
+one_event (z ∷ w ∷ a) x y e h = cc
 
 -- at Open none is over
 opened_games : (q : Settings) (trace : List Step) → events trace ≡ Open ∷ [] → games_over q trace ≡ []

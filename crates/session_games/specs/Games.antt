@@ -1,5 +1,5 @@
 -- The games of a session.
-use Rattle.std.specs.Prelude.{ℕ, List, [], ◌∷◌, ◌++◌, length, Bool, true, false, ◌&&◌, not, nat_lt, if◌then◌else◌, Result, Ok, Err}
+use Rattle.std.specs.Prelude.{ℕ, List, [], ◌∷◌, ◌++◌, length, Bool, true, false, ◌&&◌, not, nat_lt, if◌then◌else◌, Result, Ok}
 use Rattle.line_io.specs.Event.{Event}
 use Rattle.line_io.specs.Event as events
 use Rattle.cecp_lines.specs.Messages.{IfaceMsg}
@@ -9,7 +9,8 @@ use Rattle.cecp_lines.specs.declared.iface.IfaceFault.{IfaceFault}
 use Rattle.game_record.specs.Game.{Game}
 use Rattle.game_text.specs.Text.{game_text}
 use Rattle.policy_rules.specs.declared.settings.Settings.{Settings}
-use Rattle.adapter_core.specs.Trace.{Step, state}
+use Rattle.adapter_core.specs.Trace.{Step}
+use Rattle.session_writer.specs.Telling.{game_of}
 
 abbrev pub has_moves : Game → Bool
 has_moves g = nat_lt 0 (length g.moves)
@@ -32,10 +33,6 @@ is_over before event after = asks_anew event && (has_moves before && not (has_mo
 -- it is the game before that step
 abbrev pub over_by : Game → Event → Game → List Game
 over_by before event after = if is_over before event after then before ∷ [] else []
-
--- the game after these steps
-abbrev pub game_of : Settings → List Step → Game
-game_of o trace = (state o trace).desk.game
 
 -- the games that were over in these steps, of which the newest stands first; the first game is first
 abbrev pub games_over : Settings → List Step → List Game

@@ -1,4 +1,3 @@
-pub mod Following
 pub mod Games
-pub mod Gathering
+pub mod Telling
 pub mod GamesWritten

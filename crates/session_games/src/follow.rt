@@ -1,6 +1,6 @@
 // A game that goes with another.
 ghost use Rattle.std.specs.Prelude.{◌≡◌, ◌<◌, ◌≤◌, length};
-ghost use Rattle.session_games.specs.Following.{Follows};
+ghost use Rattle.session_writer.specs.Following.{Follows};
 
 use game_record::Game;
 

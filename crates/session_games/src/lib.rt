@@ -4,7 +4,7 @@
 mod follow;
 mod over;
 mod run;
-mod writer;
+mod teller;
 
 pub use run::write_games;
-pub use writer::GameWriter;
+pub use teller::{GameTeller, GameWriter};

@@ -5,7 +5,7 @@ ghost use Rattle.command_endings.specs.Streams.{streams};
 ghost use Rattle.policy_rules.specs.Policy.{IsProper};
 ghost use Rattle.session_games.specs.GamesWritten.{GamesWritten};
 
-use crate::writer::GameWriter;
+use crate::teller::GameWriter;
 use command_endings::{Ending, tell_short};
 use line_io::{Sink, Source};
 use line_scribe::run_scribe;

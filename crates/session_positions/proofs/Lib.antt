@@ -1,4 +1,2 @@
-pub mod Numbers
-pub mod Sessions
-pub mod Came
+mod Texts
 pub mod Written

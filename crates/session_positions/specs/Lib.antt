@@ -1,3 +1,3 @@
 pub mod Positions
-pub mod Following
+pub mod Telling
 pub mod PositionsWritten

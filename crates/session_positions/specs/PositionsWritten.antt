@@ -5,25 +5,17 @@ use Rattle.line_io.specs.Causes.{Rose}
 use Rattle.line_io.specs.Lines.{Piece, items}
 use Rattle.line_io.specs.Runs.{whole}
 use Rattle.policy_rules.specs.declared.settings.Settings.{Settings}
-use Rattle.adapter_core.specs.Trace.{Step, Lawful}
-use Rattle.session_script.specs.Script.{events}
+use Rattle.adapter_core.specs.Trace.{Step}
 use Rattle.command_endings.specs.declared.ending.Ending.{Ending}
 use Rattle.command_endings.specs.Diagnostics.{diagnostic}
 use Rattle.command_endings.specs.Ran.{Ran, WritingBroke}
 use Rattle.command_endings.specs.Reads.{AreFirst, AreRead, Got, IsAll}
 use Rattle.command_endings.specs.Streams.{Streams, AreSame, IsSteady}
 use Rattle.line_scribe.specs.Scribed.{EndsBy}
-use Rattle.script_player.specs.Versions.{script_events, script_fault, settings_by, version_in}
-use Rattle.session_positions.specs.Following.{fresh, text_of_lines, writes_positions}
+use Rattle.script_player.specs.Versions.{script_fault}
+use Rattle.session_writer.specs.Outcomes.{IsSession, TellsFault}
+use Rattle.session_positions.specs.Telling.{fresh, text_of_lines, writes_positions}
 use Rattle.line_io.specs.declared.limits.TheConstants.{SCRIPT_LINE}
-
--- The trace is the one lawful session of these lines: its settings are the header's, if there is one,
--- and its events those of the lines.
-pub record IsSession (o : Settings) (lines : List Piece) (trace : List Step) : Type 0 where
-  pub lawful : Lawful (settings_by (version_in lines) o) trace
-  pub events_are : events trace ≡ script_events lines
-  pub only : (other : List Step) → Lawful (settings_by (version_in lines) o) other
-      → events other ≡ script_events lines → other ≡ trace
 
 -- The output took the positions of the session of these lines.
 pub record WritesPositions (o : Settings) (before after : Streams) (lines : List Piece) : Type 0 where
@@ -79,13 +71,6 @@ abbrev pub CompletesPositions : Streams → Streams → ℕ → Type 0
 CompletesPositions before after code =
     (x : List ℕ) → before.input.left ≡ Some x → length x < 2 ^ 32
     → script_fault (items SCRIPT_LINE x) ≡ None → IsSteady before after → (code ≡ 0) ⊎ (code ≡ 3)
-
--- The first fault of an input of fewer than 2^32 bytes is reported, or there was no memory.
-abbrev pub TellsFault : Streams → Streams → ℕ → Type 0
-TellsFault before after code =
-    (x : List ℕ) (fault : Ending) → before.input.left ≡ Some x → length x < 2 ^ 32
-    → script_fault (items SCRIPT_LINE x) ≡ Some fault → IsSteady before after
-    → ((code ≡ 2) × Appends before.diag.taken after.diag.taken (diagnostic fault)) ⊎ (code ≡ 3)
 
 -- `Unread` and `Kept` say that the input and the output are just as they were.
 pub record PositionsWritten (o : Settings) (Unread Kept : Type 0) (before after : Streams)

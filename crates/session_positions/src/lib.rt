@@ -2,7 +2,7 @@
 #![tactic(auto)]
 
 mod run;
-mod writer;
+mod teller;
 
 pub use run::write_positions;
-pub use writer::PositionWriter;
+pub use teller::{PositionTeller, PositionWriter};

@@ -5,7 +5,7 @@ ghost use Rattle.command_endings.specs.Streams.{streams};
 ghost use Rattle.policy_rules.specs.Policy.{IsProper};
 ghost use Rattle.session_positions.specs.PositionsWritten.{PositionsWritten};
 
-use crate::writer::PositionWriter;
+use crate::teller::PositionWriter;
 use command_endings::{Ending, tell_short};
 use line_io::{Sink, Source};
 use line_scribe::run_scribe;

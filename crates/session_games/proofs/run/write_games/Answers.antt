@@ -1,13 +1,15 @@
 use Rattle.std.proofs.Common.{refl}
 use Rattle.command_endings.specs.Streams.{Streams, streams}
-use Rattle.session_games.proofs.Written.{games_written, may_gather, nothing_gathered, want_of_memory}
+use Rattle.session_writer.proofs.Outcomes.{may_write, nothing_written}
+use Rattle.session_games.specs.Telling.{tells_games}
+use Rattle.session_games.proofs.Written.{games_written, want_of_memory}
 use Rattle.session_games.proofs.run.write_games.Goals as goal
 
 pub run_scribe-requires-clause-may : goal.run_scribe-requires-clause-may
-run_scribe-requires-clause-may g c = may_gather c.args.settings.now c.in-Ok.writer c.in-Ok.ensures.unused
+run_scribe-requires-clause-may g c = may_write tells_games c.args.settings.now c.in-Ok.writer c.in-Ok.ensures.unused
 
 pub run_scribe-requires-clause-fresh : goal.run_scribe-requires-clause-fresh
-run_scribe-requires-clause-fresh g c = nothing_gathered c.in-Ok.writer
+run_scribe-requires-clause-fresh g c = nothing_written tells_games c.in-Ok.writer
 
 pub returns-in_default : goal.returns-in_default
 returns-in_default g c = want_of_memory c.args.settings.now c.requires _ _ _ _ _ refl refl refl refl c.tell_short.ensures

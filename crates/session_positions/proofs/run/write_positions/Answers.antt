@@ -1,13 +1,15 @@
 use Rattle.std.proofs.Common.{refl}
 use Rattle.command_endings.specs.Streams.{Streams, streams}
-use Rattle.session_positions.proofs.Written.{positions_written, may_follow, nothing_followed, want_of_memory}
+use Rattle.session_writer.proofs.Outcomes.{may_write, nothing_written}
+use Rattle.session_positions.specs.Telling.{tells_positions}
+use Rattle.session_positions.proofs.Written.{positions_written, want_of_memory}
 use Rattle.session_positions.proofs.run.write_positions.Goals as goal
 
 pub run_scribe-requires-clause-may : goal.run_scribe-requires-clause-may
-run_scribe-requires-clause-may g c = may_follow c.args.settings.now c.in-Ok.writer c.in-Ok.ensures.unused
+run_scribe-requires-clause-may g c = may_write tells_positions c.args.settings.now c.in-Ok.writer c.in-Ok.ensures.unused
 
 pub run_scribe-requires-clause-fresh : goal.run_scribe-requires-clause-fresh
-run_scribe-requires-clause-fresh g c = nothing_followed c.in-Ok.writer
+run_scribe-requires-clause-fresh g c = nothing_written tells_positions c.in-Ok.writer
 
 pub returns-in_default : goal.returns-in_default
 returns-in_default g c = want_of_memory c.args.settings.now c.requires _ _ _ _ _ refl refl refl refl c.tell_short.ensures
