@@ -1,13 +1,11 @@
 //! The program `driver`: a UCI interface on standard input and output, a CECP engine behind it.
 #![tactic(auto)]
 
-use child_engine::{EngineInput, RealHost};
-use driver_app::{drive_main, refuse_for_memory};
-use line_io::{ReadAdapter, WriteAdapter};
-use program_edges::{ClosedStreams, NO_MEMORY, WORDS_ROOM, words_of};
+use driver_runner::{drive_main, refuse_for_memory};
+use program_edges::{NO_MEMORY, WORDS_ROOM, words_of};
+use program_start::ProgramStart;
 use program_texts::{About, answer_about};
-use sink_offers::Interface;
-use std::process::{ChildStdin, ExitCode};
+use std::process::ExitCode;
 
 const ABOUT: About = About {
     name: "driver",
@@ -20,15 +18,10 @@ LOG is made anew by each run. driver(1) says more.
 };
 
 fn main(rt: HostRuntime) -> ExitCode {
-    let Some(closed) = ClosedStreams::fill(&rt) else {
+    let Some(start) = ProgramStart::new(&rt, rt.stdin(), rt.stdout(), rt.stderr()) else {
         return ExitCode::from(NO_MEMORY);
     };
-    let mut interface = Interface {
-        input: closed.input(ReadAdapter::new(rt.stdin())),
-        output: closed.output(WriteAdapter::new(rt.stdout())),
-    };
-    let mut diag = closed.diag(WriteAdapter::new(rt.stderr()));
-    let mut host = RealHost::<_, EngineInput<ChildStdin>>::new(&rt, closed.has_own_diag(&rt));
+    let (mut interface, mut host, mut diag) = (start.interface, start.host, start.diag);
     let status = match words_of(&rt, rt.alloc(), WORDS_ROOM) {
         Ok(words) => match answer_about(
             rt.alloc(),
