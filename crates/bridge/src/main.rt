@@ -1,7 +1,7 @@
 //! The program `bridge`: a chess interface on standard input and output, a UCI engine behind it.
 #![tactic(auto)]
 
-use bridge_app::{bridge_main, refuse_for_memory};
+use bridge_runner::{bridge_main, refuse_for_memory};
 use child_engine::{EngineInput, RealHost};
 use line_io::{ReadAdapter, WriteAdapter};
 use program_edges::{ClosedStreams, NO_MEMORY, WORDS_ROOM, words_of};

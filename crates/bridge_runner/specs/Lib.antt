@@ -3,3 +3,4 @@ pub mod Plays
 pub mod Recorded
 pub mod Bridged
 pub mod Laws
+pub mod Program

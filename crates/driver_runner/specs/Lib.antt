@@ -3,3 +3,4 @@ pub mod Drives
 pub mod Recorded
 pub mod Driven
 pub mod Laws
+pub mod Program

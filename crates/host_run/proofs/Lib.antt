@@ -1,5 +1,6 @@
 pub mod Asked
 pub mod Causes
+pub mod ByWords
 pub mod Closes
 pub mod Counts
 mod Tells

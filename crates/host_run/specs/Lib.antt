@@ -4,5 +4,6 @@ pub mod Endings
 pub mod Logs
 pub mod Outside
 pub mod Program
+pub mod ByWords
 pub mod Readers
 pub mod Telling

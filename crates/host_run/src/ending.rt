@@ -124,12 +124,3 @@ pub fn finish<D: Sink>(program: &[u8], ending: ProgramEnding, diag: &mut D) -> S
         code: ending.code(),
     }
 }
-
-/// How a program ends that has no memory for its words.
-pub fn refuse_for_memory<D: Sink>(program: &[u8], diag: &mut D) -> Status
-    ensures status { result.code ≡ code_of endings.NoMemory }
-    ensures told { IsToldTo (D.state diag.old) (D.state diag.new)
-        (diagnostic program.now endings.NoMemory) }
-{
-    finish(program, ProgramEnding::NoMemory, diag)
-}

@@ -9,7 +9,7 @@ mod readers;
 mod starting;
 mod threads;
 
-pub use ending::{ProgramEnding, finish, refuse_for_memory, tell};
+pub use ending::{ProgramEnding, finish, tell};
 pub use failures::{Failures, either, only_memory, only_start};
 pub use log::{Opened, close_log, is_open_failure, is_open_memory, open_log};
 pub use readers::{has_failed, has_lacked_memory};

@@ -9,3 +9,4 @@ mod EndSteps
 mod Records
 mod RunSteps
 mod Refused
+mod Digits

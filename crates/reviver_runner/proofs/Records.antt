@@ -1,6 +1,7 @@
 -- What the books of a host that tells its bytes say of a run of all lives.
 use Rattle.std.proofs.Common.{◌≡◌, ◌∙◌, ◌⊎◌, inl, inr, ◌<◌, ◌≤◌, ℕ, Bool, true, false, refl, sym, ap, subst, List, [], ◌∷◌, ◌++◌, append-nil, map, length, Option, Some}
 use Rattle.std.proofs.lemmas.Bool.{or_parts}
+use Rattle.std.proofs.lemmas.List.{length-map}
 use Rattle.std.specs.List.{AllByRecursion, flat_map, list_any}
 use Rattle.line_io.specs.Event.{Event, EngineLong}
 use Rattle.line_io.specs.Source.{Received}
@@ -104,10 +105,14 @@ not_refused false h = refl
 not_refused true h = neither (h refl)
 
 module _ (number : ℕ) (before after : Outside) where
-  whole_run : (r : Revived number before after no_failure) → after.books.logs_out ≡ 1 → before.books.tells ≡ true → (bytes : List ℕ) → before.books.says ≡ Some bytes → IsWhole number bytes before after
-  whole_run r one tells bytes says =
+  whole_run : (r : Revived number before after no_failure) → 0 < after.books.runs_out → after.books.runs_out ≤ number → after.books.logs_out ≡ 1 → before.books.tells ≡ true → (bytes : List ℕ)
+      → before.books.says ≡ Some bytes → IsWhole number bytes before after
+  whole_run r some few one tells bytes says =
       let gave = r.recorded.all bytes says refl refl in
       let took = r.recorded.texts tells refl in
+      let texts : List (List ℕ) = map (λ (l : Life). l.text) r.runs in
+      let lives : length texts ≡ length r.runs = length-map r.runs (λ (l : Life). l.text) in
+      let out : after.books.runs_out ≡ length texts = r.runs_out ∙ sym lives in
       record {
         events = r.events;
         may = r.heard.may;
@@ -117,7 +122,10 @@ module _ (number : ℕ) (before after : Outside) where
         arrived = r.heard.arrived;
         iface = subst (λ (end : ReadEnd). Arrived peers.Iface before.input after.input r.heard.arrived end) (is_done r.upper (sym r.told.iface_read) (r.told.iface_memory refl)) r.heard.did_arrive;
         orders = r.heard.orders;
-        texts = map (λ (l : Life). l.text) r.runs;
+        texts = texts;
+        begun = r.heard.begun ∙ sym lives;
+        some = subst (λ (n : ℕ). 0 < n) out some;
+        few = subst (λ (n : ℕ). n ≤ number) out few;
         texts_are = r.heard.texts;
         runs = r.runs_told ∙ runs_are bytes r.runs gave (ap (λ (rs : List Told). map (λ (run : Told). run.taken) rs) (sym r.runs_told) ∙ took);
         marks = r.heard.marks ∙ events_are bytes r.runs gave;
@@ -143,5 +151,5 @@ module _ (number : ℕ) (before after : Outside) where
         let some = some_run memory (ap (λ (f : Failures). f.engine_start) e) in
         let one = some_log memory (ap (λ (f : Failures). f.log) e) some in
         let run = subst (λ (f : Failures). Revived number before after f) e (revived some) in
-        if_some (λ bytes. IsWhole number bytes before after) before.books.says (λ bytes says. whole_run run one tells bytes says);
+        if_some (λ bytes. IsWhole number bytes before after) before.books.says (λ bytes says. whole_run run some few_runs one tells bytes says);
   }

@@ -5,3 +5,5 @@ pub mod Drained
 pub mod Recorded
 pub mod Ran
 pub mod Laws
+pub mod Words
+pub mod Program

@@ -1,5 +1,5 @@
 -- What the books of a host that tells its bytes say of a run of all lives.
-use Rattle.std.specs.Prelude.{◌≡◌, ℕ, true, false, List, [], ◌∷◌, ◌++◌, map, Some}
+use Rattle.std.specs.Prelude.{◌≡◌, ℕ, ◌<◌, ◌≤◌, true, false, List, [], ◌∷◌, ◌++◌, map, length, Some}
 use Rattle.std.specs.List.{AllByRecursion, flat_map}
 use Rattle.std.specs.Io.KnownBytes.{Appends}
 use Rattle.line_io.specs.Event.{Event, EngineLong}
@@ -9,7 +9,7 @@ use Rattle.event_pipe.specs.declared.reader.ReadEnd.TheVariants as read_ends
 use Rattle.event_pipe.specs.Arrivals.{Arrived, line_limit}
 use Rattle.event_pipe.specs.Rule.{sent_by}
 use Rattle.child_engine.specs.Hosts.{Told, Books}
-use Rattle.engine_revival.specs.Script.{AllMayHappen, revival_script}
+use Rattle.engine_revival.specs.Script.{AllMayHappen, state_behind, revival_script}
 use Rattle.engine_revival.specs.Steps.{opening}
 use Rattle.engine_revival.specs.Talk.{IsAlwaysLawful}
 use Rattle.host_run.specs.declared.failures.Failures.{Failures}
@@ -74,6 +74,10 @@ pub record IsWhole (number : ℕ) (bytes : List ℕ) (before after : Outside) : 
   pub orders : sent_by peers.Iface events ≡ told_of arrived
   -- what is written to each life; and each life gave all that an engine says, and took that
   pub texts : List (List ℕ)
+  -- as many lives were run as these events begin: one at least, and so many at most
+  pub begun : (state_behind (opening number) events).begun ≡ length texts
+  pub some : 0 < length texts
+  pub few : length texts ≤ number
   pub texts_are : to_lives to_none (opening number) events ≡ record { ended = texts; present = [] }
   pub runs : after.books.runs ≡ map (gave_all bytes) texts
   -- the engine's events are the lines of all lives

@@ -9,7 +9,7 @@ use program_texts::{About, answer_about};
 use sink_offers::Interface;
 use std::os::fd::OwnedFd;
 use std::process::{ChildStdin, ExitCode};
-use tap_app::{refuse_for_memory, tap_main};
+use tap_runner::{refuse_for_memory, tap_main};
 
 // Standard output as this program's own: it is closed when it is let go. If it was closed at the
 // start, it is let go already.

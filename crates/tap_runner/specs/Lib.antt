@@ -8,3 +8,4 @@ pub mod Recorded
 pub mod Parts
 pub mod Tapped
 pub mod Laws
+pub mod Program

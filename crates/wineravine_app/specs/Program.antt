@@ -9,7 +9,7 @@ use Rattle.host_run.specs.Endings.{diagnostic}
 use Rattle.host_run.specs.Outside.{Outside}
 use Rattle.host_run.specs.Program.{Answers, IsToldTo}
 use Rattle.host_run.specs.declared.ending.ProgramEnding.TheVariants as endings
-use Rattle.bridge_app.specs.Program.{RunsAsAsked}
+use Rattle.bridge_runner.specs.Program.{RunsAsAsked}
 use Rattle.peer_words.specs.Bytes.{carriage_return}
 use Rattle.program_texts.specs.About.{version_line}
 use Rattle.setting_words.specs.Values.{text_or_empty}

@@ -7,12 +7,12 @@ ghost use Rattle.host_run.specs.Asked.{AsksAsTold};
 ghost use Rattle.host_run.specs.Outside.{outside_of};
 ghost use Rattle.host_run.specs.Program.{IsToldTo, StatusSays};
 ghost use Rattle.host_run.specs.declared.ending.ProgramEnding.TheVariants as endings;
-ghost use Rattle.bridge_app.specs.Program.{RunsAsAsked, RunsWhole};
+ghost use Rattle.bridge_runner.specs.Program.{RunsAsAsked, RunsWhole};
 ghost use Rattle.wineravine_words.specs.Words.{AreAsked, AreTaken, IsRunnable, engine_words, first_lines, log_named, values_found};
 ghost use Rattle.wineravine_app.specs.Program.{Did, Does, Fit, engine_named, not_started, program};
 
 use crate::telling::{not_started_line, refuse, show, write_once};
-use bridge_app::run_bridge;
+use bridge_runner::run_bridge;
 use child_engine::Host;
 use host_run::{Failures, ProgramEnding, finish};
 use line_io::{Sink, Source, Status};

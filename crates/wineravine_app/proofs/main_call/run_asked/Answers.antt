@@ -2,7 +2,7 @@ use Rattle.std.proofs.Common.{◌∙◌, ℕ, List, sym, ap, subst, map, string_
 use Rattle.host_run.specs.Outside.{outside_of}
 use Rattle.host_run.proofs.Asked.{asks_told}
 use Rattle.mediator.specs.First.{AreOpening}
-use Rattle.bridge_app.specs.Program.{Runs}
+use Rattle.bridge_runner.specs.Program.{Runs}
 use Rattle.program_words.specs.Words.{bytes_of}
 use Rattle.wineravine_words.specs.Words.{values_found}
 use Rattle.wineravine_app.proofs.Opening.{are_opening}

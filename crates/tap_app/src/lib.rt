@@ -1,6 +1,0 @@
-//! The program `tap`: words, the run that they ask for, and how it is reported.
-#![tactic(auto)]
-
-mod main_call;
-
-pub use main_call::{refuse_for_memory, tap_main};
