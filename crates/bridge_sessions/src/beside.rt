@@ -7,7 +7,7 @@ use crate::program::{RunResult, words_of};
 use crate::ready::{ReadySession, make_ready};
 use crate::talk::{ENGINE, IFACE, QUIT, Telling, Waiting};
 use crate::waiting_host::WaitingHost;
-use bridge_app::bridge_main;
+use bridge_runner::bridge_main;
 use event_pipe::{Pipe, ReadEnd};
 use line_io::{MemSink, NoMemory, NullSink};
 use mediator::{MediatorParts, RunEnd, Turns, run_pipes};

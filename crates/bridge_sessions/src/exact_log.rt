@@ -1,8 +1,7 @@
 // Runs over a host in memory whose log can be but one, written out to the byte.
 use crate::expected::expect_bytes;
 use crate::program::words_of;
-use bridge_app::bridge_main;
-use bridge_runner::logs_are_whole;
+use bridge_runner::{bridge_main, logs_are_whole};
 use child_engine::{Fails, MemHost};
 use line_io::{MemSink, NoMemory};
 use paced_host::{DueText, PacedHost, PacedTexts};

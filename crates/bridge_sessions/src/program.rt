@@ -2,7 +2,7 @@
 ghost use Rattle.child_engine.specs.Hosts.{IsUnused};
 
 use crate::expected::expect_bytes;
-use bridge_app::bridge_main;
+use bridge_runner::bridge_main;
 use child_engine::{Host, SteadyHost};
 use line_io::{MemSink, MemSource, NoMemory};
 use sink_offers::Interface;

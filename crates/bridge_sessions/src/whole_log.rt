@@ -6,7 +6,7 @@ ghost use Rattle.child_engine.specs.Memory.{books_of, means_of};
 ghost use Rattle.bridge_sessions.specs.Scripts.{IsScript};
 
 use crate::program::{ENGINE, words_of};
-use bridge_app::bridge_main;
+use bridge_runner::bridge_main;
 use child_engine::{Fails, MemHost};
 use line_io::{MemSink, MemSource, NoMemory};
 use sink_offers::Interface;

@@ -2,17 +2,18 @@
 ghost use Rattle.std.specs.Prelude.{◌≡◌, false};
 ghost use Rattle.line_io.specs.Event.{has_feed};
 
-use crate::expected::expect_bytes;
+use crate::expected::{expect_bytes, expect_true};
 use cecp_driver::{
     Driver, DriverStep, EVENT_ROOM, LINE_LIMIT, put_marks, runs_are_sound, scripts_are_one,
     searches_are_on_the_ordered_game,
 };
 use driver_wire::{engines_hear_the_ordered, lines_are_cecp};
 use line_io::{Event, Out};
-use std::test::Fail;
+use std::alloc::Global;
+use std::process::Abort;
 
-/// A line with its mark, which is `x` for an order and `u` for a line of the engine, and the lines that it gives: up to
-/// the interface, and to the engine.
+/// A line with its mark, which is `x` for an order and `u` for a line of the engine, or `u.` for its end, and the lines
+/// that it gives: up to the interface, and to the engine.
 type Row = (&'static str, &'static str, &'static str);
 
 fn gives(both: DriverStep, up: &str, child: &str) -> bool {
@@ -20,22 +21,21 @@ fn gives(both: DriverStep, up: &str, child: &str) -> bool {
 }
 
 /// Whether a line with its mark gives these lines.
-fn plays_row(driver: &mut Driver, marked: &[u8], up: &str, child: &str) -> bool {
-    match marked {
+fn plays_row(driver: &mut Driver, row: &Row) -> bool {
+    let (marked, up, child) = *row;
+    match marked.as_bytes() {
         [b'x', b' ', line @ ..] => line.len() <= LINE_LIMIT && gives(driver.order(line), up, child),
         [b'u', b' ', line @ ..] => line.len() <= LINE_LIMIT && gives(driver.heard(line), up, child),
+        b"u." => gives(driver.ended(), up, child),
         _ => false,
     }
 }
 
-/// Whether each line gives what stands beside it.
-fn plays(driver: &mut Driver, rows: &[Row]) -> bool {
-    for (marked, up, child) in rows {
-        if !plays_row(driver, marked.as_bytes(), up, child) {
-            return false;
-        }
+fn expect_played(rt: &impl Abort, alloc: Global, name: &str, rows: &[Row]) {
+    let mut driver = Driver::make(alloc).expect(rt, "memory for the driver");
+    for (k, row) in rows.iter().enumerate() {
+        assert!(rt; plays_row(&mut driver, row), "{name}: row {k}");
     }
-    true
 }
 
 const GREETING: &str = "xboard\nprotover 2\n";
@@ -48,7 +48,7 @@ const ANSWERS: &str =
     "accepted ping\naccepted setboard\naccepted usermove\naccepted analyze\naccepted myname\naccepted done\n";
 
 // A game in which the engine resigns, and a search that waits for its `pong`.
-const A_GAME: [Row; 11] = [
+const A_GAME: [Row; 12] = [
     ("x uci", "", GREETING),
     (FEATURES, READY, ANSWERS),
     ("x position startpos moves e2e4", "", ""),
@@ -68,15 +68,8 @@ const A_GAME: [Row; 11] = [
         "",
         "new\nforce\npost\nusermove e2e4\nusermove e7e5\nusermove g1f3\nlevel 0 9999:59 0\ntime 59999900\notim 59999900\nsd 4\ngo\n?\n",
     ),
+    ("u.", "bestmove 0000\n", ""),
 ];
-
-#[test]
-fn a_game_is_played(rt: HostRuntime) -> Result<(), Fail> {
-    let mut driver = Driver::make(rt.alloc())?;
-    assert!(rt; plays(&mut driver, &A_GAME));
-    assert!(rt; gives(driver.ended(), "bestmove 0000\n", ""));
-    Ok(())
-}
 
 // An analysis that the interface stops.
 const AN_ANALYSIS: [Row; 9] = [
@@ -94,13 +87,6 @@ const AN_ANALYSIS: [Row; 9] = [
     ("u pong 1", "bestmove e2e4\n", ""),
     ("x quit", "", "quit\n"),
 ];
-
-#[test]
-fn a_position_is_analysed(rt: HostRuntime) -> Result<(), Fail> {
-    let mut driver = Driver::make(rt.alloc())?;
-    assert!(rt; plays(&mut driver, &AN_ANALYSIS));
-    Ok(())
-}
 
 // Thinking lines with long moves, and two that report nothing: one of statistics, and one whose move is not legal.
 const THINKING_LINES: [Row; 10] = [
@@ -128,11 +114,18 @@ const THINKING_LINES: [Row; 10] = [
     ("u pong 1", "bestmove b1c3\n", ""),
 ];
 
+/// A name, and what is played.
+const SESSIONS: [(&str, &[Row]); 3] = [
+    ("a game", &A_GAME),
+    ("an analysis", &AN_ANALYSIS),
+    ("thinking lines", &THINKING_LINES),
+];
+
 #[test]
-fn moves_of_thinking_lines_are_read(rt: HostRuntime) -> Result<(), Fail> {
-    let mut driver = Driver::make(rt.alloc())?;
-    assert!(rt; plays(&mut driver, &THINKING_LINES));
-    Ok(())
+fn sessions_are_played(rt: HostRuntime) {
+    for (name, rows) in SESSIONS {
+        expect_played(&rt, rt.alloc(), name, rows);
+    }
 }
 
 fn plays_line(driver: &mut Driver, line: &'static [u8], text: &mut Out) -> bool
@@ -155,29 +148,37 @@ fn takes_end(driver: &mut Driver) -> bool {
     true
 }
 
+fn expect_events(rt: &impl Abort, alloc: Global) {
+    let mut driver = Driver::make(alloc).expect(rt, "memory for the driver");
+    let mut text = Out::make(alloc, 2 * EVENT_ROOM).expect(rt, "memory for the marks");
+    expect_true(rt, "uci", plays_line(&mut driver, b"uci", &mut text));
+    let marks = b"x uci\nU xboard\nU protover 2\n".as_slice();
+    expect_bytes(rt, "the marks of uci", text.bytes(), marks);
+    expect_true(rt, "an end", takes_end(&mut driver));
+    expect_true(rt, "a second end", !takes_end(&mut driver));
+    expect_true(rt, "a long line", !driver.may_come(&Event::IfaceLong));
+    expect_true(
+        rt,
+        "isready",
+        plays_line(&mut driver, b"isready", &mut text),
+    );
+    expect_bytes(rt, "the answer", driver.lines().up, b"readyok\n");
+}
+
+fn expect_marks(rt: &impl Abort, alloc: Global) {
+    let mut text = Out::make(alloc, EVENT_ROOM).expect(rt, "memory for the marks");
+    put_marks(&Event::EngineEnd, b"readyok\n", b"quit\n", &mut text);
+    let marks = b"u.\nX readyok\nU quit\n".as_slice();
+    expect_bytes(rt, "the marks of an end", text.bytes(), marks);
+}
+
 #[test]
-fn events_are_played(rt: HostRuntime) -> Result<(), Fail> {
-    let mut driver = Driver::make(rt.alloc())?;
-    let mut text = Out::make(rt.alloc(), 2 * EVENT_ROOM)?;
-    assert!(rt; plays_line(&mut driver, b"uci", &mut text));
-    expect_bytes(&rt, text.bytes(), b"x uci\nU xboard\nU protover 2\n");
-    assert!(rt; takes_end(&mut driver));
-    assert!(rt; !takes_end(&mut driver));
-    assert!(rt; !driver.may_come(&Event::IfaceLong));
-    assert!(rt; plays_line(&mut driver, b"isready", &mut text));
-    expect_bytes(&rt, driver.lines().up, b"readyok\n");
+fn events_are_played(rt: HostRuntime) {
     searches_are_on_the_ordered_game();
     runs_are_sound();
     scripts_are_one();
     lines_are_cecp();
     engines_hear_the_ordered();
-    Ok(())
-}
-
-#[test]
-fn marks_are_put(rt: HostRuntime) -> Result<(), Fail> {
-    let mut text = Out::make(rt.alloc(), EVENT_ROOM)?;
-    put_marks(&Event::EngineEnd, b"readyok\n", b"quit\n", &mut text);
-    expect_bytes(&rt, text.bytes(), b"u.\nX readyok\nU quit\n");
-    Ok(())
+    expect_events(&rt, rt.alloc());
+    expect_marks(&rt, rt.alloc());
 }

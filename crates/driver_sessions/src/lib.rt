@@ -4,15 +4,11 @@
 #[cfg(test)]
 mod calls;
 #[cfg(test)]
-mod exact_log;
-#[cfg(test)]
 mod expected;
 #[cfg(test)]
 mod loops;
 #[cfg(test)]
 mod program;
-#[cfg(test)]
-mod ready;
 #[cfg(test)]
 mod sessions;
 #[cfg(test)]

@@ -1,19 +1,17 @@
 // The loop and both pipes over sources and sinks in memory.
-ghost use Rattle.std.specs.Prelude.{◌≡◌, []};
-ghost use Rattle.event_pipe.specs.Ends.{IsSender, IsFreshTaker, sent};
+ghost use Rattle.std.specs.Prelude.{◌≡◌, ◌<◌};
 ghost use Rattle.driver_sessions.specs.Ready.{IsReady};
 
-use crate::expected::expect_bytes;
-use crate::ready::{ReadyDriver, make_ready};
-use event_pipe::{Pipe, PipeSend, PipeTake, ReadEnd, read_pipe};
-use line_io::{MemSink, MemSource};
-use mediator::{MediatorParts, RunEnd, Turns, mediate, run_pipes};
+use crate::expected::{expect_bytes, expect_true};
+use crate::program::sink;
+use cecp_driver::Driver;
+use driver_runner::Driving;
+use event_pipe::{Pipe, PipeTake, ReadEnd, read_pipe};
+use line_io::{MemSink, MemSource, Out};
+use mediator::{MediatorParts, RunEnd, TURN_ROOM, Turns, mediate, run_pipes};
 use sink_offers::{HandedStreams, Interface, LoopEnd};
 use std::alloc::Global;
 use std::process::Abort;
-use std::sync::Wait;
-use std::test::Fail;
-use std::thread::Threads;
 
 const LOG: &[u8] = b"\
     x uci\n\
@@ -26,171 +24,91 @@ const LOG: &[u8] = b"\
     u feature ping=1\n\
     u.\n";
 
-/// The sinks of a loop.
-#[derive(Drop)]
-struct Sinks {
-    output: MemSink,
-    engine: MemSink,
-    log: Option<MemSink>,
-}
-
-// Sinks of which that of the engine fails at these writes.
-fn make_sinks(alloc: Global, failing: &[u64], log: Option<MemSink>) -> Result<Sinks, Fail> {
-    Ok(Sinks {
-        output: MemSink::make(alloc, 100, &[])?,
-        engine: MemSink::make(alloc, 100, failing)?,
-        log,
-    })
-}
-
-fn expect_loop_end(rt: &impl Abort, found: LoopEnd, wanted: LoopEnd) {
-    assert_eq!(rt; found, wanted);
-}
-
-fn expect_run_end(rt: &impl Abort, found: RunEnd, wanted: RunEnd) {
-    assert_eq!(rt; found, wanted);
-}
-
-// Compares what each sink took; one that is not there took nothing.
-fn expect_taken(rt: &impl Abort, sinks: &Sinks, output: &[u8], engine: &[u8], log: &[u8]) {
-    expect_bytes(rt, sinks.output.taken(), output);
-    expect_bytes(rt, sinks.engine.taken(), engine);
-    let logged = sinks.log.as_ref().map_or(b"".as_slice(), |log| log.taken());
-    expect_bytes(rt, logged, log);
-}
-
-// A line of 65,537 bytes, and these lines behind it.
-fn behind_a_long_line(alloc: Global, lines: &[u8]) -> Result<Vec<u8>, Fail> {
-    let mut bytes = vec![in alloc; b'a'; 65_537]?;
-    bytes.extend_from_slice(b"\n")?;
-    bytes.extend_from_slice(lines)?;
-    Ok(bytes)
-}
-
-// Puts these lines into the channel.
-fn read_lines<R: Wait>(
-    rt: &R,
-    alloc: Global,
-    lines: &[u8],
-    to: &mut PipeSend,
-) -> Result<ReadEnd, Fail>
-    requires sender { IsSender to.old }
-    requires fresh { sent to.old ≡ [] }
+fn source(rt: &impl Abort, alloc: Global, bytes: &[u8], piece: usize) -> MemSource
+    requires { 0 < piece }
 {
-    let mut source = MemSource::make(alloc, lines, 7_000, &[])?;
-    Ok(read_pipe(rt, alloc, &mut source, to))
+    MemSource::make(alloc, bytes, piece, &[]).expect(rt, "memory for a source")
 }
 
-// Has the driver take what is in the channel.
-fn drive_all<R: Wait>(rt: &R, ready: ReadyDriver, taker: PipeTake, sinks: &mut Sinks) -> LoopEnd
-    requires ready { IsReady ready.driving ready.text }
-    requires taker { IsFreshTaker taker }
+// A line of 65,537 bytes, and two orders behind it.
+fn long_lines(rt: &impl Abort, alloc: Global) -> MemSource {
+    let mut bytes = vec![in alloc; b'a'; 65_537].expect(rt, "memory for a line");
+    bytes
+        .extend_from_slice(b"\nuci\nisready\n")
+        .expect(rt, "memory for the lines");
+    source(rt, alloc, bytes.as_slice(), 7_000)
+}
+
+// What a run needs.
+fn make_turns(rt: &impl Abort, alloc: Global, taker: PipeTake) -> Turns<Driving>
+    ensures taker { result.taker ≡ taker }
+    ensures ready { IsReady result.mediator result.text }
 {
-    let ReadyDriver { driving, text } = ready;
-    let mut turns = Turns {
-        mediator: driving,
+    let driver = Driver::make(alloc).expect(rt, "memory for the driver");
+    Turns {
+        mediator: Driving { driver },
         taker,
-        text,
-    };
-    mediate(
-        rt,
-        &mut turns,
-        b"",
-        &mut sinks.output,
-        &mut sinks.engine,
-        &mut sinks.log,
-    )
+        text: Out::make(alloc, TURN_ROOM).expect(rt, "memory for the marks"),
+    }
 }
 
-// Runs the loop over these lines: those of the interface come first.
-fn run_loop<R: Wait>(
-    rt: &R,
-    alloc: Global,
-    iface_lines: &[u8],
-    engine_lines: &[u8],
-    sinks: &mut Sinks,
-) -> Result<LoopEnd, Fail> {
-    let ready = make_ready(alloc)?;
-    let (mut iface, mut child, taker) = Pipe::make(alloc)?;
-    let _iface_end = read_lines(rt, alloc, iface_lines, &mut iface)?;
-    let _engine_end = read_lines(rt, alloc, engine_lines, &mut child)?;
-    Ok(drive_all(rt, ready, taker, sinks))
-}
+const NOTHING_FAILED: LoopEnd = LoopEnd {
+    output: false,
+    engine: false,
+    log: false,
+};
 
-// The engine's second write fails, that of `quit`.
+// The lines of the interface come first. The engine's second write fails, that of `quit`.
 #[test]
-fn long_lines_are_passed_over(rt: HostRuntime) -> Result<(), Fail> {
+fn long_lines_are_passed_over(rt: HostRuntime) {
     let alloc = rt.alloc();
-    let log = MemSink::make(alloc, 1_000, &[])?;
-    let mut sinks = make_sinks(alloc, &[2], Some(log))?;
-    let lines = behind_a_long_line(alloc, b"uci\nisready\n")?;
-    let end = run_loop(
-        &rt,
-        alloc,
-        lines.as_slice(),
-        b"feature ping=1\n",
-        &mut sinks,
-    )?;
+    let mut input = long_lines(&rt, alloc);
+    let mut feature = source(&rt, alloc, b"feature ping=1\n", 7_000);
+    let (mut iface, mut child, taker) = Pipe::make(alloc).expect(&rt, "memory for the channel");
+    let _iface_end = read_pipe(&rt, alloc, &mut input, &mut iface);
+    let _engine_end = read_pipe(&rt, alloc, &mut feature, &mut child);
+    let mut turns = make_turns(&rt, alloc, taker);
+    let mut output = sink(&rt, alloc, &[]);
+    let mut engine = sink(&rt, alloc, &[2]);
+    let mut log = Some(sink(&rt, alloc, &[]));
+    let end = mediate(&rt, &mut turns, b"", &mut output, &mut engine, &mut log);
     let wanted = LoopEnd {
-        output: false,
         engine: true,
-        log: false,
+        ..NOTHING_FAILED
     };
-    expect_loop_end(&rt, end, wanted);
-    expect_taken(&rt, &sinks, b"readyok\n", b"xboard\nprotover 2\n", LOG);
-    Ok(())
+    expect_true(&rt, "the engine's sink fails", end == wanted);
+    expect_bytes(&rt, "up", output.taken(), b"readyok\n");
+    expect_bytes(&rt, "down", engine.taken(), b"xboard\nprotover 2\n");
+    match &log {
+        Some(log) => expect_bytes(&rt, "the log", log.taken(), LOG),
+        None => expect_true(&rt, "there is a log", false),
+    }
 }
 
-// Reads both pipes beside the loop.
-fn run_both<R: Threads + Wait + Sync>(
-    rt: &R,
-    alloc: Global,
-    input: MemSource,
-    source: MemSource,
-    sinks: Sinks,
-) -> Result<RunEnd, Fail> {
-    let ReadyDriver { driving, text } = make_ready(alloc)?;
-    let (iface, engine, taker) = Pipe::make(alloc)?;
+#[test]
+fn both_pipes_are_read(rt: HostRuntime) {
+    let alloc = rt.alloc();
+    let (iface, engine, taker) = Pipe::make(alloc).expect(&rt, "memory for the channel");
     let parts = MediatorParts {
         iface,
         engine,
-        turns: Turns {
-            mediator: driving,
-            taker,
-            text,
-        },
+        turns: make_turns(&rt, alloc, taker),
     };
-    let Sinks {
-        output,
-        engine,
-        log,
-    } = sinks;
-    let mut interface = Interface { input, output };
+    let mut interface = Interface {
+        input: source(&rt, alloc, b"uci\nquit\n", 3),
+        output: sink(&rt, alloc, &[]),
+    };
+    let log: Option<MemSink> = None;
     let mut handed = HandedStreams {
-        source,
-        engine,
+        source: source(&rt, alloc, b"", 3),
+        engine: sink(&rt, alloc, &[]),
         log,
     };
-    let run = run_pipes(rt, alloc, parts, b"", &mut interface, &mut handed);
-    Ok(run.end)
-}
-
-#[test]
-fn both_pipes_are_read(rt: HostRuntime) -> Result<(), Fail> {
-    let alloc = rt.alloc();
-    let input = MemSource::make(alloc, b"uci\nquit\n", 3, &[])?;
-    let source = MemSource::make(alloc, b"", 3, &[])?;
-    let sinks = make_sinks(alloc, &[], None)?;
-    let end = run_both(&rt, alloc, input, source, sinks)?;
+    let run = run_pipes(&rt, alloc, parts, b"", &mut interface, &mut handed);
     let wanted = RunEnd {
         iface: ReadEnd::Done,
         engine: ReadEnd::Done,
-        done: LoopEnd {
-            output: false,
-            engine: false,
-            log: false,
-        },
+        done: NOTHING_FAILED,
     };
-    expect_run_end(&rt, end, wanted);
-    Ok(())
+    expect_true(&rt, "both are read", run.end == wanted);
 }

@@ -1,118 +1,300 @@
-// The program over hosts in memory.
-ghost use Rattle.child_engine.specs.Hosts.{IsUnused};
-
-use crate::expected::{expect_bytes, expect_code};
-use child_engine::{Fails, Host, MemHost, SteadyHost};
-use driver_app::{drive_main, refuse_for_memory};
-use line_io::{MemSink, MemSource};
+// The program over a host in memory.
+use crate::expected::{expect_bytes, expect_true};
+use child_engine::{Fails, MemHost};
+use driver_runner::{drive_main, logs_are_whole, refuse_for_memory};
+use line_io::MemSink;
+use paced_host::{DueText, PacedHost, PacedTexts};
 use program_words::{EngineRequest, WordsRefusal, read_words};
 use sink_offers::Interface;
 use std::alloc::Global;
 use std::process::Abort;
 use std::sync::Wait;
-use std::test::Fail;
+use std::sync::atomic::AtomicU64;
 use std::thread::Threads;
 
-const ENGINE: &[u8] = b"feature ping=1 setboard=1 done=1\n";
+/// What the interface says once the log took so many lines, and what the engine says, as many
+/// bytes at a read as the piece; the k-th read waits until the log took the k-th number of lines.
+#[derive(Clone, Copy)]
+struct Talk {
+    iface: &'static [DueText],
+    engine: &'static [u8],
+    piece: usize,
+    reads: &'static [u64],
+}
 
-const INPUT: &[u8] = b"uci\nisready\nquit\n";
-
-/// What a run answered and wrote.
-#[derive(Drop)]
-struct RunResult {
+/// The words, what both peers say, and the calls that fail; then what the run answers and writes.
+#[derive(Clone, Copy)]
+struct Row {
+    name: &'static str,
+    words: &'static [&'static [u8]],
+    talk: &'static Talk,
+    fails: Fails<'static>,
     code: u8,
-    output: MemSink,
-    diag: MemSink,
+    // Any, if it can be more than one.
+    output: Option<&'static [u8]>,
+    diag: &'static [u8],
+    // The only log that it can leave.
+    log: Option<&'static [u8]>,
 }
 
-impl RunResult {
-    // Whether nothing was written but this diagnostic.
-    fn is_only(&self, code: u8, diag: &[u8]) -> bool {
-        self.code == code && self.output.taken().is_empty() && self.diag.taken() == diag
-    }
-}
+const NONE: Fails = Fails {
+    start: false,
+    log: false,
+    wait: false,
+    reads: &[],
+    writes: &[],
+    logs: &[],
+};
 
-pub fn words_of(alloc: Global, texts: &[&[u8]]) -> Result<Vec<Vec<u8>>, Fail> {
+// In pieces of five.
+const AT_ONCE: Talk = Talk {
+    iface: &[
+        DueText {
+            lines: 0,
+            text: b"uci\ni",
+        },
+        DueText {
+            lines: 0,
+            text: b"sread",
+        },
+        DueText {
+            lines: 0,
+            text: b"y\nqui",
+        },
+        DueText {
+            lines: 0,
+            text: b"t\n",
+        },
+    ],
+    engine: b"feature ping=1 setboard=1 done=1\n",
+    piece: 5,
+    reads: &[],
+};
+
+// The features are what the engine's first read gives, its move what the second one does, and then
+// it ends.
+const PACED: Talk = Talk {
+    iface: &[
+        DueText {
+            lines: 0,
+            text: b"uci\n",
+        },
+        DueText {
+            lines: 12,
+            text: b"position startpos moves e2e4\ngo movetime 1500\n",
+        },
+        DueText {
+            lines: 22,
+            text: b"quit\n",
+        },
+    ],
+    engine: b"\
+        feature ping=1 setboard=1 usermove=1 analyze=1 myname=\"Old\" done=1\n\
+        move e7e5\n",
+    piece: 67,
+    reads: &[3, 20, 24],
+};
+
+const LOG: &[u8] = b"\
+    x uci\n\
+    U xboard\n\
+    U protover 2\n\
+    u feature ping=1 setboard=1 usermove=1 analyze=1 myname=\"Old\" done=1\n\
+    X id name Old\n\
+    X uciok\n\
+    U accepted ping\n\
+    U accepted setboard\n\
+    U accepted usermove\n\
+    U accepted analyze\n\
+    U accepted myname\n\
+    U accepted done\n\
+    x position startpos moves e2e4\n\
+    x go movetime 1500\n\
+    U new\n\
+    U force\n\
+    U post\n\
+    U usermove e2e4\n\
+    U st 2\n\
+    U go\n\
+    u move e7e5\n\
+    X bestmove e7e5\n\
+    x quit\n\
+    U quit\n\
+    u.\n";
+
+const REFUSED: Row = Row {
+    name: "no words",
+    words: &[],
+    talk: &AT_ONCE,
+    fails: NONE,
+    code: 2,
+    output: Some(b""),
+    diag: b"driver: usage\n",
+    log: None,
+};
+
+const TAKEN: Row = Row {
+    name: "an engine",
+    words: &[b"d.log", b"engine"],
+    talk: &AT_ONCE,
+    fails: NONE,
+    code: 0,
+    output: None,
+    diag: b"",
+    log: None,
+};
+
+const ROWS: [Row; 13] = [
+    REFUSED,
+    Row {
+        name: "no engine",
+        words: &[b"d.log"],
+        ..REFUSED
+    },
+    Row {
+        name: "an engine that is no text",
+        words: &[b"d.log", b"\xff"],
+        ..REFUSED
+    },
+    Row {
+        name: "a log that is no text",
+        words: &[b"\xff", b"engine"],
+        ..REFUSED
+    },
+    TAKEN,
+    Row {
+        name: "words with dashes",
+        words: &[b"--LogFile", b"--", b"-x", b""],
+        ..TAKEN
+    },
+    Row {
+        name: "an empty word",
+        words: &[b"", b"--help"],
+        ..TAKEN
+    },
+    Row {
+        name: "the start fails",
+        fails: Fails {
+            start: true,
+            ..NONE
+        },
+        code: 8,
+        output: Some(b""),
+        diag: b"driver: engine start failed\n",
+        ..TAKEN
+    },
+    Row {
+        name: "the log is not opened",
+        fails: Fails { log: true, ..NONE },
+        code: 9,
+        diag: b"driver: log failed\n",
+        ..TAKEN
+    },
+    Row {
+        name: "a read fails",
+        fails: Fails {
+            reads: &[1],
+            ..NONE
+        },
+        code: 6,
+        diag: b"driver: engine reading failed\n",
+        ..TAKEN
+    },
+    Row {
+        name: "a write fails",
+        fails: Fails {
+            writes: &[1],
+            ..NONE
+        },
+        code: 7,
+        diag: b"driver: engine writing failed\n",
+        ..TAKEN
+    },
+    Row {
+        name: "the wait fails",
+        fails: Fails { wait: true, ..NONE },
+        code: 10,
+        diag: b"driver: engine wait failed\n",
+        ..TAKEN
+    },
+    Row {
+        name: "a whole session has one log",
+        words: &[b"d.log", b"engine", b"-x y"],
+        talk: &PACED,
+        output: Some(b"id name Old\nuciok\nbestmove e7e5\n"),
+        log: Some(LOG),
+        ..TAKEN
+    },
+];
+
+/// These texts as words.
+pub fn words_of(rt: &impl Abort, alloc: Global, texts: &[&[u8]]) -> Vec<Vec<u8>> {
     let mut words: Vec<Vec<u8>> = Vec::new(alloc);
     for text in texts {
-        words.push(Vec::from_slice(alloc, text)?)?;
+        let word = Vec::from_slice(alloc, text).expect(rt, "memory for a word");
+        words.push(word).expect(rt, "memory for the words");
     }
-    Ok(words)
+    words
 }
 
-// Runs the program with these words over a host.
-fn run_over<H: Host, R: Threads + Wait + Sync>(
-    rt: &R,
-    alloc: Global,
-    words: &[&[u8]],
-    host: &mut H,
-) -> Result<RunResult, Fail>
-    requires { IsUnused (H.books host.old) }
-{
-    let words = words_of(alloc, words)?;
-    let mut interface = Interface {
-        input: MemSource::make(alloc, INPUT, 5, &[])?,
-        output: MemSink::make(alloc, 1_000, &[])?,
-    };
-    let mut diag = MemSink::make(alloc, 1_000, &[])?;
-    let status = drive_main(rt, alloc, words.as_slice(), &mut interface, host, &mut diag);
-    Ok(RunResult {
-        code: status.code,
-        output: interface.output,
-        diag,
-    })
-}
-
-const REFUSED: [&[&[u8]]; 4] = [
-    &[],
-    &[b"d.log"],
-    &[b"d.log", b"\xff"],
-    &[b"\xff", b"engine"],
-];
-
-const TAKEN: [&[&[u8]]; 3] = [
-    &[b"d.log", b"engine"],
-    &[b"--LogFile", b"--", b"-x", b""],
-    &[b"", b"--help"],
-];
-
-// Runs the program with these words over a host that never fails.
-fn run_steady<R: Threads + Wait + Sync>(
-    rt: &R,
-    alloc: Global,
-    words: &[&[u8]],
-) -> Result<RunResult, Fail> {
-    let mut host = SteadyHost::make(alloc, ENGINE, 5)?;
-    run_over(rt, alloc, words, &mut host)
+/// A sink in memory, of which these writes fail.
+pub fn sink(rt: &impl Abort, alloc: Global, failing: &[u64]) -> MemSink {
+    MemSink::make(alloc, 1_000, failing).expect(rt, "memory for a sink")
 }
 
 // Whether these words ask for nothing since they are not the program's.
-fn are_refused(alloc: Global, words: &[&[u8]]) -> Result<bool, Fail> {
-    let words = words_of(alloc, words)?;
-    match read_words(alloc, words.as_slice()) {
-        Ok(_) => Ok(false),
-        Err(refusal) => Ok(refusal == WordsRefusal::Usage),
+fn are_refused(alloc: Global, words: &[Vec<u8>]) -> bool {
+    match read_words(alloc, words) {
+        Ok(_) => false,
+        Err(refusal) => refusal == WordsRefusal::Usage,
     }
 }
 
-#[test]
-fn words_that_are_refused(rt: HostRuntime) -> Result<(), Fail> {
-    for words in REFUSED {
-        let told = run_steady(&rt, rt.alloc(), words)?;
-        assert!(rt; told.is_only(2, b"driver: usage\n"));
-        assert!(rt; are_refused(rt.alloc(), words)?);
-    }
-    Ok(())
+// The log that the host closed, and what it was asked for.
+fn expect_log(rt: &impl Abort, name: &str, host: &PacedHost, log: &[u8]) {
+    expect_bytes(rt, name, host.logged(), log);
+    let was_asked = host.was_asked_for(1, &["engine", "-x y"], "d.log");
+    expect_true(rt, name, was_asked);
 }
 
-#[test]
-fn words_that_are_taken(rt: HostRuntime) -> Result<(), Fail> {
-    for words in TAKEN {
-        let told = run_steady(&rt, rt.alloc(), words)?;
-        expect_code(&rt, told.code, 0);
-        expect_bytes(&rt, told.diag.taken(), b"");
+fn expect_run<R: Threads + Wait + Sync + Abort>(rt: &R, alloc: Global, row: &Row) {
+    let words = words_of(rt, alloc, row.words);
+    let is_refused = are_refused(alloc, words.as_slice());
+    expect_true(rt, row.name, is_refused == (row.code == 2));
+    let Talk {
+        iface,
+        engine,
+        piece,
+        reads,
+    } = *row.talk;
+    expect_true(rt, row.name, piece > 0);
+    let lines = AtomicU64::new(0);
+    let host = MemHost::make(alloc, engine, piece, 1_000, &row.fails).expect(
+        rt,
+        "memory for a host",
+    );
+    let mut host = PacedHost::new(alloc, host, &lines, reads);
+    let mut interface = Interface {
+        input: PacedTexts::new(&lines, iface),
+        output: sink(rt, alloc, &[]),
+    };
+    let mut diag = sink(rt, alloc, &[]);
+    let status = drive_main(
+        rt,
+        alloc,
+        words.as_slice(),
+        &mut interface,
+        &mut host,
+        &mut diag,
+    );
+    expect_true(rt, row.name, status.code == row.code);
+    expect_bytes(rt, row.name, diag.taken(), row.diag);
+    if let Some(output) = row.output {
+        expect_bytes(rt, row.name, interface.output.taken(), output);
     }
-    Ok(())
+    if let Some(log) = row.log {
+        expect_log(rt, row.name, &host, log);
+    }
 }
 
 // Whether this log and an engine of these two words are asked for.
@@ -125,86 +307,28 @@ fn asks_for(request: &EngineRequest, log_name: &str, program: &str, argument: &s
         && second.as_str() == argument
 }
 
-#[test]
-fn words_are_read(rt: HostRuntime) -> Result<(), Fail> {
-    let words = words_of(rt.alloc(), &[b"d.log", b"--", b"-x"])?;
-    match read_words(rt.alloc(), words.as_slice()) {
-        Ok(request) => assert!(rt; asks_for(&request, "d.log", "--", "-x")),
-        Err(_) => return Err(Fail::new("the words were refused")),
+fn are_read(rt: &impl Abort, alloc: Global) -> bool {
+    let words = words_of(rt, alloc, &[b"d.log", b"--", b"-x"]);
+    match read_words(alloc, words.as_slice()) {
+        Ok(request) => asks_for(&request, "d.log", "--", "-x"),
+        Err(_) => false,
     }
-    Ok(())
 }
 
-// Runs the program over a host some of whose calls fail.
-fn run_failing<R: Threads + Wait + Sync>(
-    rt: &R,
-    alloc: Global,
-    fails: &Fails,
-) -> Result<RunResult, Fail> {
-    let mut host = MemHost::make(alloc, ENGINE, 5, 1_000, fails)?;
-    run_over(rt, alloc, &[b"d.log", b"engine"], &mut host)
-}
-
-#[test]
-fn an_engine_that_cannot_be_started(rt: HostRuntime) -> Result<(), Fail> {
-    let fails = Fails {
-        start: true,
-        ..Fails::default()
-    };
-    let told = run_failing(&rt, rt.alloc(), &fails)?;
-    assert!(rt; told.is_only(8, b"driver: engine start failed\n"));
-    Ok(())
-}
-
-#[test]
-fn a_log_that_cannot_be_opened(rt: HostRuntime) -> Result<(), Fail> {
-    let fails = Fails {
-        log: true,
-        ..Fails::default()
-    };
-    let told = run_failing(&rt, rt.alloc(), &fails)?;
-    expect_code(&rt, told.code, 9);
-    expect_bytes(&rt, told.diag.taken(), b"driver: log failed\n");
-    Ok(())
-}
-
-// Runs the program over such a host, and compares its status.
-fn expect_failing<R: Threads + Wait + Sync + Abort>(
-    rt: &R,
-    alloc: Global,
-    fails: &Fails,
-    code: u8,
-) -> Result<(), Fail> {
-    let told = run_failing(rt, alloc, fails)?;
-    expect_code(rt, told.code, code);
-    Ok(())
-}
-
-#[test]
-fn reads_and_writes_that_fail(rt: HostRuntime) -> Result<(), Fail> {
-    let first = [1];
-    let reads = Fails {
-        reads: &first,
-        ..Fails::default()
-    };
-    expect_failing(&rt, rt.alloc(), &reads, 6)?;
-    let writes = Fails {
-        writes: &first,
-        ..Fails::default()
-    };
-    expect_failing(&rt, rt.alloc(), &writes, 7)?;
-    let waits = Fails {
-        wait: true,
-        ..Fails::default()
-    };
-    expect_failing(&rt, rt.alloc(), &waits, 10)
-}
-
-#[test]
-fn no_memory_for_words(rt: HostRuntime) -> Result<(), Fail> {
-    let mut diag = MemSink::make(rt.alloc(), 100, &[])?;
+fn expect_refusal_for_memory(rt: &impl Abort, alloc: Global) {
+    let mut diag = sink(rt, alloc, &[]);
     let status = refuse_for_memory(&mut diag);
-    expect_code(&rt, status.code, 3);
-    expect_bytes(&rt, diag.taken(), b"driver: no memory\n");
-    Ok(())
+    let name = "no memory for words";
+    expect_true(rt, name, status.code == 3);
+    expect_bytes(rt, name, diag.taken(), b"driver: no memory\n");
+}
+
+#[test]
+fn each_run_answers_and_writes(rt: HostRuntime) {
+    logs_are_whole();
+    for row in &ROWS {
+        expect_run(&rt, rt.alloc(), row);
+    }
+    expect_true(&rt, "words are read", are_read(&rt, rt.alloc()));
+    expect_refusal_for_memory(&rt, rt.alloc());
 }

@@ -1,15 +1,15 @@
 // Whole sessions of the program: the interface and the engine wait for one another, so a program
 // that reads one of them to its end before the other never ends.
-use crate::program::words_of;
+use crate::expected::{expect_bytes, expect_true};
+use crate::program::{sink, words_of};
 use crate::talk::{ANALYSING_ENGINE, ANALYST, DueText, PLAYER, PLAYING_ENGINE, Telling, Waiting};
 use crate::talking_host::TalkingHost;
-use driver_app::drive_main;
-use line_io::MemSink;
+use driver_runner::drive_main;
 use sink_offers::Interface;
 use std::alloc::Global;
+use std::process::Abort;
 use std::sync::Wait;
 use std::sync::atomic::AtomicU64;
-use std::test::Fail;
 use std::thread::Threads;
 
 const PLAYED: &[u8] = b"\
@@ -75,22 +75,39 @@ const ANALYSED: &[u8] = b"\
     U quit\n\
     u.\n";
 
-// Runs the program between an interface and an engine, and compares its log.
-fn logs<R: Threads + Wait + Sync>(
-    rt: &R,
-    alloc: Global,
+/// An interface, an engine, and the log of their session.
+#[derive(Clone, Copy)]
+struct Row {
+    name: &'static str,
     iface: &'static [DueText],
     engine: &'static [DueText],
-    log: &[u8],
-) -> Result<bool, Fail> {
+    log: &'static [u8],
+}
+
+const ROWS: [Row; 2] = [
+    Row {
+        name: "an engine plays",
+        iface: &PLAYER,
+        engine: &PLAYING_ENGINE,
+        log: PLAYED,
+    },
+    Row {
+        name: "an engine analyses",
+        iface: &ANALYST,
+        engine: &ANALYSING_ENGINE,
+        log: ANALYSED,
+    },
+];
+
+fn expect_session<R: Threads + Wait + Sync + Abort>(rt: &R, alloc: Global, row: Row) {
     let written = AtomicU64::new(0);
-    let words = words_of(alloc, &[b"d.log", b"engine"])?;
-    let mut host = TalkingHost::make(alloc, &written, engine)?;
+    let words = words_of(rt, alloc, &[b"d.log", b"engine"]);
+    let mut host = TalkingHost::make(alloc, &written, row.engine).expect(rt, "memory for a host");
     let mut interface = Interface {
-        input: Waiting::new(&written, iface),
+        input: Waiting::new(&written, row.iface),
         output: Telling::new(&written),
     };
-    let mut diag = MemSink::make(alloc, 100, &[])?;
+    let mut diag = sink(rt, alloc, &[]);
     let status = drive_main(
         rt,
         alloc,
@@ -99,31 +116,14 @@ fn logs<R: Threads + Wait + Sync>(
         &mut host,
         &mut diag,
     );
-    Ok(status.code == 0 && diag.taken().is_empty() && host.logged() == log)
+    expect_true(rt, row.name, status.code == 0);
+    expect_bytes(rt, row.name, diag.taken(), b"");
+    expect_bytes(rt, row.name, host.logged(), row.log);
 }
 
 #[test]
-fn an_engine_plays(rt: HostRuntime) -> Result<(), Fail> {
-    let same = logs(
-        &rt,
-        rt.alloc(),
-        PLAYER.as_slice(),
-        PLAYING_ENGINE.as_slice(),
-        PLAYED,
-    )?;
-    assert!(rt; same);
-    Ok(())
-}
-
-#[test]
-fn an_engine_analyses(rt: HostRuntime) -> Result<(), Fail> {
-    let same = logs(
-        &rt,
-        rt.alloc(),
-        ANALYST.as_slice(),
-        ANALYSING_ENGINE.as_slice(),
-        ANALYSED,
-    )?;
-    assert!(rt; same);
-    Ok(())
+fn an_engine_plays_and_analyses(rt: HostRuntime) {
+    for row in ROWS {
+        expect_session(&rt, rt.alloc(), row);
+    }
 }

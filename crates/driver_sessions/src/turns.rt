@@ -6,7 +6,6 @@ use driver_talk::{
 };
 use peer_words::GoKind;
 use std::process::Abort;
-use std::test::Fail;
 
 const CLOCKS: GoClocks = GoClocks {
     wtime: 1000,
@@ -18,101 +17,143 @@ const CLOCKS: GoClocks = GoClocks {
     depth: 0,
 };
 
-/// From a1 to b1.
-fn some_move() -> Move {
-    Move {
-        from: Square { index: 0 },
-        to: Square { index: 1 },
-        promotion: None,
-    }
-}
+const A1B1: Move = Move {
+    from: Square { index: 0 },
+    to: Square { index: 1 },
+    promotion: None,
+};
 
-fn wanted(kind: GoKind) -> DriverCall {
-    DriverCall::Go(WantedSearch {
-        kind,
-        clocks: CLOCKS,
-        first: Some(some_move()),
-        reach: Reach::Analyse,
-    })
-}
+const TO_MOVE: WantedSearch = WantedSearch {
+    kind: GoKind::Move,
+    clocks: CLOCKS,
+    first: Some(A1B1),
+    reach: Reach::Analyse,
+};
 
-fn same(up: ToIface, down: ToEngine) -> DriverDeed {
-    DriverDeed {
-        up,
-        down,
-        board: BoardChange::Same,
-    }
-}
+const TO_PONDER: WantedSearch = WantedSearch {
+    kind: GoKind::Ponder,
+    ..TO_MOVE
+};
 
-fn expect_deed(rt: &impl Abort, found: DriverDeed, wanted: DriverDeed) {
-    assert!(rt; found == wanted);
-}
+/// A call, what goes up and to the engine, what becomes of the engine's game, and whether a `go` is
+/// accepted then.
+type Row = (DriverCall, ToIface, ToEngine, BoardChange, bool);
 
-fn expect_up(rt: &impl Abort, found: ToIface, wanted: ToIface) {
-    assert!(rt; found == wanted);
-}
+const PONDERED: [Row; 6] = [
+    (
+        DriverCall::Uci,
+        ToIface::Nothing,
+        ToEngine::Greeting,
+        BoardChange::Same,
+        true,
+    ),
+    (
+        DriverCall::Go(TO_PONDER),
+        ToIface::Nothing,
+        ToEngine::Analyse {
+            clocks: CLOCKS,
+            ping: None,
+        },
+        BoardChange::Same,
+        false,
+    ),
+    (
+        DriverCall::PonderHit,
+        ToIface::Nothing,
+        ToEngine::Leave { ping: 1 },
+        BoardChange::Same,
+        false,
+    ),
+    (
+        DriverCall::Moved(Some(A1B1)),
+        ToIface::Nothing,
+        ToEngine::Nothing,
+        BoardChange::Same,
+        false,
+    ),
+    (
+        DriverCall::Pong(1),
+        ToIface::Nothing,
+        ToEngine::Resume { clocks: CLOCKS },
+        BoardChange::Same,
+        false,
+    ),
+    (
+        DriverCall::Moved(Some(A1B1)),
+        ToIface::Best(Some(A1B1)),
+        ToEngine::Nothing,
+        BoardChange::Moved(A1B1),
+        true,
+    ),
+];
 
-fn expect_down(rt: &impl Abort, found: ToEngine, wanted: ToEngine) {
-    assert!(rt; found == wanted);
-}
-
-#[test]
-fn a_pondered_search_is_played(rt: HostRuntime) -> Result<(), Fail> {
-    let talk = DriverTalk::new();
-    let turn = talk.step(DriverCall::Uci);
-    expect_deed(&rt, turn.deed, same(ToIface::Nothing, ToEngine::Greeting));
-    assert!(rt; turn.talk.is_free());
-    let turn = turn.talk.step(wanted(GoKind::Ponder));
-    let clocks = CLOCKS;
-    expect_deed(
-        &rt,
-        turn.deed,
-        same(ToIface::Nothing, ToEngine::Analyse { clocks, ping: None }),
-    );
-    let turn = turn.talk.step(DriverCall::PonderHit);
-    expect_deed(
-        &rt,
-        turn.deed,
-        same(ToIface::Nothing, ToEngine::Leave { ping: 1 }),
-    );
-    let turn = turn.talk.step(DriverCall::Moved(Some(some_move())));
-    expect_deed(&rt, turn.deed, same(ToIface::Nothing, ToEngine::Nothing));
-    let turn = turn.talk.step(DriverCall::Pong(1));
-    expect_deed(
-        &rt,
-        turn.deed,
-        same(ToIface::Nothing, ToEngine::Resume { clocks }),
-    );
-    let turn = turn.talk.step(DriverCall::Moved(Some(some_move())));
-    expect_up(&rt, turn.deed.up, ToIface::Best(Some(some_move())));
-    assert!(rt; turn.talk.is_free());
-    Ok(())
-}
-
-#[test]
-fn a_resignation_holds_back_the_next_search(rt: HostRuntime) -> Result<(), Fail> {
-    let talk = DriverTalk::new().step(DriverCall::Uci).talk;
-    let turn = talk
-        .step(wanted(GoKind::Move))
-        .talk
-        .step(DriverCall::Resigned);
-    expect_up(&rt, turn.deed.up, ToIface::Best(None));
-    expect_down(&rt, turn.deed.down, ToEngine::Retreat { ping: 1 });
-    let turn = turn.talk.step(wanted(GoKind::Move));
-    expect_deed(&rt, turn.deed, same(ToIface::Nothing, ToEngine::Nothing));
-    let turn = turn
-        .talk
-        .step(DriverCall::Stop)
-        .talk
-        .step(DriverCall::Pong(1));
-    let clocks = CLOCKS;
-    expect_down(
-        &rt,
-        turn.deed.down,
+const RESIGNED: [Row; 6] = [
+    (
+        DriverCall::Uci,
+        ToIface::Nothing,
+        ToEngine::Greeting,
+        BoardChange::Same,
+        true,
+    ),
+    (
+        DriverCall::Go(TO_MOVE),
+        ToIface::Nothing,
         ToEngine::Play {
-            clocks,
+            clocks: CLOCKS,
+            hurried: false,
+        },
+        BoardChange::Same,
+        false,
+    ),
+    (
+        DriverCall::Resigned,
+        ToIface::Best(None),
+        ToEngine::Retreat { ping: 1 },
+        BoardChange::Lost,
+        true,
+    ),
+    (
+        DriverCall::Go(TO_MOVE),
+        ToIface::Nothing,
+        ToEngine::Nothing,
+        BoardChange::Same,
+        false,
+    ),
+    (
+        DriverCall::Stop,
+        ToIface::Nothing,
+        ToEngine::Nothing,
+        BoardChange::Same,
+        false,
+    ),
+    (
+        DriverCall::Pong(1),
+        ToIface::Nothing,
+        ToEngine::Play {
+            clocks: CLOCKS,
             hurried: true,
         },
-    );
-    Ok(())
+        BoardChange::Same,
+        false,
+    ),
+];
+
+fn expect_turns(rt: &impl Abort, name: &str, rows: &[Row]) {
+    let mut talk = DriverTalk::new();
+    for (k, row) in rows.iter().enumerate() {
+        let (call, up, down, board, is_free) = *row;
+        let turn = talk.step(call);
+        let is_wanted = turn.deed == DriverDeed { up, down, board };
+        assert!(rt;
+            is_wanted && turn.talk.is_free() == is_free,
+            "{name}: row {k}"
+        );
+        talk = turn.talk;
+    }
+}
+
+#[test]
+fn searches_are_answered(rt: HostRuntime) {
+    expect_turns(&rt, "a pondered search is played", &PONDERED);
+    expect_turns(&rt, "a resignation holds back the next search", &RESIGNED);
 }

@@ -1,10 +1,7 @@
 // A writer that is let go when it is told so, alone and as the input of an engine.
-ghost use Rattle.std.specs.Prelude.{◌<◌, length, IfOk};
-
-use crate::expected::{expect_bytes, expect_number, expect_same};
-use child_engine::{Closing, Host, HostFault, LetGo, RealHost};
-use line_io::{NoMemory, Sink, Source};
-use std::alloc::Global;
+use crate::hosts::words_of;
+use child_engine::{Closing, Host, LetGo, RealHost};
+use line_io::{Sink, Source};
 use std::process::ChildStdin;
 use std::{fs, process};
 
@@ -12,95 +9,64 @@ use std::{fs, process};
 fn a_writer_is_let_go(rt: HostRuntime) {
     let bytes: Vec<u8> = Vec::new(rt.alloc());
     let mut sink = Closing::new(bytes);
-    expect_same(&rt, sink.write(b"uci\n").is_ok(), true);
-    expect_same(&rt, sink.is_open(), true);
+    assert!(rt; sink.write(b"uci\n").is_ok() && sink.is_open());
     sink.let_go();
-    expect_same(&rt, sink.is_open(), false);
-    expect_same(&rt, sink.write(b"quit\n").is_err(), true);
-    expect_number(&rt, sink.faults(), 1);
-}
-
-#[test]
-fn a_sink_over_no_writer_takes_nothing(rt: HostRuntime) {
+    assert!(rt; !sink.is_open() && sink.write(b"quit\n").is_err());
+    assert!(rt; sink.faults() == 1);
+    // a sink over no writer takes nothing
     let mut sink: Closing<Vec<u8>> = Closing::shut();
-    expect_same(&rt, sink.is_open(), false);
-    expect_same(&rt, sink.write(b"uci\n").is_err(), true);
-    expect_number(&rt, sink.faults(), 1);
+    assert!(rt; !sink.is_open() && sink.write(b"uci\n").is_err());
+    assert!(rt; sink.faults() == 1);
 }
 
-fn cat(alloc: Global) -> Result<Vec<String>, NoMemory>
-    ensures { IfOk result (λ words. 0 < length words.items) }
-{
-    let mut words: Vec<String> = Vec::new(alloc);
-    words.push(String::from_str(alloc, "cat")?)?;
-    Ok(words)
-}
+/// What is written to a program, and what it says then.
+type Turn = (&'static [u8], &'static [u8]);
 
-fn printf(alloc: Global) -> Result<Vec<String>, NoMemory>
-    ensures { IfOk result (λ words. 0 < length words.items) }
-{
-    let mut words: Vec<String> = Vec::new(alloc);
-    words.push(String::from_str(alloc, "printf")?)?;
-    words.push(String::from_str(alloc, "%s.%s")?)?;
-    words.push(String::from_str(alloc, "uci")?)?;
-    words.push(String::from_str(alloc, "two words")?)?;
-    Ok(words)
-}
+/// The words of a program, and its turns until its input is let go and it ends.
+const RUNS: [(&[&str], &[Turn]); 2] = [
+    // it gives its input back, behind `quit` too
+    (&["cat"], &[(b"quit\n", b"quit\n"), (b"stop\n", b"stop\n")]),
+    // it writes the arguments behind its first one
+    (
+        &["printf", "%s.%s", "uci", "two words"],
+        &[(b"", b"uci.two words")],
+    ),
+];
 
-// `cat` gives its input back, behind `quit` too, and ends once the input is let go.
 #[test]
-fn an_engine_reads_on_behind_quit(rt: HostRuntime) -> Result<(), HostFault> {
-    let mut host = RealHost::<_, Closing<ChildStdin>>::new(&rt, true);
-    let words = cat(rt.alloc())?;
-    let mut run = host.start(rt.alloc(), words.as_slice())?;
-    let mut buf = [0; 8];
-    for piece in [b"quit\n", b"stop\n"] {
-        expect_same(&rt, run.sink.write(piece) == Ok(5), true);
-        expect_same(&rt, run.source.read(&mut buf) == Ok(5), true);
+fn an_engine_gets_its_words_and_reads_on(rt: HostRuntime) {
+    for (words, turns) in RUNS {
+        let mut host = RealHost::<_, Closing<ChildStdin>>::new(&rt, true);
+        let words = words_of(&rt, rt.alloc(), words);
+        let mut run = host
+            .start(rt.alloc(), words.as_slice())
+            .expect(&rt, "an engine");
+        let mut buf = [0; 20];
+        for (piece, said) in turns {
+            assert!(rt; piece.is_empty() || run.sink.write(piece) == Ok(piece.len()));
+            assert!(rt; run.source.read(&mut buf) == Ok(said.len()));
+            assert!(rt; buf.starts_with(said));
+        }
+        run.sink.let_go();
+        assert!(rt; run.source.read(&mut buf) == Ok(0));
+        assert!(rt; host.close(run).is_ok());
     }
-    run.sink.let_go();
-    expect_same(&rt, run.source.read(&mut buf) == Ok(0), true);
-    expect_same(&rt, host.close(run).is_ok(), true);
-    Ok(())
-}
-
-// `printf` writes the arguments behind its first one.
-#[test]
-fn an_engine_gets_its_words(rt: HostRuntime) -> Result<(), HostFault> {
-    let mut host = RealHost::<_, Closing<ChildStdin>>::new(&rt, true);
-    let words = printf(rt.alloc())?;
-    let mut run = host.start(rt.alloc(), words.as_slice())?;
-    let mut buf = [0; 20];
-    expect_same(&rt, run.source.read(&mut buf) == Ok(13), true);
-    expect_bytes(&rt, &buf[..13], b"uci.two words");
-    expect_same(&rt, host.close(run).is_ok(), true);
-    Ok(())
-}
-
-// What a file of this name has, which is removed then.
-fn taken_away(rt: &HostRuntime, name: &str) -> Option<Vec<u8>> {
-    let bytes = fs::read(rt, name).ok()?;
-    fs::remove_file(rt, name).ok()?;
-    Some(bytes)
 }
 
 // The second log of a name has nothing of the first.
 #[test]
-fn a_log_is_made_anew(rt: HostRuntime) -> Result<(), HostFault> {
-    let mut host = RealHost::<_, Closing<ChildStdin>>::new(&rt, true);
+fn a_log_is_made_anew(rt: HostRuntime) {
     let number = process::id(rt.process());
-    let Ok(name) = format!(in rt.alloc(); "/tmp/log-of-edge_tests-{number}") else {
-        return Err(HostFault::NoMemory);
-    };
-    let mut log = host.open_log(rt.alloc(), name.as_str())?;
-    expect_same(&rt, log.write(b"x a first log\n") == Ok(14), true);
-    host.close_log(log);
-    let mut log = host.open_log(rt.alloc(), name.as_str())?;
-    expect_same(&rt, log.write(b"u one\n") == Ok(6), true);
-    host.close_log(log);
-    match taken_away(&rt, name.as_str()) {
-        Some(bytes) => expect_bytes(&rt, bytes.as_slice(), b"u one\n"),
-        None => expect_same(&rt, true, false),
+    let name = format!(in rt.alloc(); "/tmp/log-of-edge_tests-{number}").expect(&rt, "a name");
+    for line in [b"x a first log\n".as_slice(), b"u one\n"] {
+        let mut host = RealHost::<_, Closing<ChildStdin>>::new(&rt, true);
+        let mut log = host
+            .open_log(rt.alloc(), name.as_str())
+            .expect(&rt, "a log");
+        assert!(rt; log.write(line) == Ok(line.len()));
+        host.close_log(log);
     }
-    Ok(())
+    let bytes = fs::read(&rt, name.as_str()).ok();
+    assert!(rt; fs::remove_file(&rt, name.as_str()).is_ok());
+    assert!(rt; bytes.expect(&rt, "the log").as_slice() == b"u one\n".as_slice());
 }

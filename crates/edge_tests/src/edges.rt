@@ -1,17 +1,14 @@
-use crate::expected::expect_bytes;
+// The words behind a program's name.
 use program_edges::{WORD_ROOM, WORDS_ROOM, words_of};
-use std::alloc::Global;
 use std::env::{Env, FillError};
-use std::process::Abort;
-use std::test::Fail;
 
 // A program that was called with these words.
 #[derive(Drop)]
-struct Called<'a> {
-    words: &'a [&'a [u8]],
+struct Called {
+    words: &'static [&'static [u8]],
 }
 
-impl Env for Called<'_> {
+impl Env for Called {
     fn arg(&self, i: usize, buf: &mut [u8]) -> Result<usize, FillError> {
         let Some(word) = self.words.get(i) else {
             return Err(FillError::NotPresent);
@@ -32,44 +29,29 @@ impl Env for Called<'_> {
     }
 }
 
-fn expect_count(rt: &impl Abort, found: Option<usize>, want: Option<usize>) {
-    assert_eq!(rt; found, want);
-}
-
-fn expect_words(rt: &impl Abort, found: &[Vec<u8>], want: &[&[u8]]) {
-    expect_count(rt, Some(found.len()), Some(want.len()));
-    for (word, wanted) in found.iter().zip(want) {
-        expect_bytes(rt, word.as_slice(), wanted);
-    }
-}
-
-#[test]
-fn words_of_any_bytes_and_length(rt: HostRuntime) -> Result<(), Fail> {
-    let long = [b'a'; 300];
-    let called = Called {
-        words: &[b"program", b"\xff", b"", long.as_slice()],
-    };
-    let words = words_of(&called, rt.alloc(), WORDS_ROOM)?;
-    expect_words(&rt, words.as_slice(), &[b"\xff", b"", long.as_slice()]);
-    Ok(())
-}
-
-/// How many words there are, if they fit into the room.
-fn count_within(alloc: Global, called: &Called<'_>, room: usize) -> Option<usize> {
-    match words_of(called, alloc, room) {
-        Ok(words) => Some(words.len()),
-        Err(_) => None,
-    }
-}
+/// What a program is called with, the room for its words, and whether they fit into it.
+type Row = (&'static [&'static [u8]], usize, bool);
 
 // Two words of together 5 bytes take the room of two words, and 5 bytes.
+const ROOM: usize = WORD_ROOM + WORD_ROOM + 5;
+
+const ROWS: [Row; 4] = [
+    (&[b"program", b"\xff", b"", &[b'a'; 300]], WORDS_ROOM, true),
+    (&[b"program", b"abc", b"de"], ROOM, true),
+    (&[b"program", b"abc", b"de"], ROOM - 1, false),
+    (&[b"program", b"abc", b"de"], 0, false),
+];
+
 #[test]
-fn words_within_their_room(rt: HostRuntime) {
-    let called = Called {
-        words: &[b"program", b"abc", b"de"],
-    };
-    let room = WORD_ROOM + WORD_ROOM + 5;
-    expect_count(&rt, count_within(rt.alloc(), &called, room), Some(2));
-    expect_count(&rt, count_within(rt.alloc(), &called, room - 1), None);
-    expect_count(&rt, count_within(rt.alloc(), &called, 0), None);
+fn words_of_any_bytes_and_length_have_room(rt: HostRuntime) {
+    for (words, room, fit) in ROWS {
+        let Ok(found) = words_of(&Called { words }, rt.alloc(), room) else {
+            assert!(rt; !fit, "{room}");
+            continue;
+        };
+        assert!(rt; fit && found.len() == words.len() - 1, "{room}");
+        for (word, want) in found.iter().zip(words.iter().skip(1)) {
+            assert!(rt; word.as_slice() == *want, "{room}");
+        }
+    }
 }

@@ -1,131 +1,132 @@
-// Endings and what is reported of them.
-ghost use Rattle.std.specs.Prelude.{◌<◌, length, IfOk};
+// Hosts in memory, endings and what is reported of them, and threads.
+ghost use Rattle.std.specs.Prelude.{◌≡◌, ◌<◌, [], length};
+ghost use Rattle.child_engine.specs.Memory.{books_of};
+ghost use Rattle.child_engine.specs.Hosts.{IsUnused};
 
-use crate::expected::{expect_bytes, expect_code, expect_same};
 use child_engine::{Fails, Host, HostFault, MemHost};
-use event_pipe::ReadEnd;
+use event_pipe::{ReadEnd, join_three};
 use host_run::{
     Failures, Opened, ProgramEnding, TriedThreads, close_log, either, has_failed,
     has_lacked_memory, is_open_failure, is_open_memory, only_memory, only_start, open_log, tell,
 };
-use line_io::{MemSink, NoMemory, ReadFault, Sink};
+use line_io::{Failed, MemSink, ReadFault, Sink};
 use program_words::WordsRefusal;
 use std::alloc::Global;
 use std::process::Abort;
-use std::test::Fail;
+
+/// These words, as a host gets them.
+pub fn words_of(rt: &impl Abort, alloc: Global, texts: &[&str]) -> Vec<String>
+    ensures { 0 < length result.items }
+{
+    let mut words: Vec<String> = Vec::new(alloc);
+    for text in texts {
+        let word = String::from_str(alloc, text).expect(rt, "a word");
+        words.push(word).expect(rt, "room for a word");
+    }
+    assert!(rt; !words.is_empty());
+    words
+}
+
+fn are_texts(words: &[String], texts: &[&str]) -> bool {
+    for (word, text) in words.iter().zip(texts) {
+        if word.as_str() != *text {
+            return false;
+        }
+    }
+    words.len() == texts.len()
+}
+
+// Starts an engine with these words, and takes it back.
+fn start_once(
+    host: &mut MemHost,
+    alloc: Global,
+    words: &[String],
+) -> Result<Result<(), Failed>, HostFault>
+    requires words { 0 < length words.now }
+    requires unused { IsUnused (books_of host.old) }
+    ensures logs { (books_of host.new).logs ≡ [] }
+    ensures logs_out { (books_of host.new).logs_out ≡ 0 }
+{
+    let run = host.start(alloc, words)?;
+    Ok(host.close(run))
+}
+
+const WORDS: [&str; 2] = ["toy", "two words"];
+
+/// Whether a host in memory refuses what it is asked for, and what comes of a start.
+const ASKED: [(bool, Result<Result<(), Failed>, HostFault>); 2] = [
+    (false, Ok(Ok(()))),
+    (true, Err(HostFault::Failed)),
+];
+
+// The host keeps what it was asked for, also in vain.
+#[test]
+fn a_host_keeps_what_it_was_asked_for(rt: HostRuntime) {
+    let alloc = rt.alloc();
+    for (refuses, started) in ASKED {
+        let fails = Fails {
+            start: refuses,
+            log: refuses,
+            ..Fails::default()
+        };
+        let mut host = MemHost::make(alloc, b"uciok\n", 100, 100, &fails).expect(&rt, "a host");
+        let words = words_of(&rt, alloc, &WORDS);
+        assert!(rt; start_once(&mut host, alloc, words.as_slice()) == started);
+        let Opened { log, fault } = open_log(&mut host, alloc, "a.log");
+        assert!(rt; is_open_failure(fault) == refuses && !is_open_memory(fault));
+        match log {
+            Some(mut log) => {
+                assert!(rt; !refuses && log.write(b"U uci\n").is_ok());
+                close_log(&mut host, Some(log));
+            }
+            None => assert!(rt; refuses),
+        }
+        assert!(rt; are_texts(host.log_names(), &["a.log"]) && host.engines().len() == 1);
+        for words in host.engines() {
+            assert!(rt; are_texts(words.as_slice(), &WORDS));
+        }
+    }
+}
 
 #[test]
-fn the_first_failure_is_reported(rt: HostRuntime) -> Result<(), Fail> {
-    let mut diag = MemSink::make(rt.alloc(), 100, &[])?;
+fn the_first_failure_is_reported(rt: HostRuntime) {
     let failures = Failures {
         engine_write: true,
         log: true,
         ..Failures::default()
     };
-    let ending = ProgramEnding::of(failures);
-    expect_code(&rt, ending.code(), 7);
-    tell(b"driver", ending, &mut diag);
+    let mut diag = MemSink::make(rt.alloc(), 100, &[]).expect(&rt, "a diagnostic");
+    tell(b"driver", ProgramEnding::of(failures), &mut diag);
     tell(b"driver", ProgramEnding::of(Failures::default()), &mut diag);
-    expect_bytes(&rt, diag.taken(), b"driver: engine writing failed\n");
-    expect_code(&rt, ProgramEnding::of(only_memory()).code(), 3);
-    expect_code(&rt, ProgramEnding::of(only_start()).code(), 8);
-    expect_same(&rt, either(false, true), true);
-    expect_same(&rt, either(false, false), false);
-    Ok(())
-}
-
-#[test]
-fn a_refusal_is_reported(rt: HostRuntime) {
-    expect_code(&rt, ProgramEnding::from(WordsRefusal::Usage).code(), 2);
-    expect_code(&rt, ProgramEnding::from(WordsRefusal::NoMemory).code(), 3);
-}
-
-#[test]
-fn a_log_is_opened_and_closed(rt: HostRuntime) -> Result<(), Fail> {
-    let alloc = rt.alloc();
-    let mut host = MemHost::make(alloc, b"uciok\n", 100, 100, &Fails::default())?;
-    let Opened { log, fault } = open_log(&mut host, alloc, "a.log");
-    expect_same(&rt, is_open_failure(fault), false);
-    expect_same(&rt, is_open_memory(fault), false);
-    let mut log = log.expect(&rt, "a log");
-    expect_same(&rt, log.write(b"U uci\n").is_ok(), true);
-    close_log(&mut host, Some(log));
-    Ok(())
-}
-
-fn toy(alloc: Global) -> Result<Vec<String>, NoMemory>
-    ensures { IfOk result (λ words. 0 < length words.items) }
-{
-    let mut words: Vec<String> = Vec::new(alloc);
-    words.push(String::from_str(alloc, "toy")?)?;
-    words.push(String::from_str(alloc, "two words")?)?;
-    Ok(words)
-}
-
-fn expect_texts(rt: &impl Abort, words: &[String], texts: &[&str]) {
-    expect_same(rt, words.len() == texts.len(), true);
-    for (word, text) in words.iter().zip(texts) {
-        expect_bytes(rt, word.as_bytes(), text.as_bytes());
+    assert!(rt; diag.taken() == b"driver: engine writing failed\n".as_slice());
+    let endings = [
+        (ProgramEnding::of(failures), 7),
+        (ProgramEnding::of(only_memory()), 3),
+        (ProgramEnding::of(only_start()), 8),
+        (ProgramEnding::from(WordsRefusal::Usage), 2),
+        (ProgramEnding::from(WordsRefusal::NoMemory), 3),
+    ];
+    for (ending, code) in endings {
+        assert!(rt; ending.code() == code, "{code}");
+    }
+    assert!(rt; either(false, true) && !either(false, false));
+    // readers end in three ways
+    let ends = [
+        (ReadEnd::Fault(ReadFault), true, false),
+        (ReadEnd::NoMemory, false, true),
+        (ReadEnd::Done, false, false),
+    ];
+    for (end, failed, lacked_memory) in ends {
+        assert!(rt; has_failed(end) == failed && has_lacked_memory(end) == lacked_memory);
     }
 }
 
-// One log of this name was asked for, and one engine with two words.
-fn expect_asked(rt: &impl Abort, host: &MemHost) {
-    expect_texts(rt, host.log_names(), &["a.log"]);
-    expect_same(rt, host.engines().len() == 1, true);
-    for words in host.engines() {
-        expect_texts(rt, words.as_slice(), &["toy", "two words"]);
-    }
-}
-
+// Threads are tried; each of the three is called once, and its answer stands in its place.
 #[test]
-fn a_host_keeps_what_it_was_asked_for(rt: HostRuntime) -> Result<(), HostFault> {
-    let alloc = rt.alloc();
-    let mut host = MemHost::make(alloc, b"uciok\n", 100, 100, &Fails::default())?;
-    let words = toy(alloc)?;
-    let run = host.start(alloc, words.as_slice())?;
-    expect_same(&rt, host.close(run).is_ok(), true);
-    let log = host.open_log(alloc, "a.log")?;
-    host.close_log(log);
-    expect_asked(&rt, &host);
-    Ok(())
-}
-
-#[test]
-fn a_host_keeps_what_it_was_asked_for_in_vain(rt: HostRuntime) -> Result<(), HostFault> {
-    let alloc = rt.alloc();
-    let fails = Fails {
-        start: true,
-        log: true,
-        ..Fails::default()
-    };
-    let mut host = MemHost::make(alloc, b"uciok\n", 100, 100, &fails)?;
-    let words = toy(alloc)?;
-    match host.start(alloc, words.as_slice()) {
-        Ok(run) => expect_same(&rt, host.close(run).is_ok(), false),
-        Err(fault) => expect_same(&rt, fault == HostFault::Failed, true),
-    }
-    expect_same(&rt, host.open_log(alloc, "a.log").is_err(), true);
-    expect_asked(&rt, &host);
-    Ok(())
-}
-
-#[test]
-fn threads_are_tried(rt: HostRuntime) -> Result<(), Fail> {
+fn three_are_called_side_by_side(rt: HostRuntime) {
     let threads = TriedThreads::ask(&rt);
     assert!(rt; threads.were_given());
     threads.join(&rt);
-    Ok(())
-}
-
-fn expect_end(rt: &impl Abort, end: ReadEnd, failed: bool, lacked_memory: bool) {
-    expect_same(rt, has_failed(end), failed);
-    expect_same(rt, has_lacked_memory(end), lacked_memory);
-}
-
-#[test]
-fn readers_end_in_three_ways(rt: HostRuntime) {
-    expect_end(&rt, ReadEnd::Fault(ReadFault), true, false);
-    expect_end(&rt, ReadEnd::NoMemory, false, true);
-    expect_end(&rt, ReadEnd::Done, false, false);
+    let answers = join_three(&rt, &mut || 1u8, &mut || 2u8, &mut || 3u8);
+    assert!(rt; answers == (1, 2, 3));
 }

@@ -6,14 +6,14 @@ mod closing;
 #[cfg(test)]
 mod edges;
 #[cfg(test)]
-mod expected;
-#[cfg(test)]
 mod hosts;
 #[cfg(test)]
 mod lines;
 #[cfg(test)]
-mod offers;
-#[cfg(test)]
 mod pipe;
 #[cfg(test)]
 mod scripted;
+#[cfg(test)]
+mod sinks;
+#[cfg(test)]
+mod takers;

@@ -1,6 +1,7 @@
 // A host in memory whose engine waits for the log.
 ghost use Rattle.std.specs.Prelude.{◌≡◌};
 
+use crate::missed::write_missed;
 use crate::{PacedLog, PacedSource};
 use child_engine::{Host, HostFault, MemHost, Started};
 use line_io::{Failed, MemSink};
@@ -20,12 +21,21 @@ fn are_texts(words: &[String], texts: &[&str]) -> bool {
     true
 }
 
-/// A host in memory, whose engines' reads wait for the log, and what the logs took that were closed.
+// Adds the line that says which count of lines the log never took.
+fn add_missed(logged: &mut Vec<u8>, wanted: u64) {
+    let mut line = [0; 64];
+    let count = write_missed(&mut line, wanted);
+    let _ = logged.extend_from_slice(&line[..count]);
+}
+
+/// A host in memory, whose engines' reads wait for the log, and what the engines and the logs took
+/// that were closed.
 #[derive(Drop)]
 pub struct PacedHost<'a> {
     pub host: MemHost,
     lines: &'a AtomicU64,
     dues: &'static [u64],
+    wrote: Vec<u8>,
     logged: Vec<u8>,
 }
 
@@ -43,11 +53,18 @@ impl<'a> PacedHost<'a> {
             host,
             lines,
             dues,
+            wrote: Vec::new(alloc),
             logged: Vec::new(alloc),
         }
     }
 
-    /// What the logs took that were closed.
+    /// What the engines took that were closed.
+    pub fn wrote(&self) -> &[u8] {
+        self.wrote.as_slice()
+    }
+
+    /// What the logs took that were closed, and a line for each run whose engine waited for the log
+    /// in vain.
     pub fn logged(&self) -> &[u8] {
         self.logged.as_slice()
     }
@@ -118,6 +135,10 @@ impl<'a> Host for PacedHost<'a> {
             sink,
             process: (),
         } = run;
+        if let Some(wanted) = source.missed() {
+            add_missed(&mut self.logged, wanted);
+        }
+        let _ = self.wrote.extend_from_slice(sink.taken());
         self.host.close(Started {
             source: source.source,
             sink,

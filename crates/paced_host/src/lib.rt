@@ -1,9 +1,10 @@
 //! For tests: a host in memory whose sources wait for what its log took, so that a run over it has
-//! one log.
+//! one log. A run in which one waits in vain has another log: a line of it says what did not come.
 #![tactic(auto)]
 
 mod host;
 mod log;
+mod missed;
 mod source;
 
 pub use host::PacedHost;

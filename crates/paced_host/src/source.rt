@@ -1,26 +1,19 @@
 // Sources that wait for the log.
 ghost use Rattle.std.specs.Prelude.{◌≡◌};
 
+use crate::missed::{has_come, write_missed};
 use line_io::{Failed, MemSource, Source};
-use std::sync::atomic::{AtomicU64, Ordering};
-
-// Waits until the log took so many lines, or for very long.
-fn wait_for(lines: &AtomicU64, wanted: u64) {
-    for _ in 0..1_000_000_000_u64 {
-        if lines.load(Ordering::SeqCst) >= wanted {
-            return;
-        }
-    }
-}
+use std::sync::atomic::AtomicU64;
 
 /// Bytes in memory, given in pieces. The k-th read waits until the log took the k-th number of
-/// lines; a read behind the last number does not wait.
+/// lines; a read behind the last number does not wait, nor does any behind a wait in vain.
 #[derive(Drop)]
 pub struct PacedSource<'a> {
     pub source: MemSource,
     lines: &'a AtomicU64,
     dues: &'static [u64],
     calls: usize,
+    missed: Option<u64>,
 }
 
 impl<'a> PacedSource<'a> {
@@ -32,7 +25,13 @@ impl<'a> PacedSource<'a> {
             lines,
             dues,
             calls: 0,
+            missed: None,
         }
+    }
+
+    /// The count of lines that was waited for in vain.
+    pub fn missed(&self) -> Option<u64> {
+        self.missed
     }
 }
 
@@ -42,8 +41,11 @@ impl<'a> Source for PacedSource<'a> {
     ghost state = { λ s. shown_by_source s.source };
 
     fn read(&mut self, buf: &mut [u8]) -> Result<usize, Failed> {
-        if let Some(due) = self.dues.get(self.calls) {
-            wait_for(self.lines, *due);
+        if self.missed.is_none() {
+            self.missed = match self.dues.get(self.calls) {
+                Some(due) if !has_come(self.lines, *due) => Some(*due),
+                _ => None,
+            };
         }
         self.calls = self.calls.saturating_add(1);
         self.source.read(buf)
@@ -57,7 +59,8 @@ pub struct DueText {
     pub text: &'static [u8],
 }
 
-/// Texts that are given in turn, and then the end. It reports no bytes.
+/// Texts that are given in turn, and then the end. In place of a text that is due in vain comes a
+/// line that says so, and then the end. It reports no bytes.
 #[derive(Drop)]
 pub struct PacedTexts<'a> {
     lines: &'a AtomicU64,
@@ -84,7 +87,10 @@ impl<'a> Source for PacedTexts<'a> {
         let Some(due) = self.texts.get(self.at) else {
             return Ok(0);
         };
-        wait_for(self.lines, due.lines);
+        if !has_come(self.lines, due.lines) {
+            self.at = self.texts.len();
+            return Ok(write_missed(buf, due.lines));
+        }
         self.at += 1;
         let count = due.text.len().min(buf.len());
         buf[..count].copy_from_slice(&due.text[..count]);

@@ -1,4 +1,5 @@
 // The calls that no worked session makes.
+use crate::expected::{expect_bytes, expect_true};
 use engine_revival::{
     EVENT_ROOM, Revival, RevivalOrder, RevivalStep, lines_up_are_waited_for, lives_are_in_order,
     living_engines_are_heard, no_life_idles, put_marks, read_order, searches_are_given,
@@ -6,59 +7,58 @@ use engine_revival::{
 };
 use line_io::{Event, Out};
 use peer_words::GoKind;
-use std::test::Fail;
+use std::alloc::Global;
+use std::process::Abort;
+
+fn is_ponder(line: &[u8]) -> bool {
+    matches!(
+        read_order(line),
+        Some(RevivalOrder::Go {
+            kind: GoKind::Ponder,
+            line: _
+        })
+    )
+}
+
+fn is_button(line: &[u8]) -> bool {
+    matches!(
+        read_order(line),
+        Some(RevivalOrder::Button { name: _, line: _ })
+    )
+}
+
+// The marks of an event, and an event that is played.
+fn expect_marks(rt: &impl Abort, alloc: Global) {
+    let mut text = Out::make(alloc, EVENT_ROOM).expect(rt, "memory for the marks");
+    let both = RevivalStep {
+        up: b"uciok\n",
+        child: b"isready\n",
+    };
+    put_marks(&Event::Engine(b"uciok"), both, &mut text);
+    let marks = b"u uciok\nX uciok\nU isready\n".as_slice();
+    expect_bytes(rt, "marks", text.bytes(), marks);
+}
+
+fn expect_played(rt: &impl Abort, alloc: Global) {
+    let mut revival = Revival::make(alloc, 1).expect(rt, "memory for the revival");
+    let mut text = Out::make(alloc, EVENT_ROOM).expect(rt, "memory for the marks");
+    let event = Event::EngineLong;
+    expect_true(rt, "may happen", revival.may_happen(&event));
+    revival.play(&event, &mut text);
+    expect_bytes(rt, "an event", text.bytes(), b"u!\n");
+}
 
 #[test]
-fn laws_can_be_called(_rt: HostRuntime) -> Result<(), Fail> {
+fn calls_that_no_session_makes(rt: HostRuntime) {
     lives_are_in_order();
     lines_up_are_waited_for();
     living_engines_are_heard();
     no_life_idles();
     searches_are_given();
     talk_is_lawful();
-    Ok(())
-}
-
-#[test]
-fn an_order_in_any_spelling(rt: HostRuntime) -> Result<(), Fail> {
-    assert!(rt;
-        matches!(
-            read_order(b"go depth 3 ponder"),
-            Some(RevivalOrder::Go {
-                kind: GoKind::Ponder,
-                line: _
-            })
-        )
-    );
-    assert!(rt;
-        matches!(
-            read_order(b"setoption name  Clear Hash"),
-            Some(RevivalOrder::Button { name: _, line: _ })
-        )
-    );
-    assert!(rt; read_order(b"setoption name").is_none());
-    Ok(())
-}
-
-#[test]
-fn marks_of_an_event(rt: HostRuntime) -> Result<(), Fail> {
-    let mut text = Out::make(rt.alloc(), EVENT_ROOM)?;
-    let both = RevivalStep {
-        up: b"uciok\n",
-        child: b"isready\n",
-    };
-    put_marks(&Event::Engine(b"uciok"), both, &mut text);
-    assert_eq!(rt; text.bytes(), b"u uciok\nX uciok\nU isready\n".as_slice());
-    Ok(())
-}
-
-#[test]
-fn an_event_is_played(rt: HostRuntime) -> Result<(), Fail> {
-    let mut revival = Revival::make(rt.alloc(), 1)?;
-    let mut text = Out::make(rt.alloc(), EVENT_ROOM)?;
-    let event = Event::EngineLong;
-    assert!(rt; revival.may_happen(&event));
-    revival.play(&event, &mut text);
-    assert_eq!(rt; text.bytes(), b"u!\n".as_slice());
-    Ok(())
+    expect_true(&rt, "ponder", is_ponder(b"go depth 3 ponder"));
+    expect_true(&rt, "button", is_button(b"setoption name  Clear Hash"));
+    expect_true(&rt, "no name", read_order(b"setoption name").is_none());
+    expect_marks(&rt, rt.alloc());
+    expect_played(&rt, rt.alloc());
 }

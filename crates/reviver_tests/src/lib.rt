@@ -6,7 +6,7 @@ mod calls;
 #[cfg(test)]
 mod dying_host;
 #[cfg(test)]
-mod exact_log;
+mod expected;
 #[cfg(test)]
 mod lives;
 #[cfg(test)]

@@ -6,7 +6,6 @@ ghost use Rattle.line_io.specs.declared.limits.TheConstants.{PEER_LINE};
 use engine_revival::{MOST_LINE, Revival, RevivalStep};
 use std::alloc::Global;
 use std::process::Abort;
-use std::test::Fail;
 
 /// What comes, the lines up, and the lines to the engine. An order comes behind `x`, a line of the
 /// engine behind `u`; at `u!` the life ends and another one begins, and at `u.` it ends and none
@@ -58,23 +57,21 @@ fn answer<'a>(revival: &'a mut Revival, comes: &[u8]) -> Option<RevivalStep<'a>>
     }
 }
 
-fn expect_lines(rt: &impl Abort, name: &str, k: usize, found: Option<RevivalStep>, row: Row) {
-    let found = found.map(|both| (both.up, both.child));
-    let wanted = Some((row.1.as_bytes(), row.2.as_bytes()));
-    assert_eq!(rt; found, wanted, "{name}: row {k}");
-}
-
-fn expect_room(rt: &impl Abort, name: &str, revival: &Revival) {
-    assert!(rt; !revival.full(), "{name}");
-}
-
-fn play(rt: &impl Abort, alloc: Global, name: &str, lives: u32, rows: &[Row]) -> Result<(), Fail> {
-    let mut revival = Revival::make(alloc, lives)?;
-    for (k, row) in rows.iter().enumerate() {
-        expect_lines(rt, name, k, answer(&mut revival, row.0.as_bytes()), *row);
+// Whether what comes gives these lines up, and these to the engine.
+fn gives(revival: &mut Revival, row: &Row) -> bool {
+    let (comes, up, child) = *row;
+    match answer(revival, comes.as_bytes()) {
+        Some(both) => both.up == up.as_bytes() && both.child == child.as_bytes(),
+        None => false,
     }
-    expect_room(rt, name, &revival);
-    Ok(())
+}
+
+fn play(rt: &impl Abort, alloc: Global, name: &str, lives: u32, rows: &[Row]) {
+    let mut revival = Revival::make(alloc, lives).expect(rt, "memory for the revival");
+    for (k, row) in rows.iter().enumerate() {
+        assert!(rt; gives(&mut revival, row), "{name}: row {k}");
+    }
+    assert!(rt; !revival.full(), "{name}: it is full");
 }
 
 const SECOND_LIFE: [Row; 11] = [
@@ -101,26 +98,50 @@ const NO_LIFE: [Row; 3] = [
     ("x isready", "readyok\n", ""),
 ];
 
-/// A `position` and a `go` as interfaces spell them, with white space at their ends.
-const SEARCHES: [(&str, &str); 9] = [
+/// A `position` and a `go` as interfaces spell them, with white space at their ends, and both
+/// without it.
+const SEARCHES: [(&str, &str, &str); 9] = [
     (
-        "position startpos moves e2e4 e7e5",
-        "go wtime 60000 winc 1000 btime 59000 binc 1000",
-    ),
-    ("position startpos", "go btime 0 wtime 0"),
-    ("position startpos", "go depth 3"),
-    ("position startpos moves d2d4", "go nodes 1000"),
-    ("position startpos", "go"),
-    (" position startpos ", "go \tmovetime  100\r"),
-    (
-        "position fen rnbqkbnr/pppppppp/8/8/4P3/8/PPPP1PPP/RNBQKBNR b KQkq e3 0 1",
-        "go movetime 100",
+        "x position startpos moves e2e4 e7e5",
+        "x go wtime 60000 winc 1000 btime 59000 binc 1000",
+        "position startpos moves e2e4 e7e5\ngo wtime 60000 winc 1000 btime 59000 binc 1000\n",
     ),
     (
-        "position   fen  4k3/8/8/8/8/8/4P3/4K3 w - - moves",
-        "go wtime 60000 btime 60000",
+        "x position startpos",
+        "x go btime 0 wtime 0",
+        "position startpos\ngo btime 0 wtime 0\n",
     ),
-    ("position startpos moves e2e5", "go infinite"),
+    (
+        "x position startpos",
+        "x go depth 3",
+        "position startpos\ngo depth 3\n",
+    ),
+    (
+        "x position startpos moves d2d4",
+        "x go nodes 1000",
+        "position startpos moves d2d4\ngo nodes 1000\n",
+    ),
+    ("x position startpos", "x go", "position startpos\ngo\n"),
+    (
+        "x  position startpos ",
+        "x go \tmovetime  100\r",
+        "position startpos\ngo \tmovetime  100\n",
+    ),
+    (
+        "x position fen rnbqkbnr/pppppppp/8/8/4P3/8/PPPP1PPP/RNBQKBNR b KQkq e3 0 1",
+        "x go movetime 100",
+        "position fen rnbqkbnr/pppppppp/8/8/4P3/8/PPPP1PPP/RNBQKBNR b KQkq e3 0 1\ngo movetime 100\n",
+    ),
+    (
+        "x position   fen  4k3/8/8/8/8/8/4P3/4K3 w - - moves",
+        "x go wtime 60000 btime 60000",
+        "position   fen  4k3/8/8/8/8/8/4P3/4K3 w - - moves\ngo wtime 60000 btime 60000\n",
+    ),
+    (
+        "x position startpos moves e2e5",
+        "x go infinite",
+        "position startpos moves e2e5\ngo infinite\n",
+    ),
 ];
 
 const ONE_NAME: [Row; 11] = [
@@ -155,38 +176,35 @@ const NO_ORDERS: [Row; 11] = [
     ("x quit  now", "", "quit\n"),
 ];
 
-fn expect(rt: &impl Abort, name: &str, found: Option<RevivalStep>, up: &[u8], child: &[u8]) {
-    let found = found.map(|both| (both.up, both.child));
-    assert_eq!(rt; found, Some((up, child)), "{name}");
-}
-
-/// A life that is killed in mid-search: the next one gets the orders as they came, and its move is given up.
-fn go_on(rt: &impl Abort, alloc: Global, position: &str, go: &str) -> Result<(), Fail> {
-    let mut revival = Revival::make(alloc, 2)?;
-    let search = format!(in alloc; "{}\n{}\n", position.trim(), go.trim())?;
-    let all = search.as_bytes();
-    expect(rt, go, answer(&mut revival, b"x uci"), b"", b"uci\n");
-    expect(rt, go, answer(&mut revival, b"u uciok"), b"uciok\n", b"");
-    expect(rt, go, order(&mut revival, position.as_bytes()), b"", b"");
-    expect(rt, go, order(&mut revival, go.as_bytes()), b"", all);
-    expect(rt, go, answer(&mut revival, b"u!"), b"", b"uci\n");
-    expect(rt, go, answer(&mut revival, b"u uciok"), b"", all);
-    let best = answer(&mut revival, b"u bestmove e2e4");
-    expect(rt, go, best, b"bestmove e2e4\n", b"");
-    Ok(())
-}
+/// A name, how many lives there are, and what comes.
+const SESSIONS: [(&str, u32, &[Row]); 4] = [
+    ("a second life", 2, &SECOND_LIFE),
+    ("no life", 1, &NO_LIFE),
+    ("one name", 2, &ONE_NAME),
+    ("no orders", 1, &NO_ORDERS),
+];
 
 #[test]
-fn searches_of_any_interface_go_on(rt: HostRuntime) -> Result<(), Fail> {
-    for (position, go) in SEARCHES {
-        go_on(&rt, rt.alloc(), position, go)?;
+fn sessions(rt: HostRuntime) {
+    for (name, lives, rows) in SESSIONS {
+        play(&rt, rt.alloc(), name, lives, rows);
     }
-    play(&rt, rt.alloc(), "one name", 2, &ONE_NAME)?;
-    play(&rt, rt.alloc(), "no orders", 1, &NO_ORDERS)
 }
 
+// A life is killed in mid-search: the next one gets the orders as they came, and its move is given
+// up.
 #[test]
-fn sessions(rt: HostRuntime) -> Result<(), Fail> {
-    play(&rt, rt.alloc(), "a second life", 2, &SECOND_LIFE)?;
-    play(&rt, rt.alloc(), "no life", 1, &NO_LIFE)
+fn searches_of_any_interface_go_on(rt: HostRuntime) {
+    for (position, go, both) in SEARCHES {
+        let rows = [
+            ("x uci", "", "uci\n"),
+            ("u uciok", "uciok\n", ""),
+            (position, "", ""),
+            (go, "", both),
+            ("u!", "", "uci\n"),
+            ("u uciok", "", both),
+            ("u bestmove e2e4", "bestmove e2e4\n", ""),
+        ];
+        play(&rt, rt.alloc(), go, 2, &rows);
+    }
 }

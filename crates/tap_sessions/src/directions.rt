@@ -1,141 +1,190 @@
 // Both directions and the log, over sources and sinks in memory.
-ghost use Rattle.std.specs.Prelude.{◌≡◌, []};
+ghost use Rattle.std.specs.Prelude.{◌≡◌, ◌<◌, [], vec_len};
 ghost use Rattle.event_pipe.specs.Ends.{IsSender, IsFreshTaker, sent};
+ghost use Rattle.tap_runner.specs.Hearing.{fresh};
 
+use crate::expected::{expect_bytes, expect_true};
 use event_pipe::{Peer, Pipe, PipeSend, PipeTake};
 use line_io::{MemSink, MemSource, Out};
 use sink_offers::{HandedStreams, Interface};
 use std::alloc::Global;
+use std::process::Abort;
 use std::sync::Wait;
-use std::test::Fail;
-use tap_runner::{Direction, LOG_ROOM, OpenLine, PassEnd, TapParts, hand_on, keep_log, run_tap};
+use std::thread::Threads;
+use tap_runner::{
+    Direction, LOG_ROOM, OpenLine, PassEnd, TapEnd, TapParts, hand_on, keep_log, run_tap,
+};
 
-// Hands on these bytes in pieces of seven.
-fn pass<R: Wait>(
-    rt: &R,
-    alloc: Global,
-    bytes: &[u8],
-    sink: &mut MemSink,
-    peer: Peer,
-    to: PipeSend,
-) -> Result<PassEnd, Fail>
-    requires sender { IsSender to }
-    requires peer { to.peer ≡ peer }
-    requires unsent { sent to ≡ [] }
-{
-    let mut source = MemSource::make(alloc, bytes, 7, &[])?;
-    let mut way = make_way(alloc, peer, to)?;
-    Ok(hand_on(rt, alloc, &mut source, sink, &mut way))
-}
-
-// Writes what is in the channel into a log.
-fn log_all<R: Wait>(rt: &R, alloc: Global, taker: PipeTake) -> Result<Option<MemSink>, Fail>
-    requires { IsFreshTaker taker }
-{
-    let mut taker = taker;
-    let mut log = Some(MemSink::make(alloc, 1_000, &[])?);
-    let mut text = Out::make(alloc, LOG_ROOM)?;
-    let _failed = keep_log(rt, &mut taker, &mut log, &mut text);
-    Ok(log)
+/// What both peers say; which writes of the engine's bytes fail; what the bridge gets, and the log.
+#[derive(Clone, Copy)]
+struct Row {
+    name: &'static str,
+    // So many letters come before what the bridge says.
+    letters: usize,
+    bridge: &'static [u8],
+    engine: &'static [u8],
+    failing: &'static [u64],
+    output: &'static [u8],
+    log: &'static [u8],
 }
 
 const BRIDGE: &[u8] = b"uci\r\n\nquit\nuci";
 
 const ENGINE: &[u8] = b"id name Toy\0\nuciok\n";
 
-const LOG: &[u8] = b"\
-    U uci\r\n\
-    U \n\
-    U quit\n\
-    U uci\n\
-    x.\n\
-    u id name Toy\0\n\
-    u uciok\n\
-    u.\n";
+const ROWS: [Row; 2] = [
+    Row {
+        name: "lines are logged",
+        letters: 0,
+        bridge: BRIDGE,
+        engine: ENGINE,
+        failing: &[],
+        output: ENGINE,
+        log: b"\
+            U uci\r\n\
+            U \n\
+            U quit\n\
+            U uci\n\
+            x.\n\
+            u id name Toy\0\n\
+            u uciok\n\
+            u.\n",
+    },
+    Row {
+        name: "a long line is handed on, and a write that fails ends its direction",
+        letters: 65_535,
+        bridge: b"\nuci\n",
+        engine: b"uciok\n",
+        failing: &[1],
+        output: b"",
+        log: b"x!\nU uci\nx.\nu uciok\nu.\n",
+    },
+];
 
-#[test]
-fn bytes_are_handed_on_and_lines_are_logged(rt: HostRuntime) -> Result<(), Fail> {
-    let alloc = rt.alloc();
-    let (bridge, child, taker) = Pipe::make(alloc)?;
-    let mut engine = MemSink::make(alloc, 100, &[])?;
-    let mut output = MemSink::make(alloc, 100, &[])?;
-    let down = pass(&rt, alloc, BRIDGE, &mut engine, Peer::Iface, bridge)?;
-    let up = pass(&rt, alloc, ENGINE, &mut output, Peer::Engine, child)?;
-    assert!(rt; !down.read_failed && !down.write_failed && !down.has_lacked_memory);
-    assert!(rt; !up.read_failed && !up.write_failed && !up.has_lacked_memory);
-    assert_eq!(rt; engine.taken(), BRIDGE);
-    assert_eq!(rt; output.taken(), ENGINE);
-    let log = log_all(&rt, alloc, taker)?;
-    assert_eq!(rt; log.as_ref().map_or(b"".as_slice(), |log| log.taken()), LOG);
-    Ok(())
+fn source(rt: &impl Abort, alloc: Global, bytes: &[u8], piece: usize, failing: &[u64]) -> MemSource
+    requires { 0 < piece }
+{
+    MemSource::make(alloc, bytes, piece, failing).expect(rt, "memory for a source")
 }
 
-// A line of 65,535 bytes.
-#[test]
-fn a_long_line_is_handed_on(rt: HostRuntime) -> Result<(), Fail> {
-    let alloc = rt.alloc();
-    let (bridge, child, taker) = Pipe::make(alloc)?;
-    let mut engine = MemSink::make(alloc, 70_000, &[])?;
-    let mut output = MemSink::make(alloc, 100, &[1])?;
-    let mut bytes = vec![in alloc; b'a'; 65_535]?;
-    bytes.extend_from_slice(b"\nuci\n")?;
+fn sink(rt: &impl Abort, alloc: Global, room: usize, failing: &[u64]) -> MemSink {
+    MemSink::make(alloc, room, failing).expect(rt, "memory for a sink")
+}
+
+// What a direction needs.
+fn make_way(rt: &impl Abort, alloc: Global, peer: Peer, to: PipeSend) -> Direction
+    ensures to { result.to ≡ to }
+    ensures part { result.part ≡ fresh peer }
+    ensures room { 0 < vec_len result.buf }
+{
+    Direction {
+        to,
+        part: OpenLine::make(alloc, peer).expect(rt, "memory for a line"),
+        buf: vec![in alloc; 0; 100].expect(rt, "memory for reads"),
+    }
+}
+
+// Hands on these bytes in pieces of seven.
+fn pass<R: Wait + Abort>(
+    rt: &R,
+    alloc: Global,
+    bytes: &[u8],
+    sink: &mut MemSink,
+    peer: Peer,
+    to: PipeSend,
+) -> PassEnd
+    requires sender { IsSender to }
+    requires peer { to.peer ≡ peer }
+    requires unsent { sent to ≡ [] }
+{
+    let mut source = source(rt, alloc, bytes, 7, &[]);
+    let mut way = make_way(rt, alloc, peer, to);
+    hand_on(rt, alloc, &mut source, sink, &mut way)
+}
+
+// Compares what a log is made of what is in the channel.
+fn expect_log<R: Wait + Abort>(rt: &R, alloc: Global, row: &Row, taker: PipeTake)
+    requires { IsFreshTaker taker }
+{
+    let mut taker = taker;
+    let mut log = Some(sink(rt, alloc, 1_000, &[]));
+    let mut text = Out::make(alloc, LOG_ROOM).expect(rt, "memory for a mark");
+    let _failed = keep_log(rt, &mut taker, &mut log, &mut text);
+    match &log {
+        Some(log) => expect_bytes(rt, row.name, log.taken(), row.log),
+        None => expect_true(rt, row.name, false),
+    }
+}
+
+// Whether no read and no memory was refused, and no write, or one.
+fn is_end(end: &PassEnd, write_failed: bool) -> bool {
+    !end.read_failed && end.write_failed == write_failed && !end.has_lacked_memory
+}
+
+fn expect_passed<R: Wait + Abort>(rt: &R, alloc: Global, row: &Row) {
+    let (bridge, child, taker) = Pipe::make(alloc).expect(rt, "memory for the channel");
+    let mut bytes = vec![in alloc; b'a'; row.letters].expect(rt, "memory for a line");
+    bytes
+        .extend_from_slice(row.bridge)
+        .expect(rt, "memory for a line");
+    let mut engine = sink(rt, alloc, 70_000, &[]);
+    let mut output = sink(rt, alloc, 100, row.failing);
     let down = pass(
-        &rt,
+        rt,
         alloc,
         bytes.as_slice(),
         &mut engine,
         Peer::Iface,
         bridge,
-    )?;
-    let up = pass(&rt, alloc, b"uciok\n", &mut output, Peer::Engine, child)?;
-    assert!(rt; !down.write_failed && up.write_failed);
-    assert_eq!(rt; engine.taken(), bytes.as_slice());
-    assert_eq!(rt; output.taken(), b"".as_slice());
-    let log = log_all(&rt, alloc, taker)?;
-    let log = log.as_ref().map_or(b"".as_slice(), |log| log.taken());
-    assert_eq!(rt; log, b"x!\nU uci\nx.\nu uciok\nu.\n".as_slice());
-    Ok(())
+    );
+    let up = pass(rt, alloc, row.engine, &mut output, Peer::Engine, child);
+    expect_true(rt, row.name, is_end(&down, false));
+    expect_true(rt, row.name, is_end(&up, !row.failing.is_empty()));
+    expect_bytes(rt, row.name, engine.taken(), bytes.as_slice());
+    expect_bytes(rt, row.name, output.taken(), row.output);
+    expect_log(rt, alloc, row, taker);
 }
-
-// What a direction needs.
-fn make_way(alloc: Global, peer: Peer, to: PipeSend) -> Result<Direction, Fail>
-    ensures { IfOk result (λ way. (way.to ≡ to) × (way.part ≡ fresh peer) × (0 < vec_len way.buf)) }
-{
-    Ok(Direction {
-        to,
-        part: OpenLine::make(alloc, peer)?,
-        buf: vec![in alloc; 0; 100]?,
-    })
-}
-
-ghost use Rattle.std.specs.Prelude.{IfOk, ◌<◌, vec_len};
-ghost use Rattle.tap_runner.specs.Hearing.{fresh};
 
 #[test]
-fn both_directions_run(rt: HostRuntime) -> Result<(), Fail> {
-    let alloc = rt.alloc();
-    let (bridge, child, taker) = Pipe::make(alloc)?;
-    let down = make_way(alloc, Peer::Iface, bridge)?;
-    let up = make_way(alloc, Peer::Engine, child)?;
-    let mut interface = Interface {
-        input: MemSource::make(alloc, BRIDGE, 3, &[])?,
-        output: MemSink::make(alloc, 100, &[])?,
-    };
-    let log: Option<MemSink> = None;
-    let mut handed = HandedStreams {
-        source: MemSource::make(alloc, ENGINE, 3, &[2])?,
-        engine: MemSink::make(alloc, 100, &[])?,
-        log,
-    };
+fn bytes_are_handed_on_and_lines_are_logged(rt: HostRuntime) {
+    for row in &ROWS {
+        expect_passed(&rt, rt.alloc(), row);
+    }
+}
+
+// Runs both directions between these sinks and sources.
+fn run_both<R: Threads + Wait + Sync + Abort>(
+    rt: &R,
+    alloc: Global,
+    interface: &mut Interface<MemSource, MemSink>,
+    handed: &mut HandedStreams<MemSource, MemSink, MemSink>,
+) -> TapEnd {
+    let (bridge, child, taker) = Pipe::make(alloc).expect(rt, "memory for the channel");
     let parts = TapParts {
-        down,
-        up,
+        down: make_way(rt, alloc, Peer::Iface, bridge),
+        up: make_way(rt, alloc, Peer::Engine, child),
         taker,
-        text: Out::make(alloc, LOG_ROOM)?,
+        text: Out::make(alloc, LOG_ROOM).expect(rt, "memory for a mark"),
     };
-    let end = run_tap(&rt, alloc, parts, &mut interface, &mut handed);
-    assert!(rt; !end.bridge.read_failed && end.engine.read_failed && !end.log_failed);
-    assert_eq!(rt; handed.engine.taken(), BRIDGE);
-    assert_eq!(rt; interface.output.taken(), b"id ".as_slice());
-    Ok(())
+    run_tap(rt, alloc, parts, interface, handed)
+}
+
+// The engine's second read fails.
+#[test]
+fn both_directions_run(rt: HostRuntime) {
+    let alloc = rt.alloc();
+    let mut interface = Interface {
+        input: source(&rt, alloc, BRIDGE, 3, &[]),
+        output: sink(&rt, alloc, 100, &[]),
+    };
+    let mut handed = HandedStreams {
+        source: source(&rt, alloc, ENGINE, 3, &[2]),
+        engine: sink(&rt, alloc, 100, &[]),
+        log: None,
+    };
+    let end = run_both(&rt, alloc, &mut interface, &mut handed);
+    let failed = !end.bridge.read_failed && end.engine.read_failed && !end.log_failed;
+    expect_true(&rt, "both directions", failed);
+    expect_bytes(&rt, "down", handed.engine.taken(), BRIDGE);
+    expect_bytes(&rt, "up", interface.output.taken(), b"id ");
 }

@@ -4,6 +4,6 @@
 #[cfg(test)]
 mod directions;
 #[cfg(test)]
-mod exact_log;
+mod expected;
 #[cfg(test)]
 mod program;

@@ -1,148 +1,174 @@
-// Each case of the program over hosts in memory, to the byte.
-ghost use Rattle.child_engine.specs.Hosts.{IsUnused};
-
-use crate::expected::{expect_bytes, words_of};
-use child_engine::{Fails, Host, MemHost, SteadyHost};
+// Each case of the program over a host in memory, to the byte.
+use crate::expected::words_of;
+use child_engine::{Fails, MemHost};
 use line_io::{MemSink, MemSource};
+use paced_host::{PacedHost, PacedSource};
 use sink_offers::Interface;
 use std::alloc::Global;
 use std::process::Abort;
 use std::sync::Wait;
+use std::sync::atomic::AtomicU64;
 use std::thread::Threads;
-use wineravine_app::wineravine_main;
+use wineravine_app::{refuse_for_memory, wineravine_main};
 use wineravine_words::HELP;
 
-const ENGINE: &[u8] = b"uciok\nreadyok\n";
+/// The words that a program is called with, whether the host starts its engine, and the writes to
+/// the interface that fail; then its status, what the interface gets, and the diagnostic.
+#[derive(Clone, Copy)]
+pub struct Case {
+    pub words: &'static [&'static str],
+    pub starts: bool,
+    pub failing: &'static [u64],
+    pub code: u8,
+    pub output: &'static str,
+    pub diag: &'static str,
+}
+
+/// What the engine says at once, in one piece.
+const ENGINE: &[u8] = b"\
+    id name Toy\n\
+    option name Style type combo default Normal var Solid var Normal\n\
+    option name Clear type button\n\
+    uciok\n\
+    readyok\n";
+
+// The engine's bytes come at once, and its end once the log has what it got last.
+const ENGINE_ENDS: &[u64] = &[0, 29];
 
 const INPUT: &[u8] = b"ping 3\nquit\n";
 
-/// What a run answered and wrote.
-#[derive(Drop)]
-struct RunResult {
-    code: u8,
-    output: MemSink,
-    diag: MemSink,
-}
+// The interface speaks once the log has so many lines.
+const IFACE_SPEAKS: &[u64] = &[23];
 
-// Runs the program with these words over a host. The writes to the interface with these numbers
-// fail.
-fn run_over<H: Host, R: Threads + Wait + Sync + Abort>(
+/// Runs the program, compares its status and what it writes, and gives back the host.
+pub fn run_case<'a, R: Threads + Wait + Sync + Abort>(
     rt: &R,
     alloc: Global,
-    words: &[&str],
-    host: &mut H,
-    failing: &[u64],
-) -> RunResult
-    requires { IsUnused (H.books host.old) }
-{
-    let words = words_of(alloc, words).expect(rt, "memory for the words");
-    let mut interface = Interface {
-        input: MemSource::make(alloc, INPUT, 5, &[]).expect(rt, "memory for the input"),
-        output: MemSink::make(alloc, 5000, failing).expect(rt, "memory for the output"),
-    };
-    let mut diag = MemSink::make(alloc, 1000, &[]).expect(rt, "memory for the diagnostic");
-    let status = wineravine_main(rt, alloc, words.as_slice(), &mut interface, host, &mut diag);
-    RunResult {
-        code: status.code,
-        output: interface.output,
-        diag,
-    }
-}
-
-fn expect_told(rt: &impl Abort, told: &RunResult, code: u8, output: &[u8], diag: &[u8]) {
-    assert_eq!(rt; told.code, code);
-    expect_bytes(rt, told.output.taken(), output);
-    expect_bytes(rt, told.diag.taken(), diag);
-}
-
-// The same over a host that never fails.
-fn run_steady<R: Threads + Wait + Sync + Abort>(
-    rt: &R,
-    alloc: Global,
-    words: &[&str],
-) -> RunResult {
-    let mut host = SteadyHost::make(alloc, ENGINE, 5).expect(rt, "memory for the host");
-    run_over(rt, alloc, words, &mut host, &[])
-}
-
-// The same over a host that starts no engine.
-fn run_unstarted<R: Threads + Wait + Sync + Abort>(
-    rt: &R,
-    alloc: Global,
-    words: &[&str],
-) -> RunResult {
+    case: &Case,
+    lines: &'a AtomicU64,
+    name: usize,
+) -> PacedHost<'a> {
+    let words = words_of(rt, alloc, case.words);
     let fails = Fails {
-        start: true,
+        start: !case.starts,
         ..Fails::default()
     };
-    let mut host = MemHost::make(alloc, ENGINE, 5, 1000, &fails).expect(rt, "memory for the host");
-    run_over(rt, alloc, words, &mut host, &[])
-}
-
-#[test]
-fn help_is_shown(rt: HostRuntime) {
-    for word in ["--help", "-h"] {
-        let told = run_steady(&rt, rt.alloc(), &[word]);
-        expect_told(&rt, &told, 0, HELP.as_bytes(), b"");
-    }
-}
-
-#[test]
-fn the_version_is_shown(rt: HostRuntime) {
-    for word in ["--version", "-V"] {
-        let told = run_steady(&rt, rt.alloc(), &[word]);
-        expect_told(&rt, &told, 0, b"wineravine 0.1\n", b"");
-    }
-}
-
-#[test]
-fn help_that_cannot_be_written_is_a_failure(rt: HostRuntime) {
-    let alloc = rt.alloc();
-    let mut host = SteadyHost::make(alloc, ENGINE, 5).expect(&rt, "memory for the host");
-    let told = run_over(&rt, alloc, &["--help"], &mut host, &[1]);
-    expect_told(&rt, &told, 5, b"", b"wineravine: writing failed\n");
-}
-
-const WRONG: &[u8] = b"tellusererror wineravine: wrong arguments\n";
-
-const UNKNOWN: &[u8] = b"\
-    error: unexpected argument '--NoSuch' found\n\
-    \n\
-    \x20\x20tip: to pass '--NoSuch' as a value, use '-- --NoSuch'\n\
-    \n\
-    Usage: wineravine [SETTINGS] ENGINE [ARG..]\n\
-    \n\
-    For more information, try '--help'.\n";
-
-#[test]
-fn wrong_words_are_shown_to_the_user(rt: HostRuntime) {
-    let told = run_steady(&rt, rt.alloc(), &["--NoSuch", "toy"]);
-    expect_told(&rt, &told, 2, WRONG, UNKNOWN);
-}
-
-const FAILED: &[u8] = b"wineravine: engine start failed\n";
-
-#[test]
-fn an_engine_that_is_not_started_is_shown_to_the_user(rt: HostRuntime) {
-    let told = run_unstarted(&rt, rt.alloc(), &["no\nsuch\rtoy", "-x"]);
-    expect_told(
-        &rt,
-        &told,
-        8,
-        b"tellusererror Engine not started: nosuchtoy\n",
-        FAILED,
+    let host = MemHost::make(alloc, ENGINE, 200, 10_000, &fails).expect(rt, "memory");
+    let mut host = PacedHost::new(alloc, host, lines, ENGINE_ENDS);
+    let input = MemSource::make(alloc, INPUT, 200, &[]).expect(rt, "memory");
+    let mut interface = Interface {
+        input: PacedSource::new(input, lines, IFACE_SPEAKS),
+        output: MemSink::make(alloc, 5_000, case.failing).expect(rt, "memory"),
+    };
+    let mut diag = MemSink::make(alloc, 1_000, &[]).expect(rt, "memory");
+    let status = wineravine_main(
+        rt,
+        alloc,
+        words.as_slice(),
+        &mut interface,
+        &mut host,
+        &mut diag,
     );
+    assert!(rt; status.code == case.code, "the status of case {name}");
+    assert!(rt;
+        interface.output.taken() == case.output.as_bytes(),
+        "the output of case {name}"
+    );
+    assert!(rt;
+        diag.taken() == case.diag.as_bytes(),
+        "the diagnostic of case {name}"
+    );
+    host
 }
 
+const SHOWS_HELP: Case = Case {
+    words: &["--help"],
+    starts: true,
+    failing: &[],
+    code: 0,
+    output: HELP,
+    diag: "",
+};
+
+const SHOWS_VERSION: Case = Case {
+    words: &["--version"],
+    output: "wineravine 0.1\n",
+    ..SHOWS_HELP
+};
+
+const IS_NOT_STARTED: Case = Case {
+    words: &["no\nsuch\rtoy", "-x"],
+    starts: false,
+    code: 8,
+    output: "tellusererror Engine not started: nosuchtoy\n",
+    diag: "wineravine: engine start failed\n",
+    ..SHOWS_HELP
+};
+
+/// A name of 300 letters.
+const LONG_NAME: &str = "\
+    xxxxxxxxxxxxxxxxxxxxxxxxxxxxxxxxxxxxxxxxxxxxxxxxxxxxxxxxxxxxxxxxxxxxxxxxxxx\
+    xxxxxxxxxxxxxxxxxxxxxxxxxxxxxxxxxxxxxxxxxxxxxxxxxxxxxxxxxxxxxxxxxxxxxxxxxxx\
+    xxxxxxxxxxxxxxxxxxxxxxxxxxxxxxxxxxxxxxxxxxxxxxxxxxxxxxxxxxxxxxxxxxxxxxxxxxx\
+    xxxxxxxxxxxxxxxxxxxxxxxxxxxxxxxxxxxxxxxxxxxxxxxxxxxxxxxxxxxxxxxxxxxxxxxxxxx";
+
+/// The first 256 of them.
+const LONG_NAME_SHOWN: &str = "tellusererror Engine not started: \
+    xxxxxxxxxxxxxxxxxxxxxxxxxxxxxxxxxxxxxxxxxxxxxxxxxxxxxxxxxxxxxxxx\
+    xxxxxxxxxxxxxxxxxxxxxxxxxxxxxxxxxxxxxxxxxxxxxxxxxxxxxxxxxxxxxxxx\
+    xxxxxxxxxxxxxxxxxxxxxxxxxxxxxxxxxxxxxxxxxxxxxxxxxxxxxxxxxxxxxxxx\
+    xxxxxxxxxxxxxxxxxxxxxxxxxxxxxxxxxxxxxxxxxxxxxxxxxxxxxxxxxxxxxxxx\n";
+
+const CASES: [Case; 8] = [
+    SHOWS_HELP,
+    Case {
+        words: &["-h"],
+        ..SHOWS_HELP
+    },
+    SHOWS_VERSION,
+    Case {
+        words: &["-V"],
+        ..SHOWS_VERSION
+    },
+    // help that cannot be written is a failure
+    Case {
+        failing: &[1],
+        code: 5,
+        output: "",
+        diag: "wineravine: writing failed\n",
+        ..SHOWS_HELP
+    },
+    // wrong words are shown to the user
+    Case {
+        words: &["--NoSuch", "toy"],
+        code: 2,
+        output: "tellusererror wineravine: wrong arguments\n",
+        diag: "\
+            error: unexpected argument '--NoSuch' found\n\
+            \n\
+            \x20\x20tip: to pass '--NoSuch' as a value, use '-- --NoSuch'\n\
+            \n\
+            Usage: wineravine [SETTINGS] ENGINE [ARG..]\n\
+            \n\
+            For more information, try '--help'.\n",
+        ..SHOWS_HELP
+    },
+    // an engine that is not started is shown to the user, a long name in part
+    IS_NOT_STARTED,
+    Case {
+        words: &[LONG_NAME],
+        output: LONG_NAME_SHOWN,
+        ..IS_NOT_STARTED
+    },
+];
+
 #[test]
-fn a_long_name_is_shown_in_part(rt: HostRuntime) {
-    let alloc = rt.alloc();
-    let name = "x".repeat(alloc, 300).expect(&rt, "memory for the name");
-    let told = run_unstarted(&rt, alloc, &[name.as_str()]);
-    let line = format!(in alloc;
-        "tellusererror Engine not started: {}\n",
-        &name.as_str()[..256]
-    )
-    .expect(&rt, "memory for the line");
-    expect_told(&rt, &told, 8, line.as_bytes(), FAILED);
+fn each_case_is_told(rt: HostRuntime) {
+    for (name, case) in CASES.iter().enumerate() {
+        let lines = AtomicU64::new(0);
+        run_case(&rt, rt.alloc(), case, &lines, name);
+    }
+    let mut diag = MemSink::make(rt.alloc(), 100, &[]).expect(&rt, "memory");
+    assert!(rt; refuse_for_memory(&mut diag).code == 3);
+    assert!(rt; diag.taken() == b"wineravine: no memory\n".as_slice());
 }

@@ -1,24 +1,23 @@
 // What the tests give and expect.
-use line_io::NoMemory;
 use std::alloc::Global;
 use std::process::Abort;
 
 /// These words, as a program gets them.
-pub fn words_of(alloc: Global, texts: &[&str]) -> Result<Vec<Vec<u8>>, NoMemory> {
+pub fn words_of(rt: &impl Abort, alloc: Global, texts: &[&str]) -> Vec<Vec<u8>> {
     let mut words: Vec<Vec<u8>> = Vec::new(alloc);
     for text in texts {
-        words.push(Vec::from_slice(alloc, text.as_bytes())?)?;
+        let word = Vec::from_slice(alloc, text.as_bytes()).expect(rt, "memory");
+        words.push(word).expect(rt, "memory");
     }
-    Ok(words)
+    words
 }
 
-pub fn expect_bytes(rt: &impl Abort, found: &[u8], wanted: &[u8]) {
-    assert_eq!(rt; found, wanted);
-}
-
-pub fn expect_texts(rt: &impl Abort, found: &[String], wanted: &[&str]) {
-    assert_eq!(rt; found.len(), wanted.len());
-    for (text, wanted) in found.iter().zip(wanted) {
-        assert!(rt; text.as_str() == *wanted, "{text}");
+/// Whether the words are these texts.
+pub fn are_texts(words: &[String], texts: &[&str]) -> bool {
+    for (word, text) in words.iter().zip(texts) {
+        if word.as_str() != *text {
+            return false;
+        }
     }
+    words.len() == texts.len()
 }

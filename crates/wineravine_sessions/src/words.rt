@@ -1,21 +1,7 @@
 // What words ask for.
-use crate::expected::{expect_bytes, expect_texts, words_of};
+use crate::expected::{are_texts, words_of};
 use policy_rules::Settings;
-use std::alloc::Global;
-use std::process::Abort;
-use wineravine_words::{AskedProgram, WineravineRequest, WrongWords, read_words};
-
-fn asked_by<R: Abort>(rt: &R, alloc: Global, words: &[&str]) -> Result<AskedProgram, WrongWords> {
-    let words = words_of(alloc, words).expect(rt, "memory for the words");
-    read_words(alloc, words.as_slice())
-}
-
-fn request_of<R: Abort>(rt: &R, alloc: Global, words: &[&str]) -> WineravineRequest {
-    match asked_by(rt, alloc, words) {
-        Ok(AskedProgram::Run(request)) => request,
-        _ => panic!(rt; "no run is asked for"),
-    }
-}
+use wineravine_words::{AskedProgram, WrongWords, read_words};
 
 /// The defaults.
 const DEFAULTS: Settings = Settings {
@@ -43,76 +29,86 @@ const OTHERS: Settings = Settings {
     strength_options: false,
 };
 
-const OTHER_WORDS: [&str; 13] = [
-    "--Resign",
-    "true",
-    "--ResignMoves=1000",
-    "--ResignScore=0",
-    "--ShowPonder=false",
-    "--EarlySettings=false",
-    "--ResignWhenGone=false",
-    "--HandleDraws",
-    "false",
-    "--ShowSan=false",
-    "--StrengthOptions=false",
-    "--LogFile=a.log",
-    "toy",
+/// A run that words ask for.
+#[derive(Clone, Copy)]
+struct Asked {
+    words: &'static [&'static str],
+    settings: Settings,
+    log_name: &'static str,
+    first: &'static [u8],
+    engine: &'static [&'static str],
+}
+
+// An engine alone has the defaults.
+const ALONE: Asked = Asked {
+    words: &["stockfish"],
+    settings: DEFAULTS,
+    log_name: "wineravine.log",
+    first: b"",
+    engine: &["stockfish"],
+};
+
+const RUNS: [Asked; 7] = [
+    ALONE,
+    // each setting has a word
+    Asked {
+        words: &[
+            "--Resign",
+            "true",
+            "--ResignMoves=1000",
+            "--ResignScore=0",
+            "--ShowPonder=false",
+            "--EarlySettings=false",
+            "--ResignWhenGone=false",
+            "--HandleDraws",
+            "false",
+            "--ShowSan=false",
+            "--StrengthOptions=false",
+            "--LogFile=a.log",
+            "toy",
+        ],
+        settings: OTHERS,
+        log_name: "a.log",
+        engine: &["toy"],
+        ..ALONE
+    },
+    // options are lines in the order given
+    Asked {
+        words: &[
+            "--Option",
+            "Hash=16",
+            "--Option=Clear Hash",
+            "--Option=Style=a=b",
+            "toy",
+        ],
+        first: b"option Hash=16\noption Clear Hash\noption Style=a=b\n",
+        engine: &["toy"],
+        ..ALONE
+    },
+    // all behind the engine is its own
+    Asked {
+        words: &["toy", "-c", "--Resign", "x"],
+        engine: &["toy", "-c", "--Resign", "x"],
+        ..ALONE
+    },
+    Asked {
+        words: &["toy", "--", "--help"],
+        engine: &["toy", "--", "--help"],
+        ..ALONE
+    },
+    Asked {
+        words: &["--", "--toy", "-V", "--"],
+        engine: &["--toy", "-V", "--"],
+        ..ALONE
+    },
+    Asked {
+        words: &["--ShowSan", "true", "--", "toy"],
+        engine: &["toy"],
+        ..ALONE
+    },
 ];
 
-#[test]
-fn an_engine_alone_has_the_defaults(rt: HostRuntime) {
-    let request = request_of(&rt, rt.alloc(), &["stockfish"]);
-    assert!(rt; request.settings == DEFAULTS);
-    assert!(rt; request.log_name.as_str() == "wineravine.log");
-    expect_bytes(&rt, request.first.as_slice(), b"");
-    expect_texts(&rt, request.engine.as_slice(), &["stockfish"]);
-}
-
-#[test]
-fn each_setting_has_a_word(rt: HostRuntime) {
-    let request = request_of(&rt, rt.alloc(), &OTHER_WORDS);
-    assert!(rt; request.settings == OTHERS);
-    assert!(rt; request.log_name.as_str() == "a.log");
-    expect_texts(&rt, request.engine.as_slice(), &["toy"]);
-}
-
-#[test]
-fn options_are_lines_in_the_order_given(rt: HostRuntime) {
-    let words = [
-        "--Option",
-        "Hash=16",
-        "--Option=Clear Hash",
-        "--Option=Style=a=b",
-        "toy",
-    ];
-    let request = request_of(&rt, rt.alloc(), &words);
-    expect_bytes(
-        &rt,
-        request.first.as_slice(),
-        b"option Hash=16\noption Clear Hash\noption Style=a=b\n",
-    );
-}
-
-/// Words, and those of the engine among them.
-const ENGINES: [(&[&str], &[&str]); 4] = [
-    (
-        &["toy", "-c", "--Resign", "x"],
-        &["toy", "-c", "--Resign", "x"],
-    ),
-    (&["toy", "--", "--help"], &["toy", "--", "--help"]),
-    (&["--", "--toy", "-V", "--"], &["--toy", "-V", "--"]),
-    (&["--ShowSan", "true", "--", "toy"], &["toy"]),
-];
-
-#[test]
-fn all_behind_the_engine_is_its_own(rt: HostRuntime) {
-    for (words, engine) in ENGINES {
-        let request = request_of(&rt, rt.alloc(), words);
-        expect_texts(&rt, request.engine.as_slice(), engine);
-    }
-}
-
-/// Words that are wrong, and a word that the reason names.
+/// Words that are wrong, and the word that the reason names.
 const WRONG: [(&[&str], &str); 10] = [
     (&[], "ENGINE"),
     (&["--Resign", "maybe", "toy"], "'maybe'"),
@@ -126,36 +122,53 @@ const WRONG: [(&[&str], &str); 10] = [
     (&["--LogFile=a\nb", "toy"], "a\\nb"),
 ];
 
+/// Words that ask for help, and words that ask for the version.
+const FOR_HELP: [&[&str]; 3] = [&["--help"], &["-h"], &["--Resign", "true", "-h", "toy"]];
+
+const FOR_VERSION: [&[&str]; 2] = [&["--version"], &["-V"]];
+
 #[test]
-fn a_reason_names_the_wrong_word(rt: HostRuntime) {
-    for (words, named) in WRONG {
-        match asked_by(&rt, rt.alloc(), words) {
-            Err(WrongWords::Words(reason)) => {
-                assert!(rt; reason.as_str().contains(named), "{reason}");
-            }
-            _ => panic!(rt; "the words are not wrong"),
-        }
+fn words_ask_for_a_run(rt: HostRuntime) {
+    for (row, asked) in RUNS.iter().enumerate() {
+        let words = words_of(&rt, rt.alloc(), asked.words);
+        let Ok(AskedProgram::Run(request)) = read_words(rt.alloc(), words.as_slice()) else {
+            panic!(rt; "no run is asked for in row {row}")
+        };
+        assert!(rt; request.settings == asked.settings, "row {row}");
+        assert!(rt; request.log_name.as_str() == asked.log_name, "row {row}");
+        assert!(rt; request.first.as_slice() == asked.first, "row {row}");
+        assert!(rt;
+            are_texts(request.engine.as_slice(), asked.engine),
+            "row {row}"
+        );
     }
 }
 
-/// Words that ask for help.
-const FOR_HELP: [&[&str]; 3] = [&["--help"], &["-h"], &["--Resign", "true", "-h", "toy"]];
-
 #[test]
-fn help_and_the_version_are_asked_for(rt: HostRuntime) {
+fn words_ask_for_texts_or_are_wrong(rt: HostRuntime) {
     for words in FOR_HELP {
-        assert!(rt; matches!(asked_by(&rt, rt.alloc(), words), Ok(AskedProgram::Help)));
+        let words = words_of(&rt, rt.alloc(), words);
+        assert!(rt;
+            matches!(
+                read_words(rt.alloc(), words.as_slice()),
+                Ok(AskedProgram::Help)
+            )
+        );
     }
-    assert!(rt;
-        matches!(
-            asked_by(&rt, rt.alloc(), &["--version"]),
-            Ok(AskedProgram::Version)
-        )
-    );
-    assert!(rt;
-        matches!(
-            asked_by(&rt, rt.alloc(), &["-V"]),
-            Ok(AskedProgram::Version)
-        )
-    );
+    for words in FOR_VERSION {
+        let words = words_of(&rt, rt.alloc(), words);
+        assert!(rt;
+            matches!(
+                read_words(rt.alloc(), words.as_slice()),
+                Ok(AskedProgram::Version)
+            )
+        );
+    }
+    for (words, named) in WRONG {
+        let words = words_of(&rt, rt.alloc(), words);
+        let Err(WrongWords::Words(reason)) = read_words(rt.alloc(), words.as_slice()) else {
+            panic!(rt; "the words are not wrong: {named}")
+        };
+        assert!(rt; reason.as_str().contains(named), "{reason}");
+    }
 }
